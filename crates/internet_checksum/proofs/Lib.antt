@@ -1,0 +1,4 @@
+pub mod ChangedBytes
+pub mod ModularSums
+pub mod SummedMessages
+pub mod WrittenFields

@@ -1,0 +1,31 @@
+//! The objects of RSVP as the router reads and writes them: SESSION, RSVP_HOP, TIME_VALUES, ERROR_SPEC,
+//! STYLE, FLOWSPEC, FILTER_SPEC, SENDER_TEMPLATE and SENDER_TSPEC of RFC 2205 and RFC 2210; LABEL,
+//! LABEL_REQUEST, EXPLICIT_ROUTE, RECORD_ROUTE and SESSION_ATTRIBUTE of RFC 3209; FAST_REROUTE of
+//! RFC 4090. Every other object is kept as its class, its C-Type and its body.
+#![tactic(auto)]
+
+mod attribute;
+mod attributes;
+mod fixed;
+mod kind;
+mod laws;
+pub mod numbers;
+mod object;
+mod opaque;
+mod reading;
+#[cfg(test)]
+mod tests;
+mod values;
+mod writing;
+
+pub use attribute::{Attr, Name};
+pub use kind::{Kind, Treatment};
+pub use laws::one_object;
+pub use object::Object;
+pub use opaque::Opaque;
+pub use reading::read_object;
+pub use values::{
+    Affinities, ErrorSpec, FastReroute, Hop, Label, LabelRequest, Session, Style, Template,
+    TimeValues,
+};
+pub use writing::write_object;

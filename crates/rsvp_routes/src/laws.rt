@@ -1,0 +1,24 @@
+//! What is true of every route, whatever bytes spell it: functions that do nothing, with the law as their
+//! contract.
+
+ghost use Rattle.std.specs.Prelude.{◌≡◌, ◌++◌, List, ℕ};
+ghost use Rattle.rsvp_routes.specs.Subobjects.{IsSubobject};
+ghost use Rattle.rsvp_routes.specs.Steps.{SpellsRoute};
+ghost use Rattle.rsvp_routes.specs.Traces.{SpellsRecord};
+ghost use Rattle.rsvp_routes.specs.declared.step.Step.{Step};
+ghost use Rattle.rsvp_routes.specs.declared.trace.Trace.{Trace};
+
+/// No bytes spell two explicit routes.
+pub fn one_route()
+    ensures { (bytes : List ℕ) (a b : List Step) → SpellsRoute bytes a → SpellsRoute bytes b → a ≡ b }
+{}
+
+/// No bytes spell two recorded routes.
+pub fn one_record()
+    ensures { (bytes : List ℕ) (a b : List Trace) → SpellsRecord bytes a → SpellsRecord bytes b → a ≡ b }
+{}
+
+/// No subobject begins another, so bytes are cut into subobjects in one way.
+pub fn one_subobject()
+    ensures { (a b rest others : List ℕ) → a ++ rest ≡ b ++ others → IsSubobject a → IsSubobject b → a ≡ b }
+{}

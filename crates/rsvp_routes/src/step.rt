@@ -1,0 +1,142 @@
+ghost use Rattle.std.specs.Prelude.{◌≡◌, IfOk};
+ghost use Rattle.rsvp_routes.specs.Subobjects.{IsOtherStep};
+
+use crate::numbers::{HEAD_LEN, IPV4_LEN, IPV4_TYPE, LOOSE, PREFIX_TAIL_LEN};
+use crate::prefix::{Prefix, prefix_of};
+use crate::subobject::Subobject;
+use rsvp_bodies::ObjectFault;
+use std::alloc::{AllocError, Global};
+use std::marker::Model;
+
+/// A step of an explicit route (RFC 3209, 4.3.3).
+#[derive(Debug, Drop)]
+pub enum Step {
+    /// To one of the prefix's nodes (RFC 3209, 4.3.3.2): over no other node, or, where the step is loose,
+    /// over any (RFC 3209, 4.3.3.1).
+    Ipv4 { loose: bool, prefix: Prefix },
+    /// A step of another type.
+    Other(OtherStep),
+}
+
+/// A step that isn't of type IPv4, kept byte for byte as it came, with its type and its length. Contracts see
+/// the list of its bytes.
+#[derive(Debug, Drop)]
+pub struct OtherStep {
+    bytes: Vec<u8>,
+}
+
+impl Model for OtherStep {
+    ghost use Rattle.std.specs.Prelude.{List, ℕ};
+    ghost use Rattle.rsvp_routes.specs.Subobjects.{IsOtherStep};
+
+    ghost Value = { List ℕ };
+
+    ghost view = { λ s. s.bytes.items };
+
+    ghost invariant = { λ s. IsOtherStep s.bytes.items };
+}
+
+impl OtherStep {
+    /// The step with these bytes. Takes no memory.
+    pub fn from_vec(bytes: Vec<u8>) -> OtherStep
+        requires { IsOtherStep bytes.items }
+        ensures { result ≡ bytes.items }
+    {
+        OtherStep { bytes }
+    }
+
+    /// A step that holds a copy of these bytes. The only error is want of memory.
+    pub fn copy_of(alloc: Global, bytes: &[u8]) -> Result<OtherStep, AllocError>
+        requires { IsOtherStep bytes.now }
+        ensures { IfOk result (λ step. step ≡ bytes.now) }
+    {
+        Ok(OtherStep::from_vec(Vec::from_slice(alloc, bytes)?))
+    }
+
+    /// The bytes, given back without taking memory.
+    pub fn into_vec(self) -> Vec<u8>
+        ensures bytes { result.items ≡ self }
+        ensures fits { IsOtherStep self }
+    {
+        let OtherStep { bytes } = self;
+        bytes
+    }
+
+    /// The bytes.
+    pub fn as_slice(&self) -> &[u8]
+        ensures bytes { result.now ≡ self.now }
+        ensures fits { IsOtherStep self.now }
+    {
+        self.bytes.as_slice()
+    }
+}
+
+impl Clone for OtherStep {
+    ghost is_clone = { λ source copy. copy ≡ source };
+
+    /// A copy of the step. The only error is want of memory.
+    fn clone(&self) -> Result<OtherStep, AllocError> {
+        OtherStep::copy_of(*self.bytes.allocator(), self.as_slice())
+    }
+}
+
+impl Clone for Step {
+    ghost is_clone = { λ source copy. copy ≡ source };
+
+    /// A copy of the step. The only error is want of memory.
+    fn clone(&self) -> Result<Step, AllocError> {
+        match self {
+            Step::Ipv4 { loose, prefix } => Ok(Step::Ipv4 {
+                loose: *loose,
+                prefix: *prefix,
+            }),
+            Step::Other(other) => Ok(Step::Other(other.clone()?)),
+        }
+    }
+}
+
+impl Subobject for Step {
+    ghost use Rattle.rsvp_routes.specs.Steps.{SpellsStep, step_bytes};
+    ghost use Rattle.rsvp_routes.specs.StepLaws.{is_subobject_lem, one_value_lem, same_length_lem};
+
+    ghost Spells = { SpellsStep };
+
+    ghost spelling = { step_bytes };
+
+    ghost is_subobject = { is_subobject_lem };
+
+    ghost one_value = { one_value_lem };
+
+    ghost same_length = { same_length_lem };
+
+    ghost clones_equal = { λ source copy same. same };
+
+    fn read(alloc: Global, bytes: &[u8]) -> Result<Step, ObjectFault> {
+        match bytes {
+            [kind, IPV4_LEN, prefix @ .., _] if kind & !LOOSE == IPV4_TYPE => Ok(Step::Ipv4 {
+                loose: kind & LOOSE != 0,
+                prefix: prefix_of(prefix),
+            }),
+            [kind, ..] if kind & !LOOSE == IPV4_TYPE => Err(ObjectFault::Length),
+            _ => Ok(Step::Other(OtherStep::copy_of(alloc, bytes)?)),
+        }
+    }
+
+    fn write(&self, out: &mut Vec<u8>) -> Result<(), AllocError> {
+        match self {
+            Step::Ipv4 { loose, prefix } => {
+                let kind = if *loose { LOOSE | IPV4_TYPE } else { IPV4_TYPE };
+                let [a, b, c, d] = prefix.address.octets();
+                out.extend_from_slice(&[kind, IPV4_LEN, a, b, c, d, prefix.length, 0])
+            }
+            Step::Other(other) => out.extend_from_slice(other.as_slice()),
+        }
+    }
+
+    fn byte_len(&self) -> usize {
+        match self {
+            Step::Ipv4 { prefix, .. } => HEAD_LEN + prefix.address.octets().len() + PREFIX_TAIL_LEN,
+            Step::Other(other) => other.as_slice().len(),
+        }
+    }
+}

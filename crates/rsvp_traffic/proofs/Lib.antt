@@ -1,0 +1,3 @@
+pub mod RateMeaning
+pub mod Rounding
+pub mod Shapes

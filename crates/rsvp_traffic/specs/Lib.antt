@@ -1,0 +1,4 @@
+pub mod RateLaws
+pub mod Rates
+pub mod TokenBuckets
+pub mod Traffic

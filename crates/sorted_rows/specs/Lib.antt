@@ -1,0 +1,4 @@
+pub mod Closures
+pub mod ListLaws
+pub mod Rows
+pub mod RowsLaws
