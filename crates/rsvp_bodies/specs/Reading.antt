@@ -1,5 +1,5 @@
 -- What a reader answers, in terms of a relation that says which bytes spell which value.
-use Rattle.std.specs.Prelude.{◌≡◌, ◌≤◌, ◌++◌, ◌⊎◌, ℕ, List, [], ◌∷◌, length, take, Result, Ok, Err, Option, Some, None, IfOk}
+use Rattle.std.specs.Prelude.{◌≡◌, ◌≤◌, ◌++◌, ℕ, List, [], ◌∷◌, length, take, Result, Ok, Err, IfOk}
 use Rattle.rsvp_bodies.specs.declared.fault.ObjectFault.{ObjectFault}
 use Rattle.rsvp_bodies.specs.declared.fault.ObjectFault.TheVariants.{Length, Memory}
 

@@ -8,8 +8,9 @@ use thiserror::Error;
 #[derive(Clone, Copy, Debug, PartialEq, Eq, Error)]
 pub enum ObjectFault {
     /// The bytes spell no object: a length below 4, no multiple of 4, past the end of the bytes or
-    /// wrong for the object's class and C-Type (RFC 2205, 3.1.2).
-    #[error("an object's length is wrong for it: no multiple of 4, past the end, or not its class's")]
+    /// wrong for the object's class and C-Type (RFC 2205, 3.1.2), or a subobject or a name in it that
+    /// doesn't fit (RFC 3209, 4.3.3, 4.4.1 and 4.7.1).
+    #[error("a length is wrong: an object's, or one in it, is below 4, no multiple of 4, past the end, or not its type's")]
     Length,
     /// There is no memory for what was read. The bytes may be good: read them again later.
     #[error("out of memory while an object was read: free some and read it again")]

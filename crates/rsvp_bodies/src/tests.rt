@@ -70,7 +70,7 @@ fn faults_have_their_texts(rt: HostRuntime) -> Result<(), Fail> {
     for (fault, wanted) in [
         (
             ObjectFault::Length,
-            "an object's length is wrong for it: no multiple of 4, past the end, or not its class's",
+            "a length is wrong: an object's, or one in it, is below 4, no multiple of 4, past the end, or not its type's",
         ),
         (
             ObjectFault::Memory,

@@ -33,8 +33,8 @@ one_value kinds.ExplicitRoute raw a b s t =
 one_value kinds.RecordRoute raw a b s t =
     s.2 ∙ ap (λ (r : List Trace). objects.RecordRoute r) (SpellsEach-unique trace_code raw.body s.0 t.0 s.1 t.1) ∙ sym t.2
 one_value kinds.FastReroute raw a b s t = s.1 ∙ sym t.1
-one_value kinds.LspTunnel raw a b s t = s.2 ∙ ap (λ (x : Attr). objects.SessionAttribute x) (s.1.1 ∙ sym t.1.1) ∙ sym t.2
-one_value kinds.LspTunnelRa raw a b s t = s.2 ∙ ap (λ (x : Attr). objects.SessionAttribute x) (s.1.2 ∙ sym t.1.2) ∙ sym t.2
+one_value kinds.SessionAttribute raw a b s t = s.2 ∙ ap (λ (x : Attr). objects.SessionAttribute x) (s.1.1 ∙ sym t.1.1) ∙ sym t.2
+one_value kinds.SessionAttributeRa raw a b s t = s.2 ∙ ap (λ (x : Attr). objects.SessionAttribute x) (s.1.2 ∙ sym t.1.2) ∙ sym t.2
 one_value kinds.Null raw a b s t = s ∙ sym t
 one_value kinds.Integrity raw a b s t = s ∙ sym t
 one_value kinds.Scope raw a b s t = s ∙ sym t

@@ -13,6 +13,7 @@ pub record HasName (body : List ℕ) : Type 0 where
   pub head : 4 ≤ length body
   pub name : 4 + slice_index body 3 ≤ length body
 
+-- the attributes with these affinities, and with what the bytes say of the rest
 abbrev pub attr_with : Option Affinities → List ℕ → Attr
 attr_with affinities body =
     record {
@@ -45,6 +46,7 @@ SpellsAttrRa body attr =
 abbrev pub name_body : Attr → List ℕ
 name_body a = a.setup ∷ a.hold ∷ a.flags ∷ length a.name ∷ (a.name ++ padding (length a.name))
 
+-- the three words, as they are written
 abbrev pub affinities_body : Affinities → List ℕ
 affinities_body a = big_bytes 4 a.exclude_any ++ (big_bytes 4 a.include_any ++ big_bytes 4 a.include_all)
 

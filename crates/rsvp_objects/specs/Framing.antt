@@ -1,4 +1,5 @@
--- The first object of a list of bytes, by its length field.
+-- The first object of a list of bytes, by its length field: the reader's way to `object_bytes` of `Raw`, which
+-- is the standard's sentence.
 use Rattle.std.specs.Prelude.{ℕ, ◌-◌, ◌%◌, Bool, ◌&&◌, ◌==◌, nat_le, if◌then◌else◌, List, length, take, drop, slice_index, Option, Some, None}
 use Rattle.byteorder.specs.Endian.{big_number}
 use Rattle.rsvp_objects.specs.Raw.{Raw}
@@ -17,5 +18,6 @@ frame_at bytes =
       body = take (big_number 2 bytes - 4) (drop 4 bytes);
     }
 
+-- the first object, where its length is good
 unfoldable pub frame_in : List ℕ → Option Raw
 frame_in bytes = if has_frame bytes then Some (frame_at bytes) else None

@@ -14,7 +14,7 @@ treatment_of class =
 abbrev pub listed : Bool → Kind → Kind
 listed is_listed kind = if is_listed then kind else kinds.Unlisted
 
--- The classes that are known, and the C-Types that are listed for them (RFC 2205, A; RFC 2210, 3;
+-- The classes that are known, and the C-Types that are listed for them (RFC 2205, 3.1.2 and A; RFC 2210, 3;
 -- RFC 3209, 4; RFC 4090, 4.1).
 unfoldable pub kind_of : ℕ → ℕ → Kind
 kind_of class ctype =
@@ -38,7 +38,7 @@ kind_of class ctype =
     if class == 20 then listed (ctype == 1) kinds.ExplicitRoute else
     if class == 21 then listed (ctype == 1) kinds.RecordRoute else
     if class == 205 then listed (ctype == 1) kinds.FastReroute else
-    if class == 207 then (if ctype == 1 then kinds.LspTunnelRa else listed (ctype == 7) kinds.LspTunnel) else
+    if class == 207 then (if ctype == 1 then kinds.SessionAttributeRa else listed (ctype == 7) kinds.SessionAttribute) else
     kinds.Unknown (treatment_of class)
 
 -- The kinds that are kept as class, C-Type and body.

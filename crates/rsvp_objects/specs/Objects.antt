@@ -36,8 +36,8 @@ SpellsAs kinds.LabelRequest raw object = IsSized 4 raw.body (objects.LabelReques
 SpellsAs kinds.ExplicitRoute raw object = (route : List Step) × SpellsRoute raw.body route × (object ≡ objects.ExplicitRoute route)
 SpellsAs kinds.RecordRoute raw object = (entries : List Trace) × SpellsRecord raw.body entries × (object ≡ objects.RecordRoute entries)
 SpellsAs kinds.FastReroute raw object = IsSized 20 raw.body (objects.FastReroute (fast_reroute_at raw.body)) object
-SpellsAs kinds.LspTunnel raw object = (attr : Attr) × SpellsAttr raw.body attr × (object ≡ objects.SessionAttribute attr)
-SpellsAs kinds.LspTunnelRa raw object = (attr : Attr) × SpellsAttrRa raw.body attr × (object ≡ objects.SessionAttribute attr)
+SpellsAs kinds.SessionAttribute raw object = (attr : Attr) × SpellsAttr raw.body attr × (object ≡ objects.SessionAttribute attr)
+SpellsAs kinds.SessionAttributeRa raw object = (attr : Attr) × SpellsAttrRa raw.body attr × (object ≡ objects.SessionAttribute attr)
 SpellsAs _ raw object = object ≡ objects.Other raw
 
 -- The bytes are an object, framed, and its body is as its kind has it.

@@ -1,4 +1,5 @@
--- The numbers that fit the fields of the values: every value of the program is so.
+-- The numbers that fit the fields of the values: every value of the program is so. Fields of one byte are
+-- left out, since they are read and written as they are.
 use Rattle.std.specs.Prelude.{◌≡◌, ◌<◌, ◌^◌, length}
 use Rattle.std.specs.Net.Addr.{ipv4_octets}
 use Rattle.std.specs.declared.net.Ipv4Addr.{Ipv4Addr}

@@ -21,8 +21,8 @@ impl Treatment {
         ensures { result ≡ treatment_of class }
     {
         match class {
-            0..UNKNOWN_TAKEN => Treatment::Reject,
-            UNKNOWN_TAKEN..UNKNOWN_FORWARDED => Treatment::Ignore,
+            0..UNKNOWN_IGNORED => Treatment::Reject,
+            UNKNOWN_IGNORED..UNKNOWN_FORWARDED => Treatment::Ignore,
             _ => Treatment::Forward,
         }
     }
@@ -72,9 +72,9 @@ pub enum Kind {
     /// 205/1: FAST_REROUTE (RFC 4090, 4.1).
     FastReroute,
     /// 207/7: SESSION_ATTRIBUTE without resource affinities (RFC 3209, 4.7.1).
-    LspTunnel,
+    SessionAttribute,
     /// 207/1: SESSION_ATTRIBUTE with resource affinities (RFC 3209, 4.7.2).
-    LspTunnelRa,
+    SessionAttributeRa,
     /// A class that is known, with a C-Type that isn't listed here.
     Unlisted,
     /// A class that isn't known.
@@ -108,8 +108,11 @@ impl Kind {
             CLASS_EXPLICIT_ROUTE => Kind::listed(ctype == CTYPE_FIRST, Kind::ExplicitRoute),
             CLASS_RECORD_ROUTE => Kind::listed(ctype == CTYPE_FIRST, Kind::RecordRoute),
             CLASS_FAST_REROUTE => Kind::listed(ctype == CTYPE_FIRST, Kind::FastReroute),
-            CLASS_SESSION_ATTRIBUTE if ctype == CTYPE_LSP_TUNNEL_RA => Kind::LspTunnelRa,
-            CLASS_SESSION_ATTRIBUTE => Kind::listed(ctype == CTYPE_LSP_TUNNEL, Kind::LspTunnel),
+            CLASS_SESSION_ATTRIBUTE if ctype == CTYPE_LSP_TUNNEL_RA => Kind::SessionAttributeRa,
+            CLASS_SESSION_ATTRIBUTE => Kind::listed(
+                ctype == CTYPE_LSP_TUNNEL,
+                Kind::SessionAttribute,
+            ),
             _ => Kind::Unknown(Treatment::of(class)),
         }
     }

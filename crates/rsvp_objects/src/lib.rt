@@ -24,8 +24,16 @@ pub use laws::one_object;
 pub use object::Object;
 pub use opaque::Opaque;
 pub use reading::read_object;
+pub use rsvp_bodies::{Body, ObjectFault};
+pub use rsvp_routes::{
+    OtherStep, OtherTrace, Prefix, Record, Route, Step, Subobject, Subobjects, Trace,
+};
+pub use rsvp_traffic::{Flowspec, RateWord, TrafficFault, Tspec};
 pub use values::{
     Affinities, ErrorSpec, FastReroute, Hop, Label, LabelRequest, Session, Style, Template,
     TimeValues,
 };
-pub use writing::write_object;
+pub use writing::{
+    write_explicit_route, write_flowspec, write_object, write_opaque, write_record_route,
+    write_session_attribute, write_tspec,
+};

@@ -49,8 +49,8 @@ pub const CLASS_FAST_REROUTE: u8 = 205;
 /// SESSION_ATTRIBUTE (RFC 3209, 4.7).
 pub const CLASS_SESSION_ATTRIBUTE: u8 = 207;
 
-/// The IPv4 form of RSVP_HOP, ERROR_SPEC and of the objects with one form alone: TIME_VALUES, STYLE,
-/// LABEL, LABEL_REQUEST without a label range, EXPLICIT_ROUTE, RECORD_ROUTE, FAST_REROUTE.
+/// The IPv4 form of RSVP_HOP and ERROR_SPEC, LABEL_REQUEST without a label range, and the one form that is
+/// read of TIME_VALUES, STYLE, LABEL, EXPLICIT_ROUTE, RECORD_ROUTE and FAST_REROUTE.
 pub const CTYPE_FIRST: u8 = 1;
 /// The Integrated Services form of FLOWSPEC and SENDER_TSPEC (RFC 2210, 3).
 pub const CTYPE_INTSERV: u8 = 2;
@@ -84,6 +84,6 @@ pub const AFFINITIES_LEN: usize = 12;
 pub const ATTRIBUTE_HEAD_LEN: usize = 4;
 
 /// The least class that, where it isn't known, doesn't refuse its message: `10bbbbbb` (RFC 2205, 3.10).
-pub const UNKNOWN_TAKEN: u8 = 0x80;
+pub const UNKNOWN_IGNORED: u8 = 0x80;
 /// The least class that, where it isn't known, is sent on: `11bbbbbb` (RFC 2205, 3.10).
 pub const UNKNOWN_FORWARDED: u8 = 0xc0;

@@ -21,8 +21,11 @@ use std::alloc::Global;
 /// The parts of an object where it lies.
 #[derive(Clone, Copy)]
 pub struct Frame<'a> {
+    /// The Class-Num.
     pub class: u8,
+    /// The C-Type.
     pub ctype: u8,
+    /// What stands behind the header.
     pub body: &'a [u8],
 }
 
@@ -83,8 +86,8 @@ fn read_value(alloc: Global, class: u8, ctype: u8, body: &[u8]) -> Result<Object
             body,
             FAST_REROUTE_LEN,
         )?))),
-        Kind::LspTunnel => read_attr(alloc, body).map(Object::SessionAttribute),
-        Kind::LspTunnelRa => read_attr_ra(alloc, body).map(Object::SessionAttribute),
+        Kind::SessionAttribute => read_attr(alloc, body).map(Object::SessionAttribute),
+        Kind::SessionAttributeRa => read_attr_ra(alloc, body).map(Object::SessionAttribute),
         Kind::Null
         | Kind::Integrity
         | Kind::Scope
@@ -102,7 +105,8 @@ fn read_value(alloc: Global, class: u8, ctype: u8, body: &[u8]) -> Result<Object
 
 /// The object that the first bytes spell, and how many bytes it takes. What follows it isn't read.
 ///
-/// [`ObjectFault::Length`] comes exactly where the first bytes spell no object.
+/// [`ObjectFault::Length`] comes only where the first bytes spell no object. Want of memory can come in
+/// place of any answer.
 pub fn read_object(alloc: Global, bytes: &[u8]) -> Result<(Object, usize), ObjectFault>
     ensures { ReadsFirst SpellsObject bytes.now result }
 {

@@ -1,7 +1,4 @@
 use crate::*;
-use rsvp_bodies::{Body, ObjectFault};
-use rsvp_routes::{Step, Trace};
-use rsvp_traffic::RateWord;
 use std::alloc::{AllocError, Global};
 use std::net::Ipv4Addr;
 use std::process::Abort;
@@ -125,6 +122,19 @@ fn objects_of(
     Ok(objects)
 }
 
+// The object written by the call for its own type, where there is one.
+fn write_by_type(object: &Object, out: &mut Vec<u8>) -> Result<(), AllocError> {
+    match object {
+        Object::Flowspec(flowspec) => write_flowspec(flowspec, out),
+        Object::SenderTspec(tspec) => write_tspec(tspec, out),
+        Object::ExplicitRoute(route) => write_explicit_route(route, out),
+        Object::RecordRoute(recorded) => write_record_route(recorded, out),
+        Object::SessionAttribute(attr) => write_session_attribute(attr, out),
+        Object::Other(other) => write_opaque(other, out),
+        _ => write_object(object, out),
+    }
+}
+
 fn assert_written(
     rt: &impl Abort,
     alloc: Global,
@@ -135,6 +145,14 @@ fn assert_written(
     write_object(object, &mut out)?;
     assert_eq!(rt; out.first(), Some(&0xee));
     assert_eq!(rt; &out[1..], bytes_of(alloc, words)?.as_slice());
+    let mut alone = Vec::new(alloc);
+    write_by_type(object, &mut alone)?;
+    assert_eq!(rt; alone.as_slice(), &out[1..]);
+    let class_and_ctype = (object.class(), object.ctype());
+    assert_eq!(rt;
+        alone.get(2).copied().zip(alone.get(3).copied()),
+        Some(class_and_ctype)
+    );
     Ok(())
 }
 
@@ -436,8 +454,8 @@ fn knows_classes_and_c_types(rt: HostRuntime) {
         (20, 1, Kind::ExplicitRoute),
         (21, 1, Kind::RecordRoute),
         (205, 1, Kind::FastReroute),
-        (207, 1, Kind::LspTunnelRa),
-        (207, 7, Kind::LspTunnel),
+        (207, 1, Kind::SessionAttributeRa),
+        (207, 7, Kind::SessionAttribute),
     ];
     for (class, ctype, kind) in known {
         assert_eq!(rt; Kind::of(class, ctype), kind);

@@ -8,7 +8,7 @@ pub struct Session {
     pub endpoint: Ipv4Addr,
     /// The tunnel's number.
     pub tunnel: u16,
-    /// The extended tunnel ID: mostly the address of the tunnel's head.
+    /// The extended tunnel ID: the address of the tunnel's head, or 0.0.0.0.
     pub extended: Ipv4Addr,
 }
 
@@ -17,7 +17,8 @@ pub struct Session {
 pub struct Hop {
     /// The neighbour's address.
     pub address: Ipv4Addr,
-    /// The logical interface handle (LIH): the neighbour's own name for the link.
+    /// The logical interface handle (LIH): set by the upstream node for its outgoing link, and given back
+    /// upstream unread.
     pub interface: u32,
 }
 
@@ -89,7 +90,7 @@ pub struct FastReroute {
     pub setup: u8,
     /// The backup's holding priority, 0 (best) to 7.
     pub hold: u8,
-    /// How many more hops than the protected path the backup may have.
+    /// How many nodes the backup may have between the point of repair and the point where it merges.
     pub hop_limit: u8,
     /// 0x01 asks for one-to-one backup, 0x02 for facility backup.
     pub flags: u8,

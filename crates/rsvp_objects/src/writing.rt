@@ -11,8 +11,10 @@ use crate::attribute::Attr;
 use crate::fixed::*;
 use crate::numbers::*;
 use crate::object::Object;
+use crate::opaque::Opaque;
 use crate::values::Affinities;
 use rsvp_routes::{Record, Route, write_record, write_route};
+use rsvp_traffic::{Flowspec, Tspec};
 use std::alloc::AllocError;
 
 /// Appends an object's header: its length with these four bytes, its class and its C-Type.
@@ -180,6 +182,23 @@ fn put_object(object: &Object, out: &mut Vec<u8>) -> Result<(), AllocError>
     }
 }
 
+/// Hands on whether something was written behind the first `start` bytes; where it wasn't, these alone
+/// are left.
+fn or_undo(
+    written: Result<(), AllocError>,
+    out: &mut Vec<u8>,
+    start: usize,
+) -> Result<(), AllocError>
+    ensures same { result ≡ written }
+    ensures ok { OnOk result (out.new.items ≡ out.old.items) }
+    ensures err { OnErr result (out.new.items ≡ take start out.old.items) }
+{
+    if written.is_err() {
+        out.truncate(start);
+    }
+    written
+}
+
 /// Appends the object's one written spelling, with reserved bytes and padding as zeros. The only error
 /// is want of memory, which leaves `out` as it was.
 pub fn write_object(object: &Object, out: &mut Vec<u8>) -> Result<(), AllocError>
@@ -191,8 +210,71 @@ pub fn write_object(object: &Object, out: &mut Vec<u8>) -> Result<(), AllocError
 {
     let start = out.len();
     let written = put_object(object, out);
-    if written.is_err() {
-        out.truncate(start);
-    }
-    written
+    or_undo(written, out, start)
+}
+
+/// Appends a FLOWSPEC, as [`write_object`].
+pub fn write_flowspec(value: &Flowspec, out: &mut Vec<u8>) -> Result<(), AllocError>
+    ensures ok { OnOk result (out.new.items ≡ out.old.items ++ spelling (Object.Flowspec value.now)) }
+    ensures again { OnOk result (SpellsObject (spelling (Object.Flowspec value.now)) (Object.Flowspec value.now)) }
+    ensures err { OnErr result (out.new.items ≡ out.old.items) }
+{
+    let start = out.len();
+    let written = put_raw(out, CLASS_FLOWSPEC, CTYPE_INTSERV, value.as_slice());
+    or_undo(written, out, start)
+}
+
+/// Appends a SENDER_TSPEC, as [`write_object`].
+pub fn write_tspec(value: &Tspec, out: &mut Vec<u8>) -> Result<(), AllocError>
+    ensures ok { OnOk result (out.new.items ≡ out.old.items ++ spelling (Object.SenderTspec value.now)) }
+    ensures again { OnOk result (SpellsObject (spelling (Object.SenderTspec value.now)) (Object.SenderTspec value.now)) }
+    ensures err { OnErr result (out.new.items ≡ out.old.items) }
+{
+    let start = out.len();
+    let written = put_raw(out, CLASS_SENDER_TSPEC, CTYPE_INTSERV, value.as_slice());
+    or_undo(written, out, start)
+}
+
+/// Appends an EXPLICIT_ROUTE, as [`write_object`].
+pub fn write_explicit_route(value: &Route, out: &mut Vec<u8>) -> Result<(), AllocError>
+    ensures ok { OnOk result (out.new.items ≡ out.old.items ++ spelling (Object.ExplicitRoute value.now)) }
+    ensures again { OnOk result (SpellsObject (spelling (Object.ExplicitRoute value.now)) (Object.ExplicitRoute value.now)) }
+    ensures err { OnErr result (out.new.items ≡ out.old.items) }
+{
+    let start = out.len();
+    let written = put_route(out, value);
+    or_undo(written, out, start)
+}
+
+/// Appends a RECORD_ROUTE, as [`write_object`].
+pub fn write_record_route(value: &Record, out: &mut Vec<u8>) -> Result<(), AllocError>
+    ensures ok { OnOk result (out.new.items ≡ out.old.items ++ spelling (Object.RecordRoute value.now)) }
+    ensures again { OnOk result (SpellsObject (spelling (Object.RecordRoute value.now)) (Object.RecordRoute value.now)) }
+    ensures err { OnErr result (out.new.items ≡ out.old.items) }
+{
+    let start = out.len();
+    let written = put_record(out, value);
+    or_undo(written, out, start)
+}
+
+/// Appends a SESSION_ATTRIBUTE, as [`write_object`].
+pub fn write_session_attribute(value: &Attr, out: &mut Vec<u8>) -> Result<(), AllocError>
+    ensures ok { OnOk result (out.new.items ≡ out.old.items ++ spelling (Object.SessionAttribute value.now)) }
+    ensures again { OnOk result (SpellsObject (spelling (Object.SessionAttribute value.now)) (Object.SessionAttribute value.now)) }
+    ensures err { OnErr result (out.new.items ≡ out.old.items) }
+{
+    let start = out.len();
+    let written = put_attr(out, value);
+    or_undo(written, out, start)
+}
+
+/// Appends an object that is kept as its class, C-Type and body, as [`write_object`].
+pub fn write_opaque(value: &Opaque, out: &mut Vec<u8>) -> Result<(), AllocError>
+    ensures ok { OnOk result (out.new.items ≡ out.old.items ++ spelling (Object.Other value.now)) }
+    ensures again { OnOk result (SpellsObject (spelling (Object.Other value.now)) (Object.Other value.now)) }
+    ensures err { OnErr result (out.new.items ≡ out.old.items) }
+{
+    let start = out.len();
+    let written = put_raw(out, value.class(), value.ctype(), value.body().as_slice());
+    or_undo(written, out, start)
 }
