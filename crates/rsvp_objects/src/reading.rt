@@ -32,7 +32,8 @@ pub struct Frame<'a> {
 /// The first object's parts, where its length is good.
 #[tactic(auto, unfolding(crate::specs::Framing::frame_in))]
 pub fn frame_of(bytes: &[u8]) -> Option<Frame<'_>>
-    ensures { option_map (λ f. record { class = f.class; ctype = f.ctype; body = f.body.now }) result ≡ frame_in bytes.now }
+    ensures { option_map (λ f. record { class = f.class; ctype = f.ctype; body = f.body.now }) result
+        ≡ frame_in bytes.now }
 {
     if bytes.len() < HEADER_LEN {
         return None;
@@ -63,7 +64,9 @@ fn sized(body: &[u8], len: usize) -> Result<&[u8], ObjectFault>
 /// What an object of this class and C-Type says in this body.
 fn read_value(alloc: Global, class: u8, ctype: u8, body: &[u8]) -> Result<Object, ObjectFault>
     requires { IsBody body.now }
-    ensures { ReadsWhole (λ body. SpellsAs (kind_of class ctype) (record { class = class; ctype = ctype; body = body })) body.now result }
+    ensures { ReadsWhole
+        (λ body. SpellsAs (kind_of class ctype) (record { class = class; ctype = ctype; body = body }))
+        body.now result }
 {
     match Kind::of(class, ctype) {
         Kind::Session => Ok(Object::Session(session_of(sized(body, SESSION_LEN)?))),

@@ -20,7 +20,8 @@ use std::alloc::AllocError;
 /// Appends an object's header: its length with these four bytes, its class and its C-Type.
 fn put_header(out: &mut Vec<u8>, class: u8, ctype: u8, body_len: usize) -> Result<(), AllocError>
     requires { body_len ≤ 65528 }
-    ensures ok { OnOk result (out.new.items ≡ out.old.items ++ (big_bytes 2 (body_len + 4) ++ (class ∷ ctype ∷ []))) }
+    ensures ok { OnOk result
+        (out.new.items ≡ out.old.items ++ (big_bytes 2 (body_len + 4) ++ (class ∷ ctype ∷ []))) }
     ensures err { OnErr result (out.new.items ≡ out.old.items) }
 {
     let [high, low] = ((HEADER_LEN + body_len) as u16).to_be_bytes();
@@ -30,7 +31,8 @@ fn put_header(out: &mut Vec<u8>, class: u8, ctype: u8, body_len: usize) -> Resul
 /// Appends an object with this body.
 fn put_raw(out: &mut Vec<u8>, class: u8, ctype: u8, body: &[u8]) -> Result<(), AllocError>
     requires { IsBody body.now }
-    ensures ok { OnOk result (out.new.items ≡ out.old.items ++ object_bytes (record { class = class; ctype = ctype; body = body.now })) }
+    ensures ok { OnOk result
+        (out.new.items ≡ out.old.items ++ object_bytes (record { class = class; ctype = ctype; body = body.now })) }
     ensures err { OnErr result (take (length out.old.items) out.new.items ≡ out.old.items) }
 {
     put_header(out, class, ctype, body.len())?;
@@ -39,7 +41,8 @@ fn put_raw(out: &mut Vec<u8>, class: u8, ctype: u8, body: &[u8]) -> Result<(), A
 
 /// Appends an EXPLICIT_ROUTE.
 fn put_route(out: &mut Vec<u8>, route: &Route) -> Result<(), AllocError>
-    ensures ok { OnOk result (out.new.items ≡ out.old.items ++ object_bytes (raw_of (Object.ExplicitRoute route.now))) }
+    ensures ok { OnOk result
+        (out.new.items ≡ out.old.items ++ object_bytes (raw_of (Object.ExplicitRoute route.now))) }
     ensures err { OnErr result (take (length out.old.items) out.new.items ≡ out.old.items) }
     ensures fits { OnOk result (IsObject (Object.ExplicitRoute route.now)) }
 {
@@ -49,7 +52,8 @@ fn put_route(out: &mut Vec<u8>, route: &Route) -> Result<(), AllocError>
 
 /// Appends a RECORD_ROUTE.
 fn put_record(out: &mut Vec<u8>, recorded: &Record) -> Result<(), AllocError>
-    ensures ok { OnOk result (out.new.items ≡ out.old.items ++ object_bytes (raw_of (Object.RecordRoute recorded.now))) }
+    ensures ok { OnOk result
+        (out.new.items ≡ out.old.items ++ object_bytes (raw_of (Object.RecordRoute recorded.now))) }
     ensures err { OnErr result (take (length out.old.items) out.new.items ≡ out.old.items) }
     ensures fits { OnOk result (IsObject (Object.RecordRoute recorded.now)) }
 {
@@ -78,7 +82,9 @@ fn put_name(out: &mut Vec<u8>, attr: &Attr) -> Result<(), AllocError>
 /// Appends the header of a SESSION_ATTRIBUTE with affinities, and these. So many bytes are to follow.
 fn put_affinities(out: &mut Vec<u8>, affinities: Affinities, len: usize) -> Result<(), AllocError>
     requires { len ≤ 65516 }
-    ensures ok { OnOk result (out.new.items ≡ out.old.items ++ (big_bytes 2 (12 + len + 4) ++ (207 ∷ 1 ∷ affinities_body affinities))) }
+    ensures ok { OnOk result
+        (out.new.items ≡
+        out.old.items ++ (big_bytes 2 (12 + len + 4) ++ (207 ∷ 1 ∷ affinities_body affinities))) }
     ensures err { OnErr result (take (length out.old.items) out.new.items ≡ out.old.items) }
     ensures fits { IsAffinities affinities }
 {
@@ -93,7 +99,8 @@ fn put_affinities(out: &mut Vec<u8>, affinities: Affinities, len: usize) -> Resu
 
 /// Appends a SESSION_ATTRIBUTE, of the C-Type with affinities where it has them.
 fn put_attr(out: &mut Vec<u8>, attr: &Attr) -> Result<(), AllocError>
-    ensures ok { OnOk result (out.new.items ≡ out.old.items ++ object_bytes (attr_raw attr.now)) }
+    ensures ok { OnOk result
+        (out.new.items ≡ out.old.items ++ object_bytes (attr_raw attr.now)) }
     ensures err { OnErr result (take (length out.old.items) out.new.items ≡ out.old.items) }
     ensures fits { OnOk result (IsAttr attr.now) }
 {
@@ -216,7 +223,8 @@ pub fn write_object(object: &Object, out: &mut Vec<u8>) -> Result<(), AllocError
 /// Appends a FLOWSPEC, as [`write_object`].
 pub fn write_flowspec(value: &Flowspec, out: &mut Vec<u8>) -> Result<(), AllocError>
     ensures ok { OnOk result (out.new.items ≡ out.old.items ++ spelling (Object.Flowspec value.now)) }
-    ensures again { OnOk result (SpellsObject (spelling (Object.Flowspec value.now)) (Object.Flowspec value.now)) }
+    ensures again { OnOk result
+        (SpellsObject (spelling (Object.Flowspec value.now)) (Object.Flowspec value.now)) }
     ensures err { OnErr result (out.new.items ≡ out.old.items) }
 {
     let start = out.len();
@@ -227,7 +235,8 @@ pub fn write_flowspec(value: &Flowspec, out: &mut Vec<u8>) -> Result<(), AllocEr
 /// Appends a SENDER_TSPEC, as [`write_object`].
 pub fn write_tspec(value: &Tspec, out: &mut Vec<u8>) -> Result<(), AllocError>
     ensures ok { OnOk result (out.new.items ≡ out.old.items ++ spelling (Object.SenderTspec value.now)) }
-    ensures again { OnOk result (SpellsObject (spelling (Object.SenderTspec value.now)) (Object.SenderTspec value.now)) }
+    ensures again { OnOk result
+        (SpellsObject (spelling (Object.SenderTspec value.now)) (Object.SenderTspec value.now)) }
     ensures err { OnErr result (out.new.items ≡ out.old.items) }
 {
     let start = out.len();
@@ -238,7 +247,8 @@ pub fn write_tspec(value: &Tspec, out: &mut Vec<u8>) -> Result<(), AllocError>
 /// Appends an EXPLICIT_ROUTE, as [`write_object`].
 pub fn write_explicit_route(value: &Route, out: &mut Vec<u8>) -> Result<(), AllocError>
     ensures ok { OnOk result (out.new.items ≡ out.old.items ++ spelling (Object.ExplicitRoute value.now)) }
-    ensures again { OnOk result (SpellsObject (spelling (Object.ExplicitRoute value.now)) (Object.ExplicitRoute value.now)) }
+    ensures again { OnOk result
+        (SpellsObject (spelling (Object.ExplicitRoute value.now)) (Object.ExplicitRoute value.now)) }
     ensures err { OnErr result (out.new.items ≡ out.old.items) }
 {
     let start = out.len();
@@ -249,7 +259,8 @@ pub fn write_explicit_route(value: &Route, out: &mut Vec<u8>) -> Result<(), Allo
 /// Appends a RECORD_ROUTE, as [`write_object`].
 pub fn write_record_route(value: &Record, out: &mut Vec<u8>) -> Result<(), AllocError>
     ensures ok { OnOk result (out.new.items ≡ out.old.items ++ spelling (Object.RecordRoute value.now)) }
-    ensures again { OnOk result (SpellsObject (spelling (Object.RecordRoute value.now)) (Object.RecordRoute value.now)) }
+    ensures again { OnOk result
+        (SpellsObject (spelling (Object.RecordRoute value.now)) (Object.RecordRoute value.now)) }
     ensures err { OnErr result (out.new.items ≡ out.old.items) }
 {
     let start = out.len();
@@ -260,7 +271,8 @@ pub fn write_record_route(value: &Record, out: &mut Vec<u8>) -> Result<(), Alloc
 /// Appends a SESSION_ATTRIBUTE, as [`write_object`].
 pub fn write_session_attribute(value: &Attr, out: &mut Vec<u8>) -> Result<(), AllocError>
     ensures ok { OnOk result (out.new.items ≡ out.old.items ++ spelling (Object.SessionAttribute value.now)) }
-    ensures again { OnOk result (SpellsObject (spelling (Object.SessionAttribute value.now)) (Object.SessionAttribute value.now)) }
+    ensures again { OnOk result
+        (SpellsObject (spelling (Object.SessionAttribute value.now)) (Object.SessionAttribute value.now)) }
     ensures err { OnErr result (out.new.items ≡ out.old.items) }
 {
     let start = out.len();
@@ -271,7 +283,8 @@ pub fn write_session_attribute(value: &Attr, out: &mut Vec<u8>) -> Result<(), Al
 /// Appends an object that is kept as its class, C-Type and body, as [`write_object`].
 pub fn write_opaque(value: &Opaque, out: &mut Vec<u8>) -> Result<(), AllocError>
     ensures ok { OnOk result (out.new.items ≡ out.old.items ++ spelling (Object.Other value.now)) }
-    ensures again { OnOk result (SpellsObject (spelling (Object.Other value.now)) (Object.Other value.now)) }
+    ensures again { OnOk result
+        (SpellsObject (spelling (Object.Other value.now)) (Object.Other value.now)) }
     ensures err { OnErr result (out.new.items ≡ out.old.items) }
 {
     let start = out.len();
