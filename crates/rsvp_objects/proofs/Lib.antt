@@ -5,4 +5,5 @@ pub mod Frames
 pub mod Mapped
 pub mod ObjectCode
 pub mod ObjectRead
+pub mod Sizes
 pub mod Spelled

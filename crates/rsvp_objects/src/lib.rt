@@ -20,7 +20,7 @@ mod writing;
 
 pub use attribute::{Attr, Name};
 pub use kind::{Kind, Treatment};
-pub use laws::one_object;
+pub use laws::{one_object, written_no_longer};
 pub use object::Object;
 pub use opaque::Opaque;
 pub use reading::read_object;

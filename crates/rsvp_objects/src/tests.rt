@@ -178,10 +178,14 @@ fn writes_the_objects_of_messages_as_they_came(rt: HostRuntime) -> Result<(), Fa
     ];
     for (words, count) in messages {
         let mut out = Vec::new(rt.alloc());
+        let mut by_type = Vec::new(rt.alloc());
         for object in &objects_of(&rt, rt.alloc(), words, count)? {
             write_object(object, &mut out)?;
+            write_by_type(object, &mut by_type)?;
         }
-        assert_eq!(rt; out, bytes_of(rt.alloc(), words)?);
+        let expected = bytes_of(rt.alloc(), words)?;
+        assert_eq!(rt; out, expected);
+        assert_eq!(rt; by_type, expected);
     }
     Ok(())
 }
@@ -263,12 +267,14 @@ fn reads_the_routes_of_a_path(rt: HostRuntime) -> Result<(), Fail> {
     };
     assert_eq!(rt; route.as_slice().len(), 3);
     for (step, last) in route.as_slice().iter().zip(2u8..) {
-        assert!(rt;
-            matches!(
-            step,
-            Step::Ipv4 { loose: false, prefix } if prefix.address == node(last) && prefix.length == 32
-        )
-        );
+        let Step::Ipv4 {
+            loose: false,
+            prefix,
+        } = step
+        else {
+            panic!(rt; "another step");
+        };
+        assert_eq!(rt; (prefix.address, prefix.length), (node(last), 32));
     }
     let [Trace::Ipv4 { prefix, flags: 0 }] = record.as_slice() else {
         panic!(rt; "another record");

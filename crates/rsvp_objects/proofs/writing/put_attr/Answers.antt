@@ -1,21 +1,15 @@
 -- Header, affinities and what stands behind them are the object.
-use Rattle.std.proofs.Common.{◌≡◌, ◌+◌, ◌-◌, ◌%◌, ℕ, List, [], ◌∷◌, ◌++◌, length, Option, Some, sym, ap, ◌∙◌, arith, length-append, append_assoc}
+use Rattle.std.proofs.Common.{◌≡◌, ◌+◌, ◌-◌, ◌%◌, ℕ, List, [], ◌∷◌, ◌++◌, length, Option, Some, sym, ap, ◌∙◌, arith, append_assoc}
 use Rattle.std.specs.Option.{option_map_or}
-use Rattle.std.proofs.lemmas.List.{length-replicate}
 use Rattle.std.proofs.lemmas.Result.{on_ok_weaker}
 use Rattle.byteorder.specs.Endian.{big_bytes}
 use Rattle.rsvp_objects.specs.declared.values.Affinities.{Affinities}
 use Rattle.rsvp_objects.specs.declared.attribute.Attr.{Attr}
-use Rattle.rsvp_objects.specs.Names.{padding}
 use Rattle.rsvp_objects.specs.Raw.{object_bytes}
 use Rattle.rsvp_objects.specs.Attributes.{affinities_body, name_body, attr_body, attr_ctype}
 use Rattle.rsvp_objects.specs.Objects.{attr_raw}
+use Rattle.rsvp_objects.proofs.AttrAgain.{length-name_body}
 use Rattle.rsvp_objects.proofs.writing.put_attr.Goals as goal
-
--- how long what stands behind the affinities is
-length-name_body : (attr : Attr) → length (name_body attr) ≡ 4 + length attr.name + (4 - length attr.name % 4) % 4
-length-name_body attr =
-    omega (arith, length-append attr.name (padding (length attr.name)), length-replicate {A = ℕ} ((4 - length attr.name % 4) % 4) 0)
 
 written : (attr : Attr) (affinities : Affinities) (old mid new : List ℕ) (len : ℕ) → attr.affinities ≡ Some affinities →
     len ≡ 4 + length attr.name + (4 - length attr.name % 4) % 4 →

@@ -1,0 +1,83 @@
+//! The objects of each message, in their order. Where there is no memory for one, a part of them may stand
+//! behind what was there.
+
+ghost use Rattle.std.specs.Prelude.{◌≡◌, ◌++◌, OnOk, OnErr, All, take, length};
+ghost use Rattle.std.specs.List.{flat_map};
+ghost use Rattle.rsvp_objects.specs.Objects.{spelling};
+ghost use Rattle.rsvp_contents.specs.Written.{path_err_objects, path_objects, path_tear_objects};
+ghost use Rattle.message_writer.specs.Parts.{IsSpelled, path_sender, path_start, path_wish};
+
+use crate::parts::*;
+use rsvp_contents::{Path, PathErr, PathTear};
+use rsvp_objects::{Object, write_object, write_tspec};
+use std::alloc::AllocError;
+
+/// Appends SESSION, RSVP_HOP and TIME_VALUES.
+fn put_path_start(path: &Path, out: &mut Vec<u8>) -> Result<(), AllocError>
+    ensures ok { OnOk result (out.new.items ≡ out.old.items ++ flat_map spelling (path_start path.now)) }
+    ensures spelled { OnOk result (All IsSpelled (path_start path.now)) }
+    ensures err { OnErr result (take (length out.old.items) out.new.items ≡ out.old.items) }
+{
+    write_object(&Object::Session(path.session), out)?;
+    write_object(&Object::Hop(path.hop), out)?;
+    write_object(&Object::TimeValues(path.time), out)
+}
+
+/// Appends EXPLICIT_ROUTE, LABEL_REQUEST, SESSION_ATTRIBUTE and FAST_REROUTE.
+fn put_path_wish(path: &Path, out: &mut Vec<u8>) -> Result<(), AllocError>
+    ensures ok { OnOk result (out.new.items ≡ out.old.items ++ flat_map spelling (path_wish path.now)) }
+    ensures spelled { OnOk result (All IsSpelled (path_wish path.now)) }
+    ensures err { OnErr result (take (length out.old.items) out.new.items ≡ out.old.items) }
+{
+    put_route(&path.route, out)?;
+    write_object(&Object::LabelRequest(path.label_request), out)?;
+    put_attr(&path.attr, out)?;
+    put_fast_reroute(path.fast_reroute, out)
+}
+
+/// Appends SENDER_TEMPLATE, SENDER_TSPEC, ADSPEC and RECORD_ROUTE: the sender descriptor (RFC 3209, 3.1).
+fn put_path_sender(path: &Path, out: &mut Vec<u8>) -> Result<(), AllocError>
+    ensures ok { OnOk result (out.new.items ≡ out.old.items ++ flat_map spelling (path_sender path.now)) }
+    ensures spelled { OnOk result (All IsSpelled (path_sender path.now)) }
+    ensures err { OnErr result (take (length out.old.items) out.new.items ≡ out.old.items) }
+{
+    write_object(&Object::SenderTemplate(path.sender), out)?;
+    write_tspec(&path.tspec, out)?;
+    put_adspec(path.passing.as_slice(), out)?;
+    put_record(&path.recorded, out)
+}
+
+/// Appends the objects of a Path (RFC 2205, 3.1.3; RFC 3209, 3.1; RFC 4090, 4.1).
+pub(crate) fn put_path(path: &Path, out: &mut Vec<u8>) -> Result<(), AllocError>
+    ensures ok { OnOk result (out.new.items ≡ out.old.items ++ flat_map spelling (path_objects path.now)) }
+    ensures spelled { OnOk result (All IsSpelled (path_objects path.now)) }
+    ensures err { OnErr result (take (length out.old.items) out.new.items ≡ out.old.items) }
+{
+    put_path_start(path, out)?;
+    put_path_wish(path, out)?;
+    put_before_sender(path.passing.as_slice(), out)?;
+    put_path_sender(path, out)
+}
+
+/// Appends the objects of a PathErr (RFC 2205, 3.1.7).
+pub(crate) fn put_path_err(error: &PathErr, out: &mut Vec<u8>) -> Result<(), AllocError>
+    ensures ok { OnOk result (out.new.items ≡ out.old.items ++ flat_map spelling (path_err_objects error.now)) }
+    ensures spelled { OnOk result (All IsSpelled (path_err_objects error.now)) }
+    ensures err { OnErr result (take (length out.old.items) out.new.items ≡ out.old.items) }
+{
+    write_object(&Object::Session(error.session), out)?;
+    write_object(&Object::ErrorSpec(error.error), out)?;
+    write_object(&Object::SenderTemplate(error.sender), out)?;
+    put_tspec(&error.tspec, out)
+}
+
+/// Appends the objects of a PathTear (RFC 2205, 3.1.5).
+pub(crate) fn put_path_tear(tear: &PathTear, out: &mut Vec<u8>) -> Result<(), AllocError>
+    ensures ok { OnOk result (out.new.items ≡ out.old.items ++ flat_map spelling (path_tear_objects tear.now)) }
+    ensures spelled { OnOk result (All IsSpelled (path_tear_objects tear.now)) }
+    ensures err { OnErr result (take (length out.old.items) out.new.items ≡ out.old.items) }
+{
+    write_object(&Object::Session(tear.session), out)?;
+    write_object(&Object::Hop(tear.hop), out)?;
+    write_object(&Object::SenderTemplate(tear.sender), out)
+}

@@ -1,0 +1,12 @@
+pub mod Asked
+pub mod Kept
+pub mod Listed
+pub mod Once
+pub mod PathAgain
+pub mod PathPicks
+pub mod ReadMessages
+pub mod Readings
+pub mod Refused
+pub mod Seen
+pub mod Spelled
+pub mod Totals

@@ -1,0 +1,7 @@
+pub mod Answers
+pub mod Counting
+pub mod Dropping
+pub mod Limits
+pub mod Picking
+pub mod Spelling
+pub mod Written

@@ -1,0 +1,31 @@
+//! What holds of messages whoever reads or writes them. Each law is the contract of a function that does
+//! nothing.
+
+ghost use Rattle.std.specs.Prelude.{◌≡◌, ℕ, List};
+ghost use Rattle.std.specs.List.{All};
+ghost use Rattle.rsvp_objects.specs.Objects.{SpellsObject, spelling};
+ghost use Rattle.rsvp_contents.specs.declared.dropped.Dropped.{Dropped};
+ghost use Rattle.rsvp_contents.specs.declared.messages.Content.{Content};
+ghost use Rattle.rsvp_contents.specs.declared.message.Reading.{Reading};
+ghost use Rattle.rsvp_contents.specs.declared.message.Reading.TheVariants.{Unknown, Whole};
+ghost use Rattle.rsvp_contents.specs.Written.{objects_of, message_bytes};
+ghost use Rattle.rsvp_contents.specs.Spelling.{IsFirstFault, IsMessage, SpellsReading};
+
+/// What is read is a message: it can be written in at most 4,096 bytes, and its objects are read again as
+/// the same content.
+pub fn what_is_read_is_a_message()
+    ensures whole { (bytes : List ℕ) (content : Content) → SpellsReading bytes (Whole content) → IsMessage content }
+    ensures unknown { (bytes : List ℕ) (content : Content) (class ctype : ℕ) → SpellsReading bytes (Unknown content class ctype) → IsMessage content }
+{}
+
+/// No bytes spell two readings, none have two first faults, and none that spell a reading have a fault.
+pub fn one_reading()
+    ensures reading { (bytes : List ℕ) (a b : Reading) → SpellsReading bytes a → SpellsReading bytes b → a ≡ b }
+    ensures fault { (bytes : List ℕ) (f g : Dropped) → IsFirstFault bytes f → IsFirstFault bytes g → f ≡ g }
+    ensures not_both { (bytes : List ℕ) (reading : Reading) (f : Dropped) → SpellsReading bytes reading → IsFirstFault bytes f → ⊥ }
+{}
+
+/// What a message is written as spells it whole.
+pub fn what_is_written_spells()
+    ensures { (content : Content) → IsMessage content → All (λ o. SpellsObject (spelling o) o) (objects_of content) → SpellsReading (message_bytes content) (Whole content) }
+{}

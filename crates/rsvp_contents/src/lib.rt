@@ -1,0 +1,15 @@
+//! What the messages of RSVP say, and which bytes spell it: Path, PathErr and PathTear (RFC 2205, 3.1;
+//! RFC 3209, 3), the faults of bytes that spell none, and the limits on what a message carries.
+#![tactic(auto)]
+
+mod dropped;
+pub mod laws;
+mod message;
+mod messages;
+pub mod numbers;
+mod passing;
+
+pub use dropped::Dropped;
+pub use message::{Message, Reading};
+pub use messages::{Content, Path, PathErr, PathTear};
+pub use passing::Passing;
