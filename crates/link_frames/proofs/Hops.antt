@@ -1,10 +1,10 @@
 -- From what a message is read as to what its Hop frame is read as.
 use Rattle.std.proofs.Common.{◌≡◌, ◌≤◌, ℕ, List, [], ◌∷◌, length, drop, get_or, Result, Ok, Err, IsOkAnd, MatchResult, sym, ap, ◌∙◌, refl, inr, arith, subst}
-use Rattle.rsvp_contents.specs.declared.dropped.Dropped.{Dropped}
-use Rattle.rsvp_contents.specs.declared.dropped.Dropped.TheVariants as dropped
-use Rattle.rsvp_contents.specs.declared.message.Reading.{Reading}
-use Rattle.rsvp_contents.specs.Spelling.{SpellsReading, IsFirstFault, ReadsMessage}
-use Rattle.rsvp_contents.specs.Answers.{Tells, IsTold, ReadsOrDrops}
+use Rattle.rsvp_messages.specs.Dropped.{Dropped}
+use Rattle.rsvp_messages.specs.Dropped.TheVariants as dropped
+use Rattle.rsvp_messages.specs.Reading.{Reading}
+use Rattle.rsvp_messages.specs.Spelling.{SpellsReading, IsFirstFault, ReadsMessage}
+use Rattle.rsvp_messages.specs.Answers.{Tells, IsTold, ReadsOrDrops}
 use Rattle.link_frames.specs.declared.frame.Frame.{Frame}
 use Rattle.link_frames.specs.declared.frame.Frame.TheVariants as frames
 use Rattle.link_frames.specs.Frames.{SpellsFrame, IsFirstFrameFault, ReadsFrame}

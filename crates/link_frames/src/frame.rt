@@ -1,4 +1,7 @@
-use rsvp_contents::Reading;
+ghost use Rattle.std.specs.Prelude.{◌≡◌};
+
+use rsvp_messages::Reading;
+use std::alloc::AllocError;
 
 /// The kind of a Hop frame.
 pub const KIND_HOP: u8 = 1;
@@ -8,4 +11,15 @@ pub const KIND_HOP: u8 = 1;
 pub enum Frame {
     /// Kind 1: a message from neighbour to neighbour.
     Hop(Reading),
+}
+
+impl Clone for Frame {
+    ghost is_clone = { λ source copy. copy ≡ source };
+
+    /// A copy of the frame. The only error is want of memory.
+    fn clone(&self) -> Result<Frame, AllocError> {
+        match self {
+            Frame::Hop(reading) => Ok(Frame::Hop(reading.clone()?)),
+        }
+    }
 }

@@ -1,8 +1,7 @@
 ghost use Rattle.link_frames.specs.Frames.{ReadsFrame};
 
 use crate::frame::{Frame, KIND_HOP};
-use message_reader::read_message;
-use rsvp_contents::Dropped;
+use rsvp_messages::{Dropped, read_message};
 use std::alloc::Global;
 
 /// The frame that the datagram is, or its first fault: [`Dropped::Short`] where it is empty,

@@ -2,8 +2,7 @@ ghost use Rattle.std.specs.Prelude.{◌≡◌, ◌++◌, OnOk, OnErr};
 ghost use Rattle.link_frames.specs.Frames.{frame_bytes, IsWhole, SpellsFrame};
 
 use crate::frame::{Frame, KIND_HOP};
-use message_writer::write_message;
-use rsvp_contents::Reading;
+use rsvp_messages::{Reading, write_message};
 use std::alloc::AllocError;
 
 /// Appends the frame, whose message was read whole. The only error is want of memory, which leaves `out`

@@ -1,4 +1,6 @@
-ghost use Rattle.std.specs.Prelude.{◌≡◌, IfOk};
+ghost use Rattle.std.specs.Prelude.{◌≡◌, ◌↔◌, nat_eq, IfOk, IsTrue};
+ghost use Rattle.std.specs.Cmp.{partial_equiv_from_equiv};
+ghost use Rattle.std.specs.Cmp.Lexicographic.{pointwise, nat_list_eq_equiv};
 ghost use Rattle.rsvp_bodies.specs.Bodies.{IsBody};
 
 use std::alloc::{AllocError, Global};
@@ -59,6 +61,24 @@ impl Body {
     {
         self.bytes.as_slice()
     }
+}
+
+impl PartialEq for Body {
+    ghost eq = { pointwise nat_eq };
+
+    ghost laws = { partial_equiv_from_equiv nat_list_eq_equiv };
+
+    /// Whether their bytes are the same.
+    fn eq(&self, other: &Body) -> bool
+        ensures same { IsTrue result ↔ (self.now ≡ other.now) }
+        ensures pairwise { result ≡ pointwise nat_eq self.now other.now }
+    {
+        self.as_slice() == other.as_slice()
+    }
+}
+
+impl Eq for Body {
+    ghost laws = { nat_list_eq_equiv };
 }
 
 impl Clone for Body {

@@ -38,6 +38,15 @@ fn bodies_have_from_no_byte_to_the_most(rt: HostRuntime) -> Result<(), Fail> {
 }
 
 #[test]
+fn bodies_are_equal_by_their_bytes(rt: HostRuntime) -> Result<(), Fail> {
+    let body = Body::copy_of(rt.alloc(), &[1, 2, 3, 4])?;
+    assert!(rt; body == body.clone()?);
+    assert!(rt; body != Body::copy_of(rt.alloc(), &[1, 2, 3, 5])?);
+    assert!(rt; body != Body::copy_of(rt.alloc(), &[])?);
+    Ok(())
+}
+
+#[test]
 fn an_address_has_its_highest_octet_first(rt: HostRuntime) -> Result<(), Fail> {
     let address = address_of(&SAMPLE);
     assert_eq!(rt; address, Ipv4Addr::new(192, 0, 2, 17));

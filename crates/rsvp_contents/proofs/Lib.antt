@@ -1,7 +1,12 @@
 pub mod Asked
+pub mod Bytes
+pub mod ClassOnce
+pub mod Fitted
 pub mod Kept
+pub mod LastAlone
 pub mod Listed
 pub mod Once
+pub mod PassedAgain
 pub mod PathAgain
 pub mod PathPicks
 pub mod ReadMessages

@@ -80,19 +80,19 @@ eight : {A B C D E F G H X : Type 0} (f : A → B → C → D → E → F → G 
 eight f p q r s t u v w = cc
 
 -- a Path is said again by its objects
-path_of-listed : (p : Path) (os : List Object) → p.passing ≡ passing_of os → path_of (listed_path p os) ≡ Some (contents.Path p)
+pub path_of-listed : (p : Path) (os : List Object) → p.passing ≡ passing_of os → path_of (listed_path p os) ≡ Some (contents.Path p)
 path_of-listed p os e =
     eight (path_made (Some p.session) (Some p.hop) (Some p.time))
     (has_label_request p os) (has_sender p os) (has_tspec p os) (has_route p os) (has_attr p os) (has_fast_reroute p os)
     (passing_of-listed p os ∙ sym e) (has_recorded p os)
 
 -- whether routes and what is passed on are short
-abbrev are_short : Option (List Step) → Option (List Trace) → List Raw → Bool
+abbrev pub are_short : Option (List Step) → Option (List Trace) → List Raw → Bool
 are_short route recorded passing =
     option_map_or is_short_route route true && (option_map_or is_short_record recorded true && is_short_passing passing)
 
 -- a function of three values at equal values
-three : {A B C X : Type 0} (f : A → B → C → X) {a a' : A} {b b' : B} {c c' : C} → a ≡ a' → b ≡ b' → c ≡ c' → f a b c ≡ f a' b' c'
+pub three : {A B C X : Type 0} (f : A → B → C → X) {a a' : A} {b b' : B} {c c' : C} → a ≡ a' → b ≡ b' → c ≡ c' → f a b c ≡ f a' b' c'
 three f p q r = cc
 
 -- a Path's parts are as short as they were
@@ -100,13 +100,13 @@ has_short_parts-listed : (p : Path) (os : List Object) → p.route ≡ picked as
 has_short_parts-listed p os e f = three are_short (has_route p os ∙ e) (has_recorded p os ∙ f) (passing_of-listed p os)
 
 -- what is read from objects with short parts, which say a Path, and of which none makes it unknown
-whole_path : (short : Bool) (o : Option Content) (found : Option Object) (content : Content) → short ≡ true → o ≡ Some content → found ≡ None →
+pub whole_path : (short : Bool) (o : Option Content) (found : Option Object) (content : Content) → short ≡ true → o ≡ Some content → found ≡ None →
     (if short then ok_or (option_map (λ content. reading_of content found) o) dropped.MissingObject else Err dropped.TooLong) ≡ Ok (readings.Whole content)
 whole_path short o found content e f g =
     three (λ (short : Bool) (o : Option Content) (found : Option Object). if short then ok_or (option_map (λ content. reading_of content found) o) dropped.MissingObject else Err dropped.TooLong) e f g
 
 -- what is read from objects that count whole, without INTEGRITY
-objects_read-path : (xs : List Object) (r : Result Reading Dropped) → counting xs ≡ xs → list_any is_integrity xs ≡ false → path_read xs ≡ r → objects_read 1 xs ≡ r
+pub objects_read-path : (xs : List Object) (r : Result Reading Dropped) → counting xs ≡ xs → list_any is_integrity xs ≡ false → path_read xs ≡ r → objects_read 1 xs ≡ r
 objects_read-path xs r whole plain e =
     ap (λ (os : List Object). if list_any is_integrity os then Err dropped.Integrity else path_read os) whole
     ∙ cond-false (list_any is_integrity xs) (Err dropped.Integrity) (path_read xs) plain

@@ -28,7 +28,7 @@ use Rattle.rsvp_contents.proofs.Listed.{path_objects-listed}
 use Rattle.rsvp_contents.proofs.PathAgain.{said_path, listed_within, path_again}
 
 -- a PathErr is read again
-path_err_again : (session : Session) (error : ErrorSpec) (sender : Template) (tspec : Option (List ℕ)) →
+pub path_err_again : (session : Session) (error : ErrorSpec) (sender : Template) (tspec : Option (List ℕ)) →
     let e : PathErr = record { session = session; error = error; sender = sender; tspec = tspec } in
     objects_read 3 (path_err_objects e) ≡ Ok (readings.Whole (contents.PathErr e))
 unfolding kind_of
@@ -36,7 +36,7 @@ path_err_again session error sender None = refl
 path_err_again session error sender (Some tspec) = refl
 
 -- a PathTear is read again
-path_tear_again : (t : PathTear) → objects_read 5 (path_tear_objects t) ≡ Ok (readings.Whole (contents.PathTear t))
+pub path_tear_again : (t : PathTear) → objects_read 5 (path_tear_objects t) ≡ Ok (readings.Whole (contents.PathTear t))
 unfolding kind_of
 path_tear_again t = refl
 

@@ -1,13 +1,14 @@
 //! What holds of messages whoever reads or writes them. Each law is the contract of a function that does
 //! nothing.
 
-ghost use Rattle.std.specs.Prelude.{◌≡◌, ℕ, List};
+ghost use Rattle.std.specs.Prelude.{◌≡◌, ◌↔◌, IsTrue, ℕ, List};
 ghost use Rattle.std.specs.List.{All};
 ghost use Rattle.rsvp_objects.specs.Objects.{SpellsObject, spelling};
 ghost use Rattle.rsvp_contents.specs.declared.dropped.Dropped.{Dropped};
 ghost use Rattle.rsvp_contents.specs.declared.messages.Content.{Content};
 ghost use Rattle.rsvp_contents.specs.declared.message.Reading.{Reading};
 ghost use Rattle.rsvp_contents.specs.declared.message.Reading.TheVariants.{Unknown, Whole};
+ghost use Rattle.rsvp_contents.specs.Fitting.{fits};
 ghost use Rattle.rsvp_contents.specs.Written.{objects_of, message_bytes};
 ghost use Rattle.rsvp_contents.specs.Spelling.{IsFirstFault, IsMessage, SpellsReading};
 
@@ -28,4 +29,11 @@ pub fn one_reading()
 /// What a message is written as spells it whole.
 pub fn what_is_written_spells()
     ensures { (content : Content) → IsMessage content → All (λ o. SpellsObject (spelling o) o) (objects_of content) → SpellsReading (message_bytes content) (Whole content) }
+{}
+
+/// Content is a message exactly where it fits: it is written in at most 4,096 bytes; the route, the record
+/// and what is passed on are within their limits; and that is what a reader passes on, an ADSPEC last and
+/// at most one object of class FAST_REROUTE with the Path's own.
+pub fn what_fits_is_a_message()
+    ensures { (content : Content) → IsMessage content ↔ IsTrue (fits content) }
 {}

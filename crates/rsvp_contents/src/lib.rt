@@ -3,11 +3,16 @@
 #![tactic(auto)]
 
 mod dropped;
+mod fitting;
 pub mod laws;
+mod lengths;
+pub mod limits;
 mod message;
 mod messages;
 pub mod numbers;
 mod passing;
+#[cfg(test)]
+mod tests;
 
 pub use dropped::Dropped;
 pub use message::{Message, Reading};

@@ -1,6 +1,8 @@
-ghost use Rattle.std.specs.Prelude.{◌≡◌};
+ghost use Rattle.std.specs.Prelude.{◌≡◌, ◌↔◌, IsTrue, IsOk, IfOk, IfErr};
 
+use crate::fitting::fits;
 use crate::messages::Content;
+use std::alloc::AllocError;
 use std::marker::Model;
 
 /// A message: content whose parts are within their limits, and which is written in at most 4,096 bytes
@@ -23,6 +25,7 @@ impl Model for Message {
 }
 
 impl Message {
+    ghost use Rattle.rsvp_contents.specs.Fitting.{HasRoom, fits_parts};
     ghost use Rattle.rsvp_contents.specs.Spelling.{IsMessage};
 
     /// The message with this content. Takes no memory.
@@ -31,6 +34,33 @@ impl Message {
         ensures { result ≡ content }
     {
         Message { content }
+    }
+
+    /// Whether the content is a message: its parts fit, and it is written in at most
+    /// [`crate::numbers::MAX_MESSAGE_LEN`] bytes.
+    pub fn fits(content: &Content) -> bool
+        ensures message { IsTrue result ↔ IsMessage content.now }
+
+        // Only a long Tspec makes a message too long whose parts fit.
+        ensures room { IsTrue (fits_parts content.now) → HasRoom content.now → IsTrue result }
+    {
+        fits(content)
+    }
+
+    /// The message with this content, where it is one ([`Message::fits`]). Where it is none, it is given
+    /// back. Takes no memory.
+    pub fn checked(content: Content) -> Result<Message, Content>
+        ensures ok { IfOk result (λ message. (message ≡ content) × IsMessage content) }
+        ensures err { IfErr result (λ back. (back ≡ content) × ¬ IsMessage content) }
+
+        // Only a long Tspec makes a message too long whose parts fit.
+        ensures room { IsTrue (fits_parts content) → HasRoom content → IsOk result }
+    {
+        if Message::fits(&content) {
+            Ok(Message::new(content))
+        } else {
+            Err(content)
+        }
     }
 
     /// What it says.
@@ -51,6 +81,17 @@ impl Message {
     }
 }
 
+impl Clone for Message {
+    ghost is_clone = { λ source copy. copy ≡ source };
+
+    /// A copy of the message. The only error is want of memory.
+    fn clone(&self) -> Result<Message, AllocError> {
+        Ok(Message {
+            content: self.content.clone()?,
+        })
+    }
+}
+
 /// What a message was read as.
 #[derive(Debug, Drop)]
 pub enum Reading {
@@ -58,4 +99,18 @@ pub enum Reading {
     Whole(Message),
     /// A message with an object that its type doesn't know: its Class-Num and C-Type.
     Unknown(Message, u8, u8),
+}
+
+impl Clone for Reading {
+    ghost is_clone = { λ source copy. copy ≡ source };
+
+    /// A copy of the reading. The only error is want of memory.
+    fn clone(&self) -> Result<Reading, AllocError> {
+        match self {
+            Reading::Whole(message) => Ok(Reading::Whole(message.clone()?)),
+            Reading::Unknown(message, class, ctype) => {
+                Ok(Reading::Unknown(message.clone()?, *class, *ctype))
+            }
+        }
+    }
 }

@@ -1,9 +1,12 @@
+ghost use Rattle.std.specs.Prelude.{◌≡◌};
+
 use crate::passing::Passing;
 use rsvp_objects::{
     Attr, ErrorSpec, FastReroute, Hop, LabelRequest, Session, Template, TimeValues,
 };
 use rsvp_routes::{Record, Route};
 use rsvp_traffic::Tspec;
+use std::alloc::AllocError;
 
 /// A Path: a sender's wish for a path, on its way to the endpoint (RFC 2205, 3.1.3; RFC 3209, 3.1).
 #[derive(Debug, Drop)]
@@ -32,6 +35,27 @@ pub struct Path {
     pub recorded: Option<Record>,
 }
 
+impl Clone for Path {
+    ghost is_clone = { λ source copy. copy ≡ source };
+
+    /// A copy of the Path. The only error is want of memory.
+    fn clone(&self) -> Result<Path, AllocError> {
+        Ok(Path {
+            session: self.session,
+            hop: self.hop,
+            time: self.time,
+            route: self.route.clone()?,
+            label_request: self.label_request,
+            attr: self.attr.clone()?,
+            fast_reroute: self.fast_reroute,
+            passing: self.passing.clone()?,
+            sender: self.sender,
+            tspec: self.tspec.clone()?,
+            recorded: self.recorded.clone()?,
+        })
+    }
+}
+
 /// A PathErr: an error of a Path, on its way back to the sender (RFC 2205, 3.1.7).
 #[derive(Debug, Drop)]
 pub struct PathErr {
@@ -43,6 +67,20 @@ pub struct PathErr {
     pub sender: Template,
     /// The traffic of the Path that is answered.
     pub tspec: Option<Tspec>,
+}
+
+impl Clone for PathErr {
+    ghost is_clone = { λ source copy. copy ≡ source };
+
+    /// A copy of the PathErr. The only error is want of memory.
+    fn clone(&self) -> Result<PathErr, AllocError> {
+        Ok(PathErr {
+            session: self.session,
+            error: self.error,
+            sender: self.sender,
+            tspec: self.tspec.clone()?,
+        })
+    }
 }
 
 /// A PathTear: the end of a path (RFC 2205, 3.1.5).
@@ -65,4 +103,17 @@ pub enum Content {
     PathErr(PathErr),
     /// A PathTear, type 5.
     PathTear(PathTear),
+}
+
+impl Clone for Content {
+    ghost is_clone = { λ source copy. copy ≡ source };
+
+    /// A copy of the content. The only error is want of memory.
+    fn clone(&self) -> Result<Content, AllocError> {
+        match self {
+            Content::Path(path) => Ok(Content::Path(path.clone()?)),
+            Content::PathErr(error) => Ok(Content::PathErr(error.clone()?)),
+            Content::PathTear(tear) => Ok(Content::PathTear(*tear)),
+        }
+    }
 }

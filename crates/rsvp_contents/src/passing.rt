@@ -45,3 +45,14 @@ impl Passing {
         self.objects.as_slice()
     }
 }
+
+impl Clone for Passing {
+    ghost is_clone = { λ source copy. copy ≡ source };
+
+    /// A copy of the objects. The only error is want of memory.
+    fn clone(&self) -> Result<Passing, AllocError> {
+        Ok(Passing {
+            objects: self.objects.clone()?,
+        })
+    }
+}

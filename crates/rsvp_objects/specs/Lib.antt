@@ -5,4 +5,5 @@ pub mod Names
 pub mod Objects
 pub mod Ranges
 pub mod Raw
+pub mod RawLaws
 pub mod Values

@@ -1,4 +1,6 @@
-ghost use Rattle.std.specs.Prelude.{◌≡◌, IfOk};
+ghost use Rattle.std.specs.Prelude.{◌≡◌, ◌↔◌, nat_eq, IfOk, IsTrue};
+ghost use Rattle.std.specs.Cmp.{partial_equiv_from_equiv};
+ghost use Rattle.std.specs.Cmp.Lexicographic.{pointwise, nat_list_eq_equiv};
 ghost use Rattle.rsvp_objects.specs.Names.{IsName};
 
 use crate::values::Affinities;
@@ -61,6 +63,24 @@ impl Name {
     }
 }
 
+impl PartialEq for Name {
+    ghost eq = { pointwise nat_eq };
+
+    ghost laws = { partial_equiv_from_equiv nat_list_eq_equiv };
+
+    /// Whether their bytes are the same.
+    fn eq(&self, other: &Name) -> bool
+        ensures same { IsTrue result ↔ (self.now ≡ other.now) }
+        ensures pairwise { result ≡ pointwise nat_eq self.now other.now }
+    {
+        self.as_slice() == other.as_slice()
+    }
+}
+
+impl Eq for Name {
+    ghost laws = { nat_list_eq_equiv };
+}
+
 impl Clone for Name {
     ghost is_clone = { λ source copy. copy ≡ source };
 
@@ -71,7 +91,7 @@ impl Clone for Name {
 }
 
 /// SESSION_ATTRIBUTE (RFC 3209, 4.7).
-#[derive(Debug, Drop)]
+#[derive(Debug, PartialEq, Eq, Drop)]
 pub struct Attr {
     /// The resource affinities, in an object of the type that has them.
     pub affinities: Option<Affinities>,

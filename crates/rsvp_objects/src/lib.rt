@@ -20,7 +20,7 @@ mod writing;
 
 pub use attribute::{Attr, Name};
 pub use kind::{Kind, Treatment};
-pub use laws::{one_object, written_no_longer};
+pub use laws::{equal_attributes_are_same, one_object, written_no_longer};
 pub use object::Object;
 pub use opaque::Opaque;
 pub use reading::read_object;

@@ -1,5 +1,7 @@
-ghost use Rattle.std.specs.Prelude.{◌≡◌, IsTrue, IfOk};
+ghost use Rattle.std.specs.Prelude.{◌≡◌, ◌↔◌, IsTrue, IfOk};
+ghost use Rattle.std.specs.Cmp.{decided, partial_equiv_from_equiv};
 ghost use Rattle.rsvp_objects.specs.Kinds.{kind_of, is_kept};
+ghost use Rattle.rsvp_objects.specs.RawLaws.{same_raw, same_raw_lem};
 ghost use Rattle.rsvp_bodies.specs.Bodies.{IsBody};
 
 use crate::kind::Kind;
@@ -73,6 +75,25 @@ impl Opaque {
     {
         Kind::of(self.class, self.ctype)
     }
+}
+
+impl PartialEq for Opaque {
+    ghost eq = { same_raw };
+
+    ghost laws = { partial_equiv_from_equiv (decided same_raw same_raw_lem) };
+
+    /// Whether class, C-Type and body are the same.
+    fn eq(&self, other: &Opaque) -> bool
+        ensures same { IsTrue result ↔ (self.now ≡ other.now) }
+        ensures parts { result ≡ same_raw self.now other.now }
+    {
+        let are_alike = self.class == other.class && self.ctype == other.ctype;
+        are_alike && self.body == other.body
+    }
+}
+
+impl Eq for Opaque {
+    ghost laws = { decided same_raw same_raw_lem };
 }
 
 impl Clone for Opaque {

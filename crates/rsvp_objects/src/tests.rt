@@ -601,15 +601,45 @@ fn writes_the_longest_name(rt: HostRuntime) -> Result<(), Fail> {
 #[test]
 fn makes_and_takes_apart_a_kept_object(rt: HostRuntime) -> Result<(), Fail> {
     let kind = Kind::of(0xc5, 1);
-    assert!(rt; kind.is_kept());
+    assert!(rt; kind.is_kept() && Kind::of(0xc5, 2).is_kept());
     assert!(rt; !Kind::Label.is_kept());
     let body = Body::copy_of(rt.alloc(), &[1, 2, 3, 4])?;
-    let other = Opaque::new(0xc5, 1, body).clone()?;
+    let first = Opaque::new(0xc5, 1, body.clone()?);
+    let other = first.clone()?;
+    assert!(rt; other == first);
+    assert!(rt; other != Opaque::new(0xc5, 2, body));
     assert_eq!(rt;
         (other.class(), other.ctype(), other.kind()),
         (0xc5, 1, kind)
     );
     assert_eq!(rt; other.body().as_slice(), [1, 2, 3, 4].as_slice());
     assert_eq!(rt; other.into_body().as_slice(), [1, 2, 3, 4].as_slice());
+    Ok(())
+}
+
+#[test]
+fn attributes_are_equal_where_each_is(rt: HostRuntime) -> Result<(), Fail> {
+    let attr = Attr {
+        affinities: None,
+        setup: 7,
+        hold: 0,
+        flags: 4,
+        name: Name::copy_of(rt.alloc(), b"lsp1")?,
+    };
+    assert!(rt; attr == attr.clone()?);
+    let mut other = attr.clone()?;
+    other.flags = 6;
+    assert!(rt; attr != other);
+    other.flags = 4;
+    other.affinities = Some(Affinities {
+        exclude_any: 0,
+        include_any: 0,
+        include_all: 0,
+    });
+    assert!(rt; attr != other);
+    other.affinities = None;
+    assert!(rt; attr == other);
+    other.name = Name::copy_of(rt.alloc(), b"lsp2")?;
+    assert!(rt; attr != other);
     Ok(())
 }

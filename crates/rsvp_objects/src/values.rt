@@ -2,7 +2,7 @@ use rsvp_traffic::RateWord;
 use std::net::Ipv4Addr;
 
 /// SESSION of an LSP tunnel (RFC 3209, 4.6.1.1): what all LSPs of a tunnel share.
-#[derive(Clone, Copy, Debug, PartialEq, Eq)]
+#[derive(Clone, Copy, Debug, PartialEq, Eq, PartialOrd, Ord)]
 pub struct Session {
     /// The tunnel's end.
     pub endpoint: Ipv4Addr,
@@ -50,7 +50,7 @@ pub struct Style {
 }
 
 /// SENDER_TEMPLATE and FILTER_SPEC of an LSP tunnel (RFC 3209, 4.6.2.1 and 4.6.3.1): one LSP of a session.
-#[derive(Clone, Copy, Debug, PartialEq, Eq)]
+#[derive(Clone, Copy, Debug, PartialEq, Eq, PartialOrd, Ord)]
 pub struct Template {
     /// The address of the LSP's head.
     pub sender: Ipv4Addr,

@@ -1,3 +1,4 @@
+pub mod PrefixLaws
 pub mod Prefixes
 pub mod StepLaws
 pub mod Steps

@@ -2,6 +2,12 @@
 use Rattle.std.proofs.Common.{◌≡◌, ◌∙◌, ℕ, Bool, true, false, List, Some, None, if◌then◌else◌, length, drop, refl, sym, arith}
 use Rattle.std.proofs.lemmas.List.{length-append, length-take, length-drop}
 use Rattle.std.proofs.lemmas.Bool.{eqb-true}
+use Rattle.std.specs.Bool.{Decides}
+use Rattle.std.specs.Cmp.{booleans_Decides}
+use Rattle.std.specs.Cmp.Lexicographic.{bytes_decides}
+use Rattle.std.proofs.lemmas.Bool.Decides.{Decides-and, Decides-like}
+use Rattle.rsvp_routes.specs.PrefixLaws as prefixes
+use Rattle.rsvp_routes.specs.contracts.step.StepPartialEq.TheImpl.{ghosts}
 use Rattle.rsvp_routes.specs.Subobjects.{IsSubobject}
 use Rattle.rsvp_routes.specs.Prefixes.{prefix_at}
 use Rattle.rsvp_routes.specs.Steps.{SpellsStep, step_bytes}
@@ -35,3 +41,13 @@ same_length_lem bytes x s =
     let counted : length bytes ≡ 8 = eqb-true _ _ whole in
     (omega (arith, length-take 4 (drop 2 bytes), length-drop 2 bytes), counted))
     s.value
+
+-- two steps compare as equal exactly where they are the same
+pub equal_is_same_lem : (a b : Step) → Decides (ghosts.eq a b) (a ≡ b)
+equal_is_same_lem (Ipv4 loose prefix) (Ipv4 other_loose other_prefix) =
+    Decides-like _ (λ h i. Ipv4 (h.0 i) (h.1 i)) (λ e. (cc, cc))
+    (Decides-and _ _ (booleans_Decides loose other_loose) (prefixes.equal_is_same_lem prefix other_prefix))
+equal_is_same_lem (Ipv4 loose prefix) (Other bytes) = (λ e. absurd cc, λ e. absurd cc)
+equal_is_same_lem (Other bytes) (Ipv4 loose prefix) = (λ e. absurd cc, λ e. absurd cc)
+equal_is_same_lem (Other bytes) (Other other_bytes) =
+    Decides-like _ (λ e i. Other (e i)) (λ e. cc) (bytes_decides bytes other_bytes)

@@ -2,6 +2,11 @@
 use Rattle.std.proofs.Common.{◌≡◌, ◌∙◌, ◌&&◌, ℕ, Bool, true, false, List, Some, None, if◌then◌else◌, length, drop, refl, sym, arith}
 use Rattle.std.proofs.lemmas.List.{length-append, length-take, length-drop}
 use Rattle.std.proofs.lemmas.Bool.{eqb-true}
+use Rattle.std.specs.Bool.{Decides}
+use Rattle.std.specs.Cmp.Lexicographic.{bytes_decides}
+use Rattle.std.proofs.lemmas.Bool.Decides.{Decides-and, Decides-eqb, Decides-like}
+use Rattle.rsvp_routes.specs.PrefixLaws as prefixes
+use Rattle.rsvp_routes.specs.contracts.trace.TracePartialEq.TheImpl.{ghosts}
 use Rattle.rsvp_routes.specs.Subobjects.{IsSubobject, is_label}
 use Rattle.rsvp_routes.specs.Prefixes.{prefix_at}
 use Rattle.rsvp_routes.specs.Traces.{SpellsTrace, trace_bytes}
@@ -50,3 +55,20 @@ same_length_lem bytes x s =
     (omega (arith, length-take 4 (drop 2 bytes), length-drop 2 bytes), counted))
     (length_label bytes)
     s.value
+
+-- two entries compare as equal exactly where they are the same
+pub equal_is_same_lem : (a b : Trace) → Decides (ghosts.eq a b) (a ≡ b)
+equal_is_same_lem (Ipv4 prefix flags) (Ipv4 other_prefix other_flags) =
+    Decides-like _ (λ h i. Ipv4 (h.0 i) (h.1 i)) (λ e. (cc, cc))
+    (Decides-and _ _ (prefixes.equal_is_same_lem prefix other_prefix) (Decides-eqb flags other_flags))
+equal_is_same_lem (Ipv4 prefix flags) (Label other_flags label) = (λ e. absurd cc, λ e. absurd cc)
+equal_is_same_lem (Ipv4 prefix flags) (Other bytes) = (λ e. absurd cc, λ e. absurd cc)
+equal_is_same_lem (Label flags label) (Ipv4 prefix other_flags) = (λ e. absurd cc, λ e. absurd cc)
+equal_is_same_lem (Label flags label) (Label other_flags other_label) =
+    Decides-like _ (λ h i. Label (h.0 i) (h.1 i)) (λ e. (cc, cc))
+    (Decides-and _ _ (Decides-eqb flags other_flags) (Decides-eqb label other_label))
+equal_is_same_lem (Label flags label) (Other bytes) = (λ e. absurd cc, λ e. absurd cc)
+equal_is_same_lem (Other bytes) (Ipv4 prefix flags) = (λ e. absurd cc, λ e. absurd cc)
+equal_is_same_lem (Other bytes) (Label flags label) = (λ e. absurd cc, λ e. absurd cc)
+equal_is_same_lem (Other bytes) (Other other_bytes) =
+    Decides-like _ (λ e i. Other (e i)) (λ e. cc) (bytes_decides bytes other_bytes)

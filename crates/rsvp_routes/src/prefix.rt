@@ -5,7 +5,7 @@ use rsvp_bodies::address_of;
 use std::net::Ipv4Addr;
 
 /// A set of IPv4 addresses, as subobjects carry it (RFC 3209, 4.3.3.2).
-#[derive(Clone, Copy, Debug, PartialEq, Eq)]
+#[derive(Clone, Copy, Debug, PartialEq, Eq, PartialOrd, Ord)]
 pub struct Prefix {
     pub address: Ipv4Addr,
     /// How many of the address's first bits count. A number above 32 is kept as it came.

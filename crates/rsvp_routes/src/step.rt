@@ -1,4 +1,6 @@
-ghost use Rattle.std.specs.Prelude.{◌≡◌, IfOk};
+ghost use Rattle.std.specs.Prelude.{◌≡◌, ◌↔◌, nat_eq, IfOk, IsTrue};
+ghost use Rattle.std.specs.Cmp.{partial_equiv_from_equiv};
+ghost use Rattle.std.specs.Cmp.Lexicographic.{pointwise, nat_list_eq_equiv};
 ghost use Rattle.rsvp_routes.specs.Subobjects.{IsOtherStep};
 
 use crate::numbers::{HEAD_LEN, IPV4_LEN, IPV4_TYPE, LOOSE, PREFIX_TAIL_LEN};
@@ -9,7 +11,7 @@ use std::alloc::{AllocError, Global};
 use std::marker::Model;
 
 /// A step of an explicit route (RFC 3209, 4.3.3).
-#[derive(Debug, Drop)]
+#[derive(Debug, PartialEq, Eq, Drop)]
 pub enum Step {
     /// To one of the prefix's nodes (RFC 3209, 4.3.3.2): over no other node, or, where the step is loose,
     /// over any (RFC 3209, 4.3.3.1).
@@ -80,6 +82,24 @@ impl Clone for OtherStep {
     }
 }
 
+impl PartialEq for OtherStep {
+    ghost eq = { pointwise nat_eq };
+
+    ghost laws = { partial_equiv_from_equiv nat_list_eq_equiv };
+
+    /// Whether their bytes are the same.
+    fn eq(&self, other: &OtherStep) -> bool
+        ensures same { IsTrue result ↔ (self.now ≡ other.now) }
+        ensures pairwise { result ≡ pointwise nat_eq self.now other.now }
+    {
+        self.as_slice() == other.as_slice()
+    }
+}
+
+impl Eq for OtherStep {
+    ghost laws = { nat_list_eq_equiv };
+}
+
 impl Clone for Step {
     ghost is_clone = { λ source copy. copy ≡ source };
 
@@ -97,7 +117,7 @@ impl Clone for Step {
 
 impl Subobject for Step {
     ghost use Rattle.rsvp_routes.specs.Steps.{SpellsStep, step_bytes};
-    ghost use Rattle.rsvp_routes.specs.StepLaws.{is_subobject_lem, one_value_lem, same_length_lem};
+    ghost use Rattle.rsvp_routes.specs.StepLaws.{equal_is_same_lem, is_subobject_lem, one_value_lem, same_length_lem};
 
     ghost Spells = { SpellsStep };
 
@@ -110,6 +130,8 @@ impl Subobject for Step {
     ghost same_length = { same_length_lem };
 
     ghost clones_equal = { λ source copy same. same };
+
+    ghost equal_is_same = { equal_is_same_lem };
 
     fn read(alloc: Global, bytes: &[u8]) -> Result<Step, ObjectFault> {
         match bytes {

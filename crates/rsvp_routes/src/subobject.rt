@@ -1,4 +1,4 @@
-ghost use Rattle.std.specs.Prelude.{◌≡◌, ◌≤◌, ◌<◌, ◌++◌, length, IfSome, IfNone, OnOk, OnErr, List, ℕ};
+ghost use Rattle.std.specs.Prelude.{◌≡◌, ◌≤◌, ◌<◌, ◌++◌, length, IfSome, IfNone, OnOk, OnErr, Decides, List, ℕ};
 ghost use Rattle.rsvp_bodies.specs.Reading.{ReadsWhole};
 ghost use Rattle.rsvp_routes.specs.Subobjects.{IsSubobject, BeginsWithSubobject};
 
@@ -8,7 +8,7 @@ use std::alloc::{AllocError, Global};
 
 /// One of the parts that the body of an EXPLICIT_ROUTE or of a RECORD_ROUTE is made of: a type, a length
 /// and what the type says (RFC 3209, 4.3.3 and 4.4.1).
-pub trait Subobject: Clone + Drop {
+pub trait Subobject: Clone + Eq + Drop {
     // which bytes spell the value
     ghost Spells: { List ℕ → Self → Type 0 };
 
@@ -43,6 +43,9 @@ pub trait Subobject: Clone + Drop {
 
     // a clone is the same value
     ghost clones_equal: { (source copy : Self) → Self.is_clone source copy → copy ≡ source };
+
+    // two values compare as equal exactly where they are the same
+    ghost equal_is_same: { (a b : Self) → Decides (Self.PartialEq.eq a b) (a ≡ b) };
 }
 
 /// The first subobject of the bytes, by its length, and the bytes behind it. There is none where the length

@@ -1,4 +1,5 @@
 ghost use Rattle.std.specs.Prelude.{◌≡◌, ◌≤◌, ◌++◌, ◌↔◌, [], length, OnOk, OnErr, IsTrue};
+ghost use Rattle.std.specs.Cmp.Lexicographic.{pointwise, lists_per, lists_equiv};
 ghost use Rattle.std.specs.List.{flat_map};
 ghost use Rattle.rsvp_bodies.specs.Bodies.{IsBody};
 ghost use Rattle.rsvp_bodies.specs.Reading.{ReadsWhole, SpellsEach};
@@ -124,6 +125,24 @@ impl<T: Subobject> Subobjects<T> {
         }
         Ok(())
     }
+}
+
+impl<T: Subobject> PartialEq for Subobjects<T> {
+    ghost eq = { pointwise T.eq };
+
+    ghost laws = { lists_per T.PartialEq.laws };
+
+    /// Whether they are the same subobjects in the same order.
+    fn eq(&self, other: &Subobjects<T>) -> bool
+        ensures same { IsTrue result ↔ (self.now ≡ other.now) }
+        ensures pairwise { result ≡ pointwise T.eq self.now other.now }
+    {
+        self.as_slice() == other.as_slice()
+    }
+}
+
+impl<T: Subobject> Eq for Subobjects<T> {
+    ghost laws = { lists_equiv T.Eq.laws };
 }
 
 impl<T: Subobject> Clone for Subobjects<T> {

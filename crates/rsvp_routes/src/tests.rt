@@ -204,3 +204,60 @@ fn takes_kept_bytes_in_and_out(rt: HostRuntime) -> Result<(), Fail> {
     );
     Ok(())
 }
+
+#[test]
+fn tells_whether_a_refresh_has_the_same_route(rt: HostRuntime) -> Result<(), Fail> {
+    let held = read_route(rt.alloc(), &ROUTE)?;
+    assert!(rt; held == read_route(rt.alloc(), &ROUTE)?);
+    assert!(rt; held == held.clone()?);
+
+    // Another node, a loose step, an autonomous system, no last step, a step more, and the steps in another
+    // order.
+    let mut longer = Vec::new(rt.alloc());
+    longer.extend_from_slice(&ROUTE)?;
+    longer.extend_from_slice(&ROUTE[..8])?;
+    let mut turned = Vec::new(rt.alloc());
+    turned.extend_from_slice(&ROUTE[8..])?;
+    turned.extend_from_slice(&ROUTE[..8])?;
+    for (place, byte) in [(13usize, 9u8), (8, 0x81), (8, 0x20)] {
+        let mut bytes = ROUTE;
+        bytes[place] = byte;
+        let other = read_route(rt.alloc(), &bytes)?;
+        assert!(rt; held != other, "byte {place}");
+    }
+    assert!(rt; held != read_route(rt.alloc(), &ROUTE[..16])?);
+    assert!(rt; held != read_route(rt.alloc(), &longer)?);
+    assert!(rt; held != read_route(rt.alloc(), &turned)?);
+
+    // What isn't read makes no difference: the reserved byte.
+    let mut bytes = ROUTE;
+    bytes[7] = 1;
+    assert!(rt; held == read_route(rt.alloc(), &bytes)?);
+    Ok(())
+}
+
+#[test]
+fn tells_whether_a_refresh_has_the_same_record(rt: HostRuntime) -> Result<(), Fail> {
+    let held = read_record(rt.alloc(), &RECORD)?;
+    assert!(rt; held == read_record(rt.alloc(), &RECORD)?);
+
+    // The flags of an address, those of a label, a label, its C-Type, its type, and a prefix length.
+    for place in [7usize, 10, 15, 11, 8, 6] {
+        let mut bytes = RECORD;
+        bytes[place] = 0x42;
+        let other = read_record(rt.alloc(), &bytes)?;
+        assert!(rt; held != other, "byte {place}");
+    }
+    Ok(())
+}
+
+#[test]
+fn tells_kept_bytes_apart(rt: HostRuntime) -> Result<(), Fail> {
+    let kept = OtherStep::copy_of(rt.alloc(), &[32, 4, 0, 100])?;
+    assert!(rt; kept == kept.clone()?);
+    assert!(rt; kept != OtherStep::copy_of(rt.alloc(), &[32, 4, 0, 101])?);
+    let kept = OtherTrace::copy_of(rt.alloc(), &[32, 4, 0, 100])?;
+    assert!(rt; kept == kept.clone()?);
+    assert!(rt; kept != OtherTrace::copy_of(rt.alloc(), &[32, 4, 0, 101])?);
+    Ok(())
+}

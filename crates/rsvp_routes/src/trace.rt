@@ -1,4 +1,6 @@
-ghost use Rattle.std.specs.Prelude.{◌≡◌, IfOk};
+ghost use Rattle.std.specs.Prelude.{◌≡◌, ◌↔◌, nat_eq, IfOk, IsTrue};
+ghost use Rattle.std.specs.Cmp.{partial_equiv_from_equiv};
+ghost use Rattle.std.specs.Cmp.Lexicographic.{pointwise, nat_list_eq_equiv};
 ghost use Rattle.rsvp_routes.specs.Subobjects.{IsOtherTrace};
 
 use crate::numbers::{
@@ -12,7 +14,7 @@ use std::alloc::{AllocError, Global};
 use std::marker::Model;
 
 /// An entry of a recorded route (RFC 3209, 4.4.1).
-#[derive(Debug, Drop)]
+#[derive(Debug, PartialEq, Eq, Drop)]
 pub enum Trace {
     /// A node on the way, by an address of its own (RFC 3209, 4.4.1.1). Its flags: 0x01 local protection
     /// available, 0x02 in use; 0x04 bandwidth protection, 0x08 node protection (RFC 4090, 4.4).
@@ -86,6 +88,24 @@ impl Clone for OtherTrace {
     }
 }
 
+impl PartialEq for OtherTrace {
+    ghost eq = { pointwise nat_eq };
+
+    ghost laws = { partial_equiv_from_equiv nat_list_eq_equiv };
+
+    /// Whether their bytes are the same.
+    fn eq(&self, other: &OtherTrace) -> bool
+        ensures same { IsTrue result ↔ (self.now ≡ other.now) }
+        ensures pairwise { result ≡ pointwise nat_eq self.now other.now }
+    {
+        self.as_slice() == other.as_slice()
+    }
+}
+
+impl Eq for OtherTrace {
+    ghost laws = { nat_list_eq_equiv };
+}
+
 impl Clone for Trace {
     ghost is_clone = { λ source copy. copy ≡ source };
 
@@ -107,7 +127,7 @@ impl Clone for Trace {
 
 impl Subobject for Trace {
     ghost use Rattle.rsvp_routes.specs.Traces.{SpellsTrace, trace_bytes};
-    ghost use Rattle.rsvp_routes.specs.TraceLaws.{is_subobject_lem, one_value_lem, same_length_lem};
+    ghost use Rattle.rsvp_routes.specs.TraceLaws.{equal_is_same_lem, is_subobject_lem, one_value_lem, same_length_lem};
 
     ghost Spells = { SpellsTrace };
 
@@ -120,6 +140,8 @@ impl Subobject for Trace {
     ghost same_length = { same_length_lem };
 
     ghost clones_equal = { λ source copy same. same };
+
+    ghost equal_is_same = { equal_is_same_lem };
 
     fn read(alloc: Global, bytes: &[u8]) -> Result<Trace, ObjectFault> {
         match bytes {

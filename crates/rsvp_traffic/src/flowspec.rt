@@ -1,4 +1,6 @@
-ghost use Rattle.std.specs.Prelude.{◌≡◌, ◌≤◌, ℕ, length, IfOk, Ok, OnOk};
+ghost use Rattle.std.specs.Prelude.{◌≡◌, ◌≤◌, ◌↔◌, ℕ, nat_eq, length, IfOk, IsTrue, Ok, OnOk};
+ghost use Rattle.std.specs.Cmp.{partial_equiv_from_equiv};
+ghost use Rattle.std.specs.Cmp.Lexicographic.{pointwise, nat_list_eq_equiv};
 ghost use Rattle.rsvp_bodies.specs.Bodies.{IsBody};
 ghost use Rattle.rsvp_traffic.specs.Traffic.{flowspec_of, flowspec_rate, flowspec_rate_word, tspec_rate};
 
@@ -92,6 +94,24 @@ impl Flowspec {
         }
         shape::rate(body, numbers::CONTROLLED_LOAD).ok_or(TrafficFault::BadFlowspec)
     }
+}
+
+impl PartialEq for Flowspec {
+    ghost eq = { pointwise nat_eq };
+
+    ghost laws = { partial_equiv_from_equiv nat_list_eq_equiv };
+
+    /// Whether their bytes are the same.
+    fn eq(&self, other: &Flowspec) -> bool
+        ensures same { IsTrue result ↔ (self.now ≡ other.now) }
+        ensures pairwise { result ≡ pointwise nat_eq self.now other.now }
+    {
+        self.body == other.body
+    }
+}
+
+impl Eq for Flowspec {
+    ghost laws = { nat_list_eq_equiv };
 }
 
 impl Clone for Flowspec {

@@ -39,6 +39,12 @@ fn body_of(rt: &impl Abort, alloc: Global, bytes: &[u8]) -> Result<Body, AllocEr
     Body::copy_of(alloc, bytes)
 }
 
+/// The body of [`sample`] with another last byte.
+fn changed_body(rt: &impl Abort, alloc: Global) -> Result<Body, AllocError> {
+    let last = sample().len().saturating_sub(1);
+    body_of(rt, alloc, &changed(rt, alloc, &[(last, 1)])?)
+}
+
 /// The rates of a SENDER_TSPEC and of a FLOWSPEC with these bytes.
 fn rates_of(rt: &impl Abort, alloc: Global, bytes: &[u8]) -> Result<(Rate, Rate), AllocError> {
     let tspec = Tspec::from_body(body_of(rt, alloc, bytes)?);
@@ -76,6 +82,8 @@ fn a_tspec_is_kept_as_it_came(rt: HostRuntime) -> Result<(), Fail> {
     let tspec = Tspec::from_body(body_of(&rt, rt.alloc(), sample())?);
     let copy = tspec.clone()?;
     assert_eq!(rt; tspec.body().as_slice(), copy.as_slice());
+    assert!(rt; tspec == copy);
+    assert!(rt; tspec != Tspec::from_body(changed_body(&rt, rt.alloc())?));
     assert_eq!(rt; tspec.into_body().as_slice(), sample());
     Ok(())
 }
@@ -85,6 +93,8 @@ fn a_flowspec_is_kept_as_it_came(rt: HostRuntime) -> Result<(), Fail> {
     let flowspec = Flowspec::from_body(body_of(&rt, rt.alloc(), sample())?);
     let copy = flowspec.clone()?;
     assert_eq!(rt; flowspec.body().as_slice(), copy.as_slice());
+    assert!(rt; flowspec == copy);
+    assert!(rt; flowspec != Flowspec::from_body(changed_body(&rt, rt.alloc())?));
     assert_eq!(rt; flowspec.into_body().as_slice(), sample());
     Ok(())
 }

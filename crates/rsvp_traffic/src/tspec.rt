@@ -1,4 +1,6 @@
-ghost use Rattle.std.specs.Prelude.{◌≡◌, length, OnOk};
+ghost use Rattle.std.specs.Prelude.{◌≡◌, ◌↔◌, nat_eq, length, IsTrue, OnOk};
+ghost use Rattle.std.specs.Cmp.{partial_equiv_from_equiv};
+ghost use Rattle.std.specs.Cmp.Lexicographic.{pointwise, nat_list_eq_equiv};
 ghost use Rattle.rsvp_bodies.specs.Bodies.{IsBody};
 ghost use Rattle.rsvp_traffic.specs.Traffic.{tspec_rate, tspec_rate_word};
 
@@ -69,6 +71,24 @@ impl Tspec {
     {
         shape::rate(self.as_slice(), numbers::GENERIC_SERVICE).ok_or(TrafficFault::BadTspec)
     }
+}
+
+impl PartialEq for Tspec {
+    ghost eq = { pointwise nat_eq };
+
+    ghost laws = { partial_equiv_from_equiv nat_list_eq_equiv };
+
+    /// Whether their bytes are the same.
+    fn eq(&self, other: &Tspec) -> bool
+        ensures same { IsTrue result ↔ (self.now ≡ other.now) }
+        ensures pairwise { result ≡ pointwise nat_eq self.now other.now }
+    {
+        self.body == other.body
+    }
+}
+
+impl Eq for Tspec {
+    ghost laws = { nat_list_eq_equiv };
 }
 
 impl Clone for Tspec {

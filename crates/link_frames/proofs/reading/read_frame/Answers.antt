@@ -2,7 +2,7 @@
 use Rattle.std.proofs.Common.{◌≡◌, ◌-◌, ℕ, List, length, take, drop, get_or, subst, sym, ap, ◌∙◌, rules}
 use Rattle.std.proofs.lemmas.List.{length-drop}
 use Rattle.std.proofs.Math.Seq.{take-length}
-use Rattle.rsvp_contents.specs.Spelling.{ReadsMessage}
+use Rattle.rsvp_messages.specs.Spelling.{ReadsMessage}
 use Rattle.link_frames.proofs.Hops.{hop_frame}
 use Rattle.link_frames.proofs.reading.read_frame.Goals as goal
 

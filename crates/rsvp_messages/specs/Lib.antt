@@ -1,0 +1,11 @@
+pub use Rattle.internet_checksum.specs.Checksums
+pub use Rattle.rsvp_contents.specs.Answers
+pub use Rattle.rsvp_contents.specs.Dropping
+pub use Rattle.rsvp_contents.specs.Fitting
+pub use Rattle.rsvp_contents.specs.Limits
+pub use Rattle.rsvp_contents.specs.Spelling
+pub use Rattle.rsvp_contents.specs.Written
+pub use Rattle.rsvp_contents.specs.declared.dropped.Dropped
+pub use Rattle.rsvp_contents.specs.declared.message.Reading
+pub use Rattle.rsvp_contents.specs.declared.messages.Content
+pub use Rattle.rsvp_objects.specs.Objects

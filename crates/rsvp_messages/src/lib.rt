@@ -1,0 +1,39 @@
+//! Messages of RSVP for whoever embeds them: Path, PathErr and PathTear (RFC 2205, 3.1; RFC 3209, 3) are
+//! read from bytes as values and written to bytes again, with their header, their length and their
+//! checksum. This crate only gathers what the crates below it have; its contracts are theirs.
+//!
+//! [`read_message`] reads what came, [`write_message`] appends what is to go out. A [`Message`] is
+//! [`Content`] that can be written; what is read is one. The [`laws`] say what holds of all messages, and
+//! the `specs` of this crate pass on the words that its contracts are made of.
+//!
+//! A router that passes a PathTear on, as a neighbour that `hop` names:
+//!
+//! ```text
+//! use rsvp_messages::{Content, Hop, Message, PathTear, Reading, read_message, write_message};
+//!
+//! let Reading::Whole(message) = read_message(alloc, datagram)? else {
+//!     return Ok(());
+//! };
+//! if let Content::PathTear(tear) = message.content() {
+//!     let passed_on = PathTear { hop, ..*tear };
+//!     if let Ok(message) = Message::checked(Content::PathTear(passed_on)) {
+//!         write_message(&message, &mut out)?;
+//!     }
+//! }
+//! ```
+#![tactic(auto)]
+
+#[cfg(test)]
+mod tests;
+
+pub use internet_checksum::{checksum, has_good_checksum};
+pub use message_reader::read_message;
+pub use message_writer::write_message;
+pub use rsvp_contents::{
+    Content, Dropped, Message, Passing, Path, PathErr, PathTear, Reading, laws, limits, numbers,
+};
+pub use rsvp_objects::{
+    Affinities, Attr, Body, ErrorSpec, FastReroute, Hop, Kind, LabelRequest, Name, Opaque,
+    OtherStep, OtherTrace, Prefix, RateWord, Record, Route, Session, Step, Subobject, Subobjects,
+    Template, TimeValues, Trace, TrafficFault, Treatment, Tspec, numbers as object_numbers,
+};
