@@ -10,6 +10,12 @@ pub trait TryCopy {
         ensures { IfOk result (λ copy. copy ≡ self.now) };
 }
 
+impl TryCopy for bool {
+    fn try_copy(&self, _alloc: Global) -> Result<bool, AllocError> {
+        Ok(*self)
+    }
+}
+
 impl TryCopy for u8 {
     fn try_copy(&self, _alloc: Global) -> Result<u8, AllocError> {
         Ok(*self)

@@ -12,8 +12,10 @@ use std::cmp::Ordering;
 
 mod copies;
 pub mod laws;
+mod table;
 
 pub use copies::{TryCopy, copy_plain_rows, copy_rows};
+pub use table::Table;
 
 /// The value under a key, or `None` where the rows have no such key.
 pub fn get<K: Ord, V: Copy>(rows: &[(K, V)], key: &K) -> Option<V>

@@ -1,5 +1,6 @@
-ghost use Rattle.std.specs.FinMap.Entries.{find, where_key};
-ghost use Rattle.std.specs.Prelude.{◌≡◌, ℕ, List, filter, is_some, nat_lt};
+ghost use Rattle.std.specs.FinMap.Entries.{find, is_sorted, where_key};
+ghost use Rattle.std.specs.Ordering.{nat_cmp};
+ghost use Rattle.std.specs.Prelude.{◌≡◌, ℕ, List, T, filter, is_some, nat_lt};
 
 use super::*;
 use std::alloc::Global;
@@ -172,10 +173,63 @@ fn copies_numbers(rt: HostRuntime) -> Result<(), Fail> {
         copy_rows(alloc, &[(1u8, 2usize)])?.as_slice(),
         [(1, 2)].as_slice()
     );
+    assert_eq!(rt;
+        copy_rows(alloc, &[(1u8, true), (2, false)])?.as_slice(),
+        [(1, true), (2, false)].as_slice()
+    );
     let optional = [(1u8, Some(2u32)), (3, None)];
     assert_eq!(rt;
         copy_rows(alloc, &optional)?.as_slice(),
         optional.as_slice()
     );
+    Ok(())
+}
+
+// What a caller proves of tables: two that hold the same rows are equal, whatever vectors the rows stand in.
+fn same_table(
+    rows: Vec<(u16, bool)>,
+    others: Vec<(u16, bool)>,
+) -> (Table<u16, bool>, Table<u16, bool>)
+    requires sorted { T (is_sorted nat_cmp rows.items) }
+    requires same { others.items ≡ rows.items }
+    ensures { result.0 ≡ result.1 }
+{
+    (Table::from_rows(rows), Table::from_rows(others))
+}
+
+// A table whose rows are set out of order.
+fn table_of(alloc: Global, rows: &[(u16, u32)]) -> Result<Table<u16, u32>, AllocError> {
+    let mut table = Table::new(alloc);
+    for (key, value) in rows {
+        table.set(*key, *value)?;
+    }
+    Ok(table)
+}
+
+#[test]
+fn a_table_keeps_its_rows_in_order(rt: HostRuntime) -> Result<(), Fail> {
+    let alloc = rt.alloc();
+    let mut table = table_of(alloc, &[(3, 30), (1, 10), (256, 20), (1, 11)])?;
+    let rows = [(1, 11), (3, 30), (256, 20)];
+    assert_eq!(rt; table.as_slice(), rows.as_slice());
+    assert_eq!(rt; table.get(&256).copied(), Some(20));
+    assert!(rt; table.get(&2).is_none());
+    let copy = table.try_copy(alloc)?;
+    table.remove(&3);
+    table.remove(&7);
+    assert_eq!(rt; table.as_slice(), [(1, 11), (256, 20)].as_slice());
+    assert_eq!(rt; copy.into_rows().as_slice(), rows.as_slice());
+    Ok(())
+}
+
+#[test]
+fn a_table_is_made_of_rows_in_order(rt: HostRuntime) -> Result<(), Fail> {
+    let alloc = rt.alloc();
+    let empty = Table::<u16, bool>::new(alloc);
+    assert!(rt; empty.as_slice().is_empty());
+    let rows = [(1, true), (2, false)];
+    let (table, other) = same_table(rows.to_vec(alloc)?, rows.to_vec(alloc)?);
+    assert_eq!(rt; table.as_slice(), rows.as_slice());
+    assert_eq!(rt; table.into_rows(), other.into_rows());
     Ok(())
 }

@@ -1,0 +1,8 @@
+//! What an operator configures.
+#![tactic(auto)]
+
+mod config;
+#[cfg(test)]
+mod tests;
+
+pub use config::Config;

@@ -1,0 +1,4 @@
+pub mod Errors
+pub mod OrderLaws
+pub mod Orders
+pub mod Refusals

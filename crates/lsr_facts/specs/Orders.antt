@@ -1,0 +1,38 @@
+-- The orders of keys and of items.
+use Rattle.std.specs.Prelude.{ℕ}
+use Rattle.std.specs.Ordering.{nat_cmp, ordering_then}
+use Rattle.std.specs.Cmp.Lexicographic.{slice_cmp}
+use Rattle.std.specs.Net.Addr.{ipv4_octets}
+use Rattle.std.specs.declared.cmp.Ordering.{Ordering}
+use Rattle.std.specs.declared.net.ipv4_addr.Ipv4Addr.{Ipv4Addr}
+use Rattle.rsvp_objects.specs.declared.values.Session.{Session}
+use Rattle.rsvp_objects.specs.declared.values.Template.{Template}
+use Rattle.rsvp_routes.specs.declared.prefix.Prefix.{Prefix}
+use Rattle.lsr_facts.specs.declared.key.Key.{Key}
+use Rattle.lsr_facts.specs.declared.key.Item.{Item}
+use Rattle.lsr_facts.specs.declared.key.Item.TheVariants.{Down}
+
+-- addresses by their octets, the highest first
+abbrev pub address_cmp : Ipv4Addr → Ipv4Addr → Ordering
+address_cmp a b = slice_cmp nat_cmp (ipv4_octets a) (ipv4_octets b)
+
+-- sessions by endpoint, tunnel, extended tunnel ID
+abbrev pub session_cmp : Session → Session → Ordering
+session_cmp a b =
+    ordering_then (address_cmp a.endpoint b.endpoint) (ordering_then (nat_cmp a.tunnel b.tunnel) (address_cmp a.extended b.extended))
+
+-- heads of LSPs by address, LSP ID
+abbrev pub template_cmp : Template → Template → Ordering
+template_cmp a b = ordering_then (address_cmp a.sender b.sender) (nat_cmp a.lsp b.lsp)
+
+-- keys by session, sender
+abbrev pub key_cmp : Key → Key → Ordering
+key_cmp a b = ordering_then (session_cmp a.session b.session) (template_cmp a.sender b.sender)
+
+-- items by key, link
+abbrev pub item_cmp : Item → Item → Ordering
+item_cmp (Down a link) (Down b other) = ordering_then (key_cmp a b) (nat_cmp link other)
+
+-- prefixes by address, length
+abbrev pub prefix_cmp : Prefix → Prefix → Ordering
+prefix_cmp a b = ordering_then (address_cmp a.address b.address) (nat_cmp a.length b.length)

@@ -1,0 +1,32 @@
+use crate::key::Key;
+use crate::path_fact::PathFact;
+use rsvp_routes::Prefix;
+use sorted_rows::{Table, TryCopy};
+use std::alloc::{AllocError, Global};
+
+/// All that a router knows and that events change.
+#[derive(Debug, Drop)]
+pub struct Facts {
+    /// Whether it is cold: it was restarted, and not started yet.
+    pub cold: bool,
+    /// The moment that it was told last, in milliseconds: 0 to 2^62.
+    pub moment: u64,
+    /// Of each link whether it is up.
+    pub up: Table<u16, bool>,
+    /// The static routes: the number of the link to each prefix.
+    pub routes: Table<Prefix, u16>,
+    /// The paths, by LSP.
+    pub paths: Table<Key, PathFact>,
+}
+
+impl TryCopy for Facts {
+    fn try_copy(&self, alloc: Global) -> Result<Facts, AllocError> {
+        Ok(Facts {
+            cold: self.cold,
+            moment: self.moment,
+            up: self.up.try_copy(alloc)?,
+            routes: self.routes.try_copy(alloc)?,
+            paths: self.paths.try_copy(alloc)?,
+        })
+    }
+}

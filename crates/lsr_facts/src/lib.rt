@@ -1,0 +1,30 @@
+//! What a router knows, as plain values.
+#![tactic(auto)]
+
+mod choice;
+mod errors;
+mod event;
+mod facts;
+mod key;
+pub mod laws;
+pub mod limits;
+mod node;
+mod path_fact;
+mod refusal;
+mod reply;
+mod router;
+#[cfg(test)]
+mod tests;
+mod view;
+
+pub use choice::Choice;
+pub use errors::{RsvpError, UNKNOWN_CLASS, UNKNOWN_CTYPE};
+pub use event::{Arrive, Entry, Event, Output, Outputs};
+pub use facts::Facts;
+pub use key::{Item, Key};
+pub use node::Node;
+pub use path_fact::{Origin, PathFact, Role};
+pub use refusal::Refusal;
+pub use reply::Reply;
+pub use router::{LabelRange, Link, Router};
+pub use view::{FactsView, Snapshot};

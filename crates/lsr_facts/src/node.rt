@@ -1,0 +1,13 @@
+use crate::router::Router;
+use rsvp_routes::Prefix;
+
+/// Where a router stands: its own addresses and links, which of these are up, and its static routes.
+#[derive(Clone, Copy, Debug)]
+pub struct Node<'a> {
+    /// What never changes.
+    pub router: &'a Router,
+    /// Of each link whether it is up.
+    pub up: &'a [(u16, bool)],
+    /// The static routes.
+    pub routes: &'a [(Prefix, u16)],
+}

@@ -1,0 +1,82 @@
+ghost use Rattle.std.specs.Prelude.{◌≡◌};
+
+use rsvp_contents::Passing;
+use rsvp_objects::{Attr, FastReroute, Hop, LabelRequest};
+use rsvp_routes::{Record, Route};
+use rsvp_traffic::Tspec;
+use sorted_rows::{Table, TryCopy};
+use std::alloc::{AllocError, Global};
+use std::net::Ipv4Addr;
+
+/// What this router is on an LSP's way.
+#[derive(Clone, Copy, Debug, PartialEq, Eq)]
+pub enum Role {
+    /// The LSP comes from a neighbour and goes on to one.
+    Transit,
+    /// The LSP ends here.
+    Tail,
+    /// The LSP begins here.
+    Head,
+}
+
+/// Where a path comes from: the neighbour that sent its Path, until when that counts.
+#[derive(Clone, Copy, Debug, PartialEq, Eq)]
+pub struct Origin {
+    /// The number of the link that it came over.
+    pub link: u16,
+    /// The neighbour, as it named itself.
+    pub hop: Hop,
+    /// The moment in milliseconds at which it counts no more, unless it is refreshed before.
+    pub expiry: u64,
+}
+
+/// What the router knows of one LSP's path: path state (RFC 2205, 2.3; RFC 3209, 2).
+#[derive(Debug, Drop)]
+pub struct PathFact {
+    /// What the router is on the way.
+    pub role: Role,
+    /// Where the path comes from, by the sender that the Path named. A Head's has none.
+    pub origins: Table<Ipv4Addr, Origin>,
+    /// The number of the link that it leaves by, 0 for a Tail.
+    pub out_link: u16,
+    /// The route that its Path came with.
+    pub given: Option<Route>,
+    /// What is left of that route for the next hop.
+    pub rest: Option<Route>,
+    /// The route that it took so far, where that is recorded.
+    pub recorded: Option<Record>,
+    /// What the LSP is to carry.
+    pub label_request: LabelRequest,
+    /// The traffic that it is to carry.
+    pub tspec: Tspec,
+    /// Priorities, flags and name.
+    pub attr: Option<Attr>,
+    /// The protection that is asked for.
+    pub fast_reroute: Option<FastReroute>,
+    /// Objects that are passed on unread.
+    pub passing: Passing,
+}
+
+impl TryCopy for PathFact {
+    fn try_copy(&self, alloc: Global) -> Result<PathFact, AllocError> {
+        Ok(PathFact {
+            role: self.role,
+            origins: self.origins.try_copy(alloc)?,
+            out_link: self.out_link,
+            given: self.given.clone()?,
+            rest: self.rest.clone()?,
+            recorded: self.recorded.clone()?,
+            label_request: self.label_request,
+            tspec: self.tspec.clone()?,
+            attr: self.attr.clone()?,
+            fast_reroute: self.fast_reroute,
+            passing: self.passing.clone()?,
+        })
+    }
+}
+
+impl TryCopy for Origin {
+    fn try_copy(&self, _alloc: Global) -> Result<Origin, AllocError> {
+        Ok(*self)
+    }
+}
