@@ -1,0 +1,4 @@
+pub mod Arrivals
+pub mod Refusals
+pub mod Repeats
+pub mod Tearing

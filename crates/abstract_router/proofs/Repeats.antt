@@ -1,0 +1,180 @@
+-- A Path that comes again at the same moment changes nothing, and nothing is sent for it.
+use Rattle.std.specs.Prelude.{◌≡◌, ◌≢◌, ◌&&◌, ℕ, not, ◌==◌, Bool, true, false, cond, T, List, [], ◌∷◌, Option, Some, None, Result, Ok, Err, is_none, nat_eq, nat_le, length}
+use Rattle.std.specs.Cmp.{IsTotalOrder}
+use Rattle.std.specs.Cmp.Lexicographic.{pointwise}
+use Rattle.std.specs.FinMap.Entries.{by_order, find, is_sorted, put, is_sorted-put}
+use Rattle.std.specs.Option.{option_eq}
+use Rattle.std.specs.declared.cmp.Ordering.{Ordering}
+use Rattle.std.specs.declared.cmp.Ordering.TheVariants.{Less, Equal, Greater}
+use Rattle.std.specs.declared.net.ipv4_addr.Ipv4Addr.{Ipv4Addr}
+use Rattle.std.proofs.Common.{refl, sym, ap, subst, ◌∙◌}
+use Rattle.std.proofs.lemmas.Cmp.{nat_list_eq_equiv, tied_itself}
+use Rattle.rsvp_routes.specs.Steps.{route_bytes}
+use Rattle.rsvp_routes.specs.Traces.{record_bytes}
+use Rattle.rsvp_contents.specs.declared.messages.Content.TheVariants as contents
+use Rattle.rsvp_contents.specs.declared.messages.Path.{Path}
+use Rattle.rsvp_contents.specs.declared.message.Reading.TheVariants as readings
+use Rattle.rsvp_traffic.specs.TokenBuckets.{token_rate}
+use Rattle.sorted_rows.specs.RowsLaws.{find-put_same}
+use Rattle.lsr_facts.specs.Errors.{bad_tspec, system_error, routing_loop, unsupported_l3pid, record_too_long}
+use Rattle.lsr_facts.specs.OrderLaws.{address_total, key_total}
+use Rattle.lsr_facts.specs.Orders.{address_cmp, key_cmp}
+use Rattle.lsr_facts.specs.declared.choice.Choice.{Choice}
+use Rattle.lsr_facts.specs.declared.choice.Choice.TheVariants.{Link, Tail}
+use Rattle.lsr_facts.specs.declared.errors.RsvpError.{RsvpError}
+use Rattle.lsr_facts.specs.declared.event.Arrive.{Arrive}
+use Rattle.lsr_facts.specs.declared.event.Event.TheVariants as events
+use Rattle.lsr_facts.specs.declared.event.Output.{Output}
+use Rattle.lsr_facts.specs.declared.facts.Facts.{Facts}
+use Rattle.lsr_facts.specs.declared.key.Key.{Key}
+use Rattle.lsr_facts.specs.declared.path_fact.Origin.{Origin}
+use Rattle.lsr_facts.specs.declared.path_fact.PathFact.{PathFact}
+use Rattle.lsr_facts.specs.declared.reply.Reply.{Reply}
+use Rattle.lsr_facts.specs.declared.reply.Reply.TheVariants as replies
+use Rattle.lsr_facts.specs.declared.router.Router.{Router}
+use Rattle.abstract_router.proofs.Arrivals.{arrival_open, arrival_read}
+use Rattle.abstract_router.specs.ByKey.{comes}
+use Rattle.abstract_router.specs.Outcomes.{Outcome, found_here, told_upstream}
+use Rattle.abstract_router.specs.OutputLaws.{outputs_of-same}
+use Rattle.abstract_router.specs.Outputs.{outputs_of}
+use Rattle.abstract_router.specs.Paths.{drops_record, failed, has_loop, key_of, origin_of, origins_of, path_arrival, path_by, path_on_its_way, record_errors, taken, way_for, way_of}
+use Rattle.abstract_router.specs.Places.{place_of}
+use Rattle.abstract_router.specs.Routing.{next_hop}
+use Rattle.abstract_router.specs.Steps.{Step, arrival}
+
+-- the same put twice is put once
+put_twice : {K X : Type 0} (cmp : K → K → Ordering) → IsTotalOrder cmp → (k : K) (v : X) (es : List (K × X)) → put cmp k v (put cmp k v es) ≡ put cmp k v es
+put_twice cmp total k v [] = ap (λ o. by_order o ((k, v) ∷ (k, v) ∷ []) ((k, v) ∷ []) ((k, v) ∷ put cmp k v [])) (tied_itself total k)
+put_twice cmp total k v (e ∷ es) =
+    elim (cmp k e.0) as (λ o. cmp k e.0 ≡ o → put cmp k v (by_order o ((k, v) ∷ e ∷ es) ((e.0, v) ∷ es) (e ∷ put cmp k v es)) ≡ by_order o ((k, v) ∷ e ∷ es) ((e.0, v) ∷ es) (e ∷ put cmp k v es)) [
+      | Less ↦ λ p. ap (λ o. by_order o ((k, v) ∷ (k, v) ∷ e ∷ es) ((k, v) ∷ e ∷ es) ((k, v) ∷ put cmp k v (e ∷ es))) (tied_itself total k)
+      | Equal ↦ λ p. ap (λ o. by_order o ((k, v) ∷ (e.0, v) ∷ es) ((e.0, v) ∷ es) ((e.0, v) ∷ put cmp k v es)) p
+      | Greater ↦ λ p. ap (λ o. by_order o ((k, v) ∷ e ∷ put cmp k v es) ((e.0, v) ∷ put cmp k v es) (e ∷ put cmp k v (put cmp k v es))) p ∙ ap (λ rest. e ∷ rest) (put_twice cmp total k v es)
+    ] refl
+
+-- routes and records are the same as themselves
+same_option : {A : Type 0} (bytes : A → List ℕ) (o : Option A) → option_eq (λ a b. pointwise nat_eq (bytes a) (bytes b)) o o ≡ true
+same_option bytes None = refl
+same_option bytes (Some x) = nat_list_eq_equiv.refl (bytes x)
+
+-- three tests that a Path passes
+passed : (b c d : Bool) (x y z w : Outcome) → replies.Done ≢ x.reply → replies.Done ≢ y.reply → replies.Done ≢ z.reply → replies.Done ≡ (cond b x (cond c y (cond d z w))).reply → (b ≡ false) × (c ≡ false) × (d ≡ false) × (replies.Done ≡ w.reply)
+passed true c d x y z w p q n done = absurd (p done)
+passed false true d x y z w p q n done = absurd (q done)
+passed false false true x y z w p q n done = absurd (n done)
+passed false false false x y z w p q n done = (refl, refl, refl, done)
+
+passing : (b c d : Bool) (x y z w : Outcome) → b ≡ false → c ≡ false → d ≡ false → cond b x (cond c y (cond d z w)) ≡ w
+passing b c d x y z w p q n = ap (λ t. cond t x (cond c y (cond d z w))) p ∙ ap (λ t. cond t y (cond d z w)) q ∙ ap (λ t. cond t z w) n
+
+-- an error isn't done
+not_done : (e : RsvpError) → replies.Done ≢ replies.Error e
+not_done e is = cc
+
+-- a Path that is accepted
+record IsAccepted (r : Router) (p : Path) : Type 0 where
+  ipv4 : not (p.label_request.l3pid == 0x0800) ≡ false
+  rated : is_none (token_rate 1 p.tspec) ≡ false
+  unlooped : has_loop r p.recorded ≡ false
+
+-- its way
+record IsTaken (r : Router) (s : Facts) (known : Option PathFact) (link : ℕ) (p : Path) (o : Outcome) : Type 0 where
+  accepted : IsAccepted r p
+  way : Choice
+  is : o ≡ taken r s known link p way
+
+way_taken : (r : Router) (s : Facts) (known : Option PathFact) (link : ℕ) (p : Path) (way : Result Choice RsvpError) → replies.Done ≡ (path_on_its_way r s known link p way).reply → (choice : Choice) × (path_on_its_way r s known link p way ≡ taken r s known link p choice)
+unfolding path_on_its_way
+way_taken r s known link p (Err e) done = absurd (not_done e done)
+way_taken r s known link p (Ok way) done =
+    elim (is_none known && nat_le 1024 (length s.paths)) as (λ b. replies.Done ≡ (cond b (failed r s link p system_error) (taken r s known link p way)).reply → (choice : Choice) × (cond b (failed r s link p system_error) (taken r s known link p way) ≡ taken r s known link p choice)) [
+      | true ↦ λ d. absurd (not_done system_error d)
+      | false ↦ λ d. (way, refl)
+    ] done
+
+path_taken : (r : Router) (s : Facts) (link : ℕ) (p : Path) → replies.Done ≡ (path_arrival r s link p).reply → IsTaken r s (find key_cmp (key_of p) s.paths) link p (path_arrival r s link p)
+unfolding path_arrival
+path_taken r s link p done =
+    let known = find key_cmp (key_of p) s.paths in
+    let on = path_on_its_way r s known link p (way_for r s known p) in
+    let tests = passed (not (p.label_request.l3pid == 0x0800)) (is_none (token_rate 1 p.tspec)) (has_loop r p.recorded) (failed r s link p unsupported_l3pid) (failed r s link p bad_tspec) (failed r s link p routing_loop) on (not_done unsupported_l3pid) (not_done bad_tspec) (not_done routing_loop) done in
+    let way = way_taken r s known link p (way_for r s known p) tests.3 in
+    record {
+      accepted = record { ipv4 = tests.0; rated = tests.1; unlooped = tests.2 };
+      way = way.0;
+      is = passing _ _ _ (failed r s link p unsupported_l3pid) (failed r s link p bad_tspec) (failed r s link p routing_loop) on tests.0 tests.1 tests.2 ∙ way.1;
+    }
+
+-- the way of a path that was taken by it
+way_again : (s : Facts) (known : Option PathFact) (link : ℕ) (p : Path) (way : Choice) → way_of (path_by s known link p way) ≡ way
+way_again s known link p Tail = refl
+way_again s known link p (Link out rest) = refl
+
+-- a path that a Path made, once more made by it
+path_again : (s : Facts) (known : Option PathFact) (link : ℕ) (p : Path) (way : Choice) → path_by s (Some (path_by s known link p way)) link p way ≡ path_by s known link p way
+path_again s known link p way =
+    ap (λ (origins : List (Ipv4Addr × Origin)). record (path_by s known link p way) { origins = origins }) (put_twice address_cmp address_total p.sender.sender (origin_of s link p) (origins_of known))
+
+-- that a record is dropped is told once
+errors_again : (r : Router) (key : Key) (fact : PathFact) → record_errors r key (Some fact) fact ≡ []
+unfolding record_errors
+errors_again r key fact =
+    let told = told_upstream key fact (Some fact.tspec) (found_here r record_too_long) in
+    ap (λ b. cond (drops_record r fact && not b) told []) (same_option record_bytes fact.recorded)
+    ∙ elim (drops_record r fact) as (λ b. cond (b && false) told [] ≡ []) [ true ↦ refl | false ↦ refl ]
+
+-- what is known once a Path was taken
+after_path : Facts → Option PathFact → ℕ → Path → Choice → Facts
+after_path s known link p way = record s { paths = put key_cmp (key_of p) (path_by s known link p way) s.paths }
+
+-- taken again it changes nothing
+taken_again : (r : Router) (s : Facts) (known : Option PathFact) (link : ℕ) (p : Path) (way : Choice) → taken r (after_path s known link p way) (Some (path_by s known link p way)) link p way ≡ record { reply = replies.Done; errors = []; after = after_path s known link p way }
+unfolding after_path
+taken_again r s known link p way =
+    let key = key_of p in
+    let fact = path_by s known link p way in
+    let b : Facts = record s { paths = put key_cmp key fact s.paths } in
+    ap (λ again. record { reply = replies.Done; errors = record_errors r key (Some fact) again; after = record b { paths = put key_cmp key again b.paths } }) (path_again s known link p way)
+    ∙ (λ i. record { reply = replies.Done; errors = errors_again r key fact i; after = record s { paths = put_twice key_cmp key_total key fact s.paths i } })
+
+-- A Path that was taken, arriving again.
+arrival_again : (r : Router) (s : Facts) (known : Option PathFact) (link : ℕ) (p : Path) (way : Choice) → IsAccepted r p → path_arrival r (after_path s known link p way) link p ≡ record { reply = replies.Done; errors = []; after = after_path s known link p way }
+unfolding after_path path_arrival path_on_its_way way_for
+arrival_again r s known link p way accepted =
+    let key = key_of p in
+    let fact = path_by s known link p way in
+    let b : Facts = record s { paths = put key_cmp key fact s.paths } in
+    passing _ _ _ (failed r b link p unsupported_l3pid) (failed r b link p bad_tspec) (failed r b link p routing_loop) _ accepted.ipv4 accepted.rated accepted.unlooped
+    ∙ ap (λ k. path_on_its_way r b k link p (way_for r b k p)) (find-put_same key_cmp key_total key fact s.paths)
+    ∙ ap (λ t. path_on_its_way r b (Some fact) link p (cond t (Ok (way_of fact)) (next_hop (place_of r b) p.route p.session.endpoint))) (same_option route_bytes p.route)
+    ∙ ap (λ w. path_on_its_way r b (Some fact) link p (Ok w)) (way_again s known link p way)
+    ∙ taken_again r s known link p way
+
+-- A step of a Path that is done, once more.
+pub path_repeats : (r : Router) (a b : Facts) (link : ℕ) (p : Path) (outputs : List Output) → T (is_sorted key_cmp a.paths) → Step r a (comes link (contents.Path p)) replies.Done outputs b → Step r b (comes link (contents.Path p)) replies.Done [] b
+unfolding after_path
+path_repeats r a b link p outputs h x =
+    let event : Arrive = record { link = link; reading = readings.Whole (contents.Path p) } in
+    let known = find key_cmp (key_of p) a.paths in
+    let was_open = arrival_open r a event x.replied in
+    let read = arrival_read r a event was_open in
+    let t = path_taken r a link p (x.replied ∙ ap (λ (o : Outcome). o.reply) read) in
+    let c = after_path a known link p t.way in
+    let came : b ≡ c = x.changed ∙ ap (λ (o : Outcome). o.after) (read ∙ t.is) in
+    let again = arrival_read r c event (record { known = was_open.known; up = was_open.up }) ∙ arrival_again r a known link p t.way t.accepted in
+    let in_order = is_sorted-put key_cmp key_total (key_of p) (path_by a known link p t.way) a.paths h in
+    subst (λ (s : Facts). Step r s (events.Arrive event) replies.Done [] s) (sym came) (record {
+      possible = x.possible;
+      awake = x.awake;
+      replied = sym (ap (λ (o : Outcome). o.reply) again);
+      changed = sym (ap (λ (o : Outcome). o.after) again);
+      sent = sym (ap (λ (o : Outcome). outputs_of r c o.errors c) again ∙ outputs_of-same r c (key_of p) in_order);
+    })
+
+-- a step is determined
+pub path_repeats_only : (r : Router) (a b c : Facts) (link : ℕ) (p : Path) (outputs sent : List Output) (reply : Reply) → T (is_sorted key_cmp a.paths) → Step r a (comes link (contents.Path p)) replies.Done outputs b → Step r b (comes link (contents.Path p)) reply sent c → (reply ≡ replies.Done) × (sent ≡ []) × (c ≡ b)
+path_repeats_only r a b c link p outputs sent reply h x y =
+    let event : Arrive = record { link = link; reading = readings.Whole (contents.Path p) } in
+    let z = path_repeats r a b link p outputs h x in
+    let after = y.changed ∙ sym z.changed in
+    (y.replied ∙ sym z.replied, y.sent ∙ ap (outputs_of r b (arrival r b event).errors) after ∙ sym z.sent, after)

@@ -1,0 +1,56 @@
+-- What an event is answered, which errors it meets, and what is known after it.
+use Rattle.std.specs.Prelude.{ℕ, List, [], map, Option}
+use Rattle.std.specs.declared.net.ipv4_addr.Ipv4Addr.{Ipv4Addr}
+use Rattle.rsvp_objects.specs.declared.values.ErrorSpec.{ErrorSpec}
+use Rattle.rsvp_objects.specs.declared.values.Session.{Session}
+use Rattle.rsvp_objects.specs.declared.values.Template.{Template}
+use Rattle.rsvp_contents.specs.declared.messages.Content.{Content}
+use Rattle.rsvp_contents.specs.declared.messages.Content.TheVariants as contents
+use Rattle.rsvp_contents.specs.declared.message.Reading.TheVariants as readings
+use Rattle.link_frames.specs.declared.frame.Frame.TheVariants as frames
+use Rattle.lsr_facts.specs.declared.errors.RsvpError.{RsvpError}
+use Rattle.lsr_facts.specs.declared.event.Output.{Output}
+use Rattle.lsr_facts.specs.declared.facts.Facts.{Facts}
+use Rattle.lsr_facts.specs.declared.key.Key.{Key}
+use Rattle.lsr_facts.specs.declared.path_fact.Origin.{Origin}
+use Rattle.lsr_facts.specs.declared.path_fact.PathFact.{PathFact}
+use Rattle.lsr_facts.specs.declared.refusal.Refusal.{Refusal}
+use Rattle.lsr_facts.specs.declared.reply.Reply.{Reply}
+use Rattle.lsr_facts.specs.declared.reply.Reply.TheVariants as replies
+use Rattle.lsr_facts.specs.declared.router.Router.{Router}
+
+-- the LSP of a session that has this head and LSP ID
+abbrev pub lsp : Session → Template → Key
+lsp session sender = record { session = session; sender = sender }
+
+-- the answer, the errors in the order found, and the facts after
+pub record Outcome : Type 0 where
+  pub reply : Reply
+  pub errors : List Output
+  pub after : Facts
+
+-- refused: nothing is sent, nothing changes
+abbrev pub refused : Facts → Refusal → Outcome
+refused s refusal = record { reply = replies.Refused refusal; errors = []; after = s }
+
+-- a message that goes out by a link
+abbrev pub sent_by : ℕ → Content → Output
+sent_by link content = record { link = link; frame = frames.Hop (readings.Whole content) }
+
+-- an error that this router found (RFC 2205, A.5)
+abbrev pub found_here : Router → RsvpError → ErrorSpec
+found_here r e = record { node = r.id; flags = 0; code = e.code; value = e.value }
+
+-- a PathErr (RFC 2205, 3.1.7)
+abbrev pub path_err : Session → Template → Option (List ℕ) → ErrorSpec → Content
+path_err session sender tspec error =
+    contents.PathErr (record { session = session; error = error; sender = sender; tspec = tspec })
+
+-- an error of a path, told to one of its origins (RFC 2205, 3.1.7)
+abbrev pub told_to : Key → Option (List ℕ) → ErrorSpec → Ipv4Addr × Origin → Output
+told_to key tspec error origin =
+    sent_by origin.1.link (path_err key.session (record key.sender { sender = origin.0 }) tspec error)
+
+-- and to each of them, in the order of their senders
+abbrev pub told_upstream : Key → PathFact → Option (List ℕ) → ErrorSpec → List Output
+told_upstream key fact tspec error = map (told_to key tspec error) fact.origins

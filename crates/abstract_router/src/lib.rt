@@ -1,0 +1,6 @@
+//! The abstract router: what the machine is.
+#![tactic(auto)]
+
+pub mod laws;
+pub mod sending;
+pub mod soundness;

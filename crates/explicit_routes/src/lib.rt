@@ -1,0 +1,18 @@
+//! The next hop of a path, by its explicit route or towards its endpoint (RFC 3209, 4.3.4), and the route that
+//! it records (RFC 3209, 4.4.3).
+#![tactic(auto)]
+
+mod copies;
+mod fault;
+mod hops;
+mod places;
+mod records;
+mod routing;
+#[cfg(test)]
+mod tests;
+
+pub use fault::{RouteError, RouteFault};
+pub use hops::choose_hop;
+pub use places::{is_up, link_at};
+pub use records::{has_loop, has_room, push_hop};
+pub use routing::route_to;
