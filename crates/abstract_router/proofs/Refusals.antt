@@ -30,7 +30,7 @@ use Rattle.abstract_router.specs.Outcomes.{Outcome, lsp, refused, told_upstream}
 use Rattle.abstract_router.specs.OutputLaws.{outputs_of-same, outputs_of-touched, outputs_at-same}
 use Rattle.abstract_router.specs.Outputs.{outputs_of}
 use Rattle.abstract_router.specs.Paths.{failed, has_loop, key_of, path_arrival, path_on_its_way, taken, unknown_object, way_for}
-use Rattle.abstract_router.specs.Places.{is_up, link_at}
+use Rattle.abstract_router.specs.Places.{is_up, link_at, place_of}
 use Rattle.abstract_router.specs.Steps.{Step, arrival, message_arrival, outcome, reading_arrival, unknown_arrival}
 use Rattle.abstract_router.specs.Tears.{is_torn_by, leaves_by, left_with, origins_without, passed_on, path_err_arrival, path_tear_arrival, torn}
 
@@ -62,12 +62,12 @@ path_refuses : (r : Router) (s : Facts) (link : ℕ) (p : Path) → RefusesSilen
 unfolding path_arrival
 path_refuses r s link p =
     let known = find key_cmp (key_of p) s.paths in
-    let way = path_on_its_way r s known link p (way_for r s known p) in
+    let way = path_on_its_way r s known link p (way_for (place_of r s) known p) in
     let unlooped = if has_loop r p.recorded then failed r s link p routing_loop else way in
     let rated = if is_none (token_rate 1 p.tspec) then failed r s link p bad_tspec else unlooped in
     either s (not (p.label_request.l3pid == 0x0800)) (failed r s link p unsupported_l3pid) rated (in_error s s unsupported_l3pid _)
     (either s (is_none (token_rate 1 p.tspec)) (failed r s link p bad_tspec) unlooped (in_error s s bad_tspec _)
-    (either s (has_loop r p.recorded) (failed r s link p routing_loop) way (in_error s s routing_loop _) (way_refuses r s known link p (way_for r s known p))))
+    (either s (has_loop r p.recorded) (failed r s link p routing_loop) way (in_error s s routing_loop _) (way_refuses r s known link p (way_for (place_of r s) known p))))
 
 tear_refuses : (s : Facts) (link : ℕ) (t : PathTear) (known : Option PathFact) → RefusesSilently s (torn s link t known)
 tear_refuses s link t None = refuses s NoMatch

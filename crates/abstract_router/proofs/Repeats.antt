@@ -96,9 +96,9 @@ path_taken : (r : Router) (s : Facts) (link : ℕ) (p : Path) → replies.Done �
 unfolding path_arrival
 path_taken r s link p done =
     let known = find key_cmp (key_of p) s.paths in
-    let on = path_on_its_way r s known link p (way_for r s known p) in
+    let on = path_on_its_way r s known link p (way_for (place_of r s) known p) in
     let tests = passed (not (p.label_request.l3pid == 0x0800)) (is_none (token_rate 1 p.tspec)) (has_loop r p.recorded) (failed r s link p unsupported_l3pid) (failed r s link p bad_tspec) (failed r s link p routing_loop) on (not_done unsupported_l3pid) (not_done bad_tspec) (not_done routing_loop) done in
-    let way = way_taken r s known link p (way_for r s known p) tests.3 in
+    let way = way_taken r s known link p (way_for (place_of r s) known p) tests.3 in
     record {
       accepted = record { ipv4 = tests.0; rated = tests.1; unlooped = tests.2 };
       way = way.0;
@@ -145,7 +145,7 @@ arrival_again r s known link p way accepted =
     let fact = path_by s known link p way in
     let b : Facts = record s { paths = put key_cmp key fact s.paths } in
     passing _ _ _ (failed r b link p unsupported_l3pid) (failed r b link p bad_tspec) (failed r b link p routing_loop) _ accepted.ipv4 accepted.rated accepted.unlooped
-    ∙ ap (λ k. path_on_its_way r b k link p (way_for r b k p)) (find-put_same key_cmp key_total key fact s.paths)
+    ∙ ap (λ k. path_on_its_way r b k link p (way_for (place_of r b) k p)) (find-put_same key_cmp key_total key fact s.paths)
     ∙ ap (λ t. path_on_its_way r b (Some fact) link p (cond t (Ok (way_of fact)) (next_hop (place_of r b) p.route p.session.endpoint))) (same_option route_bytes p.route)
     ∙ ap (λ w. path_on_its_way r b (Some fact) link p (Ok w)) (way_again s known link p way)
     ∙ taken_again r s known link p way

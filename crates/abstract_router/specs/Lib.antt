@@ -1,6 +1,7 @@
 pub mod Addresses
 pub mod ByKey
 pub mod EventLaws
+pub mod MessageLaws
 pub mod Outcomes
 pub mod OutputLaws
 pub mod Outputs

@@ -32,7 +32,7 @@ use Rattle.lsr_facts.specs.declared.path_fact.Role.TheVariants as roles
 use Rattle.lsr_facts.specs.declared.reply.Reply.TheVariants as replies
 use Rattle.lsr_facts.specs.declared.router.Router.{Router}
 use Rattle.abstract_router.specs.Outcomes.{Outcome, lsp, sent_by, found_here, path_err, told_upstream}
-use Rattle.abstract_router.specs.Places.{is_own, place_of}
+use Rattle.abstract_router.specs.Places.{Place, is_own, place_of}
 use Rattle.abstract_router.specs.Routing.{next_hop}
 
 -- the LSP that a Path is for
@@ -81,10 +81,10 @@ abbrev pub way_of : PathFact → Choice
 way_of fact = if goes_on fact.role then Link fact.out_link fact.rest else Tail
 
 -- The way of a Path: that of the path which stands, where the explicit route is the same; else the next hop.
-unfoldable pub way_for : Router → Facts → Option PathFact → Path → Result Choice RsvpError
-way_for r s known p =
-    option_map_or (λ fact. if is_same_route fact.given p.route then Ok (way_of fact) else next_hop (place_of r s) p.route p.session.endpoint)
-    known (next_hop (place_of r s) p.route p.session.endpoint)
+unfoldable pub way_for : Place → Option PathFact → Path → Result Choice RsvpError
+way_for n known p =
+    option_map_or (λ fact. if is_same_route fact.given p.route then Ok (way_of fact) else next_hop n p.route p.session.endpoint)
+    known (next_hop n p.route p.session.endpoint)
 
 -- what a way makes of a path: its role, its link out, what is left of its route
 abbrev pub role_of : Choice → Role
@@ -162,7 +162,7 @@ path_arrival r s link p =
     if not (p.label_request.l3pid == 0x0800) then failed r s link p unsupported_l3pid
     else if is_none (token_rate 1 p.tspec) then failed r s link p bad_tspec
     else if has_loop r p.recorded then failed r s link p routing_loop
-    else path_on_its_way r s known link p (way_for r s known p)
+    else path_on_its_way r s known link p (way_for (place_of r s) known p)
 
 -- the error of an object that a Path doesn't know: 13 for an unknown class, 14 for an unknown C-Type of a known
 -- one (RFC 2205, B, 13 and 14)

@@ -64,7 +64,7 @@ place_sound : (r : Router) (s : Facts) → IsRouter r → IsSound r s → IsPlac
 place_sound r s router is = record { router = router; routes = is.routes }
 
 -- The way of a Path leads on, be it that of the path which is known or the next hop.
-pub way_for-leads : (r : Router) (s : Facts) (known : Option PathFact) (p : Path) → IsRouter r → IsSound r s → IfSome known (λ fact. IsPath r s (key_of p, fact)) → IsPossiblePath p → Leads r (way_for r s known p)
+pub way_for-leads : (r : Router) (s : Facts) (known : Option PathFact) (p : Path) → IsRouter r → IsSound r s → IfSome known (λ fact. IsPath r s (key_of p, fact)) → IsPossiblePath p → Leads r (way_for (place_of r s) known p)
 unfolding way_for
 way_for-leads r s None p router is knows whole = next_hop-leads (place_of r s) p.route p.session.endpoint (place_sound r s router is) (and_parts _ _ whole.fits).0 whole.addresses
 way_for-leads r s (Some fact) p router is knows whole =
@@ -97,7 +97,7 @@ path_arrival-sound r s link p router is there whole =
     (λ rate.
     cond_both (has_loop r p.recorded) _ _ (LeavesSound r) (λ loops. is)
     (λ straight.
-    path_on_its_way-sound r s link p (way_for r s known p) is
+    path_on_its_way-sound r s link p (way_for (place_of r s) known p) is
     (record { over_link = there; fits = whole.fits; carries_ipv4 = eqb-true p.label_request.l3pid 0x0800 (not-false _ carries); has_rate = not-false _ rate })
     (way_for-leads r s known p router is knows whole))))
 

@@ -33,7 +33,7 @@ use Rattle.abstract_router.specs.ByKey.{key_in, outputs_at, errors_out, IsSameEl
 use Rattle.abstract_router.specs.Outcomes.{Outcome, lsp, refused, told_upstream}
 use Rattle.abstract_router.specs.OutputLaws.{apart_ties, outputs_of-touched}
 use Rattle.abstract_router.specs.Paths.{key_of, has_loop, path_arrival, path_on_its_way, way_for, failed, taken, path_by}
-use Rattle.abstract_router.specs.Places.{is_up, link_at}
+use Rattle.abstract_router.specs.Places.{is_up, link_at, place_of}
 use Rattle.abstract_router.specs.Steps.{Step, arrival, content_of, message_arrival, reading_arrival, unknown_arrival}
 use Rattle.abstract_router.specs.Tears.{is_torn_by, left_with, leaves_by, origins_without, passed_on, path_err_arrival, path_tear_arrival, torn, without_path}
 
@@ -81,12 +81,12 @@ path_touches r s link p =
     let key = key_of p in
     let known = find key_cmp key s.paths in
     let none = touches_nothing key s in
-    let way = path_on_its_way r s known link p (way_for r s known p) in
+    let way = path_on_its_way r s known link p (way_for (place_of r s) known p) in
     let unlooped = if has_loop r p.recorded then failed r s link p routing_loop else way in
     let rated = if is_none (token_rate 1 p.tspec) then failed r s link p bad_tspec else unlooped in
     either key s (not (p.label_request.l3pid == 0x0800)) (failed r s link p unsupported_l3pid) rated none
     (either key s (is_none (token_rate 1 p.tspec)) (failed r s link p bad_tspec) unlooped none
-    (either key s (has_loop r p.recorded) (failed r s link p routing_loop) way none (on_its_way r s known link p (way_for r s known p))))
+    (either key s (has_loop r p.recorded) (failed r s link p routing_loop) way none (on_its_way r s known link p (way_for (place_of r s) known p))))
 
 left_touches : (key : Key) (fact : PathFact) (origins : List (Ipv4Addr × Origin)) (s : Facts) → IsSameBut key s (left_with key fact origins s)
 left_touches key fact [] s = touches_removed key s

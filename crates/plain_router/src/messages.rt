@@ -1,21 +1,14 @@
 ghost use Rattle.std.specs.Prelude.{◌≡◌, IfOk};
-ghost use Rattle.abstract_router.specs.Outcomes.{found_here, lsp, path_err, sent_by, told_to, told_upstream};
+ghost use Rattle.abstract_router.specs.Outcomes.{path_err, told_to, told_upstream};
 
 use crate::fault::Fault;
-use link_frames::Frame;
-use lsr_facts::{Key, Origin, Output, Outputs, PathFact, Router, RsvpError};
-use rsvp_contents::{Content, Message, PathErr, Reading};
+use lsr_facts::{Key, Origin, Output, Outputs, PathFact};
+use path_rules::sent_by;
+use rsvp_contents::{Content, Message, PathErr};
 use rsvp_objects::{ErrorSpec, Session, Template};
 use rsvp_traffic::Tspec;
 use std::alloc::Global;
 use std::net::Ipv4Addr;
-
-/// The LSP of a session that has this head and LSP ID.
-pub(crate) fn lsp(session: Session, sender: Template) -> Key
-    ensures { result ≡ lsp session sender }
-{
-    Key { session, sender }
-}
 
 /// A message with this content.
 pub(crate) fn message_of(content: Content) -> Result<Message, Fault>
@@ -24,28 +17,6 @@ pub(crate) fn message_of(content: Content) -> Result<Message, Fault>
     match Message::checked(content) {
         Ok(message) => Ok(message),
         Err(_unfit) => Err(Fault::Unfit),
-    }
-}
-
-/// A message that goes out by a link.
-pub(crate) fn sent_by(link: u16, message: Message) -> Output
-    ensures { result ≡ sent_by link message }
-{
-    Output {
-        link,
-        frame: Frame::Hop(Reading::Whole(message)),
-    }
-}
-
-/// An error that this router found.
-pub(crate) fn found_here(router: &Router, error: RsvpError) -> ErrorSpec
-    ensures { result ≡ found_here router.now error }
-{
-    ErrorSpec {
-        node: router.id,
-        flags: 0,
-        code: error.code,
-        value: error.value,
     }
 }
 

@@ -1,144 +1,38 @@
-ghost use Rattle.std.specs.Option.{option_map_or};
-ghost use Rattle.std.specs.Prelude.{◌≡◌, ◌&&◌, IfOk, Ok, false, is_none, length, nat_le, option_copied};
-ghost use Rattle.abstract_router.specs.Paths.{drops_record, failed, has_loop, is_same_record, is_same_route, lifetime, link_of, origin_of, origins_of, path_arrival, path_by, path_on_its_way, record_errors, rest_of, role_of, taken, unknown_code, unknown_object, way_for, way_of};
+ghost use Rattle.std.specs.Prelude.{◌≡◌, ◌&&◌, IfOk, Ok, is_none, length, nat_le, option_copied};
+ghost use Rattle.abstract_router.specs.Paths.{failed, origin_of, origins_of, path_arrival, path_by, path_on_its_way, record_errors, taken, unknown_object, way_for};
+ghost use Rattle.abstract_router.specs.Places.{place_of};
 ghost use Rattle.std.specs.FinMap.Entries.{find, put};
 ghost use Rattle.lsr_facts.specs.Orders.{address_cmp, key_cmp};
-ghost use Rattle.rsvp_traffic.specs.TokenBuckets.{token_rate};
 ghost use Rattle.explicit_routes.specs.Choosing.{IsChosen};
 ghost use Rattle.plain_router.specs.Answers.{IsOutcome};
 
 use crate::fault::Fault;
-use crate::messages::{found_here, lsp, path_err, sent_by, told_upstream};
+use crate::messages::{path_err, told_upstream};
 use crate::outcome::Outcome;
-use crate::wanted::{goes_on, node_of};
-use explicit_routes::{RouteFault, choose_hop, has_loop, has_room};
+use crate::wanted::node_of;
+use explicit_routes::RouteFault;
 use lsr_facts::limits::MAX_LSPS;
-use lsr_facts::{
-    Choice, Facts, Key, Node, Origin, Outputs, PathFact, Reply, Role, Router, RsvpError,
-    UNKNOWN_CLASS, UNKNOWN_CTYPE,
+use lsr_facts::{Choice, Facts, Key, Node, Origin, Outputs, PathFact, Reply, Router, RsvpError};
+use path_rules::{
+    carries_ipv4, drops_record, found_here, has_been_here, has_no_rate, knows_record, lifetime,
+    link_of, lsp, origins_of, rest_of, role_of, sent_by, unknown_object, way_for,
 };
 use rsvp_contents::Path;
-use rsvp_objects::Kind;
-use rsvp_routes::{Record, Route, write_record, write_route};
-use rsvp_traffic::Tspec;
 use sorted_rows::{Table, TryCopy};
 use std::alloc::{AllocError, Global};
 use std::net::Ipv4Addr;
 
-/// The EtherType of IPv4, which an LSP may carry.
-const ETHERTYPE_IPV4: u16 = 0x0800;
-
-/// K: so many refreshes come late or not at all before state is lost (RFC 2205, 3.7).
-const LATE_REFRESHES: u64 = 3;
-
-/// State lives for (K + 0.5) * 1.5 times as long as from one refresh to the next (RFC 2205, 3.7). So many
-/// quarters is that.
-const LIFETIME_QUARTERS: u64 = (2 * LATE_REFRESHES + 1) * 3;
-
-/// The quarters of a whole.
-const QUARTERS: u64 = 4;
-
-/// An unknown object's class stands in the high byte of the error's value (RFC 2205, B, 13).
-const CLASS_WEIGHT: u16 = 0x100;
-
-/// How long state lives after a message that is refreshed so often, in milliseconds.
-fn lifetime(refresh_ms: u32) -> u64
-    ensures { result ≡ lifetime refresh_ms }
-{
-    (LIFETIME_QUARTERS * u64::from(refresh_ms)).div_ceil(QUARTERS)
-}
-
-/// Whether explicit routes are equal: their bytes are, or both are absent.
-fn is_same_route(alloc: Global, a: &Option<Route>, b: &Option<Route>) -> Result<bool, AllocError>
-    ensures { IfOk result (λ same. same ≡ is_same_route a.now b.now) }
-{
-    let (a, b) = match (a, b) {
-        (Some(a), Some(b)) => (a, b),
-        (None, None) => return Ok(true),
-        (Some(_), None) => return Ok(false),
-        (None, Some(_)) => return Ok(false),
-    };
-    let mut first = Vec::new(alloc);
-    let mut second = Vec::new(alloc);
-    write_route(a, &mut first)?;
-    write_route(b, &mut second)?;
-    Ok(first == second)
-}
-
-/// Whether recorded routes are equal: their bytes are, or both are absent.
-fn is_same_record(alloc: Global, a: &Option<Record>, b: &Option<Record>) -> Result<bool, AllocError>
-    ensures { IfOk result (λ same. same ≡ is_same_record a.now b.now) }
-{
-    let (a, b) = match (a, b) {
-        (Some(a), Some(b)) => (a, b),
-        (None, None) => return Ok(true),
-        (Some(_), None) => return Ok(false),
-        (None, Some(_)) => return Ok(false),
-    };
-    let mut first = Vec::new(alloc);
-    let mut second = Vec::new(alloc);
-    write_record(a, &mut first)?;
-    write_record(b, &mut second)?;
-    Ok(first == second)
-}
-
-/// The way of a path that is known.
-fn way_of(fact: &PathFact) -> Result<Choice, AllocError>
-    ensures { IfOk result (λ way. way ≡ way_of fact.now) }
-{
-    if goes_on(fact.role) {
-        return Ok(Choice::Link(fact.out_link, fact.rest.clone()?));
-    }
-    Ok(Choice::Tail)
-}
-
-/// The parts of a way.
-fn role_of(way: &Choice) -> Role
-    ensures { result ≡ role_of way.now }
-{
-    match way {
-        Choice::Tail => Role::Tail,
-        Choice::Link(_, _) => Role::Transit,
-    }
-}
-
-fn link_of(way: &Choice) -> u16
-    ensures { result ≡ link_of way.now }
-{
-    match way {
-        Choice::Tail => 0,
-        Choice::Link(link, _) => *link,
-    }
-}
-
-fn rest_of(way: Choice) -> Option<Route>
-    ensures { result ≡ rest_of way }
-{
-    match way {
-        Choice::Tail => None,
-        Choice::Link(_, rest) => rest,
-    }
-}
-
-/// The way of a Path: that of the path which stands, where the explicit route is the same; else the next hop.
-#[tactic(auto, unfolding(abstract_router::specs::Paths::way_for))]
-fn way_for(
+/// The way of a Path, from where the router stands.
+fn way_here(
     alloc: Global,
     router: &Router,
     facts: &Facts,
     known: Option<&PathFact>,
     path: &Path,
 ) -> Result<Choice, RouteFault>
-    ensures { IsChosen (way_for router.now facts.now (option_copied known.entry) path.now) result }
+    ensures { IsChosen (way_for (place_of router.now facts.now) (option_copied known.entry) path.now) result }
 {
-    let node = node_of(router, facts);
-    let Some(fact) = known else {
-        return choose_hop(alloc, &node, path.route.as_ref(), path.session.endpoint);
-    };
-    if is_same_route(alloc, &fact.given, &path.route)? {
-        return Ok(way_of(fact)?);
-    }
-    choose_hop(alloc, &node, path.route.as_ref(), path.session.endpoint)
+    way_for(alloc, &node_of(router, facts), known, path)
 }
 
 /// The origin that a Path is.
@@ -154,19 +48,6 @@ fn origin_of(facts: &Facts, link: u16, path: &Path) -> Result<Origin, Fault>
         hop: path.hop,
         expiry,
     })
-}
-
-/// A copy of the origins of a path that may be known.
-fn origins_of(
-    alloc: Global,
-    known: Option<&PathFact>,
-) -> Result<Table<Ipv4Addr, Origin>, AllocError>
-    ensures { IfOk result (λ origins. origins ≡ origins_of (option_copied known.entry)) }
-{
-    match known {
-        Some(fact) => fact.origins.try_copy(alloc),
-        None => Ok(Table::new(alloc)),
-    }
 }
 
 /// The origins of a path with that of a Path put among them.
@@ -209,34 +90,6 @@ fn path_by(
         fast_reroute: path.fast_reroute,
         passing: path.passing.clone()?,
     })
-}
-
-/// Whether the path goes on, and its record can't grow.
-fn drops_record(node: &Node, fact: &PathFact) -> bool
-    ensures { result ≡ drops_record node.now.router.now fact.now }
-{
-    if !goes_on(fact.role) {
-        return false;
-    }
-    match &fact.recorded {
-        Some(record) => !has_room(node, record),
-        None => false,
-    }
-}
-
-/// Whether the record is one that was known before.
-fn knows_record(
-    alloc: Global,
-    known: Option<&PathFact>,
-    fact: &PathFact,
-) -> Result<bool, AllocError>
-    ensures { IfOk result (λ knows. knows ≡ option_map_or
-        (λ old. is_same_record old.recorded fact.now.recorded) (option_copied known.entry) false) }
-{
-    match known {
-        Some(old) => is_same_record(alloc, &old.recorded, &fact.recorded),
-        None => Ok(false),
-    }
 }
 
 /// That a record is dropped is told upstream where the path or its record is new.
@@ -311,24 +164,6 @@ fn taken(
     })
 }
 
-/// Whether the Tspec has no rate.
-fn has_no_rate(tspec: &Tspec) -> bool
-    ensures { result ≡ is_none (token_rate 1 tspec.now) }
-{
-    tspec.rate().is_err()
-}
-
-/// Whether the path has been here before.
-#[tactic(auto, unfolding(abstract_router::specs::Paths::has_loop))]
-fn loops(node: &Node, recorded: &Option<Record>) -> bool
-    ensures { result ≡ has_loop node.now.router.now recorded.now }
-{
-    match recorded {
-        Some(record) => has_loop(node, record),
-        None => false,
-    }
-}
-
 /// Whether the path is new, and there is no room for another.
 fn is_full(facts: &Facts, known: Option<&PathFact>) -> bool
     ensures { result ≡ (is_none (option_copied known.entry) && nat_le 1024 (length facts.now.paths)) }
@@ -369,9 +204,10 @@ fn path_on_its_way(
     path: &Path,
 ) -> Result<Outcome, Fault>
     ensures { IfOk result (λ outcome. IsOutcome outcome (path_on_its_way router.now facts.now
-        (option_copied known.entry) link path.now (way_for router.now facts.now (option_copied known.entry) path.now))) }
+        (option_copied known.entry) link path.now (way_for
+        (place_of router.now facts.now) (option_copied known.entry) path.now))) }
 {
-    match way_for(alloc, router, facts, known, path) {
+    match way_here(alloc, router, facts, known, path) {
         Ok(way) => path_with_way(alloc, router, facts, known, link, path, way),
         Err(RouteFault::Error(error)) => failed(alloc, router, facts, link, path, error.error()),
         Err(RouteFault::Memory) => Err(Fault::Memory),
@@ -396,7 +232,7 @@ pub fn path_arrival(
 ) -> Result<Outcome, Fault>
     ensures { IfOk result (λ outcome. IsOutcome outcome (path_arrival router.now facts.now link path.now)) }
 {
-    if path.label_request.l3pid != ETHERTYPE_IPV4 {
+    if !carries_ipv4(path) {
         return failed(
             alloc,
             router,
@@ -409,31 +245,11 @@ pub fn path_arrival(
     if has_no_rate(&path.tspec) {
         return failed(alloc, router, facts, link, path, RsvpError::BAD_TSPEC);
     }
-    if loops(&node_of(router, facts), &path.recorded) {
+    if has_been_here(&node_of(router, facts), &path.recorded) {
         return failed(alloc, router, facts, link, path, RsvpError::ROUTING_LOOP);
     }
     let known = path_at(facts, &lsp(path.session, path.sender));
     path_on_its_way(alloc, router, facts, known, link, path)
-}
-
-/// The code of the error of an object of this kind, which a Path doesn't know.
-fn unknown_code(kind: Kind) -> u8
-    ensures { result ≡ unknown_code kind }
-{
-    match kind {
-        Kind::Unknown(_) => UNKNOWN_CLASS,
-        _ => UNKNOWN_CTYPE,
-    }
-}
-
-/// The error of an object that a Path doesn't know.
-fn unknown_object(class: u8, ctype: u8) -> RsvpError
-    ensures { result ≡ unknown_object class ctype }
-{
-    RsvpError {
-        code: unknown_code(Kind::of(class, ctype)),
-        value: u16::from(class) * CLASS_WEIGHT + u16::from(ctype),
-    }
 }
 
 /// What a Path does with an object that it doesn't know.

@@ -1,0 +1,7 @@
+use Rattle.std.proofs.Common.{◌≡◌, ◌++◌, filter_map, take}
+use Rattle.abstract_router.specs.Outputs.{send_for}
+use Rattle.path_rules.proofs.outputs.wanted_out.Given as goal
+
+-- so many are sent that are new or changed
+abbrev pub invariant-loop-wants : goal.invariant-loop-wants
+invariant-loop-wants l = l.out ≡ l.fn.sent ++ filter_map (send_for l.before) (take l.wants-index l.wanted)

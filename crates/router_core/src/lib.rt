@@ -1,0 +1,21 @@
+//! The router itself: one event is one step of the abstract router.
+#![tactic(auto)]
+
+mod arrivals;
+mod change;
+mod draft;
+mod paths;
+mod plan;
+mod running;
+mod sent;
+mod serve;
+mod tables;
+mod tears;
+#[cfg(test)]
+mod tests;
+mod told;
+
+pub use change::Change;
+pub use plan::Plan;
+pub use running::{Cold, Running};
+pub use serve::Datagram;

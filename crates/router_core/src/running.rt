@@ -1,0 +1,147 @@
+ghost use Rattle.std.specs.Prelude.{◌≡◌, [], IfOk, map, false};
+ghost use Rattle.lsr_facts.specs.declared.event.Event.TheVariants as events;
+ghost use Rattle.lsr_facts.specs.declared.reply.Reply.TheVariants as replies;
+ghost use Rattle.lsr_config.specs.BuiltIn.{two_links};
+ghost use Rattle.abstract_router.specs.Soundness.{IsRouter, IsSound};
+ghost use Rattle.abstract_router.specs.Steps.{IsEvent, Step};
+ghost use Rattle.router_core.specs.Changes.{applied};
+ghost use Rattle.router_core.specs.States.{AreTables, IsConfig, cold, facts_of, opened};
+
+use crate::change::apply;
+use crate::plan::{Plan, plan_of};
+use crate::tables::Tables;
+use lsr_config::Config;
+use lsr_facts::limits::MAX_LSPS;
+use lsr_facts::{Event, Facts, Link, Outputs};
+use sorted_rows::{Table, TryCopy, copy_rows};
+use std::alloc::{AllocError, Global};
+use std::marker::Model;
+
+/// A router that isn't started: it takes no event but its start. Contracts see what it knows.
+#[derive(Debug, Drop)]
+pub struct Cold {
+    tables: Tables,
+}
+
+impl Model for Cold {
+    ghost use Rattle.router_core.specs.States.{AreTables, State, cold, state_of};
+
+    ghost Value = { State };
+
+    ghost view = { λ c. cold (state_of c.tables) };
+
+    ghost invariant = { λ c. AreTables c.tables };
+}
+
+/// A router that runs. Contracts see what it knows, which is sound at any time.
+#[derive(Debug, Drop)]
+pub struct Running {
+    tables: Tables,
+}
+
+impl Model for Running {
+    ghost use Rattle.router_core.specs.States.{AreTables, State, state_of};
+
+    ghost Value = { State };
+
+    ghost view = { λ r. state_of r.tables };
+
+    ghost invariant = { λ r. AreTables r.tables };
+}
+
+/// Of each link whether it is up when the router is opened.
+fn links_up(alloc: Global, links: &[(u16, Link)]) -> Result<Vec<(u16, bool)>, AllocError>
+    ensures { IfOk result (λ up. up.items ≡ map (λ l. (l.0, l.1.up)) links.now) }
+{
+    links.iter().map(|link| (link.0, link.1.up)).collect(alloc)
+}
+
+impl Cold {
+    /// The router of a configuration, not started yet. It reserves the memory of all paths that it may ever
+    /// know; the only error is want of that memory.
+    pub fn new(alloc: Global, config: Config) -> Result<Cold, AllocError>
+        requires { IsConfig config }
+        ensures opened { IfOk result (λ router. router ≡ cold (opened config)) }
+    {
+        let up = links_up(alloc, config.router.links.as_slice())?;
+        Ok(Cold {
+            tables: Tables {
+                router: config.router,
+                moment: 0,
+                up: Table::from_rows(up),
+                routes: config.routes,
+                paths: Vec::with_capacity(alloc, MAX_LSPS)?,
+            },
+        })
+    }
+
+    /// The built-in router ([`Config::two_links`]), not started yet. The only error is want of memory.
+    pub fn two_links(alloc: Global) -> Result<Cold, AllocError>
+        ensures opened { IfOk result (λ router. router ≡ cold (opened two_links)) }
+    {
+        Cold::new(alloc, Config::two_links(alloc)?)
+    }
+
+    /// Starts the router. Takes no memory, and sends nothing.
+    pub fn start(self) -> Running
+        ensures started { result ≡ record self { facts = record self.facts { cold = false } } }
+        ensures step { Step self.router self.facts events.Start replies.Done [] result.facts }
+    {
+        let Cold { tables } = self;
+        Running { tables }
+    }
+}
+
+impl Running {
+    /// The plan of an event's step, with all the memory that it takes. It changes nothing; the only error is
+    /// want of memory.
+    pub fn plan(&self, alloc: Global, event: &Event) -> Result<Plan, AllocError>
+        requires { IsEvent event.now }
+        ensures step { IfOk result (λ plan. Step self.now.router self.now.facts event.now plan.reply plan.outputs
+            (applied plan.change self.now.facts)) }
+        ensures sound { IfOk result (λ plan. IsSound self.now.router (applied plan.change self.now.facts)) }
+    {
+        plan_of(alloc, &self.tables, event)
+    }
+
+    /// Makes the step of a plan, and gives what it sends. It asks for a plan that was made for this router as
+    /// it stands. Takes no memory, and always succeeds.
+    pub fn commit(&mut self, plan: Plan) -> Outputs
+        requires { IsSound self.old.router (applied plan.change self.old.facts) }
+        ensures changed { self.new ≡ record self.old { facts = applied plan.change self.old.facts } }
+        ensures sent { result ≡ plan.outputs }
+    {
+        apply(&mut self.tables, plan.change);
+        plan.outputs
+    }
+
+    /// What the router knows, its tables in the order of their keys. The only error is want of memory.
+    pub fn export(&self, alloc: Global) -> Result<Facts, AllocError>
+        ensures facts { IfOk result (λ facts. facts ≡ self.now.facts) }
+    {
+        facts_in(alloc, &self.tables)
+    }
+
+    /// That what the router knows is sound.
+    pub fn soundness(&self)
+        ensures router { IsRouter self.now.router }
+        ensures sound { IsSound self.now.router self.now.facts }
+        ensures running { self.now.facts.cold ≡ false }
+    {
+        let _tables = &self.tables;
+    }
+}
+
+/// The facts that the tables hold.
+fn facts_in(alloc: Global, tables: &Tables) -> Result<Facts, AllocError>
+    requires { AreTables tables.now }
+    ensures { IfOk result (λ facts. facts ≡ facts_of tables.now) }
+{
+    Ok(Facts {
+        cold: false,
+        moment: tables.moment,
+        up: tables.up.try_copy(alloc)?,
+        routes: tables.routes.try_copy(alloc)?,
+        paths: Table::from_rows(copy_rows(alloc, &tables.paths)?),
+    })
+}
