@@ -1,12 +1,14 @@
+use crate::limits::passes;
 use crate::*;
 use rsvp_objects::numbers::*;
 use rsvp_objects::{
-    Affinities, Attr, Body, ErrorSpec, FastReroute, Hop, Kind, LabelRequest, Name, Object, Opaque,
-    RateWord, Session, Template, TimeValues, read_object,
+    Affinities, Attr, Body, ErrorSpec, FastReroute, Hop, Kind, LabelRequest, Name, Opaque,
+    RateWord, Session, Template, TimeValues,
 };
-use rsvp_routes::{Record, Route};
+use rsvp_routes::{Record, Route, read_record, read_route};
 use rsvp_traffic::Tspec;
 use std::alloc::{AllocError, Global};
+use std::fmt::Debug;
 use std::net::Ipv4Addr;
 use std::process::Abort;
 use std::test::Fail;
@@ -93,66 +95,64 @@ fn passing(
     Ok(passing)
 }
 
-/// An object of this class and of the first C-Type, with so many of these subobjects.
-fn routing(alloc: Global, class: u8, subobject: &[u8], count: u32) -> Result<Object, Fail> {
-    let mut body = Vec::new(alloc);
+/// So many of these subobjects.
+fn repeated(alloc: Global, subobject: &[u8], count: u32) -> Result<Vec<u8>, AllocError> {
+    let mut bytes = Vec::new(alloc);
     for _ in 0..count {
-        body.extend_from_slice(subobject)?;
+        bytes.extend_from_slice(subobject)?;
     }
-    let len = u16::try_from(body.len().saturating_add(HEADER_LEN)).unwrap_or(0);
-    let mut bytes = Vec::from_slice(alloc, &len.to_be_bytes())?;
-    bytes.extend_from_slice(&[class, CTYPE_FIRST])?;
-    bytes.extend_from_slice(body.as_slice())?;
-    let (object, _) = read_object(alloc, bytes.as_slice())?;
-    Ok(object)
+    Ok(bytes)
 }
 
-fn route(alloc: Global, step: &[u8], count: u32) -> Result<Option<Route>, Fail> {
-    match routing(alloc, CLASS_EXPLICIT_ROUTE, step, count)? {
-        Object::ExplicitRoute(route) => Ok(Some(route)),
-        _ => Ok(None),
-    }
+fn route(rt: &impl Abort, alloc: Global, step: &[u8], count: u32) -> Result<Route, Fail> {
+    let body = repeated(alloc, step, count)?;
+    assert!(rt; body.len() % 4 == 0 && body.len() <= Body::MAX_LEN);
+    Ok(read_route(alloc, body.as_slice())?)
 }
 
-fn record(alloc: Global, entry: &[u8], count: u32) -> Result<Option<Record>, Fail> {
-    match routing(alloc, CLASS_RECORD_ROUTE, entry, count)? {
-        Object::RecordRoute(recorded) => Ok(Some(recorded)),
-        _ => Ok(None),
-    }
+fn record(rt: &impl Abort, alloc: Global, entry: &[u8], count: u32) -> Result<Record, Fail> {
+    let body = repeated(alloc, entry, count)?;
+    assert!(rt; body.len() % 4 == 0 && body.len() <= Body::MAX_LEN);
+    Ok(read_record(alloc, body.as_slice())?)
 }
 
-/// A Path with nothing but what it needs.
-fn bare_path(rt: &impl Abort, alloc: Global) -> Result<Path, AllocError> {
-    Ok(Path {
+/// A Path with nothing but what it needs and these parts.
+fn path_of(tspec: Tspec, route: Option<Route>, recorded: Option<Record>, passing: Passing) -> Path {
+    Path {
         session: session(),
         hop: hop(),
         time: TimeValues { refresh_ms: 30_000 },
-        route: None,
+        route,
         label_request: LabelRequest { l3pid: 0x0800 },
         attr: None,
         fast_reroute: None,
-        passing: Passing::new(alloc),
+        passing,
         sender: sender(),
-        tspec: tspec(rt, alloc, GOOD_TSPEC_LEN)?,
-        recorded: None,
-    })
+        tspec,
+        recorded,
+    }
 }
 
-/// A Path in which every part is as long as it may be.
-fn longest_path(rt: &impl Abort, alloc: Global, tspec_len: usize) -> Result<Path, Fail> {
-    let mut path = bare_path(rt, alloc)?;
-    path.route = route(alloc, &SIXTEEN_BYTES, 32)?;
-    path.attr = Some(Attr {
+fn longest_attr(alloc: Global) -> Result<Attr, AllocError> {
+    Ok(Attr {
         affinities: Some(AFFINITIES),
         setup: 7,
         hold: 7,
         flags: 6,
         name: Name::copy_of(alloc, &[b'x'; Name::MAX_LEN])?,
-    });
+    })
+}
+
+/// A Path in which every part is as long as it may be.
+fn longest_path(rt: &impl Abort, alloc: Global, tspec_len: usize) -> Result<Path, Fail> {
+    let attr = longest_attr(alloc)?;
+    let passing = passing(rt, alloc, &[(CLASS_POLICY_DATA, CTYPE_FIRST, 256); 8])?;
+    let route = route(rt, alloc, &SIXTEEN_BYTES, 32)?;
+    let recorded = record(rt, alloc, &SIXTEEN_BYTES, 64)?;
+    let tspec = tspec(rt, alloc, tspec_len)?;
+    let mut path = path_of(tspec, Some(route), Some(recorded), passing);
+    path.attr = Some(attr);
     path.fast_reroute = Some(fast_reroute());
-    path.passing = passing(rt, alloc, &[(CLASS_POLICY_DATA, CTYPE_FIRST, 256); 8])?;
-    path.tspec = tspec(rt, alloc, tspec_len)?;
-    path.recorded = record(alloc, &SIXTEEN_BYTES, 64)?;
     Ok(path)
 }
 
@@ -178,47 +178,43 @@ fn path_tear() -> PathTear {
     }
 }
 
-/// Asserts that the content is made a message, or that it is given back, and that it is the same
-/// afterwards.
-fn assert_checked(
-    rt: &impl Abort,
-    alloc: Global,
-    content: Content,
-    is_message: bool,
-) -> Result<(), Fail> {
-    let before = format!(in alloc; "{content:?}")?;
+/// Asserts that the content is made a message, or that it isn't.
+fn assert_checked(rt: &impl Abort, content: Content, is_message: bool) {
     assert_eq!(rt; Message::fits(&content), is_message);
-    let after = match Message::checked(content) {
-        Ok(message) => {
-            assert!(rt; is_message);
-            message.into_content()
-        }
-        Err(content) => {
-            assert!(rt; !is_message);
-            content
-        }
-    };
-    assert_eq!(rt; format!(in alloc; "{after:?}")?, before);
-    Ok(())
+    assert_eq!(rt; Message::checked(content).is_ok(), is_message);
 }
 
 #[test]
 fn a_message_has_at_most_4096_bytes(rt: HostRuntime) -> Result<(), Fail> {
-    let alloc = rt.alloc();
     for (len, is_message) in [(104, true), (108, false)] {
-        let path = longest_path(&rt, alloc, len)?;
-        assert_checked(&rt, alloc, Content::Path(path), is_message)?;
+        let path = longest_path(&rt, rt.alloc(), len)?;
+        assert_checked(&rt, Content::Path(path), is_message);
     }
     for (len, is_message) in [(4_044, true), (4_048, false)] {
-        let error = path_err(&rt, alloc, len)?;
-        assert_checked(&rt, alloc, Content::PathErr(error), is_message)?;
+        let error = path_err(&rt, rt.alloc(), len)?;
+        assert_checked(&rt, Content::PathErr(error), is_message);
     }
-    assert_checked(&rt, alloc, Content::PathTear(path_tear()), true)
+    assert_checked(&rt, Content::PathTear(path_tear()), true);
+    Ok(())
+}
+
+/// Asserts that a Path with a route of so many of these steps is a message, or that it isn't.
+fn assert_route(
+    rt: &impl Abort,
+    alloc: Global,
+    step: &[u8],
+    count: u32,
+    is_message: bool,
+) -> Result<(), Fail> {
+    let tspec = tspec(rt, alloc, GOOD_TSPEC_LEN)?;
+    let route = route(rt, alloc, step, count)?;
+    let path = path_of(tspec, Some(route), None, Passing::new(alloc));
+    assert_checked(rt, Content::Path(path), is_message);
+    Ok(())
 }
 
 #[test]
-fn routes_are_within_their_limits(rt: HostRuntime) -> Result<(), Fail> {
-    let alloc = rt.alloc();
+fn explicit_routes_are_within_their_limits(rt: HostRuntime) -> Result<(), Fail> {
     let routes: [(&[u8], u32, bool); 5] = [
         (&ADDRESS, 0, true),
         (&ADDRESS, 32, true),
@@ -227,10 +223,28 @@ fn routes_are_within_their_limits(rt: HostRuntime) -> Result<(), Fail> {
         (&TWENTY_BYTES, 26, false),
     ];
     for (step, count, is_message) in routes {
-        let mut path = bare_path(&rt, alloc)?;
-        path.route = route(alloc, step, count)?;
-        assert_checked(&rt, alloc, Content::Path(path), is_message)?;
+        assert_route(&rt, rt.alloc(), step, count, is_message)?;
     }
+    Ok(())
+}
+
+/// Asserts that a Path with a record of so many of these entries is a message, or that it isn't.
+fn assert_record(
+    rt: &impl Abort,
+    alloc: Global,
+    entry: &[u8],
+    count: u32,
+    is_message: bool,
+) -> Result<(), Fail> {
+    let tspec = tspec(rt, alloc, GOOD_TSPEC_LEN)?;
+    let recorded = record(rt, alloc, entry, count)?;
+    let path = path_of(tspec, None, Some(recorded), Passing::new(alloc));
+    assert_checked(rt, Content::Path(path), is_message);
+    Ok(())
+}
+
+#[test]
+fn recorded_routes_are_within_their_limits(rt: HostRuntime) -> Result<(), Fail> {
     let records: [(&[u8], u32, bool); 5] = [
         (&ADDRESS, 0, true),
         (&ADDRESS, 64, true),
@@ -239,9 +253,7 @@ fn routes_are_within_their_limits(rt: HostRuntime) -> Result<(), Fail> {
         (&TWENTY_BYTES, 52, false),
     ];
     for (entry, count, is_message) in records {
-        let mut path = bare_path(&rt, alloc)?;
-        path.recorded = record(alloc, entry, count)?;
-        assert_checked(&rt, alloc, Content::Path(path), is_message)?;
+        assert_record(&rt, rt.alloc(), entry, count, is_message)?;
     }
     Ok(())
 }
@@ -256,98 +268,110 @@ const OTHER_REROUTE: (u8, u8, usize) = (CLASS_FAST_REROUTE, OTHER_CTYPE, 4);
 
 const FORWARDED: (u8, u8, usize) = (FORWARDED_CLASS, CTYPE_FIRST, 0);
 
-#[test]
-fn what_is_passed_on_is_within_its_limits(rt: HostRuntime) -> Result<(), Fail> {
-    let alloc = rt.alloc();
-    let cases: [(&[(u8, u8, usize)], bool); 7] = [
-        (&[], true),
-        (&[POLICY; 8], true),
-        (&[POLICY; 9], false),
-        (&[LONG_POLICY], true),
-        (&[(CLASS_POLICY_DATA, CTYPE_FIRST, 516)], false),
-        (&[LONG_POLICY; 4], true),
-        (
-            &[LONG_POLICY, LONG_POLICY, LONG_POLICY, LONG_POLICY, POLICY],
-            false,
-        ),
-    ];
-    for (objects, is_message) in cases {
-        let mut path = bare_path(&rt, alloc)?;
-        path.passing = passing(&rt, alloc, objects)?;
-        assert_checked(&rt, alloc, Content::Path(path), is_message)?;
+/// Asserts that a Path that passes on these objects is a message, or that it isn't.
+fn assert_passing(
+    rt: &impl Abort,
+    alloc: Global,
+    objects: &[(u8, u8, usize)],
+    has_own_reroute: bool,
+    is_message: bool,
+) -> Result<(), Fail> {
+    let tspec = tspec(rt, alloc, GOOD_TSPEC_LEN)?;
+    let passing = passing(rt, alloc, objects)?;
+    let mut path = path_of(tspec, None, None, passing);
+    if has_own_reroute {
+        path.fast_reroute = Some(fast_reroute());
     }
+    assert_checked(rt, Content::Path(path), is_message);
     Ok(())
 }
 
 #[test]
 fn what_is_passed_on_is_what_a_reader_passes_on(rt: HostRuntime) -> Result<(), Fail> {
-    let alloc = rt.alloc();
-    let cases: [(&[(u8, u8, usize)], bool); 13] = [
-        (&[ADSPEC], true),
-        (&[POLICY, FORWARDED, POLICY, FORWARDED, ADSPEC], true),
-        (&[ADSPEC, POLICY], false),
-        (&[ADSPEC, ADSPEC], false),
-        (&[OTHER_REROUTE, POLICY], true),
-        (&[OTHER_REROUTE, OTHER_REROUTE], false),
-        (&[(IGNORED_CLASS, CTYPE_FIRST, 0)], false),
-        (&[(REJECTED_CLASS, CTYPE_FIRST, 0)], false),
-        (&[(CLASS_NULL, CTYPE_FIRST, 0)], false),
-        (&[(CLASS_INTEGRITY, CTYPE_FIRST, 0)], false),
-        (&[(CLASS_RESV_CONFIRM, CTYPE_FIRST, 4)], false),
-        (&[(CLASS_SESSION, CTYPE_FIRST, 8)], false),
-        (&[POLICY, (CLASS_RECORD_ROUTE, OTHER_CTYPE, 8)], false),
+    // Objects, whether the Path has a FAST_REROUTE of its own, and whether it is a message.
+    let cases: [(&[(u8, u8, usize)], bool, bool); 22] = [
+        // At most 8 objects, 512 bytes in one and 2,048 in all.
+        (&[], false, true),
+        (&[POLICY; 8], false, true),
+        (&[POLICY; 9], false, false),
+        (&[LONG_POLICY], false, true),
+        (&[(CLASS_POLICY_DATA, CTYPE_FIRST, 516)], false, false),
+        (&[LONG_POLICY; 4], false, true),
+        (
+            &[LONG_POLICY, LONG_POLICY, LONG_POLICY, LONG_POLICY, POLICY],
+            false,
+            false,
+        ),
+        // An ADSPEC stands last.
+        (&[ADSPEC], false, true),
+        (&[POLICY, FORWARDED, POLICY, FORWARDED, ADSPEC], false, true),
+        (&[ADSPEC, POLICY], false, false),
+        (&[ADSPEC, ADSPEC], false, false),
+        // One object of class FAST_REROUTE, be it the own or one that is passed on.
+        (&[OTHER_REROUTE, POLICY], false, true),
+        (&[OTHER_REROUTE, OTHER_REROUTE], false, false),
+        (&[POLICY], true, true),
+        (&[OTHER_REROUTE], true, false),
+        // No other object.
+        (&[(IGNORED_CLASS, CTYPE_FIRST, 0)], false, false),
+        (&[(REJECTED_CLASS, CTYPE_FIRST, 0)], false, false),
+        (&[(CLASS_NULL, CTYPE_FIRST, 0)], false, false),
+        (&[(CLASS_INTEGRITY, CTYPE_FIRST, 0)], false, false),
+        (&[(CLASS_RESV_CONFIRM, CTYPE_FIRST, 4)], false, false),
+        (&[(CLASS_SESSION, CTYPE_FIRST, 8)], false, false),
+        (
+            &[POLICY, (CLASS_RECORD_ROUTE, OTHER_CTYPE, 8)],
+            false,
+            false,
+        ),
     ];
-    for (objects, is_message) in cases {
-        let mut path = bare_path(&rt, alloc)?;
-        path.passing = passing(&rt, alloc, objects)?;
-        assert_checked(&rt, alloc, Content::Path(path), is_message)?;
+    for (objects, has_own, is_message) in cases {
+        assert_passing(&rt, rt.alloc(), objects, has_own, is_message)?;
     }
     Ok(())
 }
 
 #[test]
-fn a_path_has_one_object_of_class_fast_reroute(rt: HostRuntime) -> Result<(), Fail> {
-    let alloc = rt.alloc();
-    let cases: [(&[(u8, u8, usize)], bool); 2] = [(&[POLICY], true), (&[OTHER_REROUTE], false)];
-    for (objects, is_message) in cases {
-        let mut path = bare_path(&rt, alloc)?;
-        path.fast_reroute = Some(fast_reroute());
-        path.passing = passing(&rt, alloc, objects)?;
-        assert_checked(&rt, alloc, Content::Path(path), is_message)?;
+fn passes_on_all_but_the_adspec_in_its_place(rt: HostRuntime) -> Result<(), Fail> {
+    let objects = passing(&rt, rt.alloc(), &[POLICY, FORWARDED, OTHER_REROUTE, ADSPEC])?;
+    for (object, expected) in objects.as_slice().iter().zip([true, true, true, false]) {
+        assert_eq!(rt; passes(object), expected);
     }
     Ok(())
+}
+
+/// Asserts that the two print alike.
+fn assert_same_text<T: Debug>(
+    rt: &impl Abort,
+    alloc: Global,
+    first: &T,
+    second: &T,
+) -> Result<(), Fail> {
+    let text = format!(in alloc; "{first:?}")?;
+    assert_eq!(rt; format!(in alloc; "{second:?}")?, text);
+    Ok(())
+}
+
+/// The message of this content, which fits.
+fn message_of(rt: &impl Abort, content: Content) -> Message {
+    assert!(rt; Message::fits(&content));
+    Message::new(content)
+}
+
+/// Asserts that a message of this content can be copied, and that the copy prints as its source.
+fn assert_copied(rt: &impl Abort, alloc: Global, content: Content) -> Result<(), Fail> {
+    let message = message_of(rt, content);
+    let copy = message.clone()?;
+    assert_same_text(rt, alloc, copy.content(), &message.into_content())
 }
 
 #[test]
 fn a_copy_is_the_same(rt: HostRuntime) -> Result<(), Fail> {
-    let alloc = rt.alloc();
-    let contents = vec![in alloc;
-        Content::Path(longest_path(&rt, alloc, GOOD_TSPEC_LEN)?),
-        Content::PathErr(path_err(&rt, alloc, GOOD_TSPEC_LEN)?),
-        Content::PathTear(path_tear()),
-    ]?;
-    for content in contents {
-        let text = format!(in alloc; "{content:?}")?;
-        assert!(rt; Message::fits(&content));
-        let message = Message::new(content);
-        let copy = message.clone()?;
-        assert_eq!(rt; format!(in alloc; "{:?}", copy.content())?, text);
-        assert_eq!(rt; format!(in alloc; "{:?}", message.content())?, text);
-    }
-    Ok(())
-}
-
-#[test]
-fn what_is_passed_on_keeps_its_order(rt: HostRuntime) -> Result<(), Fail> {
-    let objects = passing(&rt, rt.alloc(), &[POLICY, FORWARDED, ADSPEC])?;
-    let [policy, forwarded, adspec] = objects.as_slice() else {
-        panic!(rt; "other objects");
-    };
-    assert_eq!(rt;
-        [policy.class(), forwarded.class(), adspec.class()],
-        [CLASS_POLICY_DATA, FORWARDED_CLASS, CLASS_ADSPEC]
-    );
-    Ok(())
+    let path = longest_path(&rt, rt.alloc(), GOOD_TSPEC_LEN)?;
+    assert_copied(&rt, rt.alloc(), Content::Path(path))?;
+    let error = path_err(&rt, rt.alloc(), GOOD_TSPEC_LEN)?;
+    assert_copied(&rt, rt.alloc(), Content::PathErr(error))?;
+    assert_copied(&rt, rt.alloc(), Content::PathTear(path_tear()))
 }
 
 #[test]
@@ -371,22 +395,8 @@ fn refusals_have_their_numbers(rt: HostRuntime) {
 
 #[test]
 fn an_unknown_reading_is_copied_with_its_object(rt: HostRuntime) -> Result<(), Fail> {
-    let tear = PathTear {
-        session: session(),
-        hop: hop(),
-        sender: sender(),
-    };
-    let Ok(message) = Message::checked(Content::PathTear(tear)) else {
-        panic!(rt; "a PathTear is a message");
-    };
+    let message = message_of(&rt, Content::PathTear(path_tear()));
     let reading = Reading::Unknown(message, REJECTED_CLASS, OTHER_CTYPE);
-    let Reading::Unknown(copy, class, ctype) = reading.clone()? else {
-        panic!(rt; "read as another");
-    };
-    assert_eq!(rt; (class, ctype), (REJECTED_CLASS, OTHER_CTYPE));
-    let Content::PathTear(copied) = copy.content() else {
-        panic!(rt; "another message");
-    };
-    assert_eq!(rt; copied.sender.lsp, tear.sender.lsp);
-    Ok(())
+    let copy = reading.clone()?;
+    assert_same_text(&rt, rt.alloc(), &copy, &reading)
 }
