@@ -1,5 +1,5 @@
 -- Datagrams that are served one after the other.
-use Rattle.std.specs.Prelude.{◌≡◌, ℕ, List, [], ◌∷◌, ◌++◌, Result, Ok, Err, OnErr}
+use Rattle.std.specs.Prelude.{◌≡◌, ℕ, List, [], ◌∷◌, ◌++◌, Result, Ok, Err, IfOk, OnOk}
 use Rattle.std.proofs.Common.{refl, sym, ap, subst, inl, inr}
 use Rattle.rsvp_contents.specs.declared.dropped.Dropped.{Dropped}
 use Rattle.link_frames.specs.Frames.{IsFirstFrameFault}
@@ -32,24 +32,23 @@ served_is_run r before (d ∷ ds) entries after served =
       | inr more ↦ subst (λ (es : List Entry). Run r before es after) (sym more.3) (more.2, more.5, served_is_run r more.2 ds more.1 after more.6)
     ]
 
--- one datagram more is dropped
-pub dropped_behind : (r : Router) (before : Facts) (datagrams : List Datagram) (entries : List Entry) (after : Facts) (d : Datagram) (fault : Dropped) → AreServed r before datagrams entries after → IsFirstFrameFault d.bytes.items fault → AreServed r before (datagrams ++ d ∷ []) entries after
-dropped_behind r before [] entries after d fault served first = inl (fault, first, served)
-dropped_behind r before (x ∷ ds) entries after d fault served first =
+-- what is served after another is served behind it
+pub served_behind : (r : Router) (before : Facts) (ds : List Datagram) (es : List Entry) (between : Facts) (more : List Datagram) (later : List Entry) (after : Facts) → AreServed r before ds es between → AreServed r between more later after → AreServed r before (ds ++ more) (es ++ later) after
+served_behind r before [] es between more later after served then =
+    subst (λ (entries : List Entry). AreServed r before more (entries ++ later) after) (sym served.0) (subst (λ (s : Facts). AreServed r s more later after) served.1 then)
+served_behind r before (d ∷ ds) es between more later after served then =
     elim served [
-      | inl drop ↦ inl (drop.0, drop.1, dropped_behind r before ds entries after d fault drop.2 first)
-      | inr more ↦ inr (more.0, more.1, more.2, more.3, more.4, more.5, dropped_behind r more.2 ds more.1 after d fault more.6 first)
+      | inl drop ↦ inl (drop.0, drop.1, served_behind r before ds es between more later after drop.2 then)
+      | inr step ↦ inr (step.0, step.1 ++ later, step.2, ap (λ (entries : List Entry). entries ++ later) step.3, step.4, step.5, served_behind r step.2 ds step.1 between more later after step.6 then)
     ]
 
--- one datagram more makes its step
-pub step_behind : (r : Router) (before : Facts) (datagrams : List Datagram) (entries : List Entry) (between : Facts) (d : Datagram) (e : Entry) (after : Facts) → AreServed r before datagrams entries between → IsEventOf d.link d.bytes.items e.event → IsStepOf r between e after → AreServed r before (datagrams ++ d ∷ []) (entries ++ e ∷ []) after
-step_behind r before [] entries between d e after served comes step =
-    inr (e, [], after, ap (λ (es : List Entry). es ++ e ∷ []) served.0, comes, subst (λ (s : Facts). IsStepOf r s e after) served.1 step, (refl, refl))
-step_behind r before (x ∷ ds) entries between d e after served comes step =
-    elim served [
-      | inl drop ↦ inl (drop.0, drop.1, step_behind r before ds entries between d e after drop.2 comes step)
-      | inr more ↦ inr (more.0, more.1 ++ e ∷ [], more.2, ap (λ (es : List Entry). es ++ e ∷ []) more.3, more.4, more.5, step_behind r more.2 ds more.1 between d e after more.6 comes step)
-    ]
+-- a datagram that is dropped
+pub served_dropped : (r : Router) (s : Facts) (d : Datagram) (fault : Dropped) → IsFirstFrameFault d.bytes.items fault → AreServed r s (d ∷ []) [] s
+served_dropped r s d fault first = inl (fault, first, (refl, refl))
+
+-- and one that makes its step
+pub served_step : (r : Router) (before : Facts) (d : Datagram) (e : Entry) (after : Facts) → IsEventOf d.link d.bytes.items e.event → IsStepOf r before e after → AreServed r before (d ∷ []) (e ∷ []) after
+served_step r before d e after comes step = inr (e, [], after, refl, comes, step, (refl, refl))
 
 -- the event that a datagram is can come
 pub event_can_come : (link : ℕ) (bytes : List ℕ) (event : Event) → IsEventOf link bytes event → IsEvent event
@@ -82,7 +81,7 @@ dropped_for bytes refusals.WrongPort first memory = absurd first
 dropped_for bytes refusals.NoFrame first memory = absurd first
 dropped_for bytes refusals.NoRouter first memory = absurd first
 
--- what holds anyhow holds on an error
-pub on_err : {A E : Type 0} (P : Type 0) (result : Result A E) → P → OnErr result P
-on_err P (Ok value) holds = tt
-on_err P (Err error) holds = holds
+-- what follows of a fact that comes with a value holds beside the value
+pub on_ok : {A E : Type 0} (P Q : Type 0) (result : Result A E) → IfOk result (λ _. P) → (P → Q) → OnOk result Q
+on_ok P Q (Ok value) told follows = follows told
+on_ok P Q (Err error) told follows = tt

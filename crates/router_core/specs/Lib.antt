@@ -1,5 +1,6 @@
 pub mod BuiltIn
 pub mod Changes
+pub mod Plans
 pub mod Sending
 pub mod Serving
 pub mod States

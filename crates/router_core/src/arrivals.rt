@@ -1,4 +1,4 @@
-ghost use Rattle.std.specs.Prelude.{◌≡◌, ◌≤◌, ◌^◌, IfOk};
+ghost use Rattle.std.specs.Prelude.{◌≤◌, ◌^◌, IfOk};
 ghost use Rattle.rsvp_contents.specs.Spelling.{IsMessage};
 ghost use Rattle.abstract_router.specs.Steps.{arrival, message_arrival, outcome, reading_arrival, unknown_arrival};
 ghost use Rattle.router_core.specs.Changes.{IsDraft};

@@ -6,9 +6,9 @@ ghost use Rattle.router_core.specs.States.{AreTables, facts_of};
 use crate::tables::Tables;
 use lsr_facts::{Key, PathFact};
 
-/// What a step changes: of one LSP's path at most.
+/// What a step changes: the path of one LSP, or nothing.
 #[derive(Debug, Drop)]
-pub enum Change {
+pub(crate) enum Change {
     /// Nothing.
     Keep,
     /// This is known of the LSP's path from now on.

@@ -12,7 +12,7 @@ use std::alloc::Global;
 pub(crate) struct Draft {
     /// What it is answered.
     pub(crate) reply: Reply,
-    /// The errors that it met.
+    /// The errors that it calls for, in the order found, whether or not their links are up.
     pub(crate) errors: Outputs,
     /// What changes.
     pub(crate) change: Change,

@@ -15,7 +15,6 @@ mod tears;
 mod tests;
 mod told;
 
-pub use change::Change;
 pub use plan::Plan;
 pub use running::{Cold, Running};
-pub use serve::Datagram;
+pub use serve::{Datagram, Served};

@@ -25,7 +25,7 @@ use sorted_rows::Table;
 use std::alloc::{AllocError, Global};
 use std::net::Ipv4Addr;
 
-/// The origin that a Path is: the neighbour that sent it.
+/// The origin that a Path gives its path: the neighbour that sent it, and until when that counts.
 fn origin_of(tables: &Tables, link: u16, path: &Path) -> Origin
     requires { tables.now.moment ≤ 2 ^ 62 }
     ensures { result ≡ origin_of (facts_of tables.now) link path.now }

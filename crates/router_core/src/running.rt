@@ -1,10 +1,11 @@
 ghost use Rattle.std.specs.Prelude.{◌≡◌, [], IfOk, map, false};
+ghost use Rattle.lsr_facts.specs.declared.event.Event.{Event};
 ghost use Rattle.lsr_facts.specs.declared.event.Event.TheVariants as events;
 ghost use Rattle.lsr_facts.specs.declared.reply.Reply.TheVariants as replies;
 ghost use Rattle.lsr_config.specs.BuiltIn.{two_links};
 ghost use Rattle.abstract_router.specs.Soundness.{IsRouter, IsSound};
 ghost use Rattle.abstract_router.specs.Steps.{IsEvent, Step};
-ghost use Rattle.router_core.specs.Changes.{applied};
+ghost use Rattle.router_core.specs.Plans.{IsPlanOf};
 ghost use Rattle.router_core.specs.States.{AreTables, IsConfig, cold, facts_of, opened};
 
 use crate::change::apply;
@@ -94,22 +95,21 @@ impl Cold {
 
 impl Running {
     /// The plan of an event's step, with all the memory that it takes. It changes nothing; the only error is
-    /// want of memory.
+    /// want of memory. It asks for an event that can be: what a frame is read as always is one.
     pub fn plan(&self, alloc: Global, event: &Event) -> Result<Plan, AllocError>
         requires { IsEvent event.now }
-        ensures step { IfOk result (λ plan. Step self.now.router self.now.facts event.now plan.reply plan.outputs
-            (applied plan.change self.now.facts)) }
-        ensures sound { IfOk result (λ plan. IsSound self.now.router (applied plan.change self.now.facts)) }
+        ensures planned { IfOk result (IsPlanOf self.now event.now) }
     {
         plan_of(alloc, &self.tables, event)
     }
 
-    /// Makes the step of a plan, and gives what it sends. It asks for a plan that was made for this router as
-    /// it stands. Takes no memory, and always succeeds.
+    /// Makes the step of a plan, and gives what it sends. It asks for a plan of this router as it stands. Takes no
+    /// memory, and always succeeds.
     pub fn commit(&mut self, plan: Plan) -> Outputs
-        requires { IsSound self.old.router (applied plan.change self.old.facts) }
-        ensures changed { self.new ≡ record self.old { facts = applied plan.change self.old.facts } }
-        ensures sent { result ≡ plan.outputs }
+        requires { (event : Event) × IsPlanOf self.old event plan }
+        ensures step { (event : Event) → IsPlanOf self.old event plan →
+            Step self.old.router self.old.facts event plan.reply result self.new.facts }
+        ensures router { self.new.router ≡ self.old.router }
     {
         apply(&mut self.tables, plan.change);
         plan.outputs
@@ -122,12 +122,13 @@ impl Running {
         facts_in(alloc, &self.tables)
     }
 
-    /// That what the router knows is sound.
+    /// What the router knows is sound. A law: it does nothing when it runs.
     pub fn soundness(&self)
         ensures router { IsRouter self.now.router }
         ensures sound { IsSound self.now.router self.now.facts }
         ensures running { self.now.facts.cold ≡ false }
     {
+        // Whoever opens the value sees its invariant.
         let _tables = &self.tables;
     }
 }

@@ -1,6 +1,6 @@
 ghost use Rattle.std.specs.FinMap.Entries.{find};
 ghost use Rattle.std.specs.Option.{option_copied};
-ghost use Rattle.std.specs.Prelude.{◌≡◌, ◌++◌, IfOk, filter};
+ghost use Rattle.std.specs.Prelude.{◌≡◌, ◌++◌, IfOk};
 ghost use Rattle.lsr_facts.specs.Orders.{key_cmp};
 ghost use Rattle.abstract_router.specs.ByKey.{errors_out, outputs_at, wanted_of_key};
 ghost use Rattle.abstract_router.specs.Outputs.{outputs_of};
@@ -58,24 +58,24 @@ fn wanted_of_key(
     }
 }
 
-/// What is sent where this is known of an LSP's path from now on: the errors, and then what the LSP has torn
-/// down and sent.
+/// What is sent when an LSP's path becomes `after`, or goes where that is none: the errors, and then its tear or
+/// its Path.
 fn sent_at(
     alloc: Global,
     tables: &Tables,
     key: &Key,
-    known: Option<&PathFact>,
+    after: Option<&PathFact>,
     errors: Outputs,
 ) -> Result<Outputs, AllocError>
     requires before { MayGoOn tables.now.router key.now (find key_cmp key.now (facts_of tables.now).paths) }
-    requires after { MayGoOn tables.now.router key.now (option_copied known) }
+    requires after { MayGoOn tables.now.router key.now (option_copied after) }
     ensures { IfOk result (λ sent. sent ≡ errors_out tables.now.up errors
         ++ outputs_at tables.now.router tables.now.up key.now
-        (find key_cmp key.now (facts_of tables.now).paths) (option_copied known.entry)) }
+        (find key_cmp key.now (facts_of tables.now).paths) (option_copied after.entry)) }
 {
     let node = node_of(tables);
     let before = wanted_of_key(alloc, &node, key, path_at(tables, key))?;
-    let wanted = wanted_of_key(alloc, &node, key, known)?;
+    let wanted = wanted_of_key(alloc, &node, key, after)?;
     sent_between(alloc, node.up, &before, &wanted, errors)
 }
 

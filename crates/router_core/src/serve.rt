@@ -1,4 +1,4 @@
-ghost use Rattle.std.specs.Prelude.{◌≡◌, ◌≢◌, ℕ, List, IfOk, IfErr, OnErr, take};
+ghost use Rattle.std.specs.Prelude.{◌≡◌, ◌≢◌, ◌∷◌, ◌++◌, [], List, IfOk, IfErr, OnErr, OnOk, take};
 ghost use Rattle.lsr_facts.specs.declared.event.Entry.{Entry};
 ghost use Rattle.lsr_facts.specs.declared.refusal.Refusal.TheVariants.{NoMemory};
 ghost use Rattle.abstract_router.specs.Steps.{Run};
@@ -19,6 +19,15 @@ pub struct Datagram {
     pub bytes: Vec<u8>,
 }
 
+/// Datagrams that were served.
+#[derive(Debug, Drop)]
+pub struct Served {
+    /// How many they were, from the first.
+    pub count: usize,
+    /// The entries of those that were events, in order.
+    pub entries: Vec<Entry>,
+}
+
 /// The event that a datagram is, or why it is none.
 fn read_event(alloc: Global, link: u16, datagram: &[u8]) -> Result<Event, Refusal>
     ensures event { IfOk result (λ event. IsEventOf link datagram.now event) }
@@ -31,9 +40,10 @@ fn read_event(alloc: Global, link: u16, datagram: &[u8]) -> Result<Event, Refusa
     }
 }
 
-/// That the datagram was dropped for its first fault: the error is want of memory.
+/// Want of memory is passed on as the error; a datagram that was dropped is passed over.
 fn only_dropped(refusal: Refusal) -> Result<(), AllocError>
-    ensures { IfOk result (λ _. refusal ≢ NoMemory) }
+    ensures dropped { IfOk result (λ _. refusal ≢ NoMemory) }
+    ensures memory { OnErr result (refusal ≡ NoMemory) }
 {
     match refusal {
         Refusal::NoMemory => Err(AllocError),
@@ -43,8 +53,8 @@ fn only_dropped(refusal: Refusal) -> Result<(), AllocError>
 
 impl Running {
     /// Serves a datagram: the event that it is, what that is answered, and what is sent. A datagram that is no
-    /// event is refused for its first fault ([`Refusal::Unread`]), and leaves no trace; so does one that there
-    /// is no memory for ([`Refusal::NoMemory`]).
+    /// event is refused for its first fault ([`Refusal::Unread`]), and leaves no trace; neither does one for which
+    /// there is no memory ([`Refusal::NoMemory`]).
     pub fn serve_datagram(
         &mut self,
         alloc: Global,
@@ -69,26 +79,45 @@ impl Running {
         })
     }
 
-    /// Serves datagrams, one after the other: the entries of those that were events. The only error is want of
-    /// memory; then the datagrams before it were served.
-    pub fn serve_all(
+    /// Serves a datagram, and puts the entry of its event, if it is one, behind the others. The only error is want
+    /// of memory, and then nothing changed.
+    fn serve_next(
         &mut self,
         alloc: Global,
-        datagrams: &[Datagram],
-    ) -> Result<Vec<Entry>, AllocError>
-        ensures served { IfOk result (λ entries. AreServed self.old.router self.old.facts datagrams.now entries.items self.new.facts) }
-        ensures run { IfOk result (λ entries. Run self.old.router self.old.facts entries.items self.new.facts) }
+        datagram: &Datagram,
+        entries: &mut Vec<Entry>,
+    ) -> Result<(), AllocError>
+        ensures served { OnOk result ((more : List Entry) × (entries.new.items ≡ entries.old.items ++ more)
+            × AreServed self.old.router self.old.facts (datagram.now ∷ []) more self.new.facts) }
         ensures router { self.new.router ≡ self.old.router }
-        ensures short { OnErr result ((count : ℕ) × (entries : List Entry) ×
-            AreServed self.old.router self.old.facts (take count datagrams.now) entries self.new.facts) }
+        ensures kept { OnErr result ((self.new ≡ self.old) × (entries.new.items ≡ entries.old.items)) }
+    {
+        entries.reserve(1)?;
+        match self.serve_datagram(alloc, datagram.link, &datagram.bytes) {
+            Ok(entry) => {
+                entries.push(entry).unwrap();
+                Ok(())
+            }
+            Err(refusal) => only_dropped(refusal),
+        }
+    }
+
+    /// Serves datagrams, one after the other, as long as there is memory: how many, and the entries of those that
+    /// were events. A datagram for which there is no memory leaves no trace.
+    pub fn serve_all(&mut self, alloc: Global, datagrams: &[Datagram]) -> Served
+        ensures served { AreServed self.old.router self.old.facts (take result.count datagrams.now)
+            result.entries.items self.new.facts }
+        ensures run { Run self.old.router self.old.facts result.entries.items self.new.facts }
+        ensures router { self.new.router ≡ self.old.router }
     {
         let mut entries = Vec::new(alloc);
+        let mut count = 0;
         for datagram in datagrams {
-            match self.serve_datagram(alloc, datagram.link, &datagram.bytes) {
-                Ok(entry) => entries.push(entry)?,
-                Err(refusal) => only_dropped(refusal)?,
+            match self.serve_next(alloc, datagram, &mut entries) {
+                Ok(()) => count += 1,
+                Err(_no_memory) => return Served { count, entries },
             }
         }
-        Ok(entries)
+        Served { count, entries }
     }
 }

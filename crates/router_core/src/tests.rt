@@ -1,6 +1,6 @@
 use crate::*;
 use link_frames::{Frame, write_frame};
-use lsr_facts::{Entry, Output, Refusal, Reply, RsvpError};
+use lsr_facts::{Entry, Event, Output, Refusal, Reply, RsvpError};
 use rsvp_contents::{Dropped, Reading};
 use std::alloc::{AllocError, Global};
 use std::fmt::Write;
@@ -27,6 +27,12 @@ const TEAR_ONWARD: &str =
 
 // The link that they come over.
 const FIRST_LINK: u16 = 1;
+
+// No frame is of this kind.
+const UNKNOWN_KIND: u8 = 0;
+
+// As many LSPs as there is room for.
+const LSPS: u16 = 1_024;
 
 // A frame of this kind holds a message from neighbour to neighbour.
 const KIND_HOP: u8 = 1;
@@ -111,22 +117,30 @@ fn served(
     }
 }
 
+fn assert_served(
+    rt: &impl Abort,
+    alloc: Global,
+    router: &mut Running,
+    datagram: &[u8],
+    wanted: &str,
+) -> Result<(), Fail> {
+    let answer = served(rt, alloc, router, FIRST_LINK, datagram)?;
+    assert_eq!(rt; answer.as_str(), wanted);
+    Ok(())
+}
+
 #[test]
 fn a_path_comes_and_goes(rt: HostRuntime) -> Result<(), Fail> {
     let alloc = rt.alloc();
     let mut router = running(alloc)?;
     let path = frame(alloc, PATH)?;
     let tear = frame(alloc, TEAR)?;
-    let cases = [
-        (&path, format!(in alloc; "Done 2 {PATH_ONWARD}")?),
-        (&path, "Done".to_string(alloc)?),
-        (&tear, format!(in alloc; "Done 2 {TEAR_ONWARD}")?),
-        (&tear, "Refused(NoMatch)".to_string(alloc)?),
-    ];
-    for (datagram, wanted) in &cases {
-        let answer = served(&rt, alloc, &mut router, FIRST_LINK, datagram)?;
-        assert_eq!(rt; &answer, wanted);
-    }
+    let path_sent = format!(in alloc; "Done 2 {PATH_ONWARD}")?;
+    let tear_sent = format!(in alloc; "Done 2 {TEAR_ONWARD}")?;
+    assert_served(&rt, alloc, &mut router, &path, &path_sent)?;
+    assert_served(&rt, alloc, &mut router, &path, "Done")?;
+    assert_served(&rt, alloc, &mut router, &tear, &tear_sent)?;
+    assert_served(&rt, alloc, &mut router, &tear, "Refused(NoMatch)")?;
     Ok(())
 }
 
@@ -140,7 +154,7 @@ fn what_is_no_event_leaves_no_trace(rt: HostRuntime) -> Result<(), Fail> {
     let datagrams = [
         Datagram {
             link: FIRST_LINK,
-            bytes: vec![in alloc; 0]?,
+            bytes: vec![in alloc; UNKNOWN_KIND]?,
         },
         Datagram {
             link: FIRST_LINK,
@@ -155,23 +169,23 @@ fn what_is_no_event_leaves_no_trace(rt: HostRuntime) -> Result<(), Fail> {
             bytes: frame(alloc, TEAR)?,
         },
     ];
-    let entries = router.serve_all(alloc, &datagrams)?;
-    assert_eq!(rt; entries.len(), 2);
+    let served = router.serve_all(alloc, &datagrams);
+    assert_eq!(rt; served.count, datagrams.len());
+    assert_eq!(rt; served.entries.len(), 2);
     assert_eq!(rt; known(alloc, &router)?, before);
     Ok(())
 }
 
-/// Serves the message of tunnels 0 to the given number, and counts those that are done.
-fn count_done(alloc: Global, router: &mut Running, digits: &str, last: u16) -> Result<usize, Fail> {
-    let mut done = 0;
-    for tunnel in 0..=last {
+/// Serves the message of so many tunnels, and tells whether all are done.
+fn are_done(alloc: Global, router: &mut Running, digits: &str, tunnels: u16) -> Result<bool, Fail> {
+    for tunnel in 0..tunnels {
         let datagram = frame_of_tunnel(alloc, digits, tunnel)?;
         let entry = router.serve_datagram(alloc, FIRST_LINK, &datagram);
-        if entry.ok().ok_or("dropped")?.reply == Reply::Done {
-            done += 1;
+        if entry.ok().ok_or("dropped")?.reply != Reply::Done {
+            return Ok(false);
         }
     }
-    Ok(done)
+    Ok(true)
 }
 
 #[test]
@@ -179,14 +193,25 @@ fn as_many_paths_as_there_is_room_for(rt: HostRuntime) -> Result<(), Fail> {
     let alloc = rt.alloc();
     let mut router = running(alloc)?;
     let before = known(alloc, &router)?;
-    assert_eq!(rt; count_done(alloc, &mut router, PATH, 1_023)?, 1_024);
-    let datagram = frame_of_tunnel(alloc, PATH, 1_024)?;
+    assert!(rt; are_done(alloc, &mut router, PATH, LSPS)?);
+    let datagram = frame_of_tunnel(alloc, PATH, LSPS)?;
     let entry = router
         .serve_datagram(alloc, FIRST_LINK, &datagram)
         .ok()
         .ok_or("dropped")?;
     assert_eq!(rt; entry.reply, Reply::Error(RsvpError::SYSTEM_ERROR));
-    assert_eq!(rt; count_done(alloc, &mut router, TEAR, 1_023)?, 1_024);
+    assert!(rt; are_done(alloc, &mut router, TEAR, LSPS)?);
     assert_eq!(rt; known(alloc, &router)?, before);
+    Ok(())
+}
+
+#[test]
+fn a_start_is_planned_and_made(rt: HostRuntime) -> Result<(), Fail> {
+    let alloc = rt.alloc();
+    let mut router = running(alloc)?;
+    router.soundness();
+    let plan = router.plan(alloc, &Event::Start)?;
+    assert_eq!(rt; plan.reply(), Reply::Done);
+    assert!(rt; router.commit(plan).as_slice().is_empty());
     Ok(())
 }

@@ -1,0 +1,5 @@
+mod LineLaws
+mod Rooms
+mod Sessions
+mod Showing
+mod Stepping

@@ -1,0 +1,74 @@
+//! What the words of the command line ask for.
+use crate::decoding::run_decode;
+use crate::help::{HEX, command};
+use crate::session::run_step;
+use clap::error::ErrorKind;
+use std::alloc::Global;
+use std::convert::AsStr;
+use std::io;
+use std::io::{Read, Write};
+
+/// The status where a stream could not be written, or there is no memory for the words.
+const FAILED: u8 = 1;
+/// The status of words that ask for nothing that there is.
+const BAD_WORDS: u8 = 2;
+
+/// Prints why words were not taken, or the help that they ask for, and gives the status.
+fn tell_words<W: Write, E: Write>(
+    fault: clap::Error,
+    output: &mut W,
+    error: &mut E,
+) -> io::Result<u8> {
+    if fault.kind() == ErrorKind::OutOfMemory {
+        error.write_all("memory\n".as_bytes())?;
+        return Ok(FAILED);
+    }
+    if fault.use_stderr() {
+        write!(error, "{fault}")?;
+        return Ok(BAD_WORDS);
+    }
+    write!(output, "{fault}")?;
+    Ok(0)
+}
+
+/// Does what the words ask for, and gives the status. The error is that a stream could not be written.
+fn run_words<S: AsStr, R: Read, W: Write, E: Write>(
+    alloc: Global,
+    words: &[S],
+    input: &mut R,
+    output: &mut W,
+    error: &mut E,
+) -> io::Result<u8> {
+    let command = match command(alloc) {
+        Ok(command) => command,
+        Err(fault) => return tell_words(clap::Error::from(fault), output, error),
+    };
+    let matches = match command.try_get_matches_from(words) {
+        Ok(matches) => matches,
+        Err(fault) => return tell_words(fault, output, error),
+    };
+    match matches.subcommand() {
+        Some(("decode", given)) => {
+            run_decode(alloc, given.get_str(HEX).unwrap_or(""), output, error)
+        }
+        _ => run_step(alloc, input, output, error),
+    }
+}
+
+/// The program: does what the words ask for, the first of which is its own name, and gives the status: 0; 1
+/// for a refused input, line or message, or a stream that could not be written; 2 for bad words.
+pub fn run<S: AsStr, R: Read, W: Write, E: Write>(
+    alloc: Global,
+    words: &[S],
+    input: &mut R,
+    output: &mut W,
+    error: &mut E,
+) -> u8 {
+    match run_words(alloc, words, input, output, error) {
+        Ok(status) => status,
+        Err(_) => {
+            let _ = error.write_all("unwritable\n".as_bytes());
+            FAILED
+        }
+    }
+}

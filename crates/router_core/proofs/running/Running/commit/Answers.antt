@@ -1,0 +1,16 @@
+use Rattle.std.proofs.Common.{subst, sym}
+use Rattle.abstract_router.specs.RunLaws.{sound_step}
+use Rattle.abstract_router.specs.Steps.{Step}
+use Rattle.router_core.specs.Changes.{applied}
+use Rattle.router_core.specs.States.{State, facts_of}
+use Rattle.router_core.proofs.running.Running.commit.Goals as goal
+
+pub apply-requires : goal.apply-requires
+apply-requires c =
+    let t = c.self.inside.tables in
+    let plan = c.args.plan in
+    let step = subst (λ (s : State). Step s.router s.facts c.requires.0 plan.reply plan.outputs (applied plan.change s.facts)) (sym c.self.view_is) c.requires.1 in
+    record {
+      tables = c.self.invariant;
+      sound = sound_step t.router (facts_of t) (applied plan.change (facts_of t)) c.requires.0 plan.reply plan.outputs c.self.invariant.router c.self.invariant.sound step;
+    }
