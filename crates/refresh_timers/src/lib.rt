@@ -1,0 +1,9 @@
+//! When each message that a router keeps alive at a neighbour was last sent, and which are due again.
+#![tactic(auto)]
+
+pub mod laws;
+#[cfg(test)]
+mod tests;
+mod timers;
+
+pub use timers::{MAX_ITEMS, RefreshTimers};
