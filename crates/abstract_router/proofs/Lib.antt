@@ -1,4 +1,5 @@
 pub mod Arrivals
+pub mod LinkSteps
 pub mod Refusals
 pub mod Repeats
 pub mod Tearing

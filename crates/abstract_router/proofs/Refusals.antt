@@ -26,6 +26,7 @@ use Rattle.lsr_facts.specs.declared.refusal.Refusal.TheVariants.{LinkDown, NoMat
 use Rattle.lsr_facts.specs.declared.reply.Reply.{Reply}
 use Rattle.lsr_facts.specs.declared.reply.Reply.TheVariants as replies
 use Rattle.lsr_facts.specs.declared.router.Router.{Router}
+use Rattle.abstract_router.specs.Links.{link_change, with_link}
 use Rattle.abstract_router.specs.Outcomes.{Outcome, lsp, refused, told_upstream}
 use Rattle.abstract_router.specs.OutputLaws.{outputs_of-same, outputs_of-touched, outputs_at-same}
 use Rattle.abstract_router.specs.Outputs.{outputs_of}
@@ -102,12 +103,19 @@ arrival_refuses r s a =
     either s (is_none (link_at r a.link)) (refused s UnknownLink) (if not (is_up s.up a.link) then refused s LinkDown else read) (refuses s UnknownLink)
     (either s (not (is_up s.up a.link)) (refused s LinkDown) read (refuses s LinkDown) (reading_refuses r s a.link a.reading))
 
+link_change_refuses : (r : Router) (s : Facts) (number : ℕ) (up : Bool) → RefusesSilently s (link_change r s number up)
+unfolding link_change
+link_change_refuses r s number up =
+    either s (is_none (link_at r number)) (refused s UnknownLink) (record { reply = replies.Done; errors = []; after = with_link number up s }) (refuses s UnknownLink) (done s (with_link number up s) [])
+
 outcome_refuses : (r : Router) (s : Facts) (event : Event) → RefusesSilently s (outcome r s event)
 outcome_refuses r s (events.Arrive a) = arrival_refuses r s a
+outcome_refuses r s (events.LinkUp number) = link_change_refuses r s number true
+outcome_refuses r s (events.LinkDown number) = link_change_refuses r s number false
 outcome_refuses r s events.Start = done s _ []
 
 -- some LSP
-some_lsp : Router → Key
+pub some_lsp : Router → Key
 some_lsp r = record { session = record { endpoint = r.id; tunnel = 0; extended = r.id }; sender = record { sender = r.id; lsp = 0 } }
 
 -- a step that refuses

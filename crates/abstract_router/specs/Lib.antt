@@ -1,6 +1,8 @@
 pub mod Addresses
 pub mod ByKey
 pub mod EventLaws
+pub mod LinkWords
+pub mod Links
 pub mod MessageLaws
 pub mod Outcomes
 pub mod OutputLaws

@@ -41,7 +41,7 @@ pub same_itself : (c : Content) → is_same_message c c ≡ true
 same_itself c = nat_list_eq_equiv.refl (message_bytes c)
 
 -- what f gives of what g gives
-filter_map_twice : {A B C : Type 0} (f : B → Option C) (g : A → Option B) (xs : List A) → filter_map f (filter_map g xs) ≡ filter_map (λ x. option_and_then f (g x)) xs
+pub filter_map_twice : {A B C : Type 0} (f : B → Option C) (g : A → Option B) (xs : List A) → filter_map f (filter_map g xs) ≡ filter_map (λ x. option_and_then f (g x)) xs
 filter_map_twice f g [] = refl
 filter_map_twice {A} {B} {C} f g (x ∷ xs) = step (g x) (filter_map g xs) ∙ ap (cons_option (option_and_then f (g x))) (filter_map_twice f g xs)
   where
@@ -98,12 +98,12 @@ module _ (r : Router) (up : List (ℕ × Bool)) where
       agree (Some c) = λ i. cons_option (same fact.out_link c i) []
 
   -- nothing is torn down that is found wanted
-  tear_for-found : (wanted : List (Item × Content)) (item : Item) (m : Option Content) → find item_cmp item wanted ≡ m → option_and_then (tear_for up wanted) (option_map (λ c. (item, c)) m) ≡ None
+  pub tear_for-found : (wanted : List (Item × Content)) (item : Item) (m : Option Content) → find item_cmp item wanted ≡ m → option_and_then (tear_for up wanted) (option_map (λ c. (item, c)) m) ≡ None
   tear_for-found wanted item None is = refl
   tear_for-found wanted item (Some c) is = ap (λ found. cond (is_none found && is_up up (link_of_item item)) (option_map (sent_by (link_of_item item)) (tear_of c)) None) is
 
   -- nothing is sent that was wanted before
-  send_for-found : (before : List (Item × Content)) (item : Item) (m : Option Content) → find item_cmp item before ≡ m → option_and_then (send_for before) (option_map (λ c. (item, c)) m) ≡ None
+  pub send_for-found : (before : List (Item × Content)) (item : Item) (m : Option Content) → find item_cmp item before ≡ m → option_and_then (send_for before) (option_map (λ c. (item, c)) m) ≡ None
   send_for-found before item None is = refl
   send_for-found before item (Some c) is =
       ap (λ found. cond (option_map_or (is_same_message c) found false) None (Some (sent_by (link_of_item item) c))) is

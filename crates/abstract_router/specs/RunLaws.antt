@@ -1,5 +1,5 @@
 -- Laws of steps: the opening is sound, and each step and each run keeps it so.
-use Rattle.std.specs.Prelude.{◌≡◌, ℕ, ◌+◌, ◌≤◌, Bool, false, cond, not, ◌&&◌, ◌==◌, nat_le, IsTrue, List, [], ◌∷◌, length, Option, Some, None, is_some, is_none, Result, Ok, Err, IfSome}
+use Rattle.std.specs.Prelude.{◌≡◌, ℕ, ◌+◌, ◌≤◌, Bool, true, false, cond, not, ◌&&◌, ◌==◌, nat_le, IsTrue, List, [], ◌∷◌, length, Option, Some, None, is_some, is_none, Result, Ok, Err, IfSome}
 use Rattle.std.specs.FinMap.Entries.{find, put, where_key, length-put}
 use Rattle.std.specs.Ordering.{is_eq}
 use Rattle.std.specs.declared.net.ipv4_addr.Ipv4Addr.{Ipv4Addr}
@@ -35,6 +35,7 @@ use Rattle.lsr_facts.specs.declared.refusal.Refusal.TheVariants.{LinkDown, NoMat
 use Rattle.lsr_facts.specs.declared.reply.Reply.{Reply}
 use Rattle.lsr_facts.specs.declared.router.Router.{Router}
 use Rattle.abstract_router.specs.Addresses.{HasAddresses, AreAddresses}
+use Rattle.abstract_router.specs.Links.{link_change}
 use Rattle.abstract_router.specs.Outcomes.{Outcome, lsp, refused}
 use Rattle.abstract_router.specs.Paths.{key_of, is_same_route, way_of, way_for, path_by, has_loop, failed, taken, path_on_its_way, path_arrival}
 use Rattle.abstract_router.specs.Places.{is_up, link_at, place_of}
@@ -42,7 +43,7 @@ use Rattle.abstract_router.specs.Routing.{next_hop}
 use Rattle.abstract_router.specs.RoutingLaws.{Leads, IsPlace, next_hop-leads}
 use Rattle.abstract_router.specs.RowLaws.{keys-map}
 use Rattle.abstract_router.specs.Soundness.{HasLink, IsRouter, AreRoutes, IsPath, IsSound}
-use Rattle.abstract_router.specs.SoundnessLaws.{IsTaken, way_of-leads, path_sound, path_left_sound, path_known_sound, sound_put, sound_without, sound_cold, put_few}
+use Rattle.abstract_router.specs.SoundnessLaws.{IsTaken, way_of-leads, path_sound, path_left_sound, path_known_sound, sound_put, sound_without, sound_cold, sound_link, put_few}
 use Rattle.abstract_router.specs.Steps.{opening, message_arrival, reading_arrival, arrival, outcome, IsReading, IsEvent, Step, Run}
 use Rattle.abstract_router.specs.Tears.{is_torn_by, leaves_by, left_with, origins_without, torn, path_tear_arrival, passed_on, path_err_arrival}
 
@@ -157,9 +158,17 @@ arrival-sound r s a router is possible =
     cond_both (not (is_up s.up a.link)) (refused s LinkDown) _ (LeavesSound r) (λ down. is)
     (λ up. reading-sound r s a.link a.reading router is (not-false _ there) possible))
 
+-- a link that comes up or goes down
+link_change-sound : (r : Router) (s : Facts) (number : ℕ) (up : Bool) → IsRouter r → IsSound r s → LeavesSound r (link_change r s number up)
+unfolding link_change
+link_change-sound r s number up router is =
+    cond_both (is_none (link_at r number)) (refused s UnknownLink) _ (LeavesSound r) (λ none. is) (λ there. sound_link r s number up router is (not-false _ there))
+
 -- Whatever an event does of itself leaves the facts sound.
 pub outcome_sound : (r : Router) (s : Facts) (event : Event) → IsRouter r → IsSound r s → IsEvent event → LeavesSound r (outcome r s event)
 outcome_sound r s (events.Arrive a) router is possible = arrival-sound r s a router is possible
+outcome_sound r s (events.LinkUp number) router is possible = link_change-sound r s number true router is
+outcome_sound r s (events.LinkDown number) router is possible = link_change-sound r s number false router is
 outcome_sound r s events.Start router is possible = sound_cold r s false is
 
 -- A router is opened sound.

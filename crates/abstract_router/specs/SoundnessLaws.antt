@@ -1,10 +1,12 @@
 -- Laws of soundness: each change of the facts keeps it, so each outcome does, and each run.
 use Rattle.std.specs.Prelude.{◌≡◌, ◌≢◌, ℕ, ◌+◌, ◌≤◌, Bool, true, false, cond, not, ◌&&◌, if◌then◌else◌, nat_le, IsTrue, T, List, length, Option, Some, None, is_some, is_none, IfSome}
+use Rattle.std.specs.Cmp.{nat_cmp_total}
 use Rattle.std.specs.FinMap.Entries.{find, put, where_key, is_sorted, is_sorted-put, is_sorted-where_key, length-put}
 use Rattle.std.specs.List.{AllByRecursion}
 use Rattle.std.specs.Option.{option_map_or}
+use Rattle.std.specs.Ordering.{nat_cmp}
 use Rattle.std.specs.declared.net.ipv4_addr.Ipv4Addr.{Ipv4Addr}
-use Rattle.std.proofs.Common.{refl, sym, subst, arith}
+use Rattle.std.proofs.Common.{refl, sym, subst, ◌∙◌, arith}
 use Rattle.std.proofs.lemmas.Bool.{and_parts, leb-false}
 use Rattle.rsvp_routes.specs.declared.step.Step.{Step}
 use Rattle.rsvp_traffic.specs.TokenBuckets.{token_rate}
@@ -12,7 +14,7 @@ use Rattle.rsvp_contents.specs.Fitting.{fits_path, are_passed_on, has_adspec_las
 use Rattle.rsvp_contents.specs.Limits.{is_short_route, is_short_record, is_short_passing}
 use Rattle.rsvp_contents.specs.declared.messages.Path.{Path}
 use Rattle.sorted_rows.specs.ListLaws.{all-filter, all-weaker}
-use Rattle.sorted_rows.specs.RowsLaws.{all-put, all-put_row, find-all_row}
+use Rattle.sorted_rows.specs.RowsLaws.{all-put, all-put_row, find-all_row, is_some-find_both, is_sorted-both, keys-put_found}
 use Rattle.lsr_facts.specs.OrderLaws.{address_exact, address_total, key_total, key_exact}
 use Rattle.lsr_facts.specs.Orders.{address_cmp, key_cmp}
 use Rattle.lsr_facts.specs.declared.choice.Choice.{Choice}
@@ -24,10 +26,12 @@ use Rattle.lsr_facts.specs.declared.path_fact.PathFact.{PathFact}
 use Rattle.lsr_facts.specs.declared.path_fact.Role.{Role}
 use Rattle.lsr_facts.specs.declared.path_fact.Role.TheVariants as roles
 use Rattle.lsr_facts.specs.declared.router.Router.{Router}
+use Rattle.abstract_router.specs.Links.{with_link}
 use Rattle.abstract_router.specs.Paths.{key_of, goes_on, way_of, role_of, link_of, rest_of, origin_of, origins_of, path_by}
+use Rattle.abstract_router.specs.Places.{link_at}
 use Rattle.abstract_router.specs.RoutingLaws.{LeadsOn}
 use Rattle.abstract_router.specs.RowLaws.{length-filter_most, length-put_some}
-use Rattle.abstract_router.specs.Soundness.{HasLink, IsOrigin, AreOrigins, IsWayAs, IsWithinLimits, IsPath, IsSound}
+use Rattle.abstract_router.specs.Soundness.{HasLink, IsRouter, IsOrigin, AreOrigins, IsWayAs, IsWithinLimits, IsPath, IsSound}
 
 -- Origins and paths are judged by the moment alone of what else is known.
 origin_kept : (r : Router) (s t : Facts) → s.moment ≡ t.moment → (o : Origin) → IsOrigin r s o → IsOrigin r t o
@@ -189,6 +193,28 @@ sound_cold r s cold is = record {
     in_order = is.paths.in_order;
     few = is.paths.few;
     each = all-weaker (IsPath r s) (IsPath r (record s { cold = cold })) (λ path h. path_kept r s (record s { cold = cold }) refl path h) s.paths is.paths.each;
+  };
+}
+
+-- the links that are known to be up or down stand in order, as those of the router do
+pub links_in_order : (r : Router) (s : Facts) → IsRouter r → IsSound r s → T (is_sorted nat_cmp s.up)
+links_in_order r s router is = subst T (sym (is_sorted-both nat_cmp s.up r.links is.links)) router.in_order
+
+-- of each link of the router it is known whether it is up
+pub link_known : (r : Router) (s : Facts) (number : ℕ) → IsSound r s → HasLink r number → is_some (find nat_cmp number s.up) ≡ true
+unfolding link_at
+link_known r s number is there = is_some-find_both nat_cmp number s.up r.links is.links ∙ there
+
+-- A link of the router comes up or goes down.
+pub sound_link : (r : Router) (s : Facts) (number : ℕ) (is_up : Bool) → IsRouter r → IsSound r s → HasLink r number → IsSound r (with_link number is_up s)
+sound_link r s number is_up router is there = record {
+  moment = is.moment;
+  links = keys-put_found nat_cmp nat_cmp_total number is_up s.up (links_in_order r s router is) (link_known r s number is there) ∙ is.links;
+  routes = is.routes;
+  paths = record {
+    in_order = is.paths.in_order;
+    few = is.paths.few;
+    each = all-weaker (IsPath r s) (IsPath r (with_link number is_up s)) (λ path h. path_kept r s (with_link number is_up s) refl path h) s.paths is.paths.each;
   };
 }
 

@@ -20,6 +20,7 @@ use Rattle.lsr_facts.specs.declared.reply.Reply.{Reply}
 use Rattle.lsr_facts.specs.declared.reply.Reply.TheVariants as replies
 use Rattle.lsr_facts.specs.declared.router.Router.{Router}
 use Rattle.abstract_router.specs.Addresses.{AreAddresses}
+use Rattle.abstract_router.specs.Links.{link_change}
 use Rattle.abstract_router.specs.Outcomes.{Outcome, refused}
 use Rattle.abstract_router.specs.Outputs.{outputs_of}
 use Rattle.abstract_router.specs.Paths.{path_arrival, failed, unknown_object}
@@ -60,6 +61,8 @@ started s = record { reply = replies.Done; errors = []; after = record s { cold 
 -- What an event does of itself.
 abbrev pub outcome : Router → Facts → Event → Outcome
 outcome r s (events.Arrive a) = arrival r s a
+outcome r s (events.LinkUp number) = link_change r s number true
+outcome r s (events.LinkDown number) = link_change r s number false
 outcome r s events.Start = started s
 
 -- what the message says that is read
@@ -76,6 +79,8 @@ IsReading (readings.Unknown content class ctype) = ⊥
 -- an event that can be: its message is one that can come
 abbrev pub IsEvent : Event → Type 0
 IsEvent (events.Arrive a) = IsReading a.reading
+IsEvent (events.LinkUp number) = Unit {0}
+IsEvent (events.LinkDown number) = Unit {0}
 IsEvent events.Start = Unit {0}
 
 -- One step: what the event does, and then what is sent. While the router is cold, no event but Start is one.

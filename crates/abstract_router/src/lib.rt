@@ -2,5 +2,6 @@
 #![tactic(auto)]
 
 pub mod laws;
+pub mod links;
 pub mod sending;
 pub mod soundness;

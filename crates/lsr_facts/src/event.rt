@@ -21,6 +21,10 @@ pub struct Arrive {
 pub enum Event {
     /// A message came.
     Arrive(Arrive),
+    /// The link of this number came up.
+    LinkUp(u16),
+    /// The link of this number went down.
+    LinkDown(u16),
     /// A cold router is started. A running one goes on as it is.
     Start,
 }
@@ -109,6 +113,8 @@ impl TryCopy for Event {
                 link: arrive.link,
                 reading: arrive.reading.clone()?,
             })),
+            Event::LinkUp(number) => Ok(Event::LinkUp(*number)),
+            Event::LinkDown(number) => Ok(Event::LinkDown(*number)),
             Event::Start => Ok(Event::Start),
         }
     }

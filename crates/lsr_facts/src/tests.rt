@@ -248,6 +248,8 @@ fn a_router_is_copied_with_its_links(rt: HostRuntime) -> Result<(), Fail> {
 fn an_entry_is_copied_with_its_messages(rt: HostRuntime) -> Result<(), Fail> {
     let entry = entry(rt.alloc())?;
     assert_copied(&rt, rt.alloc(), &entry)?;
+    assert_copied(&rt, rt.alloc(), &Event::LinkUp(1))?;
+    assert_copied(&rt, rt.alloc(), &Event::LinkDown(2))?;
     assert_copied(&rt, rt.alloc(), &Event::Start)
 }
 

@@ -3,6 +3,7 @@
 #![tactic(auto)]
 
 mod fault;
+mod links;
 mod messages;
 mod outcome;
 mod outputs;

@@ -4,6 +4,7 @@ ghost use Rattle.abstract_router.specs.Steps.{arrival, message_arrival, outcome,
 ghost use Rattle.plain_router.specs.Answers.{IsOutcome, IsStepOf};
 
 use crate::fault::Fault;
+use crate::links::link_change;
 use crate::outcome::{Outcome, refused};
 use crate::outputs::outputs_of;
 use crate::paths::{path_arrival, unknown_path_arrival};
@@ -114,6 +115,8 @@ pub fn outcome_of(
 {
     match event {
         Event::Arrive(arrive) => arrival(alloc, router, facts, arrive),
+        Event::LinkUp(number) => Ok(link_change(alloc, router, facts, *number, true)?),
+        Event::LinkDown(number) => Ok(link_change(alloc, router, facts, *number, false)?),
         Event::Start => Ok(started(alloc, facts)?),
     }
 }

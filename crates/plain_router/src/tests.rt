@@ -167,8 +167,24 @@ fn take_message(
     }
 }
 
-/// Takes the message of a line that is an arrival, behind the line itself.
+/// The event of a line by which a link comes up or goes down.
+fn link_event(line: &str) -> Result<Option<Event>, Fail> {
+    if let Some(number) = line.strip_prefix("up ") {
+        return Ok(Some(Event::LinkUp(number.parse::<u16>()?)));
+    }
+    if let Some(number) = line.strip_prefix("down ") {
+        return Ok(Some(Event::LinkDown(number.parse::<u16>()?)));
+    }
+    Ok(None)
+}
+
+/// Takes the event of a line that is one, behind the line itself.
 fn take_line(alloc: Global, told: &mut String, known: &mut Known, line: &str) -> Result<(), Fail> {
+    if let Some(event) = link_event(line)? {
+        write!(told, "{line}\n")?;
+        known.facts = take_event(alloc, told, known, &event)?;
+        return Ok(());
+    }
     let Some(arrival) = line.strip_prefix("rx ") else {
         return Ok(());
     };
@@ -177,7 +193,7 @@ fn take_line(alloc: Global, told: &mut String, known: &mut Known, line: &str) ->
     take_message(alloc, told, known, link.parse::<u16>()?, digits)
 }
 
-/// The arrivals of a case, each with what it was answered and what was sent.
+/// The events of a case, each with what it was answered and what was sent.
 fn told_of(alloc: Global, case: &str) -> Result<String, Fail> {
     let mut told = String::new(alloc);
     let mut known = opened(alloc)?;
@@ -216,6 +232,11 @@ fn next_hops_follow_the_route(rt: HostRuntime) -> Result<(), Fail> {
 #[test]
 fn a_refresh_is_sent_where_it_changes(rt: HostRuntime) -> Result<(), Fail> {
     assert_case(&rt, rt.alloc(), rows::REFRESH)
+}
+
+#[test]
+fn links_go_down_and_come_up(rt: HostRuntime) -> Result<(), Fail> {
+    assert_case(&rt, rt.alloc(), rows::LINKS)
 }
 
 #[test]

@@ -1,4 +1,4 @@
-use Rattle.std.proofs.Common.{IfOk, List, filter, filter_map, subst, ◌++◌, ◌≡◌, ◌∙◌}
+use Rattle.std.proofs.Common.{filter, filter_map, ◌++◌, ◌∙◌}
 use Rattle.lsr_facts.specs.declared.event.Output.{Output}
 use Rattle.abstract_router.specs.Outputs.{outputs_of, send_for, tear_for}
 use Rattle.abstract_router.specs.Places.{is_up}
