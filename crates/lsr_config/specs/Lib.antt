@@ -1,1 +1,9 @@
 pub mod BuiltIn
+pub mod ConfigLaws
+pub mod Configs
+pub mod Documents
+pub mod Faults
+pub mod Keys
+pub mod Reading
+pub mod Rules
+pub mod Values

@@ -1,0 +1,7 @@
+pub mod Answering
+pub mod Finding
+pub mod Judging
+pub mod Naming
+pub mod Opening
+pub mod Placing
+pub mod Telling

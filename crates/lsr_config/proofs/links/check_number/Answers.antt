@@ -1,0 +1,14 @@
+use Rattle.std.proofs.Common.{refl, sym, ◌∙◌}
+use Rattle.lsr_config.specs.Rules.{fault_of, new_number}
+use Rattle.lsr_config.proofs.Judging.{kept_alone, broken_alone}
+use Rattle.lsr_config.proofs.Telling.{number_is_new, number_is_repeated}
+use Rattle.lsr_config.proofs.links.check_number.Goals as goal
+
+pub returns-then-has_number : goal.returns-then-has_number
+unfolding fault_of
+returns-then-has_number c = λ link earlier has says.
+    broken_alone (new_number earlier link) _ (number_is_repeated c.args.number link earlier c.args.before.now has says (sym c.has_number.ensures ∙ c.if-has_number.true)) refl
+
+pub returns : goal.returns
+returns c = λ link earlier has says.
+    (kept_alone (new_number earlier link) (number_is_new c.args.number link earlier c.args.before.now has says (sym c.has_number.ensures ∙ c.if-has_number.false)), tt)

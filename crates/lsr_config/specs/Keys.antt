@@ -1,0 +1,33 @@
+-- The keys of a configuration, by their names.
+use Rattle.std.specs.Prelude.{ℕ, List, [], ◌∷◌, codes}
+use Rattle.lsr_config.specs.declared.key.Key.{Key}
+use Rattle.lsr_config.specs.declared.key.Key.TheVariants as key
+
+-- a key as a configuration spells it
+abbrev pub key_name : Key → List ℕ
+key_name key.Router = codes "router"
+key_name key.RefreshMs = codes "refresh_ms"
+key_name key.Labels = codes "labels"
+key_name key.Link = codes "link"
+key_name key.Number = codes "number"
+key_name key.Address = codes "address"
+key_name key.Peer = codes "peer"
+key_name key.PeerRouter = codes "peer_router"
+key_name key.Limit = codes "limit"
+key_name key.Up = codes "up"
+key_name key.Listen = codes "listen"
+key_name key.Send = codes "send"
+key_name key.Route = codes "route"
+key_name key.Prefix = codes "prefix"
+
+-- the keys of a document outside its records
+abbrev pub top_keys : List Key
+top_keys = key.Router ∷ key.RefreshMs ∷ key.Labels ∷ key.Link ∷ key.Route ∷ []
+
+-- the keys of a record of the table `link`
+abbrev pub link_keys : List Key
+link_keys = key.Number ∷ key.Address ∷ key.Peer ∷ key.PeerRouter ∷ key.Limit ∷ key.Up ∷ key.Listen ∷ key.Send ∷ []
+
+-- the keys of a record of the table `route`
+abbrev pub route_keys : List Key
+route_keys = key.Prefix ∷ key.Link ∷ []

@@ -1,0 +1,107 @@
+-- The rules that a document has to keep to be a configuration, and the fault of each.
+use Rattle.std.specs.Prelude.{◌≡◌, ◌⊎◌, ℕ, ◌<◌, Bool, List, [], ◌∷◌, length, IsSome, IfSome, IsSomeAnd}
+use Rattle.std.specs.List.{AllByRecursion}
+use Rattle.std.specs.declared.net.ipv4_addr.Ipv4Addr.{Ipv4Addr}
+use Rattle.std.specs.declared.net.socket_addr.SocketAddr.{SocketAddr}
+use Rattle.toml.specs.Data.{Data, get}
+use Rattle.rsvp_routes.specs.declared.prefix.Prefix.{Prefix}
+use Rattle.lsr_facts.specs.declared.router.LabelRange.{LabelRange}
+use Rattle.lsr_config.specs.Keys.{key_name}
+use Rattle.lsr_config.specs.Values.{SaysAddress, SaysSocket, SaysWhole, SaysFlag, SaysLabels, SaysPrefix, SaysTables}
+use Rattle.lsr_config.specs.declared.key.Key.{Key}
+use Rattle.lsr_config.specs.declared.key.Key.TheVariants as key
+use Rattle.lsr_config.specs.declared.fault.ConfigFault.{ConfigFault}
+use Rattle.lsr_config.specs.declared.fault.ConfigFault.TheVariants as fault
+
+-- the kinds of values: addresses, socket addresses, whole numbers from the least to the most, truth values,
+-- ranges of labels, prefixes, and arrays of tables
+pub data Kind : Type 0 where
+  an_address : Kind
+  a_socket : Kind
+  a_whole : ℕ → ℕ → Kind
+  a_flag : Kind
+  some_labels : Kind
+  a_prefix : Kind
+  some_tables : Kind
+
+-- the value is of the kind
+unfoldable pub IsOfKind : Kind → Data → Type 0
+IsOfKind an_address d = (a : Ipv4Addr) × SaysAddress d a
+IsOfKind a_socket d = (a : SocketAddr) × SaysSocket d a
+IsOfKind (a_whole least most) d = (n : ℕ) × SaysWhole least most d n
+IsOfKind a_flag d = (b : Bool) × SaysFlag d b
+IsOfKind some_labels d = (labels : LabelRange) × SaysLabels d labels
+IsOfKind a_prefix d = (p : Prefix) × SaysPrefix d p
+IsOfKind some_tables d = (tables : List Data) × SaysTables d tables
+
+-- the table has a value under the key, of which the fact holds
+abbrev pub Has : Key → Data → (Data → Type 0) → Type 0
+Has key d P = IsSomeAnd (get (key_name key) d) P
+
+-- the table gives the key this address
+abbrev pub HasAddress : Key → Data → Ipv4Addr → Type 0
+HasAddress key d a = Has key d (λ v. SaysAddress v a)
+
+-- the table gives the key this number of a link
+abbrev pub HasNumber : Key → Data → ℕ → Type 0
+HasNumber key d n = Has key d (λ v. SaysWhole 1 65535 v n)
+
+-- the table gives the key this prefix
+abbrev pub HasPrefix : Key → Data → Prefix → Type 0
+HasPrefix key d p = Has key d (λ v. SaysPrefix v p)
+
+-- the fact holds of some element
+abbrev pub SomeOf : {A : Type 0} → (A → Type 0) → List A → Type 0
+SomeOf P [] = ⊥
+SomeOf P (x ∷ xs) = P x ⊎ SomeOf P xs
+
+-- What a document has to keep. A record is named with the records before it in its table.
+pub data Rule : Type 0 where
+  -- the table has the key
+  given : Key → Data → Rule
+  -- the value of the key, if there is one, is of its kind
+  fitting : Kind → Key → Data → Rule
+  -- no link before has the number of this one
+  new_number : List Data → Data → Rule
+  -- neither the router of the document nor a link before has the address of this link
+  new_address : Data → List Data → Data → Rule
+  -- no route before has the prefix of this one
+  new_prefix : List Data → Data → Rule
+  -- one of the links has the number that this route names
+  known_link : List Data → Data → Rule
+  -- fewer records stand before one of this table than the table may have
+  few : Key → ℕ → List Data → Rule
+  -- the name is that of one of the keys
+  known : List Key → List ℕ → Rule
+
+-- the rule is kept
+unfoldable pub Holds : Rule → Type 0
+Holds (given key d) = IsSome (get (key_name key) d)
+Holds (fitting kind key d) = IfSome (get (key_name key) d) (IsOfKind kind)
+Holds (new_number before link) =
+    (n : ℕ) → HasNumber key.Number link n → AllByRecursion (λ other. ¬ HasNumber key.Number other n) before
+Holds (new_address document before link) =
+    (a : Ipv4Addr) → HasAddress key.Address link a →
+    (¬ HasAddress key.Router document a) × AllByRecursion (λ other. ¬ HasAddress key.Address other a) before
+Holds (new_prefix before route) =
+    (p : Prefix) → HasPrefix key.Prefix route p → AllByRecursion (λ other. ¬ HasPrefix key.Prefix other p) before
+Holds (known_link links route) =
+    (n : ℕ) → HasNumber key.Link route n → SomeOf (λ link. HasNumber key.Number link n) links
+Holds (few key most before) = length before < most
+Holds (known keys name) = SomeOf (λ key. key_name key ≡ name) keys
+
+-- the fault of a document that breaks the rule
+unfoldable pub fault_of : Rule → ConfigFault
+fault_of (given key d) = fault.Missing key
+fault_of (fitting kind key d) = fault.BadValue key
+fault_of (new_number before link) = fault.Repeated key.Number
+fault_of (new_address document before link) = fault.Repeated key.Address
+fault_of (new_prefix before route) = fault.Repeated key.Prefix
+fault_of (known_link links route) = fault.UnknownName key.Link
+fault_of (few key most before) = fault.TooMany key
+fault_of (known keys name) = fault.UnknownKey name
+
+-- The first of the rules that isn't kept has this fault.
+unfoldable pub FirstBroken : List Rule → ConfigFault → Type 0
+FirstBroken [] f = ⊥
+FirstBroken (rule ∷ rules) f = ((¬ Holds rule) × (f ≡ fault_of rule)) ⊎ (Holds rule × FirstBroken rules f)

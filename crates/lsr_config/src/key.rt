@@ -1,0 +1,69 @@
+// The keys of a configuration.
+ghost use Rattle.std.specs.Prelude.{◌≡◌};
+ghost use Rattle.lsr_config.specs.Keys.{key_name};
+
+use std::fmt;
+
+/// A key that a configuration may have. Each stands in one kind of table, but `Link`: it names the table of the
+/// links, and in a route the link that the route leads over.
+#[derive(Clone, Copy, Debug, PartialEq, Eq)]
+pub enum Key {
+    /// `router`, the router id.
+    Router,
+    /// `refresh_ms`, how often the router refreshes its state, in milliseconds.
+    RefreshMs,
+    /// `labels`, the first and the last label that the router gives out.
+    Labels,
+    /// `link`, the table of the links, and the link of a route.
+    Link,
+    /// `number`, the number of a link.
+    Number,
+    /// `address`, the router's own address on a link.
+    Address,
+    /// `peer`, the neighbour's address on a link.
+    Peer,
+    /// `peer_router`, the neighbour's router id.
+    PeerRouter,
+    /// `limit`, the most bandwidth that is reserved on a link, in bytes per second.
+    Limit,
+    /// `up`, whether a link is up when the router is opened.
+    Up,
+    /// `listen`, the socket address at which a link's datagrams arrive.
+    Listen,
+    /// `send`, the socket address to which a link's datagrams go.
+    Send,
+    /// `route`, the table of the static routes.
+    Route,
+    /// `prefix`, the addresses of a route.
+    Prefix,
+}
+
+impl Key {
+    /// The key as a configuration spells it.
+    pub fn name(self) -> &'static str
+        ensures { result.now ≡ key_name self }
+    {
+        match self {
+            Key::Router => "router",
+            Key::RefreshMs => "refresh_ms",
+            Key::Labels => "labels",
+            Key::Link => "link",
+            Key::Number => "number",
+            Key::Address => "address",
+            Key::Peer => "peer",
+            Key::PeerRouter => "peer_router",
+            Key::Limit => "limit",
+            Key::Up => "up",
+            Key::Listen => "listen",
+            Key::Send => "send",
+            Key::Route => "route",
+            Key::Prefix => "prefix",
+        }
+    }
+}
+
+impl fmt::Display for Key {
+    fn fmt<W: fmt::Write>(&self, f: &mut fmt::Formatter<W>) -> fmt::Result {
+        f.write_str(self.name())
+    }
+}

@@ -1,0 +1,157 @@
+// Values of tables: each is looked for under its key, and the first rule that isn't kept is the fault.
+ghost use Rattle.std.specs.Prelude.{◌≡◌, ◌≤◌, List, length, Some, None, [], ◌∷◌, map, option_map, IfOk, MatchResult};
+ghost use Rattle.toml.specs.Data.{Data, get};
+ghost use Rattle.toml.specs.View.{view};
+ghost use Rattle.lsr_config.specs.Keys.{key_name};
+ghost use Rattle.lsr_config.specs.Values.{SaysWhole, SaysFlag, SaysLabels};
+ghost use Rattle.lsr_config.specs.Rules.{an_address, a_socket, a_whole, a_flag, some_labels, a_prefix, some_tables, Has, HasAddress, HasNumber, HasPrefix, few};
+ghost use Rattle.lsr_config.specs.Documents.{needed, optional, records, HasOr};
+ghost use Rattle.lsr_config.specs.Reading.{Judges};
+ghost use Rattle.lsr_config.specs.declared.fault.ConfigFault.TheVariants as fault;
+
+use crate::fault::ConfigFault;
+use crate::key::Key;
+use crate::values::{address_in, flag_in, labels_in, prefix_in, socket_in, tables_in, whole_in};
+use lsr_facts::LabelRange;
+use rsvp_routes::Prefix;
+use std::net::Ipv4Addr;
+use toml::Value;
+
+/// The least and the greatest number of a link.
+const FIRST_NUMBER: u64 = 1;
+
+const LAST_NUMBER: u64 = 65_535;
+
+/// The value under a key of a table.
+fn value_at<'a>(table: &'a Value, key: Key) -> Option<&'a Value>
+    ensures { option_map (λ value. view value.now) result ≡ get (key_name key) (view table.now) }
+{
+    table.get(key.name())
+}
+
+/// The value under a key that the table has to have.
+fn needed(table: &Value, key: Key) -> Result<&Value, ConfigFault>
+    ensures { MatchResult result
+        (λ value. get (key_name key) (view table.now) ≡ Some (view value.now))
+        (λ f. (get (key_name key) (view table.now) ≡ None) × (f ≡ fault.Missing key)) }
+{
+    match value_at(table, key) {
+        Some(value) => Ok(value),
+        None => Err(ConfigFault::Missing(key)),
+    }
+}
+
+/// What the value under a key says, where it is of its kind.
+fn said<T: Drop>(found: Option<T>, key: Key) -> Result<T, ConfigFault>
+    ensures { MatchResult result (λ value. found ≡ Some value) (λ f. (found ≡ None) × (f ≡ fault.BadValue key)) }
+{
+    match found {
+        Some(value) => Ok(value),
+        None => Err(ConfigFault::BadValue(key)),
+    }
+}
+
+/// The address that the table gives a key.
+pub(crate) fn address_at(table: &Value, key: Key) -> Result<Ipv4Addr, ConfigFault>
+    ensures { Judges (needed an_address key (view table.now)) (HasAddress key (view table.now)) result }
+{
+    let value = needed(table, key)?;
+    said(address_in(value), key)
+}
+
+/// The whole number, from `least` to `most`, that the table gives a key.
+pub(crate) fn whole_at(table: &Value, key: Key, least: u64, most: u64) -> Result<u64, ConfigFault>
+    ensures judged { Judges (needed (a_whole least most) key (view table.now))
+        (λ n. Has key (view table.now) (λ v. SaysWhole least most v n)) result }
+    ensures bound { IfOk result (λ n. n ≤ most) }
+{
+    let value = needed(table, key)?;
+    said(whole_in(value, least, most), key)
+}
+
+/// The number of a link that the table gives a key.
+pub(crate) fn number_at(table: &Value, key: Key) -> Result<u16, ConfigFault>
+    ensures { Judges (needed (a_whole 1 65535) key (view table.now)) (HasNumber key (view table.now)) result }
+{
+    let number = whole_at(table, key, FIRST_NUMBER, LAST_NUMBER)?;
+    Ok(number as u16)
+}
+
+/// The labels that the table gives a key.
+pub(crate) fn labels_at(table: &Value, key: Key) -> Result<LabelRange, ConfigFault>
+    ensures { Judges (needed some_labels key (view table.now))
+        (λ labels. Has key (view table.now) (λ v. SaysLabels v labels)) result }
+{
+    let value = needed(table, key)?;
+    said(labels_in(value), key)
+}
+
+/// The prefix that the table gives a key.
+pub(crate) fn prefix_at(table: &Value, key: Key) -> Result<Prefix, ConfigFault>
+    ensures { Judges (needed a_prefix key (view table.now)) (HasPrefix key (view table.now)) result }
+{
+    let value = needed(table, key)?;
+    said(prefix_in(value), key)
+}
+
+/// The whole number, from `least` to `most`, that the table gives a key, or the default where it gives none.
+pub(crate) fn whole_or(
+    table: &Value,
+    key: Key,
+    least: u64,
+    most: u64,
+    default: u64,
+) -> Result<u64, ConfigFault>
+    requires { default ≤ most }
+    ensures judged { Judges (optional (a_whole least most) key (view table.now))
+        (λ n. HasOr key (view table.now) (n ≡ default) (λ v. SaysWhole least most v n)) result }
+    ensures bound { IfOk result (λ n. n ≤ most) }
+{
+    match value_at(table, key) {
+        Some(value) => said(whole_in(value, least, most), key),
+        None => Ok(default),
+    }
+}
+
+/// The truth value that the table gives a key, or the default where it gives none.
+pub(crate) fn flag_or(table: &Value, key: Key, default: bool) -> Result<bool, ConfigFault>
+    ensures { Judges (optional a_flag key (view table.now))
+        (λ b. HasOr key (view table.now) (b ≡ default) (λ v. SaysFlag v b)) result }
+{
+    match value_at(table, key) {
+        Some(value) => said(flag_in(value), key),
+        None => Ok(default),
+    }
+}
+
+/// Whether what the table gives a key, if it gives anything, is a socket address.
+pub(crate) fn check_socket(table: &Value, key: Key) -> Result<(), ConfigFault>
+    ensures { Judges (optional a_socket key (view table.now)) (λ _. Unit {0}) result }
+{
+    let Some(value) = value_at(table, key) else {
+        return Ok(());
+    };
+    said(socket_in(value), key)?;
+    Ok(())
+}
+
+/// The records of a table of the document, in the order of the text.
+pub(crate) fn records_of(document: &Value, key: Key) -> Result<&[Value], ConfigFault>
+    ensures { Judges (optional some_tables key (view document.now))
+        (λ found. map view found.now ≡ records key (view document.now)) result }
+{
+    match value_at(document, key) {
+        Some(value) => said(tables_in(value), key),
+        None => Ok(&[]),
+    }
+}
+
+/// Refuses a record behind so many others that its table has no more.
+pub(crate) fn check_count(key: Key, most: usize, count: usize) -> Result<(), ConfigFault>
+    ensures { (before : List Data) → length before ≡ count → Judges (few key most before ∷ []) (λ _. Unit {0}) result }
+{
+    if count >= most {
+        return Err(ConfigFault::TooMany(key));
+    }
+    Ok(())
+}

@@ -1,0 +1,193 @@
+// Values of a configuration: what each says, or `None` where it isn't of its kind.
+ghost use Rattle.std.specs.Prelude.{◌≡◌, ◌≤◌, pos, List, map, is_some, true, false, IfSome, MatchOption};
+ghost use Rattle.std.specs.List.{list_all};
+ghost use Rattle.toml.specs.Data.{Data, integer, array, as_table};
+ghost use Rattle.toml.specs.View.{view, items_view};
+ghost use Rattle.lsr_config.specs.Values.{Finds, IsLength, IsPrefixText, SaysAddress, SaysSocket, SaysWhole, SaysFlag, SaysLabels, SaysPrefix, SaysTables, masked};
+
+use lsr_facts::LabelRange;
+use lsr_facts::limits::MAX_LABELS;
+use rsvp_routes::Prefix;
+use std::net::{Ipv4Addr, SocketAddr};
+use toml::Value;
+
+/// The least and the greatest label that a router gives out (RFC 3032, 2.1).
+const FIRST_LABEL: u64 = 16;
+
+const LAST_LABEL: u64 = 1_048_575;
+
+/// The length of a prefix that is one address.
+const WHOLE_ADDRESS: u8 = 32;
+
+/// What stands between the address of a prefix and its length.
+const SLASH: char = '/';
+
+/// What may stand before a number that is read, but not before a length.
+const PLUS: char = '+';
+
+/// The IPv4 address that the value writes.
+pub(crate) fn address_in(value: &Value) -> Option<Ipv4Addr>
+    ensures { Finds (SaysAddress (view value.now)) result }
+{
+    match value.as_str() {
+        Some(text) => text.parse().ok(),
+        None => None,
+    }
+}
+
+/// The socket address that the value writes.
+pub(crate) fn socket_in(value: &Value) -> Option<SocketAddr>
+    ensures { Finds (SaysSocket (view value.now)) result }
+{
+    match value.as_str() {
+        Some(text) => text.parse().ok(),
+        None => None,
+    }
+}
+
+/// The whole number that the value is, from `least` to `most`.
+pub(crate) fn whole_in(value: &Value, least: u64, most: u64) -> Option<u64>
+    ensures found { Finds (SaysWhole least most (view value.now)) result }
+    ensures bound { IfSome result (λ n. n ≤ most) }
+{
+    let number = natural_in(value)?;
+    if number < least {
+        return None;
+    }
+    if number > most {
+        return None;
+    }
+    Some(number)
+}
+
+/// The whole number that the value is, where it isn't below 0.
+fn natural_in(value: &Value) -> Option<u64>
+    ensures { Finds (λ n. view value.now ≡ integer (pos n)) result }
+{
+    match value.as_integer() {
+        Some(number) => natural_of(number),
+        None => None,
+    }
+}
+
+/// The number, where it isn't below 0.
+fn natural_of(number: i64) -> Option<u64>
+    ensures { Finds (λ n. number ≡ pos n) result }
+{
+    u64::try_from(number).ok()
+}
+
+/// The truth value that the value is.
+pub(crate) fn flag_in(value: &Value) -> Option<bool>
+    ensures { Finds (SaysFlag (view value.now)) result }
+{
+    value.as_bool()
+}
+
+/// The labels whose first and last the value lists.
+pub(crate) fn labels_in(value: &Value) -> Option<LabelRange>
+    ensures { Finds (SaysLabels (view value.now)) result }
+{
+    match value.as_array() {
+        Some(array) => range_of(array.as_slice()),
+        None => None,
+    }
+}
+
+/// The labels of which these are the first and the last.
+fn range_of(ends: &[Value]) -> Option<LabelRange>
+    ensures { Finds (SaysLabels (array (items_view ends.now))) result }
+{
+    let [first, last] = ends else {
+        return None;
+    };
+    let first = whole_in(first, FIRST_LABEL, LAST_LABEL)? as u32;
+    let last = whole_in(last, FIRST_LABEL, LAST_LABEL)? as u32;
+    if first > last {
+        return None;
+    }
+    if last - first >= MAX_LABELS {
+        return None;
+    }
+    Some(LabelRange { first, last })
+}
+
+/// The prefix that the value writes. Bits of its address past its length are set to 0.
+pub(crate) fn prefix_in(value: &Value) -> Option<Prefix>
+    ensures { Finds (SaysPrefix (view value.now)) result }
+{
+    match value.as_str() {
+        Some(text) => prefix_of(text),
+        None => None,
+    }
+}
+
+/// The prefix that the text writes.
+fn prefix_of(text: &str) -> Option<Prefix>
+    ensures { Finds (IsPrefixText text.now) result }
+{
+    let (address, digits) = text.split_once(SLASH)?;
+    let Ok(address) = address.parse() else {
+        return None;
+    };
+    let length = length_in(digits)?;
+    Some(Prefix {
+        address: masked(address, length),
+        length,
+    })
+}
+
+/// The length of a prefix, at most 32, that decimal digits write.
+fn length_in(digits: &str) -> Option<u8>
+    ensures { Finds (IsLength digits.now) result }
+{
+    if digits.starts_with(PLUS) {
+        return None;
+    }
+    match digits.parse() {
+        Ok(length) if length <= WHOLE_ADDRESS => Some(length),
+        _ => None,
+    }
+}
+
+/// The address with the bits past the length set to 0.
+fn masked(address: Ipv4Addr, length: u8) -> Ipv4Addr
+    requires { length ≤ 32 }
+    ensures { result ≡ masked address length }
+{
+    let bits = address.to_bits();
+    let size = 1u64 << (WHOLE_ADDRESS - length);
+    Ipv4Addr::from_bits(bits - (u64::from(bits) % size) as u32)
+}
+
+/// The tables that the value lists.
+pub(crate) fn tables_in(value: &Value) -> Option<&[Value]>
+    ensures { MatchOption result
+        ((tables : List Data) → ¬ SaysTables (view value.now) tables)
+        (λ tables. SaysTables (view value.now) (map view tables.now)) }
+{
+    match value.as_array() {
+        Some(array) => only_tables(array.as_slice()),
+        None => None,
+    }
+}
+
+/// The values, where they are all tables.
+fn only_tables(values: &[Value]) -> Option<&[Value]>
+    ensures { MatchOption result
+        (list_all (λ value. is_some (as_table (view value))) values.now ≡ false)
+        (λ tables. (list_all (λ value. is_some (as_table (view value))) values.now ≡ true) × (tables.now ≡ values.now)) }
+{
+    if are_tables(values) {
+        Some(values)
+    } else {
+        None
+    }
+}
+
+/// Whether the values are all tables.
+fn are_tables(values: &[Value]) -> bool
+    ensures { result ≡ list_all (λ value. is_some (as_table (view value))) values.now }
+{
+    values.iter().all(|value| value.is_table())
+}
