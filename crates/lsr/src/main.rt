@@ -1,4 +1,5 @@
-//! The program `lsr`: an operator's words, read from the command line and run over the standard streams.
+//! The program `lsr`: an operator's words, read from the command line and run over the standard streams and the
+//! files that they name.
 #![tactic(auto)]
 
 use lsr_tool::run;
@@ -17,6 +18,7 @@ fn main(rt: HostRuntime) -> ExitCode {
         return ExitCode::from(FAILED);
     };
     let status = run(
+        &rt,
         alloc,
         words.as_slice(),
         &mut rt.stdin(),

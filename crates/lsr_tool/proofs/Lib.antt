@@ -1,3 +1,4 @@
+mod Answering
 mod LineLaws
 mod Rooms
 mod Sessions

@@ -1,4 +1,4 @@
--- What cuts a text at its first newline, what reads a link, and that a line has one reading.
+-- What cuts a text at its first newline, what reads a link, and what a line asks for.
 use Rattle.std.proofs.Common.{◌≡◌, ◌≢◌, ◌<◌, ◌≤◌, ◌^◌, ℕ, suc, List, [], ◌∷◌, ◌++◌, Result, Ok, Err, true, refl, sym, ap, subst, ◌∙◌, arith, codes, get_or, length, ne_eqb, Bor, inl, inr, ◌⊎◌}
 use Rattle.std.proofs.lemmas.List.{append_cancel_left}
 use Rattle.std.specs.Prelude.{Option, Some, None}
@@ -12,7 +12,9 @@ use Rattle.std.proofs.lemmas.Str.Pattern.{IsSplitOnceResult, split_after}
 use Rattle.hex.specs.Hex.{decode_of}
 use Rattle.hex.specs.declared.error.FromHexError.{FromHexError}
 use Rattle.hex.specs.declared.error.FromHexError.TheVariants.{OutOfMemory}
-use Rattle.lsr_tool.specs.Lines.{lines_of, NamesLink, AsksFor}
+use Rattle.lsr_tool.specs.declared.lines.Request.{Request}
+use Rattle.lsr_tool.specs.declared.lines.Request.TheVariants as requests
+use Rattle.lsr_tool.specs.Lines.{lines_of, NamesLink, AsksFor, AsksOfLink, AsksToReceive}
 
 pub own : IsNumeralModel (λ ds. all_ascii_digits ds ≡ true) (digits_value 10)
 own = numerals_by_value _ tells_all_ascii_digits
@@ -49,18 +51,18 @@ pub no_link : {E : Type 0} (digits : List ℕ) (e : E) (link : ℕ) → get_or d
 no_link digits e link plain h n = link_value digits (Err e) plain h (n.decimal, digits_some digits (omega (arith, n.value, n.low)), omega (arith, n.value, n.high))
 
 -- the words behind `rx ` are those of the line
-pub words_of : (line words : List ℕ) (link : ℕ) (message : List ℕ) → line ≡ codes "rx " ++ words → (a : AsksFor line link message) → words ≡ a.link_digits ++ (32 ∷ a.hex_digits)
+pub words_of : (line words : List ℕ) (link : ℕ) (message : List ℕ) → line ≡ codes "rx " ++ words → (a : AsksToReceive line link message) → words ≡ a.link_digits ++ (32 ∷ a.hex_digits)
 words_of line words link message e a = append_cancel_left (codes "rx ") words _ (sym e ∙ a.parts)
 
 no_space : (digits : List ℕ) → all_ascii_digits digits ≡ true → (i : ℕ) → i < length digits → get_or digits i 0 ≢ 32
 no_space digits h = not_in_digits own digits 32 h (λ r. absurd (omega (arith, r.0)))
 
 -- so the first space parts them
-pub parts_of : (words : List ℕ) (line : List ℕ) (link : ℕ) (message : List ℕ) (r : Option (Bor (List ℕ) × Bor (List ℕ))) → line ≡ codes "rx " ++ words → IsSplitOnceResult 32 words r → (a : AsksFor line link message) → MatchOption r ⊥ (λ x. (x.0.now ≡ a.link_digits) × (x.1.now ≡ a.hex_digits))
+pub parts_of : (words : List ℕ) (line : List ℕ) (link : ℕ) (message : List ℕ) (r : Option (Bor (List ℕ) × Bor (List ℕ))) → line ≡ codes "rx " ++ words → IsSplitOnceResult 32 words r → (a : AsksToReceive line link message) → MatchOption r ⊥ (λ x. (x.0.now ≡ a.link_digits) × (x.1.now ≡ a.hex_digits))
 parts_of words line link message r e h a = split_after 32 words a.link_digits a.hex_digits r h (omega arith) (words_of line words link message e a) (no_space a.link_digits a.names.decimal)
 
 -- so there is a space
-pub no_parts : (line words : List ℕ) (link : ℕ) (message : List ℕ) (r : Option (Bor (List ℕ) × Bor (List ℕ))) → ((x : Bor (List ℕ) × Bor (List ℕ)) → r ≡ Some x → ⊥) → line ≡ codes "rx " ++ words → IsSplitOnceResult 32 words r → AsksFor line link message → ⊥
+pub no_parts : (line words : List ℕ) (link : ℕ) (message : List ℕ) (r : Option (Bor (List ℕ) × Bor (List ℕ))) → ((x : Bor (List ℕ) × Bor (List ℕ)) → r ≡ Some x → ⊥) → line ≡ codes "rx " ++ words → IsSplitOnceResult 32 words r → AsksToReceive line link message → ⊥
 no_parts line words link message None none e h a = parts_of words line link message None e h a
 no_parts line words link message (Some x) none e h a = none x refl
 
@@ -76,3 +78,16 @@ no_name digits others link (Some x) none h e n = none x refl
 pub no_bytes : (digits others message : List ℕ) (error : FromHexError) → error ≢ OutOfMemory → (error ≡ OutOfMemory) ⊎ (decode_of digits ≡ Err error) → digits ≡ others → decode_of others ≡ Ok message → ⊥
 no_bytes digits others message error other (inl h) e m = other h
 no_bytes digits others message error other (inr h) e m = let t = sym h ∙ ap decode_of e ∙ m in cc
+
+-- a line that names a link behind a word names that of what is behind it
+pub link_behind : (word line digits : List ℕ) (r : Option ℕ) → line ≡ word ++ digits → MatchOption r ((link : ℕ) → NamesLink digits link → ⊥) (NamesLink digits) → MatchOption r ((link : ℕ) → AsksOfLink word line link → ⊥) (AsksOfLink word line)
+link_behind word line digits None e h = λ link a. h link (same_names digits a.digits link (append_cancel_left word digits a.digits (sym e ∙ a.parts)) a.names)
+link_behind word line digits (Some link) e h = record { digits = digits; parts = e; names = h }
+
+-- a line that is none of the four asks for nothing
+pub asks_nothing : (line : List ℕ) → ((link : ℕ) → AsksOfLink (codes "up ") line link → ⊥) → ((link : ℕ) → AsksOfLink (codes "down ") line link → ⊥) → (line ≡ codes "show paths" → ⊥)
+    → ((link : ℕ) (message : List ℕ) → AsksToReceive line link message → ⊥) → (request : Request) → AsksFor line request → ⊥
+asks_nothing line up down show receive (requests.Receive arrival) a = receive arrival.link arrival.message.items a
+asks_nothing line up down show receive (requests.LinkUp link) a = up link a
+asks_nothing line up down show receive (requests.LinkDown link) a = down link a
+asks_nothing line up down show receive requests.ShowPaths a = show a

@@ -1,25 +1,42 @@
--- A run over lines on the router as it is opened.
-use Rattle.std.proofs.Common.{◌≡◌, ℕ, List, Option, Result, Ok, Err, subst, inr}
+-- How runs end that don't begin, and those that do.
+use Rattle.std.proofs.Common.{◌≡◌, ℕ, List, [], Option, Some, Result, Ok, Err, refl, sym, subst, inl, inr}
 use Rattle.std.specs.Prelude.{IfOk}
-use Rattle.std.specs.Option.{IfSome}
+use Rattle.std.specs.Option.{option_map}
 use Rattle.std.specs.Io.KnownBytes.{Appends}
-use Rattle.lsr_config.specs.BuiltIn.{two_links}
 use Rattle.router_core.specs.States.{State, opened}
 use Rattle.lsr_tool.specs.Lines.{lines_of}
-use Rattle.lsr_tool.specs.Sessions.{Serving, Steps}
+use Rattle.lsr_tool.specs.Requests.{PrintsAnswer}
+use Rattle.lsr_tool.specs.Sessions.{CannotBegin, IsConfigText, IsReady, Steps}
 use Rattle.lsr_tool.specs.Steps.{Ends}
+use Rattle.lsr_tool.specs.Texts.{IsTextOf}
 use Rattle.lsr_tool.specs.declared.step.Ending.{Ending}
 use Rattle.lsr_tool.specs.declared.step.Ending.TheVariants as endings
 
-steps_of : (input : Option (List ℕ)) (printed text : List ℕ) (ending : Ending) → IfSome input (λ bytes. text ≡ bytes) → Ends Serving (opened two_links) (lines_of text) printed ending → Steps input printed ending
-steps_of input printed text endings.Done known h = (text, known, h)
-steps_of input printed text (endings.BadLine number) known h = (text, known, h)
-steps_of input printed text endings.Memory known h = inr (text, known, h)
-steps_of input printed text endings.Unreadable known h = absurd h
+pub config_text : {C : Type 0} (remaining : C → Option (List ℕ)) (config : Option C) (stream : C) (text : List ℕ) → config ≡ Some stream → IsTextOf (remaining stream) text → IsConfigText (option_map remaining config) (Some text)
+config_text {C} remaining config stream text e h = subst (λ (c : Option C). IsConfigText (option_map remaining c) (Some text)) (sym e) h
 
-pub steps_from : {E : Type 0} (r : Result Ending E) (old new input : Option (List ℕ)) (text : List ℕ) (router : State) → router ≡ opened two_links → IfSome input (λ bytes. text ≡ bytes)
-    → IfOk r (λ ending. (printed : List ℕ) × Appends old new printed × Ends Serving router (lines_of text) printed ending)
-    → IfOk r (λ ending. (printed : List ℕ) × Appends old new printed × Steps input printed ending)
-steps_from (Ok ending) old new input text router e known h =
-    (h.0, h.1, steps_of input h.0 text ending known (subst (λ (s : State). Ends Serving s (lines_of text) h.0 ending) e h.2))
-steps_from (Err error) old new input text router e known h = h
+pub cannot_begin : (stream : Option (Option (List ℕ))) (input configured : Option (List ℕ)) (text : List ℕ) (ending : Ending) → IsConfigText stream configured → IsTextOf input text → CannotBegin configured ending → Steps stream input [] ending
+cannot_begin stream input configured text endings.Done c t h = absurd h
+cannot_begin stream input configured text (endings.BadLine number) c t h = absurd h
+cannot_begin stream input configured text endings.Memory c t h = inl refl
+cannot_begin stream input configured text endings.Unreadable c t h = absurd h
+cannot_begin stream input configured text (endings.BadConfig fault) c t h =
+    record { configured = configured; text = text; config_read = c; input_read = t; steps = (refl, h) }
+
+steps_of : (stream : Option (Option (List ℕ))) (input : Option (List ℕ)) (text printed : List ℕ) (ending : Ending) (router : State) (ready : IsReady stream input router text)
+    → Ends PrintsAnswer (opened ready.config) (lines_of text) printed ending → Steps stream input printed ending
+steps_of stream input text printed endings.Done router ready h =
+    record { configured = ready.configured; text = text; config_read = ready.config_read; input_read = ready.input_read; steps = (ready.config, ready.says, h) }
+steps_of stream input text printed (endings.BadLine number) router ready h =
+    record { configured = ready.configured; text = text; config_read = ready.config_read; input_read = ready.input_read; steps = (ready.config, ready.says, h) }
+steps_of stream input text printed endings.Memory router ready h =
+    inr (record { configured = ready.configured; text = text; config_read = ready.config_read; input_read = ready.input_read; steps = (ready.config, ready.says, h) })
+steps_of stream input text printed endings.Unreadable router ready h = absurd h
+steps_of stream input text printed (endings.BadConfig fault) router ready h = absurd h
+
+pub steps_from : {E : Type 0} (r : Result Ending E) (old new : Option (List ℕ)) (stream : Option (Option (List ℕ))) (input : Option (List ℕ)) (text : List ℕ) (router : State) → IsReady stream input router text
+    → IfOk r (λ ending. (printed : List ℕ) × Appends old new printed × Ends PrintsAnswer router (lines_of text) printed ending)
+    → IfOk r (λ ending. (printed : List ℕ) × Appends old new printed × Steps stream input printed ending)
+steps_from (Ok ending) old new stream input text router ready h =
+    (h.0, h.1, steps_of stream input text h.0 ending router ready (subst (λ (s : State). Ends PrintsAnswer s (lines_of text) h.0 ending) ready.opens h.2))
+steps_from (Err error) old new stream input text router ready h = h

@@ -1,4 +1,4 @@
--- Objects that have their lines, and one more.
+-- Objects and paths that have their lines, and one more.
 use Rattle.std.proofs.Common.{◌≡◌, ℕ, List, [], ◌∷◌, ◌++◌, sym, ap, ◌∙◌, append_assoc, append-nil, None, Some, Option, Bool, true, false, refl, nat_lt, ◌≤◌, length, arith}
 use Rattle.std.specs.Prelude.{if◌then◌else◌}
 use Rattle.std.proofs.lemmas.Bool.Decides.{nat_tests}
@@ -7,10 +7,13 @@ use Rattle.std.specs.List.{flat_map}
 use Rattle.std.proofs.lemmas.List.Concat.{flat_map-append}
 use Rattle.rsvp_objects.specs.Raw.{Raw, object_bytes}
 use Rattle.rsvp_contents.specs.Spelling.{header_fault}
+use Rattle.lsr_facts.specs.declared.key.Key.{Key}
+use Rattle.lsr_facts.specs.declared.path_fact.PathFact.{PathFact}
 use Rattle.lsr_tool.specs.Decoding.{object_line}
+use Rattle.lsr_tool.specs.Shown.{path_line}
 
-flat_push : (f : Raw → List ℕ) (raws : List Raw) (raw : Raw) → flat_map f (raws ++ (raw ∷ [])) ≡ flat_map f raws ++ f raw
-flat_push f raws raw = flat_map-append f raws (raw ∷ []) ∙ ap (λ l. flat_map f raws ++ l) (append-nil (f raw))
+flat_push : {A : Type 0} (f : A → List ℕ) (xs : List A) (x : A) → flat_map f (xs ++ (x ∷ [])) ≡ flat_map f xs ++ f x
+flat_push f xs x = flat_map-append f xs (x ∷ []) ∙ ap (λ l. flat_map f xs ++ l) (append-nil (f x))
 
 pub parts_push : (bytes rest left : List ℕ) (raws : List Raw) (raw : Raw) → bytes ≡ flat_map object_bytes raws ++ rest → rest ≡ object_bytes raw ++ left → bytes ≡ flat_map object_bytes (raws ++ (raw ∷ [])) ++ left
 parts_push bytes rest left raws raw e f =
@@ -18,6 +21,9 @@ parts_push bytes rest left raws raw e f =
 
 pub lines_push : (old new : List ℕ) (raws : List Raw) (raw : Raw) → old ≡ flat_map object_line raws → new ≡ old ++ object_line raw → new ≡ flat_map object_line (raws ++ (raw ∷ []))
 lines_push old new raws raw e f = f ∙ ap (λ l. l ++ object_line raw) e ∙ sym (flat_push object_line raws raw)
+
+pub paths_push : (old new : List ℕ) (before after : List (Key × PathFact)) (path : Key × PathFact) → old ≡ flat_map path_line before → new ≡ old ++ path_line path → after ≡ before ++ (path ∷ []) → new ≡ flat_map path_line after
+paths_push old new before after path e f g = f ∙ ap (λ l. l ++ path_line path) e ∙ sym (flat_push path_line before path) ∙ ap (flat_map path_line) (sym g)
 
 not_short : (b : Bool) (fault : Dropped) (rest : Option Dropped) → (if b then Some fault else rest) ≡ None → b ≡ false
 not_short true fault rest h = let t = h in cc

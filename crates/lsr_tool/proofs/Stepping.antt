@@ -1,11 +1,10 @@
 -- Lines that were served so far, and one more.
-use Rattle.std.proofs.Common.{rules, ◌≡◌, ◌+◌, ◌≤◌, ℕ, List, [], ◌∷◌, ◌++◌, Option, Result, refl, sym, ap, ◌∙◌, subst, length, append_assoc, append-nil, None, Some}
+use Rattle.std.proofs.Common.{rules, ◌≡◌, ◌+◌, ◌≤◌, ℕ, List, [], ◌∷◌, ◌++◌, Option, refl, sym, ap, ◌∙◌, subst, length, append_assoc, append-nil, None, Some}
 use Rattle.std.specs.Option.{IsNone}
 use Rattle.std.specs.Str.{IsUtf8}
 use Rattle.std.specs.Io.KnownBytes.{Appends}
 use Rattle.std.proofs.KnownBytes.{Appends-trans}
-use Rattle.lsr_facts.specs.declared.event.Entry.{Entry}
-use Rattle.lsr_facts.specs.declared.refusal.Refusal.{Refusal}
+use Rattle.lsr_tool.specs.declared.lines.Request.{Request}
 use Rattle.lsr_tool.specs.Lines.{lines_of}
 use Rattle.lsr_tool.specs.Steps.{Prints, PrintsLine}
 
@@ -13,18 +12,18 @@ pub lines_of-nil : lines_of [] ≡ []
 unfolding lines_of
 lines_of-nil = refl
 
-pub prints_push : {S : Type 0} (serves : S → ℕ → List ℕ → Result Entry Refusal → S → Type 0) (a : S) (lines : List (List ℕ)) (printed : List ℕ) (b : S) (line text : List ℕ) (c : S) → Prints serves a lines printed b → PrintsLine serves b line text c → Prints serves a (lines ++ (line ∷ [])) (printed ++ text) c
-prints_push serves a [] printed b line text c h p =
-    (text, [], c, ap (λ l. l ++ text) h.0 ∙ sym (append-nil text), subst (λ s. PrintsLine serves s line text c) h.1 p, (refl, refl))
-prints_push serves a (first ∷ lines) printed b line text c h p =
-    (h.0, h.1 ++ text, h.2, ap (λ l. l ++ text) h.3 ∙ append_assoc h.0 h.1 text, h.4, prints_push serves h.2 lines h.1 b line text c h.5 p)
+pub prints_push : {S : Type 0} (answers : S → Request → List ℕ → S → Type 0) (a : S) (lines : List (List ℕ)) (printed : List ℕ) (b : S) (line text : List ℕ) (c : S) → Prints answers a lines printed b → PrintsLine answers b line text c → Prints answers a (lines ++ (line ∷ [])) (printed ++ text) c
+prints_push answers a [] printed b line text c h p =
+    (text, [], c, ap (λ l. l ++ text) h.0 ∙ sym (append-nil text), subst (λ s. PrintsLine answers s line text c) h.1 p, (refl, refl))
+prints_push answers a (first ∷ lines) printed b line text c h p =
+    (h.0, h.1 ++ text, h.2, ap (λ l. l ++ text) h.3 ∙ append_assoc h.0 h.1 text, h.4, prints_push answers h.2 lines h.1 b line text c h.5 p)
 
 -- The lines before `rest` were served, and their answers printed.
-pub record IsSteppedTo {S : Type 0} (serves : S → ℕ → List ℕ → Result Entry Refusal → S → Type 0) (before : S) (text : List ℕ) (old new : Option (List ℕ)) (rest : List ℕ) (number : ℕ) (after : S) : Type 0 where
+pub record IsSteppedTo {S : Type 0} (answers : S → Request → List ℕ → S → Type 0) (before : S) (text : List ℕ) (old new : Option (List ℕ)) (rest : List ℕ) (number : ℕ) (after : S) : Type 0 where
   pub served : List (List ℕ)
   pub printed : List ℕ
   pub parts : lines_of text ≡ served ++ lines_of rest
-  pub prints : Prints serves before served printed after
+  pub prints : Prints answers before served printed after
   pub told : Appends old new printed
   pub count : number ≡ length served
   pub room : number + length rest ≤ length text

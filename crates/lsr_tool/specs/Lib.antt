@@ -1,6 +1,9 @@
 pub mod Lines
 pub mod Names
 pub mod Answers
+pub mod Shown
+pub mod Requests
 pub mod Steps
+pub mod Texts
 pub mod Decoding
 pub mod Sessions

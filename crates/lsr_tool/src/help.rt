@@ -5,33 +5,47 @@ use std::alloc::{AllocError, Global};
 const ABOUT: &str = "The control plane of an MPLS label switching router, in an operator's hands.";
 
 const HELP: &str = "\
-step reads lines `rx LINK HEX`: a message came over a link. It prints `done`, `error CODE
-VALUE` or `refused N NAME` for each, and behind that a line `tx LINK HEX` for each message
-that the router sends. decode prints what one message is made of.
+step reads lines: `rx LINK HEX`, a message came over a link; `up LINK` and `down LINK`, a link
+came up or went down; `show paths`. It prints `done`, `error CODE VALUE` or `refused N NAME`
+for each event, and behind that a line `tx LINK HEX` for each message that the router sends.
+With --config FILE the router is that of a configuration: docs/CONFIGURATION.md has its keys.
+decode prints what one message is made of.
 
 Example: the router refuses to tear down a path that it doesn't know.
   echo rx 1 1005b988ff000030001001070a000004000000010a000001000c03010a00000100000001\
 000c0b070a00000100000001 | lsr step
 ";
 
-const STEP_ABOUT: &str =
-    "Serves messages, a line each from standard input, and prints what the router answers and sends";
+const STEP_ABOUT: &str = "\
+Serves messages and links that come up and go down, a line each from standard input, and
+prints what the router answers and sends";
 
 const STEP_HELP: &str = "\
-A line of standard input:
+A line of standard input, its words parted by one space:
   rx LINK HEX       a message came over link LINK, 1 to 65535; HEX is its bytes in
                     hexadecimal digits of either case, and may be empty
+  up LINK           link LINK came up
+  down LINK         link LINK went down
+  show paths        asks for the paths that the router knows
 
-What is printed for it:
+What is printed for a message or a link:
   done              it was done
   error CODE VALUE  it is an error of RSVP, which its sender is told
   refused N NAME    it was refused for the reason of this number and name
   tx LINK HEX       behind that, each message that the router sends
 
-The router is the built-in one: 10.0.0.2, link 1 to 10.0.0.1, link 2 to 10.0.0.3.
-A line of another form prints `bad line N` on standard error and ends the run with
-status 1. So do `unreadable` (the input can't be read, isn't UTF-8 or has more than
-16777216 bytes), `memory` and `unwritable` (the output can't be written).
+What is printed for `show paths`, a line for each path, in order:
+  path ENDPOINT/TUNNEL/EXTENDED SENDER/LSP transit|tail|head OUT ORIGINS
+                    its session, sender and LSP ID; what the router is on its way; the
+                    link that it leaves by, 0 for a tail; how many origins it has
+
+The router is the one that FILE says (docs/CONFIGURATION.md has the keys; an example is
+examples/middle.toml), or without it the built-in one: 10.0.0.2, link 1 to 10.0.0.1, link
+2 to 10.0.0.3.
+On standard error, with status 1: `unreadable` (FILE or the input can't be read, isn't
+UTF-8 or has more than 16777216 bytes), `config FAULT NAME` (the first fault of the
+configuration, and its key), `bad line N` (a line of another form, which ends the run),
+`memory` and `unwritable` (the output can't be written).
 
 Example: a tear of a path that isn't there prints `refused 10 NoMatch`.
   echo rx 1 1005b988ff000030001001070a000004000000010a000001000c03010a00000100000001\
@@ -56,14 +70,25 @@ Example: this PathTear prints `PathTear 48`, `1 7 0a000004000000010a000001`,
 
 const HEX_HELP: &str = "The message's bytes: an even number of hexadecimal digits of either case";
 
+const CONFIG_HELP: &str =
+    "The file of the router's configuration (TOML); without it the built-in router serves";
+
 /// The name of the argument of `decode`.
 pub(crate) const HEX: &str = "HEX";
+/// The name of the option of `step`.
+pub(crate) const CONFIG: &str = "config";
 
 /// The words that `lsr` takes. The only error is want of memory.
 pub(crate) fn command<'a>(alloc: Global) -> Result<Command<'a>, AllocError> {
     let step = Command::new(alloc, "step")
         .about(STEP_ABOUT)
-        .after_help(STEP_HELP);
+        .after_help(STEP_HELP)
+        .arg(
+            Arg::new(alloc, CONFIG)
+                .long(CONFIG)
+                .value_name("FILE")
+                .help(CONFIG_HELP),
+        )?;
     let decode = Command::new(alloc, "decode")
         .about(DECODE_ABOUT)
         .after_help(DECODE_HELP)

@@ -2,6 +2,7 @@
 ghost use Rattle.std.specs.Prelude.{◌≡◌, ◌≤◌, ◌++◌, ℕ, List, true, IfOk, OnOk, IfSome, length, string_bytes};
 ghost use Rattle.std.specs.Io.KnownBytes.{Consumes, IsAtEnd};
 ghost use Rattle.lsr_tool.specs.declared.input.InputFault.TheVariants.{Memory};
+ghost use Rattle.lsr_tool.specs.Texts.{IsTextOf};
 
 use std::alloc::{AllocError, Global};
 use std::io::{ErrorKind, Read};
@@ -80,8 +81,7 @@ fn read_bytes<R: Read>(alloc: Global, input: &mut R) -> Result<Vec<u8>, InputFau
 /// The text of an input: all its bytes, where they are UTF-8 and at most [`MAX_INPUT_LEN`]. A read that was
 /// interrupted is made again.
 pub fn read_text<R: Read>(alloc: Global, input: &mut R) -> Result<String, InputFault>
-    ensures length { IfOk result (λ text. length (string_bytes text) ≤ MAX_INPUT_LEN) }
-    ensures text { IfOk result (λ text. IfSome (R.remaining input.old) (λ all. string_bytes text ≡ all)) }
+    ensures { IfOk result (λ text. IsTextOf (R.remaining input.old) (string_bytes text)) }
 {
     match String::from_utf8(read_bytes(alloc, input)?) {
         Ok(text) => Ok(text),

@@ -1,65 +1,124 @@
-//! `lsr step` on the built-in router.
-ghost use Rattle.std.specs.Prelude.{◌≡◌, List, ℕ, IfOk};
+//! `lsr step` on the router of a configuration, or on the built-in one.
+ghost use Rattle.std.specs.Prelude.{◌≡◌, List, ℕ, [], IfOk, IfErr, string_bytes};
+ghost use Rattle.std.specs.Option.{option_map};
 ghost use Rattle.std.specs.Io.KnownBytes.{Appends};
-ghost use Rattle.lsr_config.specs.BuiltIn.{two_links};
+ghost use Rattle.lsr_config.specs.Configs.{IsConfig};
+ghost use Rattle.lsr_config.specs.declared.config.Config.{Config};
 ghost use Rattle.router_core.specs.States.{opened};
 ghost use Rattle.lsr_tool.specs.declared.step.Ending.{Ending};
-ghost use Rattle.lsr_tool.specs.Sessions.{Serving, Steps};
+ghost use Rattle.lsr_tool.specs.Sessions.{CannotBegin, IsConfigText, IsConfigured, IsReady, Steps, ending_of};
 ghost use Rattle.lsr_tool.specs.Steps.{ending_text, status_of};
 
 use crate::input::{InputFault, read_text};
-use crate::step::{Ending, Serves, status_of, step_lines, tell_ending};
-use lsr_facts::{Entry, Refusal};
+use crate::step::{Ending, status_of, step_lines, tell_ending};
+use lsr_config::Config;
 use router_core::{Cold, Running};
-use std::alloc::{AllocError, Global};
+use std::alloc::Global;
 use std::io;
 use std::io::{Read, Write};
 
-impl Serves for Running {
-    ghost serves = { Serving };
+impl From<InputFault> for Ending {
+    ghost from_gives = { λ fault ending. ending ≡ ending_of fault };
 
-    fn serve(&mut self, alloc: Global, link: u16, datagram: &[u8]) -> Result<Entry, Refusal> {
-        self.serve_datagram(alloc, link, datagram)
+    fn from(fault: InputFault) -> Ending {
+        match fault {
+            InputFault::Unreadable => Ending::Unreadable,
+            InputFault::Memory => Ending::Memory,
+        }
     }
 }
 
-/// The built-in router, started. The only error is want of memory.
-fn opened(alloc: Global) -> Result<Running, AllocError>
-    ensures { IfOk result (λ router. router ≡ opened two_links) }
-{
-    Ok(Cold::two_links(alloc)?.start())
-}
-
-/// Serves the lines of the input. The error is the output's.
-fn step_input<R: Read, W: Write>(alloc: Global, input: &mut R, output: &mut W) -> io::Result<Ending>
-    ensures { IfOk result (λ ending. (printed : List ℕ) × Appends (W.contents output.old) (W.contents output.new) printed
-        × Steps (R.remaining input.old) printed ending) }
-{
-    let Ok(mut router) = opened(alloc) else {
-        return Ok(Ending::Memory);
-    };
-    match read_text(alloc, input) {
-        Ok(text) => step_lines(alloc, &mut router, text.as_str(), output),
-        Err(InputFault::Unreadable) => Ok(Ending::Unreadable),
-        Err(InputFault::Memory) => Ok(Ending::Memory),
-    }
-}
-
-/// `lsr step`: serves the lines of the input by the built-in router, one after the other, prints what each is
-/// answered, tells on the error stream how the run ended if it didn't end well, and gives the status, 0 or 1.
-/// The error is that a stream could not be written.
-pub fn run_step<R: Read, W: Write, E: Write>(
+/// The text of the configuration, where there is one.
+fn read_config_text<C: Read + Drop>(
     alloc: Global,
+    config: Option<C>,
+) -> Result<Option<String>, InputFault>
+    ensures { IfOk result (λ text. IsConfigText (option_map C.remaining config) (option_map string_bytes text)) }
+{
+    match config {
+        None => Ok(None),
+        Some(mut stream) => Ok(Some(read_text(alloc, &mut stream)?)),
+    }
+}
+
+/// The configuration that the text says, or without a text the built-in one.
+fn configured(alloc: Global, text: Option<String>) -> Result<Config, Ending>
+    ensures said { IfOk result (IsConfigured (option_map string_bytes text)) }
+    ensures config { IfOk result IsConfig }
+    ensures fault { IfErr result (CannotBegin (option_map string_bytes text)) }
+{
+    match text {
+        Some(text) => match Config::read(alloc, text.as_str()) {
+            Ok(config) => Ok(config),
+            Err(fault) => Err(Ending::BadConfig(fault)),
+        },
+        None => match Config::two_links(alloc) {
+            Ok(config) => Ok(config),
+            Err(_) => Err(Ending::Memory),
+        },
+    }
+}
+
+/// The router of the configuration that the text says, or without a text the built-in one, started.
+fn begin(alloc: Global, text: Option<String>) -> Result<Running, Ending>
+    ensures begun { IfOk result (λ router. (config : Config) × IsConfigured (option_map string_bytes text) config × (router ≡ opened config)) }
+    ensures fault { IfErr result (CannotBegin (option_map string_bytes text)) }
+{
+    let config = configured(alloc, text)?;
+    match Cold::new(alloc, config) {
+        Ok(router) => Ok(router.start()),
+        Err(_) => Err(Ending::Memory),
+    }
+}
+
+/// The router, started, and the text of the input; or how the run ends before its first line. Both texts are
+/// read before the configuration is looked at.
+fn prepare<C: Read + Drop, R: Read>(
+    alloc: Global,
+    config: Option<C>,
+    input: &mut R,
+) -> Result<(Running, String), Ending>
+    ensures ready { IfOk result (λ ready. IsReady (option_map C.remaining config) (R.remaining input.old) ready.0 (string_bytes ready.1)) }
+    ensures fault { IfErr result (Steps (option_map C.remaining config) (R.remaining input.old) []) }
+{
+    let config_text = read_config_text(alloc, config)?;
+    let text = read_text(alloc, input)?;
+    let router = begin(alloc, config_text)?;
+    Ok((router, text))
+}
+
+/// Answers the lines of the input. The error is the output's.
+fn step_input<C: Read + Drop, R: Read, W: Write>(
+    alloc: Global,
+    config: Option<C>,
+    input: &mut R,
+    output: &mut W,
+) -> io::Result<Ending>
+    ensures { IfOk result (λ ending. (printed : List ℕ) × Appends (W.contents output.old) (W.contents output.new) printed
+        × Steps (option_map C.remaining config) (R.remaining input.old) printed ending) }
+{
+    match prepare(alloc, config, input) {
+        Ok((mut router, text)) => step_lines(alloc, &mut router, text.as_str(), output),
+        Err(ending) => Ok(ending),
+    }
+}
+
+/// `lsr step`: answers the lines of the input by the router of the configuration, or without one by the built-in
+/// router, one after the other, and prints what each is answered. Tells on the error stream how the run ended if
+/// it didn't end well, and gives the status, 0 or 1. The error is that a stream could not be written.
+pub fn run_step<C: Read + Drop, R: Read, W: Write, E: Write>(
+    alloc: Global,
+    config: Option<C>,
     input: &mut R,
     output: &mut W,
     error: &mut E,
 ) -> io::Result<u8>
     ensures { IfOk result (λ status. (ending : Ending) × (printed : List ℕ) × (status ≡ status_of ending)
-        × Steps (R.remaining input.old) printed ending
+        × Steps (option_map C.remaining config) (R.remaining input.old) printed ending
         × Appends (W.contents output.old) (W.contents output.new) printed
         × Appends (E.contents error.old) (E.contents error.new) (ending_text ending)) }
 {
-    let ending = step_input(alloc, input, output)?;
-    tell_ending(error, ending)?;
-    Ok(status_of(ending))
+    let ending = step_input(alloc, config, input, output)?;
+    tell_ending(error, &ending)?;
+    Ok(status_of(&ending))
 }

@@ -1,3 +1,4 @@
+mod configs;
 mod messages;
 
 use crate::{MAX_INPUT_LEN, refusal_name, run, run_decode, run_step};
@@ -8,6 +9,7 @@ use std::alloc::Global;
 use std::io;
 use std::io::{ErrorKind, Read, Write};
 use std::process::Abort;
+use std::rt::Files;
 use std::test::Fail;
 
 /// What a run ended with and printed.
@@ -54,10 +56,15 @@ impl<'a> Read for Breaking<'a> {
     }
 }
 
-fn step<R: Read>(alloc: Global, input: &mut R) -> Result<Ran, Fail> {
+/// Runs the lines on the router of the configuration.
+fn configured<C: Read + Drop, R: Read>(
+    alloc: Global,
+    config: Option<C>,
+    input: &mut R,
+) -> Result<Ran, Fail> {
     let mut output = Vec::new(alloc);
     let mut error = Vec::new(alloc);
-    let status = run_step(alloc, input, &mut output, &mut error)?;
+    let status = run_step(alloc, config, input, &mut output, &mut error)?;
     Ok(Ran {
         status,
         output: String::from_utf8(output)?,
@@ -65,10 +72,24 @@ fn step<R: Read>(alloc: Global, input: &mut R) -> Result<Ran, Fail> {
     })
 }
 
-fn words(alloc: Global, words: &[&str], input: &str) -> Result<Ran, Fail> {
+/// Runs the lines on the built-in router.
+fn step<R: Read>(alloc: Global, input: &mut R) -> Result<Ran, Fail> {
+    configured(alloc, None::<&[u8]>, input)
+}
+
+/// Runs the program on the words.
+fn words<F: Files + AllocGlobal>(rt: &F, words: &[&str], input: &str) -> Result<Ran, Fail> {
+    let alloc = rt.alloc();
     let mut output = Vec::new(alloc);
     let mut error = Vec::new(alloc);
-    let status = run(alloc, words, &mut input.as_bytes(), &mut output, &mut error);
+    let status = run(
+        rt,
+        alloc,
+        words,
+        &mut input.as_bytes(),
+        &mut output,
+        &mut error,
+    );
     Ok(Ran {
         status,
         output: String::from_utf8(output)?,
@@ -106,6 +127,28 @@ fn a_line_that_is_no_event_ends_the_run(rt: HostRuntime) -> Result<(), Fail> {
         "rx\t1 ",
         "tick 1",
         "frame 1 01",
+        "up",
+        "up ",
+        "up 0",
+        "up 65536",
+        "up 1 ",
+        "up  1",
+        "up +1",
+        "up 1 2",
+        "UP 1",
+        " up 1",
+        "down",
+        "down 0",
+        "down -1",
+        "down 1a",
+        "down1",
+        "show",
+        "show ",
+        "show paths ",
+        "show  paths",
+        "show links",
+        "showpaths",
+        "path",
         "rx 99999999999999999999 ",
         "rx é 10",
         "rx  ",
@@ -170,7 +213,8 @@ fn an_output_that_fails_ends_the_run(rt: HostRuntime) -> Result<(), Fail> {
         let mut output = Failing { room };
         let mut error = Vec::new(alloc);
         let input = &mut "rx 1 \nrx 1 \n".as_bytes();
-        assert!(rt; run_step(alloc, input, &mut output, &mut error).is_err());
+        let none = None::<&[u8]>;
+        assert!(rt; run_step(alloc, none, input, &mut output, &mut error).is_err());
         assert!(rt; error.is_empty());
         assert_eq!(rt; output.room, 0);
     }
@@ -178,7 +222,7 @@ fn an_output_that_fails_ends_the_run(rt: HostRuntime) -> Result<(), Fail> {
     let mut error = Vec::new(alloc);
     let input = &mut "rx 1 \nrx 1 \n".as_bytes();
     assert_eq!(rt;
-        run(alloc, &["lsr", "step"], input, &mut output, &mut error),
+        run(&rt, alloc, &["lsr", "step"], input, &mut output, &mut error),
         1
     );
     assert_eq!(rt; String::from_utf8(error)?.as_str(), "unwritable\n");
@@ -207,13 +251,13 @@ fn a_word_that_is_no_digits_is_bad(rt: HostRuntime) -> Result<(), Fail> {
     let alloc = rt.alloc();
     let told = "error: HEX is an even number of hexadecimal digits; see lsr decode --help\n";
     for word in ["1", "1g", "0x10", " 10", "é"] {
-        let ran = words(alloc, &["lsr", "decode", word], "")?;
+        let ran = words(&rt, &["lsr", "decode", word], "")?;
         assert_ran(&rt, &ran, 2, "", told);
     }
-    let ran = words(alloc, &["lsr", "decode", ""], "")?;
+    let ran = words(&rt, &["lsr", "decode", ""], "")?;
     assert_ran(&rt, &ran, 1, "", "refused 1 Short\n");
     let upper = PATH_IN.word.to_ascii_uppercase(alloc)?;
-    let ran = words(alloc, &["lsr", "decode", upper.as_str()], "")?;
+    let ran = words(&rt, &["lsr", "decode", upper.as_str()], "")?;
     assert_ran(&rt, &ran, 0, PATH_IN.output, "");
     Ok(())
 }
@@ -225,12 +269,24 @@ fn bad_words_come_before_all_faults(rt: HostRuntime) -> Result<(), Fail> {
         ["lsr", "steps", ""].as_slice(),
         ["lsr", "step", "more"].as_slice(),
         ["lsr", "step", "--turns"].as_slice(),
+        ["lsr", "step", "--config"].as_slice(),
+        ["lsr", "step", "--config", "no-such-file", "more"].as_slice(),
+        [
+            "lsr",
+            "step",
+            "--config",
+            "no-such-file",
+            "--config",
+            "no-such-file",
+        ]
+        .as_slice(),
+        ["lsr", "decode", "--config", "no-such-file", "10"].as_slice(),
         ["lsr", "decode"].as_slice(),
         ["lsr", "decode", "10", "10"].as_slice(),
         ["lsr"].as_slice(),
     ];
     for given in bad {
-        let ran = words(alloc, given, "no event")?;
+        let ran = words(&rt, given, "no event")?;
         assert_eq!(rt; ran.status, 2);
         assert!(rt; ran.output.is_empty());
         assert!(rt; !ran.error.is_empty());
@@ -244,11 +300,13 @@ fn help_shows_lines_and_an_example(rt: HostRuntime) -> Result<(), Fail> {
     let helps = [
         (["lsr", "--help"].as_slice(), TEAR_IN.word),
         (["lsr", "step", "--help"].as_slice(), TEAR_IN.word),
+        (["lsr", "step", "--help"].as_slice(), "--config <FILE>"),
+        (["lsr", "step", "--help"].as_slice(), "show paths"),
         (["lsr", "help", "step"].as_slice(), "tx LINK HEX"),
         (["lsr", "decode", "--help"].as_slice(), TEAR_IN.word),
     ];
     for (given, text) in helps {
-        let ran = words(alloc, given, "no event")?;
+        let ran = words(&rt, given, "no event")?;
         assert_eq!(rt; ran.status, 0);
         assert!(rt; ran.output.as_str().contains(text));
         assert!(rt; ran.error.is_empty());

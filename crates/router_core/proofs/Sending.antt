@@ -1,7 +1,10 @@
 -- What a step sends, by its change; what it may send is a message.
 use Rattle.std.specs.Prelude.{◌≡◌, true, List, [], ◌++◌, Option, Some, None, IfSome, T}
 use Rattle.std.specs.FinMap.Entries.{find, is_sorted, put}
+use Rattle.std.specs.List.{All}
 use Rattle.std.proofs.Common.{refl, ap, subst, append-nil, ◌∙◌}
+use Rattle.std.proofs.lemmas.List.Elements.{All-from_recursion}
+use Rattle.sorted_rows.specs.ListLaws.{all-weaker}
 use Rattle.sorted_rows.specs.RowsLaws.{find-put_same, find-removed_same}
 use Rattle.lsr_facts.specs.OrderLaws.{key_total}
 use Rattle.lsr_facts.specs.Orders.{key_cmp}
@@ -19,15 +22,25 @@ use Rattle.abstract_router.specs.SoundnessLaws.{path_known_sound}
 use Rattle.abstract_router.specs.StepLaws.{IsSameBut, touches_put, touches_removed}
 use Rattle.abstract_router.specs.Tears.{without_path}
 use Rattle.abstract_router.specs.Wanted.{wanted_of}
-use Rattle.router_core.specs.Sending.{MayGoOn}
+use Rattle.router_core.specs.Sending.{CanGoOn, MayGoOn}
 
--- what is known of a sound state's paths goes on as messages
+-- what is known of a path goes on as messages
+path_goes_on : (r : Router) (s : Facts) (path : Key × PathFact) → IsPath r s path → CanGoOn r path.0 path.1
+path_goes_on r s path is link = (onward_fits r path.0 path.1 link is.limits, onward_has_room r path.0 path.1 link is.has_rate)
+
+-- and so of all paths of a sound state
+pub all_go_on : (r : Router) (s : Facts) → IsSound r s → All (λ path. CanGoOn r path.0 path.1) s.paths
+all_go_on r s is =
+    All-from_recursion (λ path. CanGoOn r path.0 path.1) s.paths
+    (all-weaker (IsPath r s) (λ path. CanGoOn r path.0 path.1) (path_goes_on r s) s.paths is.paths.each)
+
+-- of that which is known under a key, if anything is
 pub known_goes_on : (r : Router) (s : Facts) (key : Key) → IsSound r s → MayGoOn r key (find key_cmp key s.paths)
 known_goes_on r s key is = goes_on r s key (find key_cmp key s.paths) (path_known_sound r s key is)
   where
     goes_on : (r : Router) (s : Facts) (key : Key) (known : Option PathFact) → IfSome known (λ fact. IsPath r s (key, fact)) → MayGoOn r key known
     goes_on r s key None path = tt
-    goes_on r s key (Some fact) path = λ link. (onward_fits r key fact link path.limits, onward_has_room r key fact link path.has_rate)
+    goes_on r s key (Some fact) path = path_goes_on r s (key, fact) path
 
 -- what a path that is put sends
 pub sent-put : (r : Router) (s : Facts) (key : Key) (fact : PathFact) (errors : List Output) → T (is_sorted key_cmp s.paths) → outputs_of r s errors (record s { paths = put key_cmp key fact s.paths }) ≡ errors_out s.up errors ++ outputs_at r s.up key (find key_cmp key s.paths) (Some fact)

@@ -1,5 +1,5 @@
 -- Datagrams that are served one after the other.
-use Rattle.std.specs.Prelude.{◌≡◌, ℕ, List, [], ◌∷◌, ◌++◌, Result, Ok, Err, IfOk, OnOk}
+use Rattle.std.specs.Prelude.{◌≡◌, ℕ, List, [], ◌∷◌, ◌++◌, Result, Ok, Err, IfErr, IfOk, OnOk}
 use Rattle.std.proofs.Common.{refl, sym, ap, subst, inl, inr}
 use Rattle.rsvp_contents.specs.declared.dropped.Dropped.{Dropped}
 use Rattle.link_frames.specs.Frames.{IsFirstFrameFault}
@@ -14,14 +14,32 @@ use Rattle.lsr_facts.specs.declared.reply.Reply.{Reply}
 use Rattle.lsr_facts.specs.declared.router.Router.{Router}
 use Rattle.abstract_router.specs.EventLaws.{possible_event}
 use Rattle.abstract_router.specs.Steps.{IsEvent, IsServed, Run, Step}
-use Rattle.router_core.specs.Serving.{AreServed, IsDropFor, IsEventOf, IsStepOf}
+use Rattle.router_core.specs.Serving.{AreServed, IsAnswered, IsDropFor, IsEventOf, IsStepOf}
 use Rattle.router_core.specs.declared.serve.Datagram.{Datagram}
 
 -- the step of the event that a datagram is, is what the datagram is served
 pub served_event : (r : Router) (before after : Facts) (link : ℕ) (bytes : List ℕ) (event : Event) (reply : Reply) (outputs : List Output) → IsEventOf link bytes event → Step r before event reply outputs after → IsServed r before link bytes reply outputs after
 served_event r before after link bytes (events.Arrive a) reply outputs comes step =
     inl (a.reading, comes.1, subst (λ (number : ℕ). Step r before (events.Arrive (record { link = number; reading = a.reading })) reply outputs after) comes.0 step)
+served_event r before after link bytes (events.LinkUp number) reply outputs comes step = absurd comes
+served_event r before after link bytes (events.LinkDown number) reply outputs comes step = absurd comes
 served_event r before after link bytes events.Start reply outputs comes step = absurd comes
+
+-- and so whatever comes of serving it
+pub event_answered : (r : Router) (before after : Facts) (link : ℕ) (bytes : List ℕ) (event : Event) (result : Result Entry Refusal) → IsEventOf link bytes event → IfOk result (λ e. e.event ≡ event) → IfOk result (λ e. IsStepOf r before e after) → IfErr result (λ refusal. refusal ≡ refusals.NoMemory) → IsAnswered r before link bytes after result
+event_answered r before after link bytes event (Ok e) comes same step memory =
+    served_event r before after link bytes e.event e.reply e.outputs (subst (IsEventOf link bytes) (sym same) comes) step
+event_answered r before after link bytes event (Err refusal) comes same step memory = inl memory
+
+-- the entry is then of the event that the datagram is
+pub entry_comes : (link : ℕ) (bytes : List ℕ) (event : Event) (result : Result Entry Refusal) → IsEventOf link bytes event → IfOk result (λ e. e.event ≡ event) → IfOk result (λ e. IsEventOf link bytes e.event)
+entry_comes link bytes event (Ok e) comes same = subst (IsEventOf link bytes) (sym same) comes
+entry_comes link bytes event (Err refusal) comes same = tt
+
+-- and an error is one that a datagram can meet
+pub memory_drops : {A : Type 0} (bytes : List ℕ) (result : Result A Refusal) → IfErr result (λ refusal. refusal ≡ refusals.NoMemory) → IfErr result (IsDropFor bytes)
+memory_drops bytes (Ok value) memory = tt
+memory_drops bytes (Err refusal) memory = subst (IsDropFor bytes) (sym memory) tt
 
 -- the entries of datagrams that are served are a run
 pub served_is_run : (r : Router) (before : Facts) (datagrams : List Datagram) (entries : List Entry) (after : Facts) → AreServed r before datagrams entries after → Run r before entries after
@@ -53,6 +71,8 @@ served_step r before d e after comes step = inr (e, [], after, refl, comes, step
 -- the event that a datagram is can come
 pub event_can_come : (link : ℕ) (bytes : List ℕ) (event : Event) → IsEventOf link bytes event → IsEvent event
 event_can_come link bytes (events.Arrive a) comes = possible_event bytes a.link a.reading comes.1
+event_can_come link bytes (events.LinkUp number) comes = absurd comes
+event_can_come link bytes (events.LinkDown number) comes = absurd comes
 event_can_come link bytes events.Start comes = absurd comes
 
 -- a datagram that is no event, while there is memory, has a first fault

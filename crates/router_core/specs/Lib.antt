@@ -1,4 +1,3 @@
-pub mod BuiltIn
 pub mod Changes
 pub mod Plans
 pub mod Sending

@@ -3,7 +3,7 @@ use Rattle.std.specs.Prelude.{◌≤◌, true, false, vec_capacity}
 use Rattle.lsr_facts.specs.declared.facts.Facts.{Facts}
 use Rattle.lsr_facts.specs.declared.router.Router.{Router}
 use Rattle.lsr_config.specs.declared.config.Config.{Config}
-use Rattle.abstract_router.specs.Soundness.{AreRoutes, IsRouter, IsSound}
+use Rattle.abstract_router.specs.Soundness.{IsRouter, IsSound}
 use Rattle.abstract_router.specs.Steps.{opening}
 use Rattle.router_core.specs.declared.tables.Tables.{Tables}
 
@@ -24,11 +24,6 @@ pub record AreTables (t : Tables) : Type 0 where
   pub router : IsRouter t.router
   pub sound : IsSound t.router (facts_of t)
   pub room : 1024 ≤ vec_capacity t.paths
-
--- a configuration that a router can be opened with
-pub record IsConfig (c : Config) : Type 0 where
-  pub router : IsRouter c.router
-  pub routes : AreRoutes c.router c.routes
 
 -- the router of a configuration as it is opened
 abbrev pub opened : Config → State

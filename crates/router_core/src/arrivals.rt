@@ -6,6 +6,7 @@ ghost use Rattle.router_core.specs.States.{facts_of};
 
 use crate::change::Change;
 use crate::draft::{Draft, refused};
+use crate::links::link_change;
 use crate::paths::{path_arrival, unknown_path_arrival};
 use crate::tables::Tables;
 use crate::tears::{path_err_arrival, path_tear_arrival};
@@ -97,6 +98,8 @@ pub(crate) fn draft_of(alloc: Global, tables: &Tables, event: &Event) -> Result<
 {
     match event {
         Event::Arrive(arrive) => arrival(alloc, tables, arrive),
+        Event::LinkUp(number) => link_change(alloc, tables, *number, true),
+        Event::LinkDown(number) => link_change(alloc, tables, *number, false),
         Event::Start => Ok(Draft {
             reply: Reply::Done,
             errors: Outputs::new(alloc),

@@ -4,6 +4,7 @@
 mod arrivals;
 mod change;
 mod draft;
+mod links;
 mod paths;
 mod plan;
 mod running;

@@ -3,10 +3,11 @@ ghost use Rattle.lsr_facts.specs.declared.event.Event.{Event};
 ghost use Rattle.lsr_facts.specs.declared.event.Event.TheVariants as events;
 ghost use Rattle.lsr_facts.specs.declared.reply.Reply.TheVariants as replies;
 ghost use Rattle.lsr_config.specs.BuiltIn.{two_links};
+ghost use Rattle.lsr_config.specs.Configs.{IsConfig};
 ghost use Rattle.abstract_router.specs.Soundness.{IsRouter, IsSound};
 ghost use Rattle.abstract_router.specs.Steps.{IsEvent, Step};
 ghost use Rattle.router_core.specs.Plans.{IsPlanOf};
-ghost use Rattle.router_core.specs.States.{AreTables, IsConfig, cold, facts_of, opened};
+ghost use Rattle.router_core.specs.States.{AreTables, cold, facts_of, opened};
 
 use crate::change::apply;
 use crate::plan::{Plan, plan_of};

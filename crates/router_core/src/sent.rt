@@ -1,6 +1,7 @@
 ghost use Rattle.std.specs.FinMap.Entries.{find};
 ghost use Rattle.std.specs.Option.{option_copied};
-ghost use Rattle.std.specs.Prelude.{◌≡◌, ◌++◌, IfOk};
+ghost use Rattle.std.specs.List.{All};
+ghost use Rattle.std.specs.Prelude.{◌≡◌, ◌++◌, IfOk, filter_map};
 ghost use Rattle.lsr_facts.specs.Orders.{key_cmp};
 ghost use Rattle.abstract_router.specs.ByKey.{errors_out, outputs_at, wanted_of_key};
 ghost use Rattle.abstract_router.specs.Outputs.{outputs_of};
@@ -16,6 +17,7 @@ use explicit_routes::{is_up, link_at};
 use lsr_facts::{Item, Key, Node, Outputs, PathFact};
 use path_rules::{Wanted, errors_out, goes_on, path_onward, sent_between};
 use rsvp_contents::{Content, Message};
+use sorted_rows::Table;
 use std::alloc::{AllocError, Global};
 
 /// The message that a path wants downstream.
@@ -79,7 +81,47 @@ fn sent_at(
     sent_between(alloc, node.up, &before, &wanted, errors)
 }
 
-/// What a step sends that makes this change: it looks at the path of the one LSP alone.
+/// All that paths want, in their order.
+fn wanted_of(
+    alloc: Global,
+    node: &Node,
+    paths: &[(Key, PathFact)],
+) -> Result<Vec<Wanted>, AllocError>
+    requires { All (λ path. CanGoOn node.now.router.now path.0 path.1) paths.now }
+    ensures { IfOk result (λ wants. wants.items ≡ filter_map (wanted_by node.now.router.now node.now.up.now) paths.now) }
+{
+    let mut wants = Vec::new(alloc);
+    for path in paths {
+        if let Some(wanted) = wanted_by(alloc, node, &path.0, &path.1)? {
+            wants.push(wanted)?;
+        }
+    }
+    Ok(wants)
+}
+
+/// What is sent when links come up or go down: the errors, and what of all paths is wanted now and wasn't before.
+fn sent_over(
+    alloc: Global,
+    tables: &Tables,
+    up: &Table<u16, bool>,
+    errors: Outputs,
+) -> Result<Outputs, AllocError>
+    requires { AreTables tables.now }
+    ensures { IfOk result (λ sent. sent ≡ outputs_of tables.now.router (facts_of tables.now) errors
+        (record (facts_of tables.now) { up = up.now })) }
+{
+    let node = node_of(tables);
+    let before = wanted_of(alloc, &node, &tables.paths)?;
+    let after = Node {
+        up: up.as_slice(),
+        ..node
+    };
+    let wanted = wanted_of(alloc, &after, &tables.paths)?;
+    sent_between(alloc, after.up, &before, &wanted, errors)
+}
+
+/// What a step sends that makes this change. Where it changes one LSP's path, that path alone is looked at; where
+/// it changes the links, all paths are.
 pub(crate) fn outputs_of(
     alloc: Global,
     tables: &Tables,
@@ -95,5 +137,6 @@ pub(crate) fn outputs_of(
         Change::Keep => Ok(errors_out(tables.up.as_slice(), errors)),
         Change::Put(key, fact) => sent_at(alloc, tables, key, Some(fact), errors),
         Change::Remove(key) => sent_at(alloc, tables, key, None, errors),
+        Change::Links(up) => sent_over(alloc, tables, up, errors),
     }
 }

@@ -1,7 +1,7 @@
 ghost use Rattle.std.specs.Prelude.{◌≡◌, ◌≢◌, ◌∷◌, ◌++◌, [], List, IfOk, IfErr, OnErr, OnOk, take};
 ghost use Rattle.lsr_facts.specs.declared.event.Entry.{Entry};
 ghost use Rattle.lsr_facts.specs.declared.refusal.Refusal.TheVariants.{NoMemory};
-ghost use Rattle.abstract_router.specs.Steps.{Run};
+ghost use Rattle.abstract_router.specs.Steps.{IsEvent, Run};
 ghost use Rattle.router_core.specs.Serving.{AreServed, IsAnswered, IsDropFor, IsEventOf, IsStepOf};
 
 use crate::running::Running;
@@ -52,6 +52,27 @@ fn only_dropped(refusal: Refusal) -> Result<(), AllocError>
 }
 
 impl Running {
+    /// Serves an event: its entry, which tells what it is answered and what is sent. It asks for an event that can
+    /// be; that a link came up or went down always is one. The only error is [`Refusal::NoMemory`], and then
+    /// nothing changed.
+    pub fn serve_event(&mut self, alloc: Global, event: Event) -> Result<Entry, Refusal>
+        requires { IsEvent event }
+        ensures event { IfOk result (λ entry. entry.event ≡ event) }
+        ensures step { IfOk result (λ entry. IsStepOf self.old.router self.old.facts entry self.new.facts) }
+        ensures router { self.new.router ≡ self.old.router }
+        ensures memory { IfErr result (λ refusal. refusal ≡ NoMemory) }
+        ensures kept { OnErr result (self.new ≡ self.old) }
+    {
+        let plan = self.plan(alloc, &event)?;
+        let reply = plan.reply;
+        let outputs = self.commit(plan);
+        Ok(Entry {
+            event,
+            reply,
+            outputs,
+        })
+    }
+
     /// Serves a datagram: the event that it is, what that is answered, and what is sent. A datagram that is no
     /// event is refused for its first fault ([`Refusal::Unread`]), and leaves no trace; neither does one for which
     /// there is no memory ([`Refusal::NoMemory`]).
@@ -69,14 +90,7 @@ impl Running {
         ensures kept { OnErr result (self.new ≡ self.old) }
     {
         let event = read_event(alloc, link, datagram)?;
-        let plan = self.plan(alloc, &event)?;
-        let reply = plan.reply;
-        let outputs = self.commit(plan);
-        Ok(Entry {
-            event,
-            reply,
-            outputs,
-        })
+        self.serve_event(alloc, event)
     }
 
     /// Serves a datagram, and puts the entry of its event, if it is one, behind the others. The only error is want

@@ -1,3 +1,5 @@
+mod links;
+
 use crate::*;
 use link_frames::{Frame, write_frame};
 use lsr_facts::{Entry, Event, Output, Refusal, Reply, RsvpError};

@@ -1,18 +1,13 @@
--- What is read is served on the router as it is opened; where there is no memory to begin, nothing is printed.
-use Rattle.std.proofs.Common.{◌≡◌, ℕ, List, [], refl, sym, subst, inl}
-use Rattle.std.specs.Option.{IfSome}
-use Rattle.std.proofs.KnownBytes.{Appends-nil}
+-- The text that was read is answered by the router that was opened.
+use Rattle.std.proofs.Common.{ℕ, List, sym, subst}
+use Rattle.std.specs.Option.{option_map}
+use Rattle.lsr_tool.specs.Sessions.{IsReady}
 use Rattle.lsr_tool.proofs.Sessions.{steps_from}
 use Rattle.lsr_tool.proofs.session.step_input.Goals as goal
 
-pub returns-in_default : goal.returns-in_default
-returns-in_default g c = ([], Appends-nil _, inl refl)
-
-pub returns-in-Ok-read_text : goal.returns-in-Ok-read_text
-returns-in-Ok-read_text g c =
-    let rest = g.R.Read.remaining c.args.input.now in
-    let known = subst (λ (text : List ℕ). IfSome rest (λ bytes. text ≡ bytes)) (sym c.as_str.ensures.value) c.in-Ok-read_text.ensures.text in
-    steps_from c.step_lines.result _ _ rest c.as_str.result.now c.in-Ok.router c.in-Ok.ensures known c.step_lines.ensures
-
-pub returns : goal.returns
-returns g c = ([], Appends-nil _, inl refl)
+pub returns-in-Ok : goal.returns-in-Ok
+returns-in-Ok g c =
+    let stream = option_map g.C.Read.remaining c.args.config in
+    let input = g.R.Read.remaining c.args.input.now in
+    let ready = subst (λ (text : List ℕ). IsReady stream input c.in-Ok.router text) (sym c.as_str.ensures.value) c.in-Ok.ensures.ready in
+    steps_from c.step_lines.result _ _ stream input c.as_str.result.now c.in-Ok.router ready c.step_lines.ensures

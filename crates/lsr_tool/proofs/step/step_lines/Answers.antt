@@ -9,11 +9,11 @@ use Rattle.lsr_tool.proofs.step.step_lines.Goals as goal
 pub next_line-requires-text-text : goal.next_line-requires-text-text
 next_line-requires-text-text g c = λ _. c.loop-line.invariant.utf8
 
-pub returns-in-NoEvent : goal.returns-in-NoEvent
-returns-in-NoEvent g c =
+pub returns-in-NoRequest : goal.returns-in-NoRequest
+returns-in-NoRequest g c =
     let before = c.loop-line.invariant in
-    let became = rw c.in-NoEvent.is at c.in_ok-step_line.ensures in
-    let some : PrintsSome g.S.Serves.serves c.args.router.now (lines_of c.args.text.now) before.printed =
+    let became = rw c.in-NoRequest.is at c.in_ok-step_line.ensures in
+    let some : PrintsSome g.A.Answers.answers c.args.router.now (lines_of c.args.text.now) before.printed =
     record { served = before.served; behind = lines_of c.loop-line.rest.now; after = c.loop-line.router; parts = before.parts; prints = before.prints } in (
       before.printed,
       told_none _ _ _ _ _ before.told became.1 became.2.0,
@@ -51,5 +51,5 @@ returns g c =
     let all = served_all c.args.text.now c.loop-line.rest.now before.served before.parts (c.next_line.ensures.end.0 (none_by c.next_line.result c.in_default.not-Some)) in (
       before.printed,
       before.told,
-      (c.loop-line.router, subst (λ lines. Prints g.S.Serves.serves c.args.router.now lines before.printed c.loop-line.router) (sym all) before.prints),
+      (c.loop-line.router, subst (λ lines. Prints g.A.Answers.answers c.args.router.now lines before.printed c.loop-line.router) (sym all) before.prints),
     )

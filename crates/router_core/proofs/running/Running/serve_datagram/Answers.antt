@@ -1,14 +1,18 @@
-use Rattle.router_core.proofs.Serving.{event_can_come, served_event}
+use Rattle.router_core.proofs.Serving.{entry_comes, event_answered, event_can_come, memory_drops}
 use Rattle.router_core.proofs.running.Running.serve_datagram.Goals as goal
 
-pub plan-requires : goal.plan-requires
-plan-requires c = event_can_come _ _ _ c.in_ok-event.ensures.event
-
-pub commit-outputs-requires : goal.commit-outputs-requires
-commit-outputs-requires c = (c.in_ok-event.event, c.in_ok-plan.ensures.planned)
+pub serve_event-requires : goal.serve_event-requires
+serve_event-requires c = event_can_come _ _ _ c.in_ok-event.ensures.event
 
 pub returns-clause-served : goal.returns-clause-served
 returns-clause-served c =
     let before = c.args.self.now in
-    served_event before.router before.facts c.commit-outputs.new.self.facts c.args.link c.args.datagram.now c.in_ok-event.event c.in_ok-plan.plan.reply c.commit-outputs.result c.in_ok-event.ensures.event
-    (c.commit-outputs.ensures.step c.in_ok-event.event c.in_ok-plan.ensures.planned)
+    let served = c.serve_event.ensures in
+    event_answered before.router before.facts c.serve_event.new.self.facts c.args.link c.args.datagram.now c.in_ok-event.event c.serve_event.result c.in_ok-event.ensures.event served.event served.step served.memory
+
+pub returns-clause-event : goal.returns-clause-event
+returns-clause-event c =
+    entry_comes c.args.link c.args.datagram.now c.in_ok-event.event c.serve_event.result c.in_ok-event.ensures.event c.serve_event.ensures.event
+
+pub returns-clause-fault : goal.returns-clause-fault
+returns-clause-fault c = memory_drops c.args.datagram.now c.serve_event.result c.serve_event.ensures.memory
