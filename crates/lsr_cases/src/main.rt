@@ -24,7 +24,7 @@ struct Ran {
 }
 
 /// Runs the lines of the input on the router of the configuration.
-fn ran<R: Files + AllocGlobal>(rt: &R, config: Option<R::File>, input: &[u8]) -> io::Result<Ran> {
+fn run<R: Files + AllocGlobal>(rt: &R, config: Option<R::File>, input: &[u8]) -> io::Result<Ran> {
     let alloc = rt.alloc();
     let mut lines = input;
     let mut output = Vec::new(alloc);
@@ -43,7 +43,7 @@ fn run_agrees<R: Files + AllocGlobal>(rt: &R, name: &str) -> io::Result<bool> {
     let config = fs::open(rt, format!(in alloc; "{name}.toml")?).ok();
     let input = fs::read(rt, format!(in alloc; "{name}.step")?)?;
     let wanted = fs::read(rt, format!(in alloc; "{name}.out")?)?;
-    let ran = ran(rt, config, input.as_slice())?;
+    let ran = run(rt, config, input.as_slice())?;
     Ok(ran.status == 0 && ran.output.as_slice() == wanted.as_slice() && ran.error.is_empty())
 }
 
@@ -51,7 +51,7 @@ fn run_agrees<R: Files + AllocGlobal>(rt: &R, name: &str) -> io::Result<bool> {
 fn config_agrees<R: Files + AllocGlobal>(rt: &R, name: &str, answer: &str) -> io::Result<bool> {
     let alloc = rt.alloc();
     let config = fs::open(rt, format!(in alloc; "config/{name}.toml")?)?;
-    let ran = ran(rt, Some(config), &[])?;
+    let ran = run(rt, Some(config), &[])?;
     if answer == GOOD {
         return Ok(ran.status == 0 && ran.output.is_empty() && ran.error.is_empty());
     }
