@@ -1,5 +1,7 @@
 pub mod Arrivals
+pub mod LinkMoments
 pub mod LinkSteps
 pub mod Refusals
 pub mod Repeats
 pub mod Tearing
+pub mod Ticks

@@ -27,6 +27,7 @@ use Rattle.lsr_facts.specs.declared.event.Event.TheVariants as events
 use Rattle.lsr_facts.specs.declared.event.Output.{Output}
 use Rattle.lsr_facts.specs.declared.facts.Facts.{Facts}
 use Rattle.lsr_facts.specs.declared.key.Key.{Key}
+use Rattle.lsr_facts.specs.declared.key.Item.{Item}
 use Rattle.lsr_facts.specs.declared.path_fact.Origin.{Origin}
 use Rattle.lsr_facts.specs.declared.path_fact.PathFact.{PathFact}
 use Rattle.lsr_facts.specs.declared.reply.Reply.{Reply}
@@ -40,7 +41,10 @@ use Rattle.abstract_router.specs.Outputs.{outputs_of}
 use Rattle.abstract_router.specs.Paths.{drops_record, failed, has_loop, key_of, origin_of, origins_of, path_arrival, path_by, path_on_its_way, record_errors, taken, way_for, way_of}
 use Rattle.abstract_router.specs.Places.{place_of}
 use Rattle.abstract_router.specs.Routing.{next_hop}
-use Rattle.abstract_router.specs.Steps.{Step, arrival}
+use Rattle.abstract_router.specs.StampLaws.{keys-stamps_of, stamps_of-same}
+use Rattle.abstract_router.specs.Stamps.{stamps_of}
+use Rattle.abstract_router.specs.Steps.{Step, arrival, known_after}
+use Rattle.abstract_router.specs.Wanted.{wanted_of}
 
 -- the same put twice is put once
 put_twice : {K X : Type 0} (cmp : K → K → Ordering) → IsTotalOrder cmp → (k : K) (v : X) (es : List (K × X)) → put cmp k v (put cmp k v es) ≡ put cmp k v es
@@ -128,17 +132,17 @@ after_path : Facts → Option PathFact → ℕ → Path → Choice → Facts
 after_path s known link p way = record s { paths = put key_cmp (key_of p) (path_by s known link p way) s.paths }
 
 -- taken again it changes nothing
-taken_again : (r : Router) (s : Facts) (known : Option PathFact) (link : ℕ) (p : Path) (way : Choice) → taken r (after_path s known link p way) (Some (path_by s known link p way)) link p way ≡ record { reply = replies.Done; errors = []; after = after_path s known link p way }
+taken_again : (r : Router) (s : Facts) (known : Option PathFact) (link : ℕ) (p : Path) (way : Choice) → taken r (after_path s known link p way) (Some (path_by s known link p way)) link p way ≡ record { reply = replies.Done; errors = []; due = []; after = after_path s known link p way }
 unfolding after_path
 taken_again r s known link p way =
     let key = key_of p in
     let fact = path_by s known link p way in
     let b : Facts = record s { paths = put key_cmp key fact s.paths } in
-    ap (λ again. record { reply = replies.Done; errors = record_errors r key (Some fact) again; after = record b { paths = put key_cmp key again b.paths } }) (path_again s known link p way)
-    ∙ (λ i. record { reply = replies.Done; errors = errors_again r key fact i; after = record s { paths = put_twice key_cmp key_total key fact s.paths i } })
+    ap (λ again. record { reply = replies.Done; errors = record_errors r key (Some fact) again; due = []; after = record b { paths = put key_cmp key again b.paths } }) (path_again s known link p way)
+    ∙ (λ i. record { reply = replies.Done; errors = errors_again r key fact i; due = []; after = record s { paths = put_twice key_cmp key_total key fact s.paths i } })
 
 -- A Path that was taken, arriving again.
-arrival_again : (r : Router) (s : Facts) (known : Option PathFact) (link : ℕ) (p : Path) (way : Choice) → IsAccepted r p → path_arrival r (after_path s known link p way) link p ≡ record { reply = replies.Done; errors = []; after = after_path s known link p way }
+arrival_again : (r : Router) (s : Facts) (known : Option PathFact) (link : ℕ) (p : Path) (way : Choice) → IsAccepted r p → path_arrival r (after_path s known link p way) link p ≡ record { reply = replies.Done; errors = []; due = []; after = after_path s known link p way }
 unfolding after_path path_arrival path_on_its_way way_for
 arrival_again r s known link p way accepted =
     let key = key_of p in
@@ -152,24 +156,42 @@ arrival_again r s known link p way accepted =
 
 -- A step of a Path that is done, once more.
 pub path_repeats : (r : Router) (a b : Facts) (link : ℕ) (p : Path) (outputs : List Output) → T (is_sorted key_cmp a.paths) → Step r a (comes link (contents.Path p)) replies.Done outputs b → Step r b (comes link (contents.Path p)) replies.Done [] b
-unfolding after_path
+unfolding after_path wanted_of
 path_repeats r a b link p outputs h x =
     let event : Arrive = record { link = link; reading = readings.Whole (contents.Path p) } in
     let known = find key_cmp (key_of p) a.paths in
     let was_open = arrival_open r a event x.replied in
     let read = arrival_read r a event was_open in
     let t = path_taken r a link p (x.replied ∙ ap (λ (o : Outcome). o.reply) read) in
-    let c = after_path a known link p t.way in
-    let came : b ≡ c = x.changed ∙ ap (λ (o : Outcome). o.after) (read ∙ t.is) in
-    let again = arrival_read r c event (record { known = was_open.known; up = was_open.up }) ∙ arrival_again r a known link p t.way t.accepted in
+    let sent = stamps_of r a [] (after_path a known link p t.way) in
+    let stamped : Facts = record a { sent = sent } in
+    let c = after_path stamped known link p t.way in
+    let came : b ≡ c = x.changed ∙ ap (known_after r a) (read ∙ t.is) in
+    let again = arrival_read r c event (record { known = was_open.known; up = was_open.up }) ∙ arrival_again r stamped known link p t.way t.accepted in
     let in_order = is_sorted-put key_cmp key_total (key_of p) (path_by a known link p t.way) a.paths h in
+    let stays = stamps_of-same r c in_order (keys-stamps_of r a [] (after_path a known link p t.way)) in
     subst (λ (s : Facts). Step r s (events.Arrive event) replies.Done [] s) (sym came) (record {
       possible = x.possible;
       awake = x.awake;
       replied = sym (ap (λ (o : Outcome). o.reply) again);
-      changed = sym (ap (λ (o : Outcome). o.after) again);
-      sent = sym (ap (λ (o : Outcome). outputs_of r c o.errors c) again ∙ outputs_of-same r c (key_of p) in_order);
+      changed = sym {b = c} (ap (known_after r c) again ∙ ap (λ (rows : List (Item × ℕ)). record c { sent = rows }) stays);
+      sent = sym (ap (λ (o : Outcome). outputs_of r c o.errors o.due c) again ∙ outputs_of-same r c (key_of p) in_order);
     })
+
+-- A Path that is done makes or renews its origin.
+pub path_renews : (r : Router) (a b : Facts) (link : ℕ) (p : Path) (outputs : List Output) → Step r a (comes link (contents.Path p)) replies.Done outputs b → (fact : PathFact) × (find key_cmp (key_of p) b.paths ≡ Some fact) × (find address_cmp p.sender.sender fact.origins ≡ Some (origin_of a link p))
+unfolding after_path
+path_renews r a b link p outputs x =
+    let event : Arrive = record { link = link; reading = readings.Whole (contents.Path p) } in
+    let known = find key_cmp (key_of p) a.paths in
+    let read = arrival_read r a event (arrival_open r a event x.replied) in
+    let t = path_taken r a link p (x.replied ∙ ap (λ (o : Outcome). o.reply) read) in
+    let fact = path_by a known link p t.way in (
+      fact,
+      ap (λ (s : Facts). find key_cmp (key_of p) s.paths) (x.changed ∙ ap (known_after r a) (read ∙ t.is))
+          ∙ find-put_same key_cmp key_total (key_of p) fact a.paths,
+      find-put_same address_cmp address_total p.sender.sender (origin_of a link p) (origins_of known),
+    )
 
 -- a step is determined
 pub path_repeats_only : (r : Router) (a b c : Facts) (link : ℕ) (p : Path) (outputs sent : List Output) (reply : Reply) → T (is_sorted key_cmp a.paths) → Step r a (comes link (contents.Path p)) replies.Done outputs b → Step r b (comes link (contents.Path p)) reply sent c → (reply ≡ replies.Done) × (sent ≡ []) × (c ≡ b)
@@ -177,4 +199,4 @@ path_repeats_only r a b c link p outputs sent reply h x y =
     let event : Arrive = record { link = link; reading = readings.Whole (contents.Path p) } in
     let z = path_repeats r a b link p outputs h x in
     let after = y.changed ∙ sym z.changed in
-    (y.replied ∙ sym z.replied, y.sent ∙ ap (outputs_of r b (arrival r b event).errors) after ∙ sym z.sent, after)
+    (y.replied ∙ sym z.replied, y.sent ∙ ap (outputs_of r b (arrival r b event).errors (arrival r b event).due) after ∙ sym z.sent, after)

@@ -31,7 +31,8 @@ use Rattle.abstract_router.specs.Outcomes.{Outcome, lsp, refused, sent_by}
 use Rattle.abstract_router.specs.Outputs.{tear_for, tear_of}
 use Rattle.abstract_router.specs.Paths.{goes_on}
 use Rattle.abstract_router.specs.Places.{is_up, link_at}
-use Rattle.abstract_router.specs.Steps.{Step, arrival}
+use Rattle.abstract_router.specs.Stamps.{with_stamps}
+use Rattle.abstract_router.specs.Steps.{outcome, unless_refused, Step, arrival}
 use Rattle.abstract_router.specs.StepLaws.{step_sends}
 use Rattle.abstract_router.specs.Tears.{is_torn_by, left_with, origins_without, path_tear_arrival, torn}
 use Rattle.abstract_router.specs.Wanted.{path_onward, wanted_at}
@@ -49,7 +50,7 @@ torn_done s link t None d = absurd (let e = d in cc)
 torn_done s link t (Some fact) d =
     let key = lsp t.session t.sender in
     let sender = t.sender.sender in
-    elim (is_torn_by link t fact) as (λ b. replies.Done ≡ (cond {A = Outcome} b (record { reply = replies.Done; errors = []; after = left_with key fact (origins_without sender fact) s }) (refused s NoMatch)).reply → IsTorn s key sender (Some fact) (cond {A = Outcome} b (record { reply = replies.Done; errors = []; after = left_with key fact (origins_without sender fact) s }) (refused s NoMatch))) [
+    elim (is_torn_by link t fact) as (λ b. replies.Done ≡ (cond {A = Outcome} b (record { reply = replies.Done; errors = []; due = []; after = left_with key fact (origins_without sender fact) s }) (refused s NoMatch)).reply → IsTorn s key sender (Some fact) (cond {A = Outcome} b (record { reply = replies.Done; errors = []; due = []; after = left_with key fact (origins_without sender fact) s }) (refused s NoMatch))) [
       | true ↦ λ e. record { fact = fact; was = refl; errors = refl; after = refl }
       | false ↦ λ e. absurd (let f = e in cc)
     ] d
@@ -119,9 +120,13 @@ module _ (r : Router) (before after : Facts) (link : ℕ) (t : PathTear) (output
   pub torn_stays : Step r before (comes link (contents.PathTear t)) replies.Done outputs after → IsTrue (is_some (find key_cmp (lsp t.session t.sender) after.paths)) → outputs ≡ []
   torn_stays x stays =
       let d = torn_step x in
+      let o = outcome r before (comes link (contents.PathTear t)) in
       let key = lsp t.session t.sender in
       let origins = origins_without t.sender.sender d.fact in
-      let after_is : find key_cmp key after.paths ≡ find key_cmp key (left_with key d.fact origins before).paths = ap (λ (s : Facts). find key_cmp key s.paths) (x.changed ∙ d.after) in
+      let after_is : find key_cmp key after.paths ≡ find key_cmp key (left_with key d.fact origins before).paths =
+      ap (λ (s : Facts). find key_cmp key s.paths) (x.changed ∙ ap (λ answer. unless_refused answer before (with_stamps r before o.due o.after)) (sym x.replied))
+      ∙ ap (λ (s : Facts). find key_cmp key s.paths) d.after
+      in
       elim (left_found key d.fact origins before) as (λ _. outputs ≡ []) [
         | inl gone ↦ let none = ap is_some (after_is ∙ gone) in absurd (let n = none in cc)
         | inr left ↦ torn_sends x ∙ ap (outputs_at r before.up key (Some d.fact)) (after_is ∙ left) ∙ stays_sends r before.up key d.fact origins

@@ -16,7 +16,12 @@ pub mod RunLaws
 pub mod Soundness
 pub mod SoundnessLaws
 pub mod StepLaws
+pub mod StampLaws
+pub mod Stamps
 pub mod Steps
 pub mod Tears
+pub mod Time
+pub mod TimeLaws
+pub mod TimeWords
 pub mod Wanted
 pub mod WantedLaws

@@ -1,4 +1,5 @@
--- What becomes of a router whose link comes up or goes down.
+-- What becomes of a router whose link comes up or goes down. No other way is looked for then: a path keeps its
+-- link until a Path with another route comes (RFC 2205, 3.6 would have it ask its routing again).
 use Rattle.std.specs.Prelude.{ℕ, Bool, if◌then◌else◌, [], is_none}
 use Rattle.std.specs.FinMap.Entries.{put}
 use Rattle.std.specs.Ordering.{nat_cmp}
@@ -18,4 +19,4 @@ with_link number is_up s = record s { up = put nat_cmp number is_up s.up }
 unfoldable pub link_change : Router → Facts → ℕ → Bool → Outcome
 link_change r s number is_up =
     if is_none (link_at r number) then refused s UnknownLink
-    else record { reply = replies.Done; errors = []; after = with_link number is_up s }
+    else record { reply = replies.Done; errors = []; due = []; after = with_link number is_up s }

@@ -11,6 +11,7 @@ use Rattle.link_frames.specs.declared.frame.Frame.TheVariants as frames
 use Rattle.lsr_facts.specs.declared.errors.RsvpError.{RsvpError}
 use Rattle.lsr_facts.specs.declared.event.Output.{Output}
 use Rattle.lsr_facts.specs.declared.facts.Facts.{Facts}
+use Rattle.lsr_facts.specs.declared.key.Item.{Item}
 use Rattle.lsr_facts.specs.declared.key.Key.{Key}
 use Rattle.lsr_facts.specs.declared.path_fact.Origin.{Origin}
 use Rattle.lsr_facts.specs.declared.path_fact.PathFact.{PathFact}
@@ -23,15 +24,17 @@ use Rattle.lsr_facts.specs.declared.router.Router.{Router}
 abbrev pub lsp : Session → Template → Key
 lsp session sender = record { session = session; sender = sender }
 
--- the answer, the errors in the order found, and the facts after
+-- the answer, the errors in the order found, the messages that are due again though nothing about them changed,
+-- and the facts after but for the moments at which messages were sent
 pub record Outcome : Type 0 where
   pub reply : Reply
   pub errors : List Output
+  pub due : List Item
   pub after : Facts
 
 -- refused: nothing is sent, nothing changes
 abbrev pub refused : Facts → Refusal → Outcome
-refused s refusal = record { reply = replies.Refused refusal; errors = []; after = s }
+refused s refusal = record { reply = replies.Refused refusal; errors = []; due = []; after = s }
 
 -- a message that goes out by a link
 abbrev pub sent_by : ℕ → Content → Output

@@ -103,7 +103,7 @@ module _ (r : Router) (up : List (ℕ × Bool)) where
   tear_for-found wanted item (Some c) is = ap (λ found. cond (is_none found && is_up up (link_of_item item)) (option_map (sent_by (link_of_item item)) (tear_of c)) None) is
 
   -- nothing is sent that was wanted before
-  pub send_for-found : (before : List (Item × Content)) (item : Item) (m : Option Content) → find item_cmp item before ≡ m → option_and_then (send_for before) (option_map (λ c. (item, c)) m) ≡ None
+  pub send_for-found : (before : List (Item × Content)) (item : Item) (m : Option Content) → find item_cmp item before ≡ m → option_and_then (send_for [] before) (option_map (λ c. (item, c)) m) ≡ None
   send_for-found before item None is = refl
   send_for-found before item (Some c) is =
       ap (λ found. cond (option_map_or (is_same_message c) found false) None (Some (sent_by (link_of_item item) c))) is
@@ -122,7 +122,7 @@ module _ (r : Router) (up : List (ℕ × Bool)) where
       P (all_found key_cmp key_total P g)
 
   -- the messages that are torn down and sent come from the one key of which something else is known than before
-  pub outputs-touched : (key : Key) (P Q : List (Key × PathFact)) → T (is_sorted key_cmp P) → T (is_sorted key_cmp Q) → IsSameElsewhere key P Q → filter_map (tear_for up (filter_map (wanted_by r up) Q)) (filter_map (wanted_by r up) P) ++ filter_map (send_for (filter_map (wanted_by r up) P)) (filter_map (wanted_by r up) Q) ≡ outputs_at r up key (find key_cmp key P) (find key_cmp key Q)
+  pub outputs-touched : (key : Key) (P Q : List (Key × PathFact)) → T (is_sorted key_cmp P) → T (is_sorted key_cmp Q) → IsSameElsewhere key P Q → filter_map (tear_for up (filter_map (wanted_by r up) Q)) (filter_map (wanted_by r up) P) ++ filter_map (send_for [] (filter_map (wanted_by r up) P)) (filter_map (wanted_by r up) Q) ≡ outputs_at r up key (find key_cmp key P) (find key_cmp key Q)
   unfolding outputs_at
   outputs-touched key P Q g h same =
       let was = find key_cmp key P in
@@ -134,24 +134,24 @@ module _ (r : Router) (up : List (ℕ × Bool)) where
       P (found_elsewhere key P Q g h same))
       ∙ agree_at_key (tear_for up (wanted Q)) (tear_for up (wanted_of_key r up key is)) key (λ link c. ap (λ found. cond (is_none found && is_up up link) (option_map (sent_by link) (tear_of c)) None) (find-wanted_rows r up key link Q h ∙ sym (find-wanted_of_key key link is))) was
       in
-      let sent = within_key (send_for (wanted P)) key Q h
-      (all-weaker (λ e. is_eq (key_cmp key e.0) ≡ false → find item_cmp (Down e.0 e.1.out_link) (wanted P) ≡ option_map (λ w. w.1) (wanted_by r up e)) (λ e. is_eq (key_cmp key e.0) ≡ false → option_and_then (send_for (wanted P)) (wanted_by r up e) ≡ None)
-      (λ e found apart. ap (option_and_then (send_for (wanted P))) (row_by r up e.0 e.1) ∙ send_for-found (wanted P) (Down e.0 e.1.out_link) _ (found apart))
+      let sent = within_key (send_for [] (wanted P)) key Q h
+      (all-weaker (λ e. is_eq (key_cmp key e.0) ≡ false → find item_cmp (Down e.0 e.1.out_link) (wanted P) ≡ option_map (λ w. w.1) (wanted_by r up e)) (λ e. is_eq (key_cmp key e.0) ≡ false → option_and_then (send_for [] (wanted P)) (wanted_by r up e) ≡ None)
+      (λ e found apart. ap (option_and_then (send_for [] (wanted P))) (row_by r up e.0 e.1) ∙ send_for-found (wanted P) (Down e.0 e.1.out_link) _ (found apart))
       Q (found_elsewhere key Q P h g (λ q apart. sym (same q apart))))
-      ∙ agree_at_key (send_for (wanted P)) (send_for (wanted_of_key r up key was)) key (λ link c. ap (λ found. cond (option_map_or (is_same_message c) found false) None (Some (sent_by link c))) (find-wanted_rows r up key link P g ∙ sym (find-wanted_of_key key link was))) is
+      ∙ agree_at_key (send_for [] (wanted P)) (send_for [] (wanted_of_key r up key was)) key (λ link c. ap (λ found. cond (option_map_or (is_same_message c) found false) None (Some (sent_by link c))) (find-wanted_rows r up key link P g ∙ sym (find-wanted_of_key key link was))) is
       in
       λ i. torn i ++ sent i
 
 -- What is sent comes from the one key of which something else is known than before.
-pub outputs_of-touched : (r : Router) (key : Key) (before after : Facts) (errors : List Output) → T (is_sorted key_cmp before.paths) → T (is_sorted key_cmp after.paths) → before.up ≡ after.up → IsSameElsewhere key before.paths after.paths → outputs_of r before errors after ≡ errors_out after.up errors ++ outputs_at r after.up key (find key_cmp key before.paths) (find key_cmp key after.paths)
+pub outputs_of-touched : (r : Router) (key : Key) (before after : Facts) (errors : List Output) → T (is_sorted key_cmp before.paths) → T (is_sorted key_cmp after.paths) → before.up ≡ after.up → IsSameElsewhere key before.paths after.paths → outputs_of r before errors [] after ≡ errors_out after.up errors ++ outputs_at r after.up key (find key_cmp key before.paths) (find key_cmp key after.paths)
 unfolding outputs_of wanted_of
 outputs_of-touched r key before after errors g h up same =
     let wanted = filter_map (wanted_by r after.up) after.paths in
-    ap (λ links. errors_out after.up errors ++ (filter_map (tear_for after.up wanted) (filter_map (wanted_by r links) before.paths) ++ filter_map (send_for (filter_map (wanted_by r links) before.paths)) wanted)) up
+    ap (λ links. errors_out after.up errors ++ (filter_map (tear_for after.up wanted) (filter_map (wanted_by r links) before.paths) ++ filter_map (send_for [] (filter_map (wanted_by r links) before.paths)) wanted)) up
     ∙ ap (λ outputs. errors_out after.up errors ++ outputs) (outputs-touched r after.up key before.paths after.paths g h same)
 
 -- where nothing else is wanted than before, nothing is sent
-unchanged : (r : Router) (up : List (ℕ × Bool)) (item : Item) (o : Option Content) → filter_map (tear_for up (option_to_list (option_map (λ c. (item, c)) o))) (option_to_list (option_map (λ c. (item, c)) o)) ++ filter_map (send_for (option_to_list (option_map (λ c. (item, c)) o))) (option_to_list (option_map (λ c. (item, c)) o)) ≡ []
+unchanged : (r : Router) (up : List (ℕ × Bool)) (item : Item) (o : Option Content) → filter_map (tear_for up (option_to_list (option_map (λ c. (item, c)) o))) (option_to_list (option_map (λ c. (item, c)) o)) ++ filter_map (send_for [] (option_to_list (option_map (λ c. (item, c)) o))) (option_to_list (option_map (λ c. (item, c)) o)) ≡ []
 unchanged r up item None = refl
 unchanged r up item (Some c) =
     let found = find-first item_cmp item_total (item, c) [] in
@@ -163,10 +163,10 @@ pub outputs_at-same : (r : Router) (up : List (ℕ × Bool)) (key : Key) (known 
 unfolding outputs_at
 outputs_at-same r up key None = refl
 outputs_at-same r up key (Some fact) =
-    ap (λ o. filter_map (tear_for up (option_to_list o)) (option_to_list o) ++ filter_map (send_for (option_to_list o)) (option_to_list o)) (row_by r up key fact)
+    ap (λ o. filter_map (tear_for up (option_to_list o)) (option_to_list o) ++ filter_map (send_for [] (option_to_list o)) (option_to_list o)) (row_by r up key fact)
     ∙ unchanged r up (Down key fact.out_link) _
 
 -- where the same is known as before, nothing but errors is sent
-pub outputs_of-same : (r : Router) (s : Facts) (key : Key) → T (is_sorted key_cmp s.paths) → outputs_of r s [] s ≡ []
+pub outputs_of-same : (r : Router) (s : Facts) (key : Key) → T (is_sorted key_cmp s.paths) → outputs_of r s [] [] s ≡ []
 outputs_of-same r s key h =
     outputs_of-touched r key s s [] h h refl (λ q apart. refl) ∙ outputs_at-same r s.up key (find key_cmp key s.paths)

@@ -1,8 +1,10 @@
 -- What a step sends, in its order.
-use Rattle.std.specs.Prelude.{ℕ, ◌&&◌, ◌++◌, nat_eq, Bool, false, if◌then◌else◌, List, filter, filter_map, Option, Some, None, is_none}
+use Rattle.std.specs.Prelude.{ℕ, ◌&&◌, ◌++◌, not, nat_eq, Bool, false, if◌then◌else◌, List, filter, filter_map, Option, Some, None, is_none}
 use Rattle.std.specs.Cmp.Lexicographic.{pointwise}
 use Rattle.std.specs.FinMap.Entries.{find}
+use Rattle.std.specs.List.{list_any}
 use Rattle.std.specs.Option.{option_map, option_map_or}
+use Rattle.std.specs.Ordering.{eq_by_cmp}
 use Rattle.rsvp_contents.specs.Written.{message_bytes}
 use Rattle.rsvp_contents.specs.declared.messages.Content.{Content}
 use Rattle.rsvp_contents.specs.declared.messages.Content.TheVariants as contents
@@ -30,22 +32,29 @@ tear_of (contents.PathTear t) = None
 abbrev pub is_same_message : Content → Content → Bool
 is_same_message a b = pointwise nat_eq (message_bytes a) (message_bytes b)
 
--- what was wanted and is no more is torn down, where its link is up
+-- what was wanted and is no more is torn down, where its link is up (RFC 2205, 2.3)
 abbrev pub tear_for : List (ℕ × Bool) → List (Item × Content) → Item × Content → Option Output
 tear_for up wanted was =
     if is_none (find item_cmp was.0 wanted) && is_up up (link_of_item was.0)
     then option_map (sent_by (link_of_item was.0)) (tear_of was.1)
     else None
 
--- what is wanted is sent, where it is new or another message than before
-abbrev pub send_for : List (Item × Content) → Item × Content → Option Output
-send_for before wants =
-    if option_map_or (is_same_message wants.1) (find item_cmp wants.0 before) false then None else Some (sent_by (link_of_item wants.0) wants.1)
+-- the item is one of those that are due
+abbrev pub is_due : List Item → Item → Bool
+is_due due item = list_any (eq_by_cmp item_cmp item) due
 
--- Errors go out where their link is up. Then tears for what is wanted no more, then what is wanted and new or
--- changed, each in the order of items.
-unfoldable pub outputs_of : Router → Facts → List Output → Facts → List Output
-outputs_of r before errors after =
+-- a wanted message rests where it isn't due, and was wanted before, the same
+abbrev pub rests : List Item → List (Item × Content) → Item × Content → Bool
+rests due before wants = not (is_due due wants.0) && option_map_or (is_same_message wants.1) (find item_cmp wants.0 before) false
+
+-- what is wanted is sent at once where it is new or changed (RFC 2205, 2.3), and where it is due
+abbrev pub send_for : List Item → List (Item × Content) → Item × Content → Option Output
+send_for due before wants = if rests due before wants then None else Some (sent_by (link_of_item wants.0) wants.1)
+
+-- Errors go out where their link is up. Then tears for what is wanted no more, then what is wanted and new,
+-- changed or due, each in the order of items.
+unfoldable pub outputs_of : Router → Facts → List Output → List Item → Facts → List Output
+outputs_of r before errors due after =
     filter (λ output. is_up after.up output.link) errors
     ++ (filter_map (tear_for after.up (wanted_of r after)) (wanted_of r before)
-    ++ filter_map (send_for (wanted_of r before)) (wanted_of r after))
+    ++ filter_map (send_for due (wanted_of r before)) (wanted_of r after))

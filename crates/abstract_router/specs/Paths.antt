@@ -140,6 +140,7 @@ abbrev pub failed : Router → Facts → ℕ → Path → RsvpError → Outcome
 failed r s link p e = record {
   reply = replies.Error e;
   errors = sent_by link (path_err p.session p.sender (Some p.tspec) (found_here r e)) ∷ [];
+  due = [];
   after = s;
 }
 
@@ -147,7 +148,7 @@ failed r s link p e = record {
 abbrev pub taken : Router → Facts → Option PathFact → ℕ → Path → Choice → Outcome
 taken r s known link p way =
     let fact = path_by s known link p way in
-    record { reply = replies.Done; errors = record_errors r (key_of p) known fact; after = record s { paths = put key_cmp (key_of p) fact s.paths } }
+    record { reply = replies.Done; errors = record_errors r (key_of p) known fact; due = []; after = record s { paths = put key_cmp (key_of p) fact s.paths } }
 
 -- A Path whose way is asked for: no way leads on; there is no room for another LSP; or it is taken.
 unfoldable pub path_on_its_way : Router → Facts → Option PathFact → ℕ → Path → Result Choice RsvpError → Outcome

@@ -22,6 +22,7 @@ use Rattle.lsr_facts.specs.declared.path_fact.Role.{Role}
 use Rattle.lsr_facts.specs.declared.path_fact.Role.TheVariants as roles
 use Rattle.lsr_facts.specs.declared.router.Router.{Router}
 use Rattle.abstract_router.specs.Places.{link_at}
+use Rattle.abstract_router.specs.Wanted.{wanted_of}
 
 -- the router has a link of this number
 abbrev pub HasLink : Router → ℕ → Type 0
@@ -90,9 +91,14 @@ pub record ArePaths (r : Router) (s : Facts) : Type 0 where
   pub few : length s.paths ≤ 1024
   pub each : AllByRecursion (IsPath r s) s.paths
 
--- What holds of every state.
-pub record IsSound (r : Router) (s : Facts) : Type 0 where
+-- what holds of every state, but for the moments at which messages were sent
+pub record IsStanding (r : Router) (s : Facts) : Type 0 where
   pub moment : s.moment ≤ 2 ^ 62
   pub links : keys_of s.up ≡ keys_of r.links
   pub routes : AreRoutes r s.routes
   pub paths : ArePaths r s
+
+-- What holds of every state. Those moments are known of exactly the messages that are wanted.
+pub record IsSound (r : Router) (s : Facts) : Type 0 where
+  pub standing : IsStanding r s
+  pub sent : keys_of s.sent ≡ keys_of (wanted_of r s)

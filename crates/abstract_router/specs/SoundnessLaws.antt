@@ -1,5 +1,5 @@
--- Laws of soundness: each change of the facts keeps it, so each outcome does, and each run.
-use Rattle.std.specs.Prelude.{◌≡◌, ◌≢◌, ℕ, ◌+◌, ◌≤◌, Bool, true, false, cond, not, ◌&&◌, if◌then◌else◌, nat_le, IsTrue, T, List, length, Option, Some, None, is_some, is_none, IfSome}
+-- Laws of soundness: each change of the facts keeps them standing.
+use Rattle.std.specs.Prelude.{◌≡◌, ◌≢◌, ℕ, ◌+◌, ◌≤◌, Bool, true, false, cond, not, ◌&&◌, if◌then◌else◌, nat_le, IsTrue, T, List, [], length, Option, Some, None, is_some, is_none, IfSome}
 use Rattle.std.specs.Cmp.{nat_cmp_total}
 use Rattle.std.specs.FinMap.Entries.{find, put, where_key, is_sorted, is_sorted-put, is_sorted-where_key, length-put}
 use Rattle.std.specs.List.{AllByRecursion}
@@ -20,6 +20,7 @@ use Rattle.lsr_facts.specs.Orders.{address_cmp, key_cmp}
 use Rattle.lsr_facts.specs.declared.choice.Choice.{Choice}
 use Rattle.lsr_facts.specs.declared.choice.Choice.TheVariants as choices
 use Rattle.lsr_facts.specs.declared.facts.Facts.{Facts}
+use Rattle.lsr_facts.specs.declared.key.Item.{Item}
 use Rattle.lsr_facts.specs.declared.key.Key.{Key}
 use Rattle.lsr_facts.specs.declared.path_fact.Origin.{Origin}
 use Rattle.lsr_facts.specs.declared.path_fact.PathFact.{PathFact}
@@ -31,7 +32,7 @@ use Rattle.abstract_router.specs.Paths.{key_of, goes_on, way_of, role_of, link_o
 use Rattle.abstract_router.specs.Places.{link_at}
 use Rattle.abstract_router.specs.RoutingLaws.{LeadsOn}
 use Rattle.abstract_router.specs.RowLaws.{length-filter_most, length-put_some}
-use Rattle.abstract_router.specs.Soundness.{HasLink, IsRouter, IsOrigin, AreOrigins, IsWayAs, IsWithinLimits, IsPath, IsSound}
+use Rattle.abstract_router.specs.Soundness.{HasLink, IsRouter, IsOrigin, AreOrigins, IsWayAs, IsWithinLimits, IsPath, IsStanding}
 
 -- Origins and paths are judged by the moment alone of what else is known.
 origin_kept : (r : Router) (s t : Facts) → s.moment ≡ t.moment → (o : Origin) → IsOrigin r s o → IsOrigin r t o
@@ -151,11 +152,11 @@ path_left_sound r s key fact p some is = record {
 }
 
 -- what is known under a key
-pub path_known_sound : (r : Router) (s : Facts) (key : Key) → IsSound r s → IfSome (find key_cmp key s.paths) (λ fact. IsPath r s (key, fact))
+pub path_known_sound : (r : Router) (s : Facts) (key : Key) → IsStanding r s → IfSome (find key_cmp key s.paths) (λ fact. IsPath r s (key, fact))
 path_known_sound r s key is = find-all_row key_cmp key_exact (IsPath r s) key s.paths is.paths.each
 
 -- other paths take the place of those that are known
-sound_with : (r : Router) (s : Facts) (paths : List (Key × PathFact)) → IsSound r s → T (is_sorted key_cmp paths) → length paths ≤ 1024 → AllByRecursion (IsPath r s) paths → IsSound r (record s { paths = paths })
+sound_with : (r : Router) (s : Facts) (paths : List (Key × PathFact)) → IsStanding r s → T (is_sorted key_cmp paths) → length paths ≤ 1024 → AllByRecursion (IsPath r s) paths → IsStanding r (record s { paths = paths })
 sound_with r s paths is in_order few each = record {
   moment = is.moment;
   links = is.links;
@@ -168,7 +169,7 @@ sound_with r s paths is in_order few each = record {
 }
 
 -- A path is put.
-pub sound_put : (r : Router) (s : Facts) (key : Key) (fact : PathFact) → IsSound r s → IsPath r s (key, fact) → length (put key_cmp key fact s.paths) ≤ 1024 → IsSound r (record s { paths = put key_cmp key fact s.paths })
+pub sound_put : (r : Router) (s : Facts) (key : Key) (fact : PathFact) → IsStanding r s → IsPath r s (key, fact) → length (put key_cmp key fact s.paths) ≤ 1024 → IsStanding r (record s { paths = put key_cmp key fact s.paths })
 sound_put r s key fact is path few =
     sound_with r s (put key_cmp key fact s.paths) is
     (is_sorted-put key_cmp key_total key fact s.paths is.paths.in_order)
@@ -176,7 +177,7 @@ sound_put r s key fact is path few =
     (all-put_row key_cmp (IsPath r s) key fact (λ k tied. subst (λ (q : Key). IsPath r s (q, fact)) (key_exact key k tied) path) path s.paths is.paths.each)
 
 -- Paths are taken away by a test of their keys.
-pub sound_without : (r : Router) (s : Facts) (p : Key → Bool) → IsSound r s → IsSound r (record s { paths = where_key key_cmp p s.paths })
+pub sound_without : (r : Router) (s : Facts) (p : Key → Bool) → IsStanding r s → IsStanding r (record s { paths = where_key key_cmp p s.paths })
 sound_without r s p is =
     sound_with r s (where_key key_cmp p s.paths) is
     (is_sorted-where_key key_cmp p s.paths is.paths.in_order)
@@ -184,7 +185,7 @@ sound_without r s p is =
     (all-filter (IsPath r s) (λ path. p path.0) s.paths is.paths.each)
 
 -- The router is made cold, or runs.
-pub sound_cold : (r : Router) (s : Facts) (cold : Bool) → IsSound r s → IsSound r (record s { cold = cold })
+pub sound_cold : (r : Router) (s : Facts) (cold : Bool) → IsStanding r s → IsStanding r (record s { cold = cold })
 sound_cold r s cold is = record {
   moment = is.moment;
   links = is.links;
@@ -196,17 +197,39 @@ sound_cold r s cold is = record {
   };
 }
 
+-- Messages were sent.
+pub sound_sent : (r : Router) (s : Facts) (sent : List (Item × ℕ)) → IsStanding r s → IsStanding r (record s { sent = sent })
+sound_sent r s sent is = record {
+  moment = is.moment;
+  links = is.links;
+  routes = is.routes;
+  paths = record {
+    in_order = is.paths.in_order;
+    few = is.paths.few;
+    each = all-weaker (IsPath r s) (IsPath r (record s { sent = sent })) (λ path h. path_kept r s (record s { sent = sent }) refl path h) s.paths is.paths.each;
+  };
+}
+
+-- The router is restarted.
+pub sound_restarted : (r : Router) (s : Facts) → IsStanding r s → IsStanding r (record s { cold = true; paths = []; sent = [] })
+sound_restarted r s is = record {
+  moment = is.moment;
+  links = is.links;
+  routes = is.routes;
+  paths = record { in_order = tt; few = omega arith; each = tt };
+}
+
 -- the links that are known to be up or down stand in order, as those of the router do
-pub links_in_order : (r : Router) (s : Facts) → IsRouter r → IsSound r s → T (is_sorted nat_cmp s.up)
+pub links_in_order : (r : Router) (s : Facts) → IsRouter r → IsStanding r s → T (is_sorted nat_cmp s.up)
 links_in_order r s router is = subst T (sym (is_sorted-both nat_cmp s.up r.links is.links)) router.in_order
 
 -- of each link of the router it is known whether it is up
-pub link_known : (r : Router) (s : Facts) (number : ℕ) → IsSound r s → HasLink r number → is_some (find nat_cmp number s.up) ≡ true
+pub link_known : (r : Router) (s : Facts) (number : ℕ) → IsStanding r s → HasLink r number → is_some (find nat_cmp number s.up) ≡ true
 unfolding link_at
 link_known r s number is there = is_some-find_both nat_cmp number s.up r.links is.links ∙ there
 
 -- A link of the router comes up or goes down.
-pub sound_link : (r : Router) (s : Facts) (number : ℕ) (is_up : Bool) → IsRouter r → IsSound r s → HasLink r number → IsSound r (with_link number is_up s)
+pub sound_link : (r : Router) (s : Facts) (number : ℕ) (is_up : Bool) → IsRouter r → IsStanding r s → HasLink r number → IsStanding r (with_link number is_up s)
 sound_link r s number is_up router is there = record {
   moment = is.moment;
   links = keys-put_found nat_cmp nat_cmp_total number is_up s.up (links_in_order r s router is) (link_known r s number is there) ∙ is.links;

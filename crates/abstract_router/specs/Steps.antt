@@ -25,11 +25,13 @@ use Rattle.abstract_router.specs.Outcomes.{Outcome, refused}
 use Rattle.abstract_router.specs.Outputs.{outputs_of}
 use Rattle.abstract_router.specs.Paths.{path_arrival, failed, unknown_object}
 use Rattle.abstract_router.specs.Places.{is_up, link_at}
+use Rattle.abstract_router.specs.Stamps.{with_stamps}
 use Rattle.abstract_router.specs.Tears.{path_tear_arrival, path_err_arrival}
+use Rattle.abstract_router.specs.Time.{tick}
 
--- A router as it is opened: running, at moment 0, its links and static routes as configured, no path.
+-- A router as it is opened: running, at moment 0, its links and static routes as configured, no path, nothing sent.
 abbrev pub opening : Router → List (Prefix × ℕ) → Facts
-opening r routes = record { cold = false; moment = 0; up = map (λ l. (l.0, l.1.up)) r.links; routes = routes; paths = [] }
+opening r routes = record { cold = false; moment = 0; up = map (λ l. (l.0, l.1.up)) r.links; routes = routes; paths = []; sent = [] }
 
 -- what a message does that is read whole
 abbrev pub message_arrival : Router → Facts → ℕ → Content → Outcome
@@ -56,13 +58,19 @@ arrival r s a =
 
 -- Start makes a cold router run; a running one stays as it is.
 abbrev pub started : Facts → Outcome
-started s = record { reply = replies.Done; errors = []; after = record s { cold = false } }
+started s = record { reply = replies.Done; errors = []; due = []; after = record s { cold = false } }
+
+-- A restart: what messages set up is lost, and the router is cold. Links, static routes and the moment stay.
+abbrev pub restarted : Facts → Outcome
+restarted s = record { reply = replies.Done; errors = []; due = []; after = record s { cold = true; paths = []; sent = [] } }
 
 -- What an event does of itself.
 abbrev pub outcome : Router → Facts → Event → Outcome
 outcome r s (events.Arrive a) = arrival r s a
+outcome r s (events.Tick n) = tick r s n
 outcome r s (events.LinkUp number) = link_change r s number true
 outcome r s (events.LinkDown number) = link_change r s number false
+outcome r s events.Restart = restarted s
 outcome r s events.Start = started s
 
 -- what the message says that is read
@@ -79,19 +87,38 @@ IsReading (readings.Unknown content class ctype) = ⊥
 -- an event that can be: its message is one that can come
 abbrev pub IsEvent : Event → Type 0
 IsEvent (events.Arrive a) = IsReading a.reading
+IsEvent (events.Tick n) = Unit {0}
 IsEvent (events.LinkUp number) = Unit {0}
 IsEvent (events.LinkDown number) = Unit {0}
+IsEvent events.Restart = Unit {0}
 IsEvent events.Start = Unit {0}
 
--- One step: what the event does, and then what is sent. While the router is cold, no event but Start is one.
+-- what an answer leaves standing: what is refused changes nothing
+abbrev pub unless_refused : Reply → Facts → Facts → Facts
+unless_refused replies.Done before after = after
+unless_refused (replies.Error e) before after = after
+unless_refused (replies.Refused refusal) before after = before
+
+-- What is known after a step: what the event leads to, and when each message that is wanted then was sent last.
+abbrev pub known_after : Router → Facts → Outcome → Facts
+known_after r before o = unless_refused o.reply before (with_stamps r before o.due o.after)
+
+-- What a step sends. A restart sends nothing: no tear for what is lost.
+abbrev pub sent_in : Router → Facts → Event → Facts → List Output
+sent_in r before events.Restart after = []
+sent_in r before event after = outputs_of r before (outcome r before event).errors (outcome r before event).due after
+
+-- One step: what the event does, then what is sent, and when each wanted message was sent last. While the router
+-- is cold, no event but Start is one. Where nothing changes that is wanted, and nothing is due, nothing is sent: so
+-- what is refused is silent, and a start.
 -- Later parts join in this order: the event's own change with the reservations that it preempts; a tunnel whose
 -- new LSP has its reservation takes it over; repairs; labels; outputs.
 pub record Step (r : Router) (before : Facts) (event : Event) (reply : Reply) (outputs : List Output) (after : Facts) : Type 0 where
   pub possible : IsEvent event
   pub awake : before.cold ≡ true → event ≡ events.Start
   pub replied : reply ≡ (outcome r before event).reply
-  pub changed : after ≡ (outcome r before event).after
-  pub sent : outputs ≡ outputs_of r before (outcome r before event).errors after
+  pub changed : after ≡ known_after r before (outcome r before event)
+  pub sent : outputs ≡ sent_in r before event after
 
 -- Steps, one after the other.
 abbrev pub Run : Router → Facts → List Entry → Facts → Type 0

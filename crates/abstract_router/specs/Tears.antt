@@ -43,7 +43,7 @@ abbrev pub torn : Facts → ℕ → PathTear → Option PathFact → Outcome
 torn s link t None = refused s NoMatch
 torn s link t (Some fact) =
     if is_torn_by link t fact
-    then record { reply = replies.Done; errors = []; after = left_with (lsp t.session t.sender) fact (origins_without t.sender.sender fact) s }
+    then record { reply = replies.Done; errors = []; due = []; after = left_with (lsp t.session t.sender) fact (origins_without t.sender.sender fact) s }
     else refused s NoMatch
 
 -- What a PathTear does.
@@ -60,7 +60,7 @@ abbrev pub passed_on : Facts → ℕ → PathErr → Option PathFact → Outcome
 passed_on s link e None = refused s NoMatch
 passed_on s link e (Some fact) =
     if leaves_by link fact
-    then record { reply = replies.Done; errors = told_upstream (lsp e.session e.sender) fact e.tspec e.error; after = s }
+    then record { reply = replies.Done; errors = told_upstream (lsp e.session e.sender) fact e.tspec e.error; due = []; after = s }
     else refused s NoMatch
 
 -- What a PathErr does.

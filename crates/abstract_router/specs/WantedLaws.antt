@@ -54,7 +54,7 @@ answer : Key → ℕ → Option (Item × Content) → Option Content
 answer key link o = option_and_then (λ w. cond (eq_by_cmp item_cmp (Down key link) w.0) (Some w.1) None) o
 
 -- two orders tie where both do
-then_tied : (o p : Ordering) → is_eq (ordering_then o p) ≡ (is_eq o && is_eq p)
+pub then_tied : (o p : Ordering) → is_eq (ordering_then o p) ≡ (is_eq o && is_eq p)
 then_tied Less p = refl
 then_tied Equal p = refl
 then_tied Greater p = refl

@@ -5,3 +5,4 @@ pub mod laws;
 pub mod links;
 pub mod sending;
 pub mod soundness;
+pub mod time;

@@ -1,12 +1,15 @@
 //! What a link that comes up or goes down changes, and what is sent for it.
 
 ghost use Rattle.std.specs.Prelude.{◌≡◌, ◌≢◌, ℕ, Bool, List, [], true, false, T, None, Some, Ok, filter_map};
-ghost use Rattle.std.specs.FinMap.Entries.{is_sorted};
+ghost use Rattle.std.specs.FinMap.Entries.{find, is_sorted};
+ghost use Rattle.std.specs.Option.{option_map};
 ghost use Rattle.rsvp_contents.specs.declared.messages.Path.{Path};
-ghost use Rattle.lsr_facts.specs.Orders.{key_cmp};
+ghost use Rattle.lsr_facts.specs.Orders.{item_cmp, key_cmp};
 ghost use Rattle.lsr_facts.specs.declared.event.Event.TheVariants as events;
 ghost use Rattle.lsr_facts.specs.declared.event.Output.{Output};
 ghost use Rattle.lsr_facts.specs.declared.facts.Facts.{Facts};
+ghost use Rattle.lsr_facts.specs.declared.key.Item.TheVariants.{Down};
+ghost use Rattle.lsr_facts.specs.declared.key.Key.{Key};
 ghost use Rattle.lsr_facts.specs.declared.path_fact.PathFact.{PathFact};
 ghost use Rattle.lsr_facts.specs.declared.refusal.Refusal.TheVariants.{UnknownLink};
 ghost use Rattle.lsr_facts.specs.declared.reply.Reply.{Reply};
@@ -17,15 +20,15 @@ ghost use Rattle.abstract_router.specs.Paths.{is_same_route, way_for, way_of};
 ghost use Rattle.abstract_router.specs.Places.{Place, is_up, link_at};
 ghost use Rattle.abstract_router.specs.Soundness.{HasLink, IsRouter, IsSound};
 ghost use Rattle.abstract_router.specs.Steps.{Step};
-ghost use Rattle.abstract_router.specs.Wanted.{wanted_of};
+ghost use Rattle.abstract_router.specs.Wanted.{wanted_at, wanted_of};
 
-/// A link that comes up or goes down is up or down from then on. Nothing else changes: no path, no static
-/// route, not the moment, and no other link.
+/// A link that comes up or goes down is up or down from then on. Nothing else changes but when wanted messages
+/// were sent last: no path, no static route, not the moment, and no other link.
 pub fn links_change_alone()
     ensures rest { (r : Router) (before after : Facts) (number : ℕ) (so : Bool)
         (reply : Reply) (outputs : List Output) →
         Step r before (link_event number so) reply outputs after →
-        after ≡ record before { up = after.up } }
+        after ≡ record before { up = after.up; sent = after.sent } }
     ensures others { (r : Router) (before after : Facts) (number other : ℕ) (so : Bool)
         (reply : Reply) (outputs : List Output) →
         other ≢ number → Step r before (link_event number so) reply outputs after →
@@ -72,6 +75,27 @@ pub fn new_links_bring_their_paths()
         T (is_sorted key_cmp before.paths) → is_up before.up number ≡ false →
         Step r before (events.LinkUp number) reply outputs after →
         outputs ≡ filter_map (sent_over number) (wanted_of r after) }
+{}
+
+/// Of messages over other links it stays known when they were sent last. Over a link that goes down none is
+/// wanted, and none has a moment; what is wanted over one that was down and comes up has the router's.
+pub fn links_change_their_own_moments()
+    ensures others { (r : Router) (before after : Facts) (number link : ℕ) (so : Bool)
+        (reply : Reply) (outputs : List Output) (key : Key) →
+        IsSound r before → link ≢ number →
+        Step r before (link_event number so) reply outputs after →
+        find item_cmp (Down key link) after.sent ≡ find item_cmp (Down key link) before.sent }
+    ensures lost { (r : Router) (before after : Facts) (number : ℕ)
+        (reply : Reply) (outputs : List Output) (key : Key) →
+        IsSound r before → HasLink r number →
+        Step r before (events.LinkDown number) reply outputs after →
+        find item_cmp (Down key number) after.sent ≡ None }
+    ensures new { (r : Router) (before after : Facts) (number : ℕ)
+        (reply : Reply) (outputs : List Output) (key : Key) →
+        IsSound r before → is_up before.up number ≡ false →
+        Step r before (events.LinkUp number) reply outputs after →
+        find item_cmp (Down key number) after.sent
+        ≡ option_map (λ message. before.moment) (wanted_at r after (Down key number)) }
 {}
 
 /// A Path with the same explicit route as before keeps its way, whichever links are up: also over a link

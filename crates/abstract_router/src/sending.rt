@@ -18,10 +18,13 @@ ghost use Rattle.lsr_facts.specs.declared.refusal.Refusal.{Refusal};
 ghost use Rattle.lsr_facts.specs.declared.reply.Reply.{Reply};
 ghost use Rattle.lsr_facts.specs.declared.reply.Reply.TheVariants as replies;
 ghost use Rattle.lsr_facts.specs.declared.router.Router.{Router};
-ghost use Rattle.abstract_router.specs.ByKey.{comes, key_in, shown, outputs_at, errors_out, tears_of};
+ghost use Rattle.sorted_rows.specs.Rows.{keys_of};
+ghost use Rattle.abstract_router.specs.ByKey.{comes, key_in, shown, outputs_at, stamps_at, errors_out, tears_of};
 ghost use Rattle.abstract_router.specs.ByKey.{IsSameElsewhere};
 ghost use Rattle.abstract_router.specs.Outcomes.{lsp};
 ghost use Rattle.abstract_router.specs.Outputs.{outputs_of};
+ghost use Rattle.abstract_router.specs.Soundness.{IsSound};
+ghost use Rattle.abstract_router.specs.Stamps.{stamps_of};
 ghost use Rattle.abstract_router.specs.Steps.{Step, content_of, outcome};
 ghost use Rattle.abstract_router.specs.Wanted.{wanted_at, wanted_of};
 
@@ -39,25 +42,37 @@ pub fn wanted_by_lsp()
         T (is_sorted key_cmp s.paths) → T (is_sorted item_cmp (wanted_of r s)) }
 {}
 
-/// Where something else than before is known of one LSP's path at most, what is sent is the errors, and
-/// then what this path has torn down and sent.
+/// Where something else than before is known of one LSP's path at most, and nothing is due, what is sent is the
+/// errors, and then what this path has torn down and sent.
 pub fn sends_for_one_lsp()
     ensures { (r : Router) (key : Key) (before after : Facts) (errors : List Output) →
         T (is_sorted key_cmp before.paths) → T (is_sorted key_cmp after.paths) →
         before.up ≡ after.up → IsSameElsewhere key before.paths after.paths →
-        outputs_of r before errors after
+        outputs_of r before errors [] after
         ≡ errors_out after.up errors
         ++ outputs_at r after.up key (find key_cmp key before.paths) (find key_cmp key after.paths) }
 {}
 
+/// So it is with the moments at which wanted messages were sent last, where they are known of what was
+/// wanted and nothing is due: that of what was wanted of this LSP goes, and what is wanted has its own. All others stay.
+pub fn moments_change_for_one_lsp()
+    ensures { (r : Router) (key : Key) (before after : Facts) →
+        T (is_sorted key_cmp before.paths) → T (is_sorted key_cmp after.paths) →
+        keys_of before.sent ≡ keys_of (wanted_of r before) →
+        before.up ≡ after.up → IsSameElsewhere key before.paths after.paths →
+        stamps_of r before [] after
+        ≡ stamps_at r after.up key before.sent after.moment
+        (find key_cmp key before.paths) (find key_cmp key after.paths) }
+{}
+
 /// A message changes what is known of the path of its own LSP, and nothing else: neither other paths,
 /// nor which links are up, nor the static routes, nor the moment. So what its step sends is the errors,
-/// and then what this path has torn down and sent.
+/// and then what this path has torn down and sent; and the moments change of what is wanted of it alone.
 pub fn messages_touch_one_lsp()
     ensures rest { (r : Router) (before after : Facts) (a : Arrive)
         (reply : Reply) (outputs : List Output) →
         Step r before (events.Arrive a) reply outputs after →
-        after ≡ record before { paths = after.paths } }
+        after ≡ record before { paths = after.paths; sent = after.sent } }
     ensures elsewhere { (r : Router) (before after : Facts) (a : Arrive)
         (reply : Reply) (outputs : List Output) →
         Step r before (events.Arrive a) reply outputs after →
@@ -73,11 +88,18 @@ pub fn messages_touch_one_lsp()
         outputs
         ≡ errors_out before.up (outcome r before (events.Arrive a)).errors
         ++ outputs_at r before.up key (find key_cmp key before.paths) (find key_cmp key after.paths) }
+    ensures moments { (r : Router) (before after : Facts) (a : Arrive)
+        (reply : Reply) (outputs : List Output) →
+        let key = key_in (content_of a.reading) in
+        IsSound r before → Step r before (events.Arrive a) reply outputs after →
+        after.sent
+        ≡ stamps_at r before.up key before.sent before.moment
+        (find key_cmp key before.paths) (find key_cmp key after.paths) }
 {}
 
-/// A PathTear that is done takes the path away with its last origin. Then one PathTear is sent: that of
-/// the Path that was wanted, over the link of that Path; and none where no Path was wanted. While another
-/// origin is left, nothing is sent.
+/// Where a PathTear that is done took the path away, one PathTear is sent: that of the Path that was wanted,
+/// over the link of that Path; and none where no Path was wanted. Where the path is left, with another origin,
+/// nothing is sent.
 pub fn tears_go_on()
     ensures gone { (r : Router) (before after : Facts) (link : ℕ) (t : PathTear)
         (outputs : List Output) →

@@ -1,5 +1,4 @@
 -- The orders of keys and of items.
-use Rattle.std.specs.Prelude.{ℕ}
 use Rattle.std.specs.Ordering.{nat_cmp, ordering_then}
 use Rattle.std.specs.Cmp.Lexicographic.{slice_cmp}
 use Rattle.std.specs.Net.Addr.{ipv4_octets}

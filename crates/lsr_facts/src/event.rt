@@ -21,10 +21,14 @@ pub struct Arrive {
 pub enum Event {
     /// A message came.
     Arrive(Arrive),
+    /// This moment came, in milliseconds.
+    Tick(u64),
     /// The link of this number came up.
     LinkUp(u16),
     /// The link of this number went down.
     LinkDown(u16),
+    /// The router lost what messages had set up in it, and is cold until it is started.
+    Restart,
     /// A cold router is started. A running one goes on as it is.
     Start,
 }
@@ -113,8 +117,10 @@ impl TryCopy for Event {
                 link: arrive.link,
                 reading: arrive.reading.clone()?,
             })),
+            Event::Tick(moment) => Ok(Event::Tick(*moment)),
             Event::LinkUp(number) => Ok(Event::LinkUp(*number)),
             Event::LinkDown(number) => Ok(Event::LinkDown(*number)),
+            Event::Restart => Ok(Event::Restart),
             Event::Start => Ok(Event::Start),
         }
     }

@@ -1,4 +1,4 @@
-use crate::key::Key;
+use crate::key::{Item, Key};
 use crate::path_fact::PathFact;
 use rsvp_routes::Prefix;
 use sorted_rows::{Table, TryCopy};
@@ -17,6 +17,8 @@ pub struct Facts {
     pub routes: Table<Prefix, u16>,
     /// The paths, by LSP.
     pub paths: Table<Key, PathFact>,
+    /// Of each message that is kept alive at a neighbour the moment when it was sent last, in milliseconds.
+    pub sent: Table<Item, u64>,
 }
 
 impl TryCopy for Facts {
@@ -27,6 +29,7 @@ impl TryCopy for Facts {
             up: self.up.try_copy(alloc)?,
             routes: self.routes.try_copy(alloc)?,
             paths: self.paths.try_copy(alloc)?,
+            sent: self.sent.try_copy(alloc)?,
         })
     }
 }

@@ -38,10 +38,10 @@ pub fn prefixes_are_in_order()
     ensures exact { (a b : Prefix) → prefix_cmp a b ≡ Equal → a ≡ b }
 {}
 
-/// Facts of the same moment with the same lists are equal.
+/// Facts of the same moment with the same lists are equal, where both are cold or both run.
 pub fn same_lists_are_same_facts()
     ensures { (a b : Facts) → a.cold ≡ b.cold → a.moment ≡ b.moment →
-        a.up ≡ b.up → a.routes ≡ b.routes → a.paths ≡ b.paths → a ≡ b }
+        a.up ≡ b.up → a.routes ≡ b.routes → a.paths ≡ b.paths → a.sent ≡ b.sent → a ≡ b }
 {}
 
 /// Paths in order that answer each look-up alike are the same paths.

@@ -149,6 +149,13 @@ fn paths(rt: &impl Abort, alloc: Global) -> Result<Table<Key, PathFact>, Fail> {
     Ok(paths)
 }
 
+/// The Path of that path over link 2, sent last at 3.
+fn sent(alloc: Global) -> Result<Table<Item, u64>, AllocError> {
+    let mut sent = Table::new(alloc);
+    sent.set(Item::Down(key_of(KEY), 2), 3)?;
+    Ok(sent)
+}
+
 fn facts(rt: &impl Abort, alloc: Global) -> Result<Facts, Fail> {
     Ok(Facts {
         cold: false,
@@ -156,6 +163,7 @@ fn facts(rt: &impl Abort, alloc: Global) -> Result<Facts, Fail> {
         up: up_or_down(alloc)?,
         routes: routes(alloc)?,
         paths: paths(rt, alloc)?,
+        sent: sent(alloc)?,
     })
 }
 
@@ -247,10 +255,20 @@ fn a_router_is_copied_with_its_links(rt: HostRuntime) -> Result<(), Fail> {
 #[test]
 fn an_entry_is_copied_with_its_messages(rt: HostRuntime) -> Result<(), Fail> {
     let entry = entry(rt.alloc())?;
-    assert_copied(&rt, rt.alloc(), &entry)?;
-    assert_copied(&rt, rt.alloc(), &Event::LinkUp(1))?;
-    assert_copied(&rt, rt.alloc(), &Event::LinkDown(2))?;
-    assert_copied(&rt, rt.alloc(), &Event::Start)
+    assert_copied(&rt, rt.alloc(), &entry)
+}
+
+fn assert_event_copied(rt: &impl Abort, alloc: Global, event: Event) -> Result<(), Fail> {
+    assert_copied(rt, alloc, &event)
+}
+
+#[test]
+fn events_without_messages_are_copied(rt: HostRuntime) -> Result<(), Fail> {
+    assert_event_copied(&rt, rt.alloc(), Event::Tick(7))?;
+    assert_event_copied(&rt, rt.alloc(), Event::LinkUp(1))?;
+    assert_event_copied(&rt, rt.alloc(), Event::LinkDown(2))?;
+    assert_event_copied(&rt, rt.alloc(), Event::Restart)?;
+    assert_event_copied(&rt, rt.alloc(), Event::Start)
 }
 
 #[test]
@@ -276,6 +294,11 @@ fn assert_lent<F: FactsView>(rt: &impl Abort, view: &F) {
     let key = key_of(KEY);
     assert_eq!(rt; (view.key_at(0), view.key_at(1)), (Some(key), None));
     assert_eq!(rt; view.path(&key).map(|path| path.role), Some(Role::Transit));
+    let (over, another) = (Item::Down(key, 2), Item::Down(key, 1));
+    assert_eq!(rt;
+        (view.sent_at(&over), view.sent_at(&another)),
+        (Some(3), None)
+    );
 }
 
 #[test]

@@ -1,12 +1,12 @@
 ghost use Rattle.std.specs.FinMap.Entries.{find};
 ghost use Rattle.std.specs.Option.{option_copied, option_map};
 ghost use Rattle.std.specs.Prelude.{◌≡◌, slice_get};
-ghost use Rattle.lsr_facts.specs.Orders.{key_cmp};
+ghost use Rattle.lsr_facts.specs.Orders.{item_cmp, key_cmp};
 ghost use Rattle.lsr_facts.specs.declared.facts.Facts.{Facts};
 ghost use Rattle.lsr_facts.specs.declared.router.Router.{Router};
 
 use crate::facts::Facts;
-use crate::key::Key;
+use crate::key::{Item, Key};
 use crate::node::Node;
 use crate::path_fact::PathFact;
 use crate::router::Router;
@@ -38,6 +38,10 @@ pub trait FactsView {
     /// The key at this place, from 0, in the order of keys, or `None` where there are not so many.
     fn key_at(&self, place: usize) -> Option<Key>
         ensures key { result ≡ option_map (λ row. row.0) (slice_get (facts self.now).paths place) };
+
+    /// When a message was sent last that is kept alive at a neighbour, in milliseconds; `None` for any other.
+    fn sent_at(&self, item: &Item) -> Option<u64>
+        ensures sent { result ≡ find item_cmp item.now (facts self.now).sent };
 }
 
 /// Facts beside what never changes of their router.
@@ -76,5 +80,9 @@ impl<'a> FactsView for Snapshot<'a> {
 
     fn key_at(&self, place: usize) -> Option<Key> {
         self.facts.paths.as_slice().get(place).map(|row| row.0)
+    }
+
+    fn sent_at(&self, item: &Item) -> Option<u64> {
+        self.facts.sent.get(item).copied()
     }
 }

@@ -1,5 +1,6 @@
 -- A message puts or takes away the path of its own LSP.
 use Rattle.abstract_router.specs.StepLaws.{step_touches, step_sends}
+use Rattle.abstract_router.proofs.Refusals.{step_stamps}
 use Rattle.abstract_router.proofs.sending.messages_touch_one_lsp.Goals as goal
 
 pub returns-clause-rest : goal.returns-clause-rest
@@ -13,3 +14,6 @@ returns-clause-in_order c = λ r before after a reply outputs x. (step_touches r
 
 pub returns-clause-sent : goal.returns-clause-sent
 returns-clause-sent c = step_sends
+
+pub returns-clause-moments : goal.returns-clause-moments
+returns-clause-moments c = step_stamps
