@@ -1,2 +1,3 @@
+pub mod Expiry
 pub mod Keeping
 pub mod Origins

@@ -4,8 +4,10 @@ ghost use Rattle.std.specs.Ordering.{is_eq};
 ghost use Rattle.std.specs.Prelude.{◌≡◌, ◌≤◌, ◌↔◌, T, [], IfOk, IsTrue, length, nat_le, not};
 ghost use Rattle.lsr_facts.specs.Orders.{key_cmp};
 ghost use Rattle.lsr_facts.specs.declared.path_fact.PathFact.{PathFact};
+ghost use Rattle.path_state.specs.Expiry.{unexpired};
 ghost use Rattle.path_state.specs.Origins.{origins_of};
 
+use crate::expiry::expire_rows;
 use lsr_facts::limits::MAX_LSPS;
 use lsr_facts::{Key, Origin, PathFact};
 use sorted_rows::{TryCopy, contains_key, get_ref};
@@ -92,6 +94,21 @@ impl PathState {
         ensures { self.new ≡ where_key key_cmp (λ k. not (is_eq (key_cmp key.now k))) self.old }
     {
         sorted_rows::remove(&mut self.rows, key);
+    }
+
+    /// Nothing is known of any LSP's path any more. Takes no memory.
+    pub fn clear(&mut self)
+        ensures { self.new ≡ [] }
+    {
+        self.rows.clear();
+    }
+
+    /// A moment comes, in milliseconds: each origin goes whose expiry isn't above it, and with its last origin a
+    /// path, unless it begins at this router (RFC 2205, 3.7). Takes no memory.
+    pub fn expire(&mut self, moment: u64)
+        ensures { self.new ≡ unexpired moment self.old }
+    {
+        expire_rows(&mut self.rows, moment);
     }
 }
 

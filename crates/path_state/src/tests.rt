@@ -13,6 +13,9 @@ use std::test::Fail;
 /// As many LSPs as there is room for.
 const LSPS: u16 = 1_024;
 
+/// When the origins of the paths here expire, in milliseconds.
+const EXPIRY: u64 = 200;
+
 /// The EtherType of IPv4.
 const IPV4: u16 = 0x0800;
 
@@ -44,7 +47,7 @@ fn fact(alloc: Global, from: u8, out_link: u16) -> Result<PathFact, AllocError> 
     let origin = Origin {
         link: 1,
         hop,
-        expiry: 200,
+        expiry: EXPIRY,
     };
     let mut origins = Table::new(alloc);
     origins.set(node(1), origin)?;
@@ -171,5 +174,34 @@ fn a_copy_is_its_source(rt: HostRuntime) -> Result<(), Fail> {
     let text = format!(in alloc; "{state:?}")?;
     state.remove(&key(2, 1));
     assert_eq!(rt; format!(in alloc; "{copy:?}")?, text);
+    Ok(())
+}
+
+#[test]
+fn a_path_goes_with_its_last_origin(rt: HostRuntime) -> Result<(), Fail> {
+    let alloc = rt.alloc();
+    let mut state = table(&rt, alloc, &[(1, 1, 20), (1, 2, 20)])?;
+    let mut begins_here = fact(alloc, 5, 30)?;
+    begins_here.role = Role::Head;
+    assert!(rt; put_if_room(&mut state, key(1, 3), begins_here));
+    let mut lasting = fact(alloc, 5, 40)?;
+    let origin = Origin {
+        link: 2,
+        hop: Hop {
+            address: node(6),
+            interface: 7,
+        },
+        expiry: EXPIRY + 1,
+    };
+    lasting.origins.set(node(2), origin)?;
+    assert!(rt; put_if_room(&mut state, key(1, 2), lasting));
+    state.expire(EXPIRY - 1);
+    assert_eq!(rt; state.as_slice().len(), 3);
+    state.expire(EXPIRY);
+    assert_links(&rt, alloc, &state, &[(key(1, 2), 40), (key(1, 3), 30)])?;
+    assert_eq!(rt; state.origins(&key(1, 2)).len(), 1);
+    assert!(rt; state.origins(&key(1, 3)).is_empty());
+    state.clear();
+    assert!(rt; state.as_slice().is_empty());
     Ok(())
 }

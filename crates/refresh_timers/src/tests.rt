@@ -78,6 +78,22 @@ fn messages_have_the_moment_that_was_set_last(rt: HostRuntime) -> Result<(), Fai
 }
 
 #[test]
+fn all_moments_are_set_at_once(rt: HostRuntime) -> Result<(), Fail> {
+    let alloc = rt.alloc();
+    let mut kept = timers(&rt, alloc, REFRESH_MS, &[(item(1, 1), 5), (item(3, 1), 6)])?;
+    let others = timers(&rt, alloc, 1, &[(item(2, 1), 7), (item(1, 1), 8)])?;
+    kept.set_all(others.as_slice());
+    assert_eq!(rt;
+        kept.as_slice(),
+        [(item(1, 1), 8), (item(2, 1), 7)].as_slice()
+    );
+    assert!(rt; kept.due(alloc, 9)?.is_empty());
+    kept.set_all(&[]);
+    assert!(rt; kept.as_slice().is_empty());
+    Ok(())
+}
+
+#[test]
 fn a_message_is_due_a_period_after_it_was_sent(rt: HostRuntime) -> Result<(), Fail> {
     let alloc = rt.alloc();
     let rows = [

@@ -67,6 +67,16 @@ fn forget(rows: &mut Vec<(Item, u64)>, item: &Item)
     sorted_rows::remove(rows, item);
 }
 
+/// Keeps these moments in the reserved places, and no others.
+fn keep_all(rows: &mut Vec<(Item, u64)>, moments: &[(Item, u64)])
+    requires { length moments.now ≤ vec_capacity rows.old }
+    ensures rows { rows.new.items ≡ moments.now }
+    ensures capacity { vec_capacity rows.old ≤ vec_capacity rows.new }
+{
+    rows.clear();
+    rows.extend_from_slice(moments).unwrap();
+}
+
 impl RefreshTimers {
     /// No messages, to be sent again every so many milliseconds. It reserves the memory of all messages that it may
     /// ever hold; the only error is want of that memory.
@@ -118,6 +128,16 @@ impl RefreshTimers {
         } }
     {
         forget(&mut self.rows, item);
+    }
+
+    /// These messages were sent last at these moments, and no others are kept. It asks for at most [`MAX_ITEMS`]
+    /// messages in the order of their items, none twice. Takes no memory.
+    pub fn set_all(&mut self, moments: &[(Item, u64)])
+        requires sorted { T (is_sorted item_cmp moments.now) }
+        requires few { length moments.now ≤ 5120 }
+        ensures { self.new ≡ record self.old { sent = moments.now } }
+    {
+        keep_all(&mut self.rows, moments);
     }
 
     /// The messages that were last sent a refresh period ago or longer, in the order of the items. The only error
