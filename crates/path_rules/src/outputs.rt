@@ -1,19 +1,20 @@
-//! What is sent of what is wanted: tears for what is wanted no more, and what is new or changed.
+//! What is sent of what is wanted: tears for what is wanted no more, and what is new, changed or due.
 
 ghost use Rattle.std.specs.FinMap.Entries.{find};
-ghost use Rattle.std.specs.Option.{option_map, option_map_or};
+ghost use Rattle.std.specs.Option.{option_map, option_map_or, unwrap_or};
 ghost use Rattle.std.specs.Prelude.{◌≡◌, ◌&&◌, ◌++◌, false, filter, filter_map, IfOk, is_none, option_copied};
 ghost use Rattle.lsr_facts.specs.Orders.{item_cmp};
 ghost use Rattle.abstract_router.specs.Outcomes.{sent_by};
 ghost use Rattle.abstract_router.specs.Places.{is_up};
-ghost use Rattle.abstract_router.specs.Outputs.{is_same_message, link_of_item, send_for, tear_for, tear_of};
+ghost use Rattle.abstract_router.specs.Outputs.{is_due, is_same_message, link_of_item, rests, send_for, tear_for, tear_of};
+ghost use Rattle.abstract_router.specs.Stamps.{stamp};
 
 use crate::messages::sent_by;
 use explicit_routes::is_up;
 use lsr_facts::{Item, Output, Outputs};
 use message_writer::write_message;
 use rsvp_contents::{Content, Message, PathTear};
-use sorted_rows::{contains_key, get_ref};
+use sorted_rows::{contains_key, get, get_ref};
 use std::alloc::{AllocError, Global};
 
 /// A message that the state wants kept alive, beside what it is for.
@@ -115,11 +116,63 @@ fn is_sent_before(alloc: Global, before: &[Wanted], wants: &Wanted) -> Result<bo
     is_known_message(alloc, message_before(before, &wants.0), &wants.1)
 }
 
-/// What is wanted, where it is new or another message than before.
-fn send_for(alloc: Global, before: &[Wanted], wants: &Wanted) -> Result<Option<Output>, AllocError>
-    ensures { IfOk result (λ sent. sent ≡ send_for before.now wants.now) }
+/// Whether the item is one of those that are due.
+fn is_due(due: &[Item], item: &Item) -> bool
+    ensures { result ≡ is_due due.now item.now }
 {
-    if is_sent_before(alloc, before, wants)? {
+    for other in due {
+        if item.cmp(other).is_eq() {
+            return true;
+        }
+    }
+    false
+}
+
+/// Whether a wanted message rests: it isn't due, and was wanted before, the same.
+fn rests(alloc: Global, due: &[Item], before: &[Wanted], wants: &Wanted) -> Result<bool, AllocError>
+    ensures { IfOk result (λ so. so ≡ rests due.now before.now wants.now) }
+{
+    if is_due(due, &wants.0) {
+        return Ok(false);
+    }
+    is_sent_before(alloc, before, wants)
+}
+
+/// The moment that is known of an item, or this one where none is.
+fn moment_of(sent: &[(Item, u64)], item: &Item, now: u64) -> u64
+    ensures { result ≡ unwrap_or (find item_cmp item.now sent.now) now }
+{
+    get(sent, item).unwrap_or(now)
+}
+
+/// When a wanted message was sent last, after a step at this moment, in milliseconds: at this moment, where it
+/// goes out in the step, else as before. The only error is want of memory.
+pub fn stamp(
+    alloc: Global,
+    due: &[Item],
+    before: &[Wanted],
+    sent: &[(Item, u64)],
+    now: u64,
+    wants: &Wanted,
+) -> Result<u64, AllocError>
+    ensures { IfOk result (λ at. at ≡ stamp due.now before.now sent.now now wants.now) }
+{
+    if rests(alloc, due, before, wants)? {
+        return Ok(moment_of(sent, &wants.0, now));
+    }
+    Ok(now)
+}
+
+/// What is wanted, where it doesn't rest.
+fn send_for(
+    alloc: Global,
+    due: &[Item],
+    before: &[Wanted],
+    wants: &Wanted,
+) -> Result<Option<Output>, AllocError>
+    ensures { IfOk result (λ sent. sent ≡ send_for due.now before.now wants.now) }
+{
+    if rests(alloc, due, before, wants)? {
         return Ok(None);
     }
     Ok(Some(sent_by(link_of_item(&wants.0), wants.1.clone()?)))
@@ -152,37 +205,39 @@ fn tears_out(
     Ok(out)
 }
 
-/// What is wanted and new or changed, behind what is sent before it.
+/// What is wanted and doesn't rest, behind what is sent before it.
 fn wanted_out(
     alloc: Global,
+    due: &[Item],
     before: &[Wanted],
     wanted: &[Wanted],
     sent: Outputs,
 ) -> Result<Outputs, AllocError>
-    ensures { IfOk result (λ out. out ≡ sent ++ filter_map (send_for before.now) wanted.now) }
+    ensures { IfOk result (λ out. out ≡ sent ++ filter_map (send_for due.now before.now) wanted.now) }
 {
     let mut out = sent;
     for wants in wanted {
-        if let Some(message) = send_for(alloc, before, wants)? {
+        if let Some(message) = send_for(alloc, due, before, wants)? {
             out.push(message)?;
         }
     }
     Ok(out)
 }
 
-/// What is sent where that was wanted and this is: errors whose link is up, then tears, then what is new or
-/// changed. The only error is want of memory.
+/// What is sent where that was wanted and this is: errors whose link is up, then tears, then what is new,
+/// changed or due. The only error is want of memory.
 pub fn sent_between(
     alloc: Global,
     up: &[(u16, bool)],
+    due: &[Item],
     before: &[Wanted],
     wanted: &[Wanted],
     errors: Outputs,
 ) -> Result<Outputs, AllocError>
     ensures { IfOk result (λ sent. sent ≡ filter (λ output. is_up up.now output.link) errors
-        ++ (filter_map (tear_for up.now wanted.now) before.now ++ filter_map (send_for before.now) wanted.now)) }
+        ++ (filter_map (tear_for up.now wanted.now) before.now ++ filter_map (send_for due.now before.now) wanted.now)) }
 {
     let sent = errors_out(up, errors);
     let sent = tears_out(up, wanted, before, sent)?;
-    wanted_out(alloc, before, wanted, sent)
+    wanted_out(alloc, due, before, wanted, sent)
 }

@@ -135,6 +135,28 @@ fn assert_known(
     Ok(())
 }
 
+/// The one message that was wanted before and is now rests until it is due: then it is sent again, and not before.
+fn assert_sent(
+    rt: &impl Abort,
+    alloc: Global,
+    node: &Node,
+    before: &[Wanted],
+    wanted: &[Wanted],
+) -> Result<(), Fail> {
+    let [wants] = wanted else {
+        return Err(Fail::from("not one message"));
+    };
+    let known = [(wants.0, 5)];
+    let sent = sent_between(alloc, node.up, &[], before, wanted, Outputs::new(alloc))?;
+    assert!(rt; sent.as_slice().is_empty());
+    assert_eq!(rt; stamp(alloc, &[], before, &known, 9, wants)?, 5);
+    let due = [wants.0];
+    let sent = sent_between(alloc, node.up, &due, before, wanted, Outputs::new(alloc))?;
+    assert_eq!(rt; sent.as_slice().len(), 1);
+    assert_eq!(rt; stamp(alloc, &due, before, &known, 9, wants)?, 9);
+    Ok(())
+}
+
 /// The Path makes a path, which goes on as it should.
 fn assert_made(rt: &impl Abort, alloc: Global, node: &Node, content: &Content) -> Result<(), Fail> {
     let Content::Path(path) = content else {
@@ -144,9 +166,7 @@ fn assert_made(rt: &impl Abort, alloc: Global, node: &Node, content: &Content) -
     let onward = message_onward(alloc, node, path, &fact)?;
     let wanted = message_of(alloc, &ONWARD)?;
     let item = Item::Down(lsp(path.session, path.sender), SECOND_LINK);
-    let errors = Outputs::new(alloc);
-    let sent = sent_between(alloc, node.up, &[(item, wanted)], &[(item, onward)], errors)?;
-    assert!(rt; sent.as_slice().is_empty());
+    assert_sent(rt, alloc, node, &[(item, wanted)], &[(item, onward)])?;
     assert_known(rt, alloc, node, path, &fact)
 }
 
@@ -161,4 +181,11 @@ fn a_path_is_made_and_goes_on(rt: HostRuntime) -> Result<(), Fail> {
     };
     let message = message_of(alloc, &ARRIVING)?;
     assert_made(&rt, alloc, &node, message.content())
+}
+
+#[test]
+fn a_message_is_due_after_a_period(rt: HostRuntime) {
+    assert!(rt; has_waited(30_000, 5, 30_005));
+    assert!(rt; !has_waited(30_000, 5, 30_004));
+    assert!(rt; !has_waited(1, u64::MAX, u64::MAX));
 }

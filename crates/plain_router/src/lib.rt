@@ -8,10 +8,12 @@ mod messages;
 mod outcome;
 mod outputs;
 mod paths;
+mod stamps;
 mod steps;
 mod tears;
 #[cfg(test)]
 mod tests;
+mod ticks;
 mod wanted;
 
 pub use fault::Fault;

@@ -34,6 +34,7 @@ pub(crate) fn link_change(
     Ok(Outcome {
         reply: Reply::Done,
         errors: Outputs::new(alloc),
+        due: Vec::new(alloc),
         after: with_link(alloc, facts, number, is_up)?,
     })
 }

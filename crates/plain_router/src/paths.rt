@@ -128,12 +128,18 @@ fn failed(
     Ok(Outcome {
         reply: Reply::Error(error),
         errors,
+        due: Vec::new(alloc),
         after: facts.try_copy(alloc)?,
     })
 }
 
 /// The facts with a path put among them.
-fn with_path(alloc: Global, facts: &Facts, key: Key, fact: PathFact) -> Result<Facts, AllocError>
+pub(crate) fn with_path(
+    alloc: Global,
+    facts: &Facts,
+    key: Key,
+    fact: PathFact,
+) -> Result<Facts, AllocError>
     ensures { IfOk result (λ after. after ≡ record facts.now { paths = put key_cmp key fact facts.now.paths }) }
 {
     let mut after = facts.try_copy(alloc)?;
@@ -160,6 +166,7 @@ fn taken(
     Ok(Outcome {
         reply: Reply::Done,
         errors,
+        due: Vec::new(alloc),
         after: with_path(alloc, facts, key, fact)?,
     })
 }

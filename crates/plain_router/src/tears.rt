@@ -5,6 +5,7 @@ ghost use Rattle.plain_router.specs.Answers.{IsOutcome};
 use crate::fault::Fault;
 use crate::messages::told_upstream;
 use crate::outcome::{Outcome, refused};
+use crate::paths::with_path;
 use lsr_facts::{Facts, Key, Origin, Outputs, PathFact, Refusal, Reply};
 use path_rules::{is_torn_by, leaves_by, lsp, origins_without};
 use rsvp_contents::{PathErr, PathTear};
@@ -21,6 +22,19 @@ fn without_path(alloc: Global, key: &Key, facts: &Facts) -> Result<Facts, AllocE
     Ok(after)
 }
 
+/// The path with these origins.
+fn with_origins(
+    alloc: Global,
+    fact: &PathFact,
+    origins: Table<Ipv4Addr, Origin>,
+) -> Result<PathFact, AllocError>
+    ensures { IfOk result (λ left. left ≡ record fact.now { origins = origins }) }
+{
+    let mut left = fact.try_copy(alloc)?;
+    left.origins = origins;
+    Ok(left)
+}
+
 /// The facts where the path is left with these origins.
 fn left_with(
     alloc: Global,
@@ -34,11 +48,7 @@ fn left_with(
     if origins.as_slice().is_empty() {
         return without_path(alloc, key, facts);
     }
-    let mut left = fact.try_copy(alloc)?;
-    left.origins = origins;
-    let mut after = facts.try_copy(alloc)?;
-    after.paths.set(*key, left)?;
-    Ok(after)
+    with_path(alloc, facts, *key, with_origins(alloc, fact, origins)?)
 }
 
 /// What a PathTear does.
@@ -62,6 +72,7 @@ pub fn path_tear_arrival(
     Ok(Outcome {
         reply: Reply::Done,
         errors: Outputs::new(alloc),
+        due: Vec::new(alloc),
         after: left_with(alloc, &key, fact, origins, facts)?,
     })
 }
@@ -86,6 +97,7 @@ pub fn path_err_arrival(
     Ok(Outcome {
         reply: Reply::Done,
         errors: told_upstream(alloc, &key, fact, &error.tspec, error.error)?,
+        due: Vec::new(alloc),
         after: facts.try_copy(alloc)?,
     })
 }

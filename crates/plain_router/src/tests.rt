@@ -2,8 +2,9 @@ mod rows;
 
 use crate::*;
 use link_frames::{Frame, read_frame, write_frame};
-use lsr_facts::{Arrive, Event, Facts, LabelRange, Link, Output, Refusal, Reply, Router};
-use rsvp_contents::{Dropped, Reading};
+use lsr_facts::limits::MAX_MOMENT;
+use lsr_facts::{Arrive, Event, Facts, LabelRange, Link, Output, Reply, Router};
+use rsvp_contents::Reading;
 use rsvp_routes::Prefix;
 use sorted_rows::Table;
 use std::alloc::{AllocError, Global};
@@ -66,6 +67,7 @@ fn opened(alloc: Global) -> Result<Known, AllocError> {
             up,
             routes,
             paths: Table::new(alloc),
+            sent: Table::new(alloc),
         },
     })
 }
@@ -97,11 +99,6 @@ fn tell_reply(told: &mut String, reply: Reply) -> Result<(), Fail> {
         Reply::Error(error) => write!(told, "error {} {}\n", error.code, error.value)?,
         Reply::Refused(refusal) => write!(told, "refused {} {:?}\n", refusal.number(), refusal)?,
     }
-    Ok(())
-}
-
-fn tell_dropped(told: &mut String, dropped: Dropped) -> Result<(), Fail> {
-    write!(told, "refused {} {:?}\n", dropped.number(), dropped)?;
     Ok(())
 }
 
@@ -148,63 +145,55 @@ fn take_event(
     Ok(facts)
 }
 
-/// Takes a message, if it can be read.
-fn take_message(
-    alloc: Global,
-    told: &mut String,
-    known: &mut Known,
-    link: u16,
-    digits: &str,
-) -> Result<(), Fail> {
+/// The event of a message in hexadecimal digits that comes over a link, behind the link's number.
+fn arrival_of(alloc: Global, arrival: &str) -> Result<Event, Fail> {
+    let (link, digits) = arrival.split_once(' ').ok_or("no link")?;
     let bytes = frame_bytes(alloc, digits)?;
-    match read_frame(alloc, bytes.as_slice()) {
-        Ok(Frame::Hop(reading)) => {
-            let event = Event::Arrive(Arrive { link, reading });
-            known.facts = take_event(alloc, told, known, &event)?;
-            Ok(())
-        }
-        Err(dropped) => tell_dropped(told, dropped),
-    }
+    let Ok(Frame::Hop(reading)) = read_frame(alloc, bytes.as_slice()) else {
+        return Err(Fail::from("no message"));
+    };
+    Ok(Event::Arrive(Arrive {
+        link: link.parse::<u16>()?,
+        reading,
+    }))
 }
 
-/// The event of a line by which a link comes up or goes down.
-fn link_event(line: &str) -> Result<Option<Event>, Fail> {
-    if let Some(number) = line.strip_prefix("up ") {
-        return Ok(Some(Event::LinkUp(number.parse::<u16>()?)));
+/// The event of a line that is one.
+fn event_of(alloc: Global, line: &str) -> Result<Option<Event>, Fail> {
+    if let Some(arrival) = line.strip_prefix("rx ") {
+        return Ok(Some(arrival_of(alloc, arrival)?));
     }
-    if let Some(number) = line.strip_prefix("down ") {
-        return Ok(Some(Event::LinkDown(number.parse::<u16>()?)));
+    if let Some(moment) = line.strip_prefix("tick ") {
+        return Ok(Some(Event::Tick(moment.parse::<u64>()?)));
     }
-    Ok(None)
+    match line {
+        "restart" => Ok(Some(Event::Restart)),
+        "start" => Ok(Some(Event::Start)),
+        _ => Ok(None),
+    }
 }
 
 /// Takes the event of a line that is one, behind the line itself.
 fn take_line(alloc: Global, told: &mut String, known: &mut Known, line: &str) -> Result<(), Fail> {
-    if let Some(event) = link_event(line)? {
+    if let Some(event) = event_of(alloc, line)? {
         write!(told, "{line}\n")?;
         known.facts = take_event(alloc, told, known, &event)?;
-        return Ok(());
     }
-    let Some(arrival) = line.strip_prefix("rx ") else {
-        return Ok(());
-    };
-    let (link, digits) = arrival.split_once(' ').ok_or("no link")?;
-    write!(told, "{line}\n")?;
-    take_message(alloc, told, known, link.parse::<u16>()?, digits)
+    Ok(())
 }
 
-/// The events of a case, each with what it was answered and what was sent.
-fn told_of(alloc: Global, case: &str) -> Result<String, Fail> {
+/// The events of a case, each with what it was answered and what was sent, and what is known after them.
+fn told_of(alloc: Global, case: &str) -> Result<(String, Known), Fail> {
     let mut told = String::new(alloc);
     let mut known = opened(alloc)?;
     for line in case.split('\n') {
         take_line(alloc, &mut told, &mut known, line)?;
     }
-    Ok(told)
+    Ok((told, known))
 }
 
 fn assert_case(rt: &impl Abort, alloc: Global, case: &str) -> Result<(), Fail> {
-    let told = told_of(alloc, case)?;
+    let (told, _known) = told_of(alloc, case)?;
     assert_eq!(rt; told.as_str(), case);
     Ok(())
 }
@@ -215,38 +204,40 @@ fn a_path_comes_again_and_is_torn_down(rt: HostRuntime) -> Result<(), Fail> {
 }
 
 #[test]
-fn a_tear_matches_hop_and_link(rt: HostRuntime) -> Result<(), Fail> {
-    assert_case(&rt, rt.alloc(), rows::TEAR)
-}
-
-#[test]
-fn errors_are_told(rt: HostRuntime) -> Result<(), Fail> {
-    assert_case(&rt, rt.alloc(), rows::ERRORS)
-}
-
-#[test]
-fn next_hops_follow_the_route(rt: HostRuntime) -> Result<(), Fail> {
-    assert_case(&rt, rt.alloc(), rows::ROUTE)
-}
-
-#[test]
 fn a_refresh_is_sent_where_it_changes(rt: HostRuntime) -> Result<(), Fail> {
     assert_case(&rt, rt.alloc(), rows::REFRESH)
 }
 
 #[test]
-fn links_go_down_and_come_up(rt: HostRuntime) -> Result<(), Fail> {
-    assert_case(&rt, rt.alloc(), rows::LINKS)
+fn paths_live_by_their_own_periods(rt: HostRuntime) -> Result<(), Fail> {
+    assert_case(&rt, rt.alloc(), rows::TIME)
 }
 
 #[test]
-fn a_cold_router_is_started(rt: HostRuntime) -> Result<(), Fail> {
+fn a_restart_takes_the_paths_silently(rt: HostRuntime) -> Result<(), Fail> {
+    assert_case(&rt, rt.alloc(), rows::RESTART)
+}
+
+/// What a router knows that was opened like this one, and knows no path: its links, its route, its moment.
+fn assert_bare(rt: &impl Abort, facts: &Facts, cold: bool, moment: u64) {
+    assert_eq!(rt; (facts.cold, facts.moment), (cold, moment));
+    assert_eq!(rt; facts.up.as_slice(), [(1, true), (2, true)].as_slice());
+    assert_eq!(rt; facts.routes.as_slice().len(), 1);
+    assert!(rt; facts.paths.as_slice().is_empty());
+    assert!(rt; facts.sent.as_slice().is_empty());
+}
+
+#[test]
+fn a_restart_keeps_links_route_and_moment(rt: HostRuntime) -> Result<(), Fail> {
     let alloc = rt.alloc();
-    let mut known = opened(alloc)?;
-    known.facts.cold = true;
-    let (reply, sent, facts) = step(alloc, &known.router, &known.facts, &Event::Start)?;
-    assert_eq!(rt; reply, Reply::Done);
-    assert!(rt; sent.as_slice().is_empty());
-    assert!(rt; !facts.cold);
+    let (_told, mut known) = told_of(alloc, rows::TIME)?;
+    assert_eq!(rt; known.facts.paths.as_slice().len(), 1);
+    assert_eq!(rt; known.facts.sent.as_slice().len(), 1);
+    let mut told = String::new(alloc);
+    known.facts = take_event(alloc, &mut told, &known, &Event::Restart)?;
+    assert_bare(&rt, &known.facts, true, MAX_MOMENT);
+    known.facts = take_event(alloc, &mut told, &known, &Event::Start)?;
+    assert_bare(&rt, &known.facts, false, MAX_MOMENT);
+    assert_eq!(rt; told.as_str(), "done\ndone\n");
     Ok(())
 }

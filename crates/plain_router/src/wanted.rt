@@ -43,7 +43,11 @@ pub(crate) fn wanted_by(
 }
 
 /// What the paths want.
-fn wanted_rows(alloc: Global, node: &Node, paths: &[(Key, PathFact)]) -> Result<Vec<Wanted>, Fault>
+pub(crate) fn wanted_rows(
+    alloc: Global,
+    node: &Node,
+    paths: &[(Key, PathFact)],
+) -> Result<Vec<Wanted>, Fault>
     ensures { IfOk result (λ wants. wants.items ≡ filter_map (wanted_by node.now.router.now node.now.up.now) paths.now) }
 {
     let mut wants = Vec::new(alloc);
