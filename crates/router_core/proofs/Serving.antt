@@ -13,7 +13,8 @@ use Rattle.lsr_facts.specs.declared.refusal.Refusal.TheVariants as refusals
 use Rattle.lsr_facts.specs.declared.reply.Reply.{Reply}
 use Rattle.lsr_facts.specs.declared.router.Router.{Router}
 use Rattle.abstract_router.specs.EventLaws.{possible_event}
-use Rattle.abstract_router.specs.Steps.{IsEvent, IsServed, Run, Step}
+use Rattle.abstract_router.specs.Steps.{IsServed, Run, Step}
+use Rattle.router_core.specs.Plans.{IsMetRunning}
 use Rattle.router_core.specs.Serving.{AreServed, IsAnswered, IsDropFor, IsEventOf, IsStepOf}
 use Rattle.router_core.specs.declared.serve.Datagram.{Datagram}
 
@@ -21,8 +22,10 @@ use Rattle.router_core.specs.declared.serve.Datagram.{Datagram}
 pub served_event : (r : Router) (before after : Facts) (link : ℕ) (bytes : List ℕ) (event : Event) (reply : Reply) (outputs : List Output) → IsEventOf link bytes event → Step r before event reply outputs after → IsServed r before link bytes reply outputs after
 served_event r before after link bytes (events.Arrive a) reply outputs comes step =
     inl (a.reading, comes.1, subst (λ (number : ℕ). Step r before (events.Arrive (record { link = number; reading = a.reading })) reply outputs after) comes.0 step)
+served_event r before after link bytes (events.Tick n) reply outputs comes step = absurd comes
 served_event r before after link bytes (events.LinkUp number) reply outputs comes step = absurd comes
 served_event r before after link bytes (events.LinkDown number) reply outputs comes step = absurd comes
+served_event r before after link bytes events.Restart reply outputs comes step = absurd comes
 served_event r before after link bytes events.Start reply outputs comes step = absurd comes
 
 -- and so whatever comes of serving it
@@ -68,11 +71,13 @@ served_dropped r s d fault first = inl (fault, first, (refl, refl))
 pub served_step : (r : Router) (before : Facts) (d : Datagram) (e : Entry) (after : Facts) → IsEventOf d.link d.bytes.items e.event → IsStepOf r before e after → AreServed r before (d ∷ []) (e ∷ []) after
 served_step r before d e after comes step = inr (e, [], after, refl, comes, step, (refl, refl))
 
--- the event that a datagram is can come
-pub event_can_come : (link : ℕ) (bytes : List ℕ) (event : Event) → IsEventOf link bytes event → IsEvent event
+-- the event that a datagram is can come while the router runs
+pub event_can_come : (link : ℕ) (bytes : List ℕ) (event : Event) → IsEventOf link bytes event → IsMetRunning event
 event_can_come link bytes (events.Arrive a) comes = possible_event bytes a.link a.reading comes.1
+event_can_come link bytes (events.Tick n) comes = absurd comes
 event_can_come link bytes (events.LinkUp number) comes = absurd comes
 event_can_come link bytes (events.LinkDown number) comes = absurd comes
+event_can_come link bytes events.Restart comes = absurd comes
 event_can_come link bytes events.Start comes = absurd comes
 
 -- a datagram that is no event, while there is memory, has a first fault

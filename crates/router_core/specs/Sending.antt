@@ -1,18 +1,16 @@
--- What a path wants sent is a message.
-use Rattle.std.specs.Prelude.{Option, IfSome, IsTrue}
-use Rattle.rsvp_contents.specs.Fitting.{HasRoom, fits_path}
-use Rattle.rsvp_contents.specs.declared.messages.Content.TheVariants as contents
-use Rattle.lsr_facts.specs.declared.key.Key.{Key}
-use Rattle.lsr_facts.specs.declared.path_fact.PathFact.{PathFact}
-use Rattle.lsr_facts.specs.declared.router.Link.{Link}
+-- What a step sends.
+use Rattle.std.specs.Prelude.{◌≡◌, List}
+use Rattle.lsr_facts.specs.declared.event.Output.{Output}
+use Rattle.lsr_facts.specs.declared.facts.Facts.{Facts}
+use Rattle.lsr_facts.specs.declared.key.Item.{Item}
 use Rattle.lsr_facts.specs.declared.router.Router.{Router}
-use Rattle.abstract_router.specs.Wanted.{path_onward}
+use Rattle.abstract_router.specs.Outputs.{outputs_of}
+use Rattle.abstract_router.specs.Stamps.{stamps_of}
+use Rattle.router_core.specs.Changes.{restamped}
+use Rattle.router_core.specs.declared.sent.Sending.{Sending}
 
--- The Path that goes on for it fits a message, over any link: its parts do, and its Tspec leaves room for them.
-abbrev pub CanGoOn : Router → Key → PathFact → Type 0
-CanGoOn r key fact =
-    (link : Link) → IsTrue (fits_path (path_onward r key fact link)) × HasRoom (contents.Path (path_onward r key fact link))
-
--- and so for a path that may be known
-abbrev pub MayGoOn : Router → Key → Option PathFact → Type 0
-MayGoOn r key known = IfSome known (CanGoOn r key)
+-- What a step sends from these facts to those, where errors are met and messages are due; and the moments at which
+-- all that is wanted after it was sent last.
+pub record IsSending (sending : Sending) (r : Router) (before : Facts) (errors : List Output) (due : List Item) (after : Facts) : Type 0 where
+  pub outputs : sending.outputs ≡ outputs_of r before errors due after
+  pub stamps : restamped sending.stamps before.sent ≡ stamps_of r before due after

@@ -17,8 +17,10 @@ use Rattle.router_core.specs.declared.serve.Datagram.{Datagram}
 -- the event that a datagram is: the message of its frame comes over the link
 abbrev pub IsEventOf : ℕ → List ℕ → Event → Type 0
 IsEventOf link bytes (events.Arrive a) = (a.link ≡ link) × SpellsFrame bytes (frames.Hop a.reading)
+IsEventOf link bytes (events.Tick n) = ⊥
 IsEventOf link bytes (events.LinkUp number) = ⊥
 IsEventOf link bytes (events.LinkDown number) = ⊥
+IsEventOf link bytes events.Restart = ⊥
 IsEventOf link bytes events.Start = ⊥
 
 -- the step that an entry tells of

@@ -1,7 +1,8 @@
-ghost use Rattle.std.specs.Prelude.{◌≤◌, ◌^◌, IfOk};
+ghost use Rattle.std.specs.Prelude.{◌≡◌, ◌≤◌, ◌^◌, IfOk};
 ghost use Rattle.rsvp_contents.specs.Spelling.{IsMessage};
 ghost use Rattle.abstract_router.specs.Steps.{arrival, message_arrival, outcome, reading_arrival, unknown_arrival};
 ghost use Rattle.router_core.specs.Changes.{IsDraft};
+ghost use Rattle.router_core.specs.Plans.{IsMetRunning};
 ghost use Rattle.router_core.specs.States.{facts_of};
 
 use crate::change::Change;
@@ -10,6 +11,7 @@ use crate::links::link_change;
 use crate::paths::{path_arrival, unknown_path_arrival};
 use crate::tables::Tables;
 use crate::tears::{path_err_arrival, path_tear_arrival};
+use crate::ticks::tick;
 use explicit_routes::{is_up, link_at};
 use lsr_facts::{Arrive, Event, Outputs, Refusal, Reply};
 use rsvp_contents::{Content, Reading};
@@ -90,16 +92,20 @@ fn arrival(alloc: Global, tables: &Tables, arrive: &Arrive) -> Result<Draft, All
     reading_arrival(alloc, tables, arrive.link, &arrive.reading)
 }
 
-/// What an event does of itself. A running router is started already, so a start changes nothing.
+/// What an event does of itself that a running router meets: it is started already, so a start changes nothing.
 pub(crate) fn draft_of(alloc: Global, tables: &Tables, event: &Event) -> Result<Draft, AllocError>
-    requires { tables.now.moment ≤ 2 ^ 62 }
+    requires moment { tables.now.moment ≤ 2 ^ 62 }
+    requires period { tables.now.timers.refresh_ms ≡ tables.now.router.refresh_ms }
+    requires event { IsMetRunning event.now }
     ensures { IfOk result (λ draft. IsDraft draft
         (outcome tables.now.router (facts_of tables.now) event.now) (facts_of tables.now)) }
 {
     match event {
         Event::Arrive(arrive) => arrival(alloc, tables, arrive),
+        Event::Tick(moment) => tick(alloc, tables, *moment),
         Event::LinkUp(number) => link_change(alloc, tables, *number, true),
         Event::LinkDown(number) => link_change(alloc, tables, *number, false),
+        Event::Restart => unreachable!(),
         Event::Start => Ok(Draft {
             reply: Reply::Done,
             errors: Outputs::new(alloc),

@@ -14,7 +14,7 @@ pub(crate) struct Draft {
     pub(crate) reply: Reply,
     /// The errors that it calls for, in the order found, whether or not their links are up.
     pub(crate) errors: Outputs,
-    /// What changes.
+    /// What changes, but for the moments at which messages were sent.
     pub(crate) change: Change,
 }
 

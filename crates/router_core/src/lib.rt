@@ -14,6 +14,7 @@ mod tables;
 mod tears;
 #[cfg(test)]
 mod tests;
+mod ticks;
 mod told;
 
 pub use plan::Plan;

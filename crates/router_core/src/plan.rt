@@ -1,13 +1,13 @@
 ghost use Rattle.std.specs.Prelude.{◌≡◌, IfOk};
-ghost use Rattle.abstract_router.specs.Soundness.{IsSound};
-ghost use Rattle.abstract_router.specs.Steps.{IsEvent, Step};
+ghost use Rattle.abstract_router.specs.Steps.{Step};
 ghost use Rattle.router_core.specs.Changes.{applied};
+ghost use Rattle.router_core.specs.Plans.{IsMetRunning};
 ghost use Rattle.router_core.specs.States.{AreTables, facts_of};
 
 use crate::arrivals::draft_of;
-use crate::change::Change;
+use crate::change::{Change, Stamps};
 use crate::draft::Draft;
-use crate::sent::outputs_of;
+use crate::sent::{Sending, sending_of};
 use crate::tables::Tables;
 use lsr_facts::{Event, Outputs, Reply};
 use std::alloc::{AllocError, Global};
@@ -20,8 +20,10 @@ pub struct Plan {
     pub(crate) reply: Reply,
     /// What is sent.
     pub(crate) outputs: Outputs,
-    /// What changes.
+    /// What changes, but for the moments at which messages were sent.
     pub(crate) change: Change,
+    /// What changes of those.
+    pub(crate) stamps: Stamps,
 }
 
 impl Plan {
@@ -36,20 +38,20 @@ impl Plan {
 /// The plan of an event's step.
 pub(crate) fn plan_of(alloc: Global, tables: &Tables, event: &Event) -> Result<Plan, AllocError>
     requires tables { AreTables tables.now }
-    requires event { IsEvent event.now }
-    ensures step { IfOk result (λ plan. Step tables.now.router (facts_of tables.now) event.now plan.reply plan.outputs
-        (applied plan.change (facts_of tables.now))) }
-    ensures sound { IfOk result (λ plan. IsSound tables.now.router (applied plan.change (facts_of tables.now))) }
+    requires event { IsMetRunning event.now }
+    ensures { IfOk result (λ plan. Step tables.now.router (facts_of tables.now) event.now plan.reply plan.outputs
+        (applied plan.change plan.stamps (facts_of tables.now))) }
 {
     let Draft {
         reply,
         errors,
         change,
     } = draft_of(alloc, tables, event)?;
-    let outputs = outputs_of(alloc, tables, &change, errors)?;
+    let Sending { outputs, stamps } = sending_of(alloc, tables, &change, errors)?;
     Ok(Plan {
         reply,
         outputs,
         change,
+        stamps,
     })
 }

@@ -1,38 +1,39 @@
-ghost use Rattle.std.specs.Prelude.{◌≡◌, [], IfOk, map, false};
+ghost use Rattle.std.specs.Prelude.{◌≡◌, [], IfOk, map, false, true};
 ghost use Rattle.lsr_facts.specs.declared.event.Event.{Event};
 ghost use Rattle.lsr_facts.specs.declared.event.Event.TheVariants as events;
 ghost use Rattle.lsr_facts.specs.declared.reply.Reply.TheVariants as replies;
 ghost use Rattle.lsr_config.specs.BuiltIn.{two_links};
 ghost use Rattle.lsr_config.specs.Configs.{IsConfig};
 ghost use Rattle.abstract_router.specs.Soundness.{IsRouter, IsSound};
-ghost use Rattle.abstract_router.specs.Steps.{IsEvent, Step};
-ghost use Rattle.router_core.specs.Plans.{IsPlanOf};
-ghost use Rattle.router_core.specs.States.{AreTables, cold, facts_of, opened};
+ghost use Rattle.abstract_router.specs.Steps.{Step};
+ghost use Rattle.router_core.specs.Plans.{IsMetRunning, IsPlanOf};
+ghost use Rattle.router_core.specs.States.{cold, facts_of, opened};
 
-use crate::change::apply;
+use crate::change::{apply, forget};
 use crate::plan::{Plan, plan_of};
 use crate::tables::Tables;
 use lsr_config::Config;
-use lsr_facts::limits::MAX_LSPS;
-use lsr_facts::{Event, Facts, Link, Outputs};
-use sorted_rows::{Table, TryCopy, copy_rows};
+use lsr_facts::{Event, Facts, Item, Link, Outputs};
+use path_state::PathState;
+use refresh_timers::RefreshTimers;
+use sorted_rows::{Table, TryCopy, copy_plain_rows, copy_rows};
 use std::alloc::{AllocError, Global};
 use std::marker::Model;
 
-/// A router that isn't started: it takes no event but its start. Contracts see what it knows.
+/// A router that isn't started: it takes no event but its start, and knows no path. Contracts see what it knows.
 #[derive(Debug, Drop)]
 pub struct Cold {
     tables: Tables,
 }
 
 impl Model for Cold {
-    ghost use Rattle.router_core.specs.States.{AreTables, State, cold, state_of};
+    ghost use Rattle.router_core.specs.States.{AreCold, State, cold, state_of};
 
     ghost Value = { State };
 
     ghost view = { λ c. cold (state_of c.tables) };
 
-    ghost invariant = { λ c. AreTables c.tables };
+    ghost invariant = { λ c. AreCold c.tables };
 }
 
 /// A router that runs. Contracts see what it knows, which is sound at any time.
@@ -60,19 +61,21 @@ fn links_up(alloc: Global, links: &[(u16, Link)]) -> Result<Vec<(u16, bool)>, Al
 
 impl Cold {
     /// The router of a configuration, not started yet. It reserves the memory of all paths that it may ever
-    /// know; the only error is want of that memory.
+    /// know, and of all messages that these may want; the only error is want of that memory.
     pub fn new(alloc: Global, config: Config) -> Result<Cold, AllocError>
         requires { IsConfig config }
         ensures opened { IfOk result (λ router. router ≡ cold (opened config)) }
     {
         let up = links_up(alloc, config.router.links.as_slice())?;
+        let timers = RefreshTimers::new(alloc, config.router.refresh_ms)?;
         Ok(Cold {
             tables: Tables {
                 router: config.router,
                 moment: 0,
                 up: Table::from_rows(up),
                 routes: config.routes,
-                paths: Vec::with_capacity(alloc, MAX_LSPS)?,
+                paths: PathState::new(alloc)?,
+                timers,
             },
         })
     }
@@ -92,13 +95,33 @@ impl Cold {
         let Cold { tables } = self;
         Running { tables }
     }
+
+    /// What the router knows, its tables in the order of their keys. The only error is want of memory.
+    pub fn export(&self, alloc: Global) -> Result<Facts, AllocError>
+        ensures facts { IfOk result (λ facts. facts ≡ self.now.facts) }
+    {
+        facts_in(alloc, &self.tables, true)
+    }
+
+    /// What the router knows is sound, and holds nothing that messages set up. A law: it does nothing when it runs.
+    pub fn soundness(&self)
+        ensures router { IsRouter self.now.router }
+        ensures sound { IsSound self.now.router self.now.facts }
+        ensures cold { self.now.facts.cold ≡ true }
+        ensures no_paths { self.now.facts.paths ≡ [] }
+        ensures nothing_sent { self.now.facts.sent ≡ [] }
+    {
+        // Whoever opens the value sees its invariant.
+        let _tables = &self.tables;
+    }
 }
 
 impl Running {
     /// The plan of an event's step, with all the memory that it takes. It changes nothing; the only error is
-    /// want of memory. It asks for an event that can be: what a frame is read as always is one.
+    /// want of memory. It asks for an event that can be and is no restart ([`Running::restart`]): what a frame is
+    /// read as always is one.
     pub fn plan(&self, alloc: Global, event: &Event) -> Result<Plan, AllocError>
-        requires { IsEvent event.now }
+        requires { IsMetRunning event.now }
         ensures planned { IfOk result (IsPlanOf self.now event.now) }
     {
         plan_of(alloc, &self.tables, event)
@@ -112,15 +135,28 @@ impl Running {
             Step self.old.router self.old.facts event plan.reply result self.new.facts }
         ensures router { self.new.router ≡ self.old.router }
     {
-        apply(&mut self.tables, plan.change);
+        apply(&mut self.tables, plan.change, plan.stamps);
         plan.outputs
+    }
+
+    /// The router loses what messages had set up in it, and is cold until it is started: links, static routes and
+    /// the moment stay. Takes no memory, and sends nothing.
+    pub fn restart(self) -> Cold
+        ensures restarted { result ≡ record self {
+          facts = record self.facts { cold = true; paths = []; sent = [] };
+        } }
+        ensures step { Step self.router self.facts events.Restart replies.Done [] result.facts }
+    {
+        let Running { mut tables } = self;
+        forget(&mut tables);
+        Cold { tables }
     }
 
     /// What the router knows, its tables in the order of their keys. The only error is want of memory.
     pub fn export(&self, alloc: Global) -> Result<Facts, AllocError>
         ensures facts { IfOk result (λ facts. facts ≡ self.now.facts) }
     {
-        facts_in(alloc, &self.tables)
+        facts_in(alloc, &self.tables, false)
     }
 
     /// What the router knows is sound. A law: it does nothing when it runs.
@@ -134,16 +170,24 @@ impl Running {
     }
 }
 
-/// The facts that the tables hold.
-fn facts_in(alloc: Global, tables: &Tables) -> Result<Facts, AllocError>
-    requires { AreTables tables.now }
-    ensures { IfOk result (λ facts. facts ≡ facts_of tables.now) }
+/// When each message was sent last, by the timers.
+fn moments_in(alloc: Global, timers: &RefreshTimers) -> Result<Table<Item, u64>, AllocError>
+    ensures { IfOk result (λ moments. moments ≡ timers.now.sent) }
+{
+    let rows = copy_plain_rows(alloc, timers.as_slice())?;
+    Ok(Table::from_rows(rows))
+}
+
+/// The facts that the tables hold of a router that is cold or runs.
+fn facts_in(alloc: Global, tables: &Tables, cold: bool) -> Result<Facts, AllocError>
+    ensures { IfOk result (λ facts. facts ≡ record (facts_of tables.now) { cold = cold }) }
 {
     Ok(Facts {
-        cold: false,
+        cold,
         moment: tables.moment,
         up: tables.up.try_copy(alloc)?,
         routes: tables.routes.try_copy(alloc)?,
-        paths: Table::from_rows(copy_rows(alloc, &tables.paths)?),
+        paths: Table::from_rows(copy_rows(alloc, tables.paths.as_slice())?),
+        sent: moments_in(alloc, &tables.timers)?,
     })
 }

@@ -1,7 +1,8 @@
 ghost use Rattle.std.specs.Prelude.{◌≡◌, ◌≢◌, ◌∷◌, ◌++◌, [], List, IfOk, IfErr, OnErr, OnOk, take};
 ghost use Rattle.lsr_facts.specs.declared.event.Entry.{Entry};
 ghost use Rattle.lsr_facts.specs.declared.refusal.Refusal.TheVariants.{NoMemory};
-ghost use Rattle.abstract_router.specs.Steps.{IsEvent, Run};
+ghost use Rattle.abstract_router.specs.Steps.{Run};
+ghost use Rattle.router_core.specs.Plans.{IsMetRunning};
 ghost use Rattle.router_core.specs.Serving.{AreServed, IsAnswered, IsDropFor, IsEventOf, IsStepOf};
 
 use crate::running::Running;
@@ -53,10 +54,10 @@ fn only_dropped(refusal: Refusal) -> Result<(), AllocError>
 
 impl Running {
     /// Serves an event: its entry, which tells what it is answered and what is sent. It asks for an event that can
-    /// be; that a link came up or went down always is one. The only error is [`Refusal::NoMemory`], and then
-    /// nothing changed.
+    /// be and that is no restart ([`Running::restart`]); that a moment came, or that a link came up or went down,
+    /// always is one. The only error is [`Refusal::NoMemory`], and then nothing changed.
     pub fn serve_event(&mut self, alloc: Global, event: Event) -> Result<Entry, Refusal>
-        requires { IsEvent event }
+        requires { IsMetRunning event }
         ensures event { IfOk result (λ entry. entry.event ≡ event) }
         ensures step { IfOk result (λ entry. IsStepOf self.old.router self.old.facts entry self.new.facts) }
         ensures router { self.new.router ≡ self.old.router }

@@ -8,8 +8,10 @@ ghost use Rattle.router_core.specs.States.{facts_of};
 
 use lsr_facts::limits::MAX_LSPS;
 use lsr_facts::{Key, Node, PathFact, Router};
+use path_state::PathState;
+use refresh_timers::RefreshTimers;
 use rsvp_routes::Prefix;
-use sorted_rows::{Table, get_ref};
+use sorted_rows::Table;
 
 /// What a router holds: what never changes of it, and its tables.
 #[derive(Debug, Drop)]
@@ -22,8 +24,10 @@ pub(crate) struct Tables {
     pub(crate) up: Table<u16, bool>,
     /// The static routes.
     pub(crate) routes: Table<Prefix, u16>,
-    /// The paths, in the order of their keys. Room for all of them is reserved.
-    pub(crate) paths: Vec<(Key, PathFact)>,
+    /// The paths.
+    pub(crate) paths: PathState,
+    /// When each wanted message was sent last, and how often that is done.
+    pub(crate) timers: RefreshTimers,
 }
 
 /// Where the router stands.
@@ -41,7 +45,7 @@ pub(crate) fn node_of(tables: &Tables) -> Node<'_>
 pub(crate) fn path_at<'a>(tables: &'a Tables, key: &Key) -> Option<&'a PathFact>
     ensures { option_copied result ≡ find key_cmp key.now (facts_of tables.now).paths }
 {
-    get_ref(&tables.paths, key)
+    tables.paths.get(key)
 }
 
 /// Whether the path is new, and there is no room for another.
@@ -50,6 +54,6 @@ pub(crate) fn is_full(tables: &Tables, known: Option<&PathFact>) -> bool
 {
     match known {
         Some(_) => false,
-        None => tables.paths.len() >= MAX_LSPS,
+        None => tables.paths.as_slice().len() >= MAX_LSPS,
     }
 }

@@ -1,10 +1,10 @@
-ghost use Rattle.std.specs.Prelude.{◌≡◌, IfOk};
+ghost use Rattle.std.specs.Prelude.{◌≡◌, [], IfOk};
 ghost use Rattle.lsr_facts.specs.declared.facts.Facts.{Facts};
 ghost use Rattle.rsvp_contents.specs.Spelling.{IsMessage};
 ghost use Rattle.rsvp_contents.specs.declared.messages.Content.TheVariants as contents;
 ghost use Rattle.abstract_router.specs.MessageLaws.{LeavesRoom};
 ghost use Rattle.abstract_router.specs.Tears.{left_with, path_err_arrival, path_tear_arrival};
-ghost use Rattle.router_core.specs.Changes.{IsDraft, applied};
+ghost use Rattle.router_core.specs.Changes.{IsDraft, changed, due_in};
 ghost use Rattle.router_core.specs.States.{facts_of};
 
 use crate::change::Change;
@@ -28,7 +28,8 @@ fn left_with(
     fact: &PathFact,
     origins: Table<Ipv4Addr, Origin>,
 ) -> Result<Change, AllocError>
-    ensures { IfOk result (λ change. (before : Facts) → applied change before ≡ left_with key.now fact.now origins before) }
+    ensures after { IfOk result (λ change. (before : Facts) → changed change before ≡ left_with key.now fact.now origins before) }
+    ensures due { IfOk result (λ change. due_in change ≡ []) }
 {
     if origins.as_slice().is_empty() {
         return Ok(Change::Remove(*key));

@@ -1,29 +1,17 @@
-use Rattle.std.proofs.Common.{ap, subst, sym, ◌∙◌}
-use Rattle.abstract_router.specs.Outputs.{outputs_of}
+use Rattle.std.proofs.Common.{refl, subst, sym}
 use Rattle.abstract_router.specs.RunLaws.{outcome_sound}
-use Rattle.abstract_router.specs.Soundness.{IsSound}
-use Rattle.router_core.specs.Changes.{applied}
+use Rattle.abstract_router.specs.Soundness.{IsStanding}
 use Rattle.router_core.specs.States.{facts_of}
+use Rattle.router_core.proofs.Planning.{met_can_be, planned_step}
 use Rattle.router_core.proofs.plan.plan_of.Goals as goal
 
-pub outputs_of-requires-clause-sound : goal.outputs_of-requires-clause-sound
-outputs_of-requires-clause-sound c =
+pub sending_of-requires-clause-standing : goal.sending_of-requires-clause-standing
+sending_of-requires-clause-standing c =
     let t = c.args.tables.now in
-    subst (IsSound t.router) (sym c.in_ok-reply.ensures.after) (outcome_sound t.router (facts_of t) c.args.event.now c.requires.tables.router c.requires.tables.sound c.requires.event)
+    let event = c.args.event.now in
+    subst (IsStanding t.router) (sym c.in_ok-reply.ensures.after) (outcome_sound t.router (facts_of t) event c.requires.tables.router c.requires.tables.sound.standing (met_can_be event c.requires.event))
 
-pub returns-clause-sound : goal.returns-clause-sound
-returns-clause-sound c =
+pub returns : goal.returns
+returns c =
     let t = c.args.tables.now in
-    subst (IsSound t.router) (sym c.in_ok-reply.ensures.after) (outcome_sound t.router (facts_of t) c.args.event.now c.requires.tables.router c.requires.tables.sound c.requires.event)
-
-pub returns-clause-step : goal.returns-clause-step
-returns-clause-step c =
-    let t = c.args.tables.now in
-    let draft = c.in_ok-reply.ensures in
-    record {
-      possible = c.requires.event;
-      awake = λ is. absurd (let e = is in cc);
-      replied = draft.reply;
-      changed = draft.after;
-      sent = c.in_ok-outputs.ensures ∙ ap (λ errors. outputs_of t.router (facts_of t) errors (applied c.in_ok-reply.field-0.change (facts_of t))) draft.errors;
-    }
+    planned_step t.router (facts_of t) c.args.event.now c.in_ok-reply.field-0 c.in_ok-outputs.field-0 refl c.requires.tables.sound c.requires.event c.in_ok-reply.ensures c.in_ok-outputs.ensures

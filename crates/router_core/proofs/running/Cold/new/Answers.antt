@@ -1,9 +1,10 @@
-use Rattle.std.proofs.Common.{T, false, ap, arith, map, nat_cmp, subst, sym, ◌∙◌}
+use Rattle.std.proofs.Common.{T, false, ap, map, nat_cmp, subst, sym, ◌∙◌}
 use Rattle.sorted_rows.specs.Rows.{keys_of}
 use Rattle.sorted_rows.specs.RowsLaws.{is_sorted-both}
 use Rattle.abstract_router.specs.RowLaws.{keys-map}
 use Rattle.abstract_router.specs.RunLaws.{sound_opening}
 use Rattle.abstract_router.specs.Soundness.{IsSound}
+use Rattle.refresh_timers.specs.Timers.{Timers}
 use Rattle.router_core.proofs.running.Cold.new.Goals as goal
 
 pub from_rows-requires : goal.from_rows-requires
@@ -17,9 +18,14 @@ pub invariant_of-result : goal.invariant_of-result
 invariant_of-result c =
     let config = c.args.config in
     let up = c.from_rows.ensures ∙ c.in_ok-up.ensures ∙ ap (map (λ l. (l.0, l.1.up))) c.as_slice.ensures.rows in
-    let paths = c.in_ok-with_capacity.ensures.items in
+    let paths = c.in_ok-new.ensures in
+    let timers = c.in_ok-timers.ensures in
     record {
-      router = c.requires.router;
-      sound = subst (IsSound config.router) (sym (λ i. record { cold = false; moment = 0; up = up i; routes = config.routes; paths = paths i })) (sound_opening config.router config.routes c.requires.router c.requires.routes);
-      room = omega (arith, c.in_ok-with_capacity.ensures.capacity);
+      tables = record {
+        router = c.requires.router;
+        sound = subst (IsSound config.router) (sym (λ i. record { cold = false; moment = 0; up = up i; routes = config.routes; paths = paths i; sent = (timers i).sent })) (sound_opening config.router config.routes c.requires.router c.requires.routes);
+        period = ap (λ (t : Timers). t.refresh_ms) timers;
+      };
+      no_paths = paths;
+      nothing_sent = ap (λ (t : Timers). t.sent) timers;
     }

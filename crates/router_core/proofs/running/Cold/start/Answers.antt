@@ -1,9 +1,10 @@
-use Rattle.std.proofs.Common.{[], refl, subst, sym}
+use Rattle.std.proofs.Common.{List, [], ℕ, ap, refl, subst, sym}
 use Rattle.lsr_facts.specs.declared.event.Event.TheVariants as events
+use Rattle.lsr_facts.specs.declared.key.Item.{Item}
 use Rattle.lsr_facts.specs.declared.reply.Reply.TheVariants as replies
 use Rattle.abstract_router.specs.Steps.{Step}
 use Rattle.router_core.specs.States.{State, facts_of}
-use Rattle.router_core.proofs.Sending.{starts_silently}
+use Rattle.router_core.proofs.Sending.{starts_silently, starts_unstamped}
 use Rattle.router_core.proofs.running.Cold.start.Goals as goal
 
 pub returns-clause-step : goal.returns-clause-step
@@ -14,6 +15,6 @@ returns-clause-step c =
       possible = tt;
       awake = λ is. refl;
       replied = refl;
-      changed = refl;
-      sent = sym (starts_silently t.router (facts_of t) c.self.invariant.sound.paths.in_order);
+      changed = sym (ap (λ (sent : List (Item × ℕ)). record (facts_of t) { sent = sent }) (starts_unstamped t.router (facts_of t) c.self.invariant.tables.sound));
+      sent = sym (starts_silently t.router (facts_of t) c.self.invariant.tables.sound.standing.paths.in_order);
     })

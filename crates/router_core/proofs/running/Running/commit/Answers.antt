@@ -9,8 +9,8 @@ pub apply-requires : goal.apply-requires
 apply-requires c =
     let t = c.self.inside.tables in
     let plan = c.args.plan in
-    let step = subst (λ (s : State). Step s.router s.facts c.requires.0 plan.reply plan.outputs (applied plan.change s.facts)) (sym c.self.view_is) c.requires.1 in
+    let step = subst (λ (s : State). Step s.router s.facts c.requires.0 plan.reply plan.outputs (applied plan.change plan.stamps s.facts)) (sym c.self.view_is) c.requires.1 in
     record {
       tables = c.self.invariant;
-      sound = sound_step t.router (facts_of t) (applied plan.change (facts_of t)) c.requires.0 plan.reply plan.outputs c.self.invariant.router c.self.invariant.sound step;
+      sound = sound_step t.router (facts_of t) (applied plan.change plan.stamps (facts_of t)) c.requires.0 plan.reply plan.outputs c.self.invariant.router c.self.invariant.sound step;
     }
