@@ -1,4 +1,3 @@
-mod Answering
 mod LineLaws
 mod Rooms
 mod Sessions

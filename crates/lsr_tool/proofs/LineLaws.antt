@@ -1,4 +1,4 @@
--- What cuts a text at its first newline, what reads a link, and what a line asks for.
+-- What cuts a text at its first newline, what reads a link or a moment, and what a line asks for.
 use Rattle.std.proofs.Common.{◌≡◌, ◌≢◌, ◌<◌, ◌≤◌, ◌^◌, ℕ, suc, List, [], ◌∷◌, ◌++◌, Result, Ok, Err, true, refl, sym, ap, subst, ◌∙◌, arith, codes, get_or, length, ne_eqb, Bor, inl, inr, ◌⊎◌}
 use Rattle.std.proofs.lemmas.List.{append_cancel_left}
 use Rattle.std.specs.Prelude.{Option, Some, None}
@@ -14,7 +14,7 @@ use Rattle.hex.specs.declared.error.FromHexError.{FromHexError}
 use Rattle.hex.specs.declared.error.FromHexError.TheVariants.{OutOfMemory}
 use Rattle.lsr_tool.specs.declared.lines.Request.{Request}
 use Rattle.lsr_tool.specs.declared.lines.Request.TheVariants as requests
-use Rattle.lsr_tool.specs.Lines.{lines_of, NamesLink, AsksFor, AsksOfLink, AsksToReceive}
+use Rattle.lsr_tool.specs.Lines.{lines_of, NamesLink, NamesMoment, AsksFor, AsksOf, AsksToReceive}
 
 pub own : IsNumeralModel (λ ds. all_ascii_digits ds ≡ true) (digits_value 10)
 own = numerals_by_value _ tells_all_ascii_digits
@@ -36,19 +36,28 @@ lines_last (b ∷ []) low h = line_more b [] (h 0 (omega arith))
 lines_last (b ∷ c ∷ line) low h = line_more b (c ∷ line) (h 0 (omega arith)) ∙ ap (onto_first b) (lines_last (c ∷ line) (omega arith) (λ i l. h (suc i) (omega arith)))
 
 -- `parse` takes digits that begin with no sign
-pub link_value : {E : Type 0} (digits : List ℕ) (r : Result ℕ E) → get_or digits 0 0 ≢ 43 → ParsesUnsigned 16 10 digits r → OkIff r ((all_ascii_digits digits ≡ true) × (0 < length digits) × (digits_value 10 digits < 2 ^ 16)) (digits_value 10 digits)
-link_value digits r plain h = parse_plain own 16 digits r h plain
+pub digits_parsed : {E : Type 0} (width : ℕ) (digits : List ℕ) (r : Result ℕ E) → get_or digits 0 0 ≢ 43 → ParsesUnsigned width 10 digits r → OkIff r ((all_ascii_digits digits ≡ true) × (0 < length digits) × (digits_value 10 digits < 2 ^ width)) (digits_value 10 digits)
+digits_parsed width digits r plain h = parse_plain own width digits r h plain
+
+no_sign : (digits : List ℕ) → all_ascii_digits digits ≡ true → get_or digits 0 0 ≡ 43 → ⊥
+no_sign [] h e = absurd (omega (arith, e))
+no_sign (d ∷ ds) h e = let p = tells_all_ascii_digits.parts d ds h in absurd (omega (arith, p.0.0, p.0.1, e))
 
 pub no_link_signed : (digits : List ℕ) (link : ℕ) → get_or digits 0 0 ≡ 43 → NamesLink digits link → ⊥
-no_link_signed [] link e n = absurd (omega (arith, e))
-no_link_signed (d ∷ ds) link e n = let p = tells_all_ascii_digits.parts d ds n.decimal in absurd (omega (arith, p.0.0, p.0.1, e))
+no_link_signed digits link e n = no_sign digits n.decimal e
+
+pub no_moment_signed : (digits : List ℕ) (moment : ℕ) → get_or digits 0 0 ≡ 43 → NamesMoment digits moment → ⊥
+no_moment_signed digits moment e n = no_sign digits n.decimal e
 
 digits_some : (digits : List ℕ) → 1 ≤ digits_value 10 digits → 0 < length digits
 digits_some [] h = absurd (omega (arith, h))
 digits_some (d ∷ ds) h = omega arith
 
 pub no_link : {E : Type 0} (digits : List ℕ) (e : E) (link : ℕ) → get_or digits 0 0 ≢ 43 → ParsesUnsigned 16 10 digits (Err e) → NamesLink digits link → ⊥
-no_link digits e link plain h n = link_value digits (Err e) plain h (n.decimal, digits_some digits (omega (arith, n.value, n.low)), omega (arith, n.value, n.high))
+no_link digits e link plain h n = digits_parsed 16 digits (Err e) plain h (n.decimal, digits_some digits (omega (arith, n.value, n.low)), omega (arith, n.value, n.high))
+
+pub no_moment : {E : Type 0} (digits : List ℕ) (e : E) (moment : ℕ) → get_or digits 0 0 ≢ 43 → ParsesUnsigned 64 10 digits (Err e) → NamesMoment digits moment → ⊥
+no_moment digits e moment plain h n = digits_parsed 64 digits (Err e) plain h (n.decimal, omega (arith, n.some), omega (arith, n.value, n.high))
 
 -- the words behind `rx ` are those of the line
 pub words_of : (line words : List ℕ) (link : ℕ) (message : List ℕ) → line ≡ codes "rx " ++ words → (a : AsksToReceive line link message) → words ≡ a.link_digits ++ (32 ∷ a.hex_digits)
@@ -79,15 +88,20 @@ pub no_bytes : (digits others message : List ℕ) (error : FromHexError) → err
 no_bytes digits others message error other (inl h) e m = other h
 no_bytes digits others message error other (inr h) e m = let t = sym h ∙ ap decode_of e ∙ m in cc
 
--- a line that names a link behind a word names that of what is behind it
-pub link_behind : (word line digits : List ℕ) (r : Option ℕ) → line ≡ word ++ digits → MatchOption r ((link : ℕ) → NamesLink digits link → ⊥) (NamesLink digits) → MatchOption r ((link : ℕ) → AsksOfLink word line link → ⊥) (AsksOfLink word line)
-link_behind word line digits None e h = λ link a. h link (same_names digits a.digits link (append_cancel_left word digits a.digits (sym e ∙ a.parts)) a.names)
-link_behind word line digits (Some link) e h = record { digits = digits; parts = e; names = h }
+-- a line that names a number behind a word names that of what is behind it
+pub number_behind : (Names : List ℕ → ℕ → Type 0) (word line digits : List ℕ) (r : Option ℕ) → line ≡ word ++ digits → MatchOption r ((n : ℕ) → Names digits n → ⊥) (Names digits) → MatchOption r ((n : ℕ) → AsksOf Names word line n → ⊥) (AsksOf Names word line)
+number_behind Names word line digits None e h = λ n a. h n (subst (λ d. Names d n) (append_cancel_left word a.digits digits (sym a.parts ∙ e)) a.names)
+number_behind Names word line digits (Some n) e h = record { digits = digits; parts = e; names = h }
 
--- a line that is none of the four asks for nothing
-pub asks_nothing : (line : List ℕ) → ((link : ℕ) → AsksOfLink (codes "up ") line link → ⊥) → ((link : ℕ) → AsksOfLink (codes "down ") line link → ⊥) → (line ≡ codes "show paths" → ⊥)
+-- a line that is none of these asks for nothing
+pub asks_nothing : (line : List ℕ) → (line ≢ codes "restart") × (line ≢ codes "start") × (line ≢ codes "show paths") × (line ≢ codes "show recent")
+    → ((moment : ℕ) → AsksOf NamesMoment (codes "tick ") line moment → ⊥) → ((link : ℕ) → AsksOf NamesLink (codes "up ") line link → ⊥) → ((link : ℕ) → AsksOf NamesLink (codes "down ") line link → ⊥)
     → ((link : ℕ) (message : List ℕ) → AsksToReceive line link message → ⊥) → (request : Request) → AsksFor line request → ⊥
-asks_nothing line up down show receive (requests.Receive arrival) a = receive arrival.link arrival.message.items a
-asks_nothing line up down show receive (requests.LinkUp link) a = up link a
-asks_nothing line up down show receive (requests.LinkDown link) a = down link a
-asks_nothing line up down show receive requests.ShowPaths a = show a
+asks_nothing line words tick up down receive (requests.Receive arrival) a = receive arrival.link arrival.message.items a
+asks_nothing line words tick up down receive (requests.Tick moment) a = tick moment a
+asks_nothing line words tick up down receive (requests.LinkUp link) a = up link a
+asks_nothing line words tick up down receive (requests.LinkDown link) a = down link a
+asks_nothing line words tick up down receive requests.Restart a = words.0 a
+asks_nothing line words tick up down receive requests.Start a = words.1 a
+asks_nothing line words tick up down receive requests.ShowPaths a = words.2 a
+asks_nothing line words tick up down receive requests.ShowRecent a = words.3 a

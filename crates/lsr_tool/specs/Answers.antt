@@ -1,4 +1,4 @@
--- What is printed for a datagram's answer.
+-- What is printed for the answer to an event or a datagram.
 use Rattle.std.specs.Prelude.{ℕ, List, ◌++◌, codes, flat_map, Result, Ok, Err}
 use Rattle.std.specs.Fmt.{decimal}
 use Rattle.hex.specs.Hex.{encode_lower}
@@ -38,6 +38,11 @@ message_in (frames.Hop reading) = content_in reading
 -- `tx LINK HEX`, the message's bytes in lower case
 abbrev pub output_line : Output → List ℕ
 output_line o = codes "tx " ++ (decimal o.link ++ (codes " " ++ (encode_lower (message_bytes (message_in o.frame)) ++ codes "\n")))
+
+-- what is answered, without what is sent
+abbrev pub reply_of : Result Entry Refusal → Reply
+reply_of (Ok e) = e.reply
+reply_of (Err refusal) = replies.Refused refusal
 
 -- the reply, and behind it what is sent, in order
 abbrev pub answer_text : Result Entry Refusal → List ℕ

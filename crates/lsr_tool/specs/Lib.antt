@@ -2,6 +2,7 @@ pub mod Lines
 pub mod Names
 pub mod Answers
 pub mod Shown
+pub mod Routers
 pub mod Requests
 pub mod Steps
 pub mod Texts

@@ -1,5 +1,5 @@
 -- How a text is cut into lines, and which line asks for what.
-use Rattle.std.specs.Prelude.{◌≡◌, ◌≤◌, ◌==◌, ℕ, List, [], ◌∷◌, ◌++◌, Ok, true, codes, if◌then◌else◌}
+use Rattle.std.specs.Prelude.{◌≡◌, ◌≤◌, ◌<◌, ◌^◌, ◌==◌, ℕ, length, List, [], ◌∷◌, ◌++◌, Ok, true, codes, if◌then◌else◌}
 use Rattle.std.specs.List.{onto_first}
 use Rattle.std.specs.Str.{all_ascii_digits}
 use Rattle.std.specs.Str.Parse.{digits_value}
@@ -28,15 +28,27 @@ pub record AsksToReceive (line : List ℕ) (link : ℕ) (message : List ℕ) : T
   pub names : NamesLink link_digits link
   pub bytes : decode_of hex_digits ≡ Ok message
 
--- A word with one space behind it, and then a link's number alone.
-pub record AsksOfLink (word line : List ℕ) (link : ℕ) : Type 0 where
+-- A moment: decimal digits, leading zeros taken, that fit 64 bits.
+pub record NamesMoment (digits : List ℕ) (moment : ℕ) : Type 0 where
+  pub some : 1 ≤ length digits
+  pub decimal : all_ascii_digits digits ≡ true
+  pub value : digits_value 10 digits ≡ moment
+  pub high : moment < 2 ^ 64
+
+-- A word with one space behind it, and then a number alone; `Names` says which digits are which number.
+pub record AsksOf (Names : List ℕ → ℕ → Type 0) (word line : List ℕ) (number : ℕ) : Type 0 where
   pub digits : List ℕ
   pub parts : line ≡ word ++ digits
-  pub names : NamesLink digits link
+  pub names : Names digits number
 
--- What a line asks for: `rx LINK HEX`, `up LINK`, `down LINK` or `show paths`.
+-- What a line asks for: `rx LINK HEX`, `tick N`, `up LINK`, `down LINK`, `restart`, `start`, `show paths` or `show
+-- recent`.
 abbrev pub AsksFor : List ℕ → Request → Type 0
 AsksFor line (requests.Receive arrival) = AsksToReceive line arrival.link arrival.message.items
-AsksFor line (requests.LinkUp link) = AsksOfLink (codes "up ") line link
-AsksFor line (requests.LinkDown link) = AsksOfLink (codes "down ") line link
+AsksFor line (requests.Tick moment) = AsksOf NamesMoment (codes "tick ") line moment
+AsksFor line (requests.LinkUp link) = AsksOf NamesLink (codes "up ") line link
+AsksFor line (requests.LinkDown link) = AsksOf NamesLink (codes "down ") line link
+AsksFor line requests.Restart = line ≡ codes "restart"
+AsksFor line requests.Start = line ≡ codes "start"
 AsksFor line requests.ShowPaths = line ≡ codes "show paths"
+AsksFor line requests.ShowRecent = line ≡ codes "show recent"

@@ -4,9 +4,9 @@ use Rattle.lsr_config.specs.BuiltIn.{two_links}
 use Rattle.lsr_config.specs.Reading.{IsRead}
 use Rattle.lsr_config.specs.declared.config.Config.{Config}
 use Rattle.lsr_config.specs.declared.fault.ConfigFault.{ConfigFault}
-use Rattle.router_core.specs.States.{State, opened}
+use Rattle.router_core.specs.States.{opened}
 use Rattle.lsr_tool.specs.Lines.{lines_of}
-use Rattle.lsr_tool.specs.Requests.{PrintsAnswer}
+use Rattle.lsr_tool.specs.Requests.{PrintsAnswer, SessionState}
 use Rattle.lsr_tool.specs.Steps.{Ends}
 use Rattle.lsr_tool.specs.Texts.{IsTextOf}
 use Rattle.lsr_tool.specs.declared.input.InputFault.{InputFault}
@@ -30,6 +30,10 @@ abbrev pub IsMisconfigured : Option (List ℕ) → ConfigFault → Type 0
 IsMisconfigured None fault = ⊥
 IsMisconfigured (Some text) fault = IsRead text (Err fault)
 
+-- a session that begins: the router as it is opened, and no reply yet
+abbrev pub begun : Config → SessionState
+begun config = record { router = opened config; recent = [] }
+
 -- why no run begins: the fault of its configuration, or want of memory
 abbrev pub CannotBegin : Option (List ℕ) → Ending → Type 0
 CannotBegin configured (endings.BadConfig fault) = IsMisconfigured configured fault
@@ -41,21 +45,21 @@ abbrev pub ending_of : InputFault → Ending
 ending_of faults.Unreadable = endings.Unreadable
 ending_of faults.Memory = endings.Memory
 
--- How a run ends whose texts were read: at once, for the fault of its configuration; or with the answers that the
--- router, as it is opened, gives to the lines, one after the other.
+-- How a run ends whose texts were read: at once, for the fault of its configuration; or with the answers that a
+-- session on the router, as it is opened, gives to the lines, one after the other.
 abbrev pub StepsOver : Option (List ℕ) → List ℕ → List ℕ → Ending → Type 0
 StepsOver configured text printed (endings.BadConfig fault) = (printed ≡ []) × IsMisconfigured configured fault
 StepsOver configured text printed ending =
-    (config : Config) × IsConfigured configured config × Ends PrintsAnswer (opened config) (lines_of text) printed ending
+    (config : Config) × IsConfigured configured config × Ends PrintsAnswer (begun config) (lines_of text) printed ending
 
--- The texts of the configuration and of the input are read, and the router is opened that the first says.
-pub record IsReady (stream : Option (Option (List ℕ))) (input : Option (List ℕ)) (router : State) (text : List ℕ) : Type 0 where
+-- The texts of the configuration and of the input are read, and a session begins on the router that the first says.
+pub record IsReady (stream : Option (Option (List ℕ))) (input : Option (List ℕ)) (session : SessionState) (text : List ℕ) : Type 0 where
   pub configured : Option (List ℕ)
   pub config : Config
   pub config_read : IsConfigText stream configured
   pub input_read : IsTextOf input text
   pub says : IsConfigured configured config
-  pub opens : router ≡ opened config
+  pub begins : session ≡ begun config
 
 -- The texts of the configuration and of the input are read before all else, and the run is one over these.
 pub record StepsRead (stream : Option (Option (List ℕ))) (input : Option (List ℕ)) (printed : List ℕ) (ending : Ending) : Type 0 where

@@ -1,4 +1,4 @@
--- What `show paths` prints.
+-- What `show paths` and `show recent` print.
 use Rattle.std.specs.Prelude.{ℕ, List, ◌++◌, codes, flat_map, length}
 use Rattle.std.specs.Fmt.{decimal}
 use Rattle.std.specs.Net.Addr.{ipv4_octets}
@@ -7,6 +7,8 @@ use Rattle.lsr_facts.specs.declared.key.Key.{Key}
 use Rattle.lsr_facts.specs.declared.path_fact.PathFact.{PathFact}
 use Rattle.lsr_facts.specs.declared.path_fact.Role.{Role}
 use Rattle.lsr_facts.specs.declared.path_fact.Role.TheVariants as roles
+use Rattle.lsr_facts.specs.declared.reply.Reply.{Reply}
+use Rattle.lsr_tool.specs.Answers.{reply_line}
 
 -- what the router is on a path's way
 abbrev pub role_word : Role → List ℕ
@@ -30,3 +32,7 @@ path_line row =
 -- a line for each path, in their order
 abbrev pub paths_text : List (Key × PathFact) → List ℕ
 paths_text paths = flat_map path_line paths
+
+-- a line for each reply, the oldest first
+abbrev pub recent_text : List Reply → List ℕ
+recent_text replies = flat_map reply_line replies

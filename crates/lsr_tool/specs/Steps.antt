@@ -9,7 +9,7 @@ use Rattle.lsr_tool.specs.declared.step.Ending.TheVariants as endings
 use Rattle.lsr_tool.specs.declared.step.Served.{Served}
 use Rattle.lsr_tool.specs.declared.step.Served.TheVariants as lots
 
--- A line that asks for something: it is answered. `answers` says what a router prints for a request.
+-- A line that asks for something: it is answered. `answers` says what a session prints for a request.
 pub record PrintsLine {S : Type 0} (answers : S → Request → List ℕ → S → Type 0) (before : S) (line printed : List ℕ) (after : S) : Type 0 where
   pub request : Request
   pub asks : AsksFor line request

@@ -1,6 +1,6 @@
-//! What is printed for a datagram's answer.
+//! What is printed for the answer to an event or a datagram.
 ghost use Rattle.std.specs.Prelude.{◌≡◌, ◌++◌, OnOk, IfOk, string_bytes};
-ghost use Rattle.lsr_tool.specs.Answers.{answer_text, content_in, message_in, output_line, refusal_line, reply_line};
+ghost use Rattle.lsr_tool.specs.Answers.{answer_text, content_in, message_in, output_line, refusal_line, reply_line, reply_of};
 
 use crate::names::refusal_name;
 use link_frames::Frame;
@@ -19,7 +19,7 @@ pub(crate) fn push_refusal(text: &mut String, refusal: Refusal) -> Result<(), Al
 }
 
 /// Appends the line of a reply: `done`, `error CODE VALUE` or `refused N NAME`.
-fn push_reply(text: &mut String, reply: Reply) -> Result<(), AllocError>
+pub(crate) fn push_reply(text: &mut String, reply: Reply) -> Result<(), AllocError>
     ensures { OnOk result (string_bytes text.new ≡ string_bytes text.old ++ reply_line reply) }
 {
     match reply {
@@ -30,6 +30,16 @@ fn push_reply(text: &mut String, reply: Reply) -> Result<(), AllocError>
             write!(text, "error {code} {value}\n")
         }
         Reply::Refused(refusal) => push_refusal(text, refusal),
+    }
+}
+
+/// What was answered, without what is sent.
+pub(crate) fn reply_of(answer: &Result<Entry, Refusal>) -> Reply
+    ensures { result ≡ reply_of answer.now }
+{
+    match answer {
+        Ok(entry) => entry.reply,
+        Err(refusal) => Reply::Refused(*refusal),
     }
 }
 

@@ -5,10 +5,11 @@ use std::alloc::{AllocError, Global};
 const ABOUT: &str = "The control plane of an MPLS label switching router, in an operator's hands.";
 
 const HELP: &str = "\
-step reads lines: `rx LINK HEX`, a message came over a link; `up LINK` and `down LINK`, a link
-came up or went down; `show paths`. It prints `done`, `error CODE VALUE` or `refused N NAME`
-for each event, and behind that a line `tx LINK HEX` for each message that the router sends.
-With --config FILE the router is that of a configuration: docs/CONFIGURATION.md has its keys.
+step reads lines: `rx LINK HEX`, a message came over a link; `tick N`, a moment came; `up LINK`
+and `down LINK`, a link came up or went down; `restart`, `start`; `show paths`, `show recent`.
+It prints `done`, `error CODE VALUE` or `refused N NAME` for each event, and behind that a line
+`tx LINK HEX` for each message that the router sends. With --config FILE the router is that of
+a configuration: docs/CONFIGURATION.md has its keys.
 decode prints what one message is made of.
 
 Example: the router refuses to tear down a path that it doesn't know.
@@ -17,22 +18,32 @@ Example: the router refuses to tear down a path that it doesn't know.
 ";
 
 const STEP_ABOUT: &str = "\
-Serves messages and links that come up and go down, a line each from standard input, and
-prints what the router answers and sends";
+Serves messages, moments, links that come up and go down, and restarts, a line each from
+standard input, and prints what the router answers and sends";
 
 const STEP_HELP: &str = "\
 A line of standard input, its words parted by one space:
   rx LINK HEX       a message came over link LINK, 1 to 65535; HEX is its bytes in
                     hexadecimal digits of either case, and may be empty
+  tick N            moment N came, in milliseconds; the router is opened at moment 0
   up LINK           link LINK came up
   down LINK         link LINK went down
+  restart           the router lost what messages had set up in it, and is cold
+  start             a cold router is started; a running one goes on as it is
   show paths        asks for the paths that the router knows
+  show recent       asks for the last 32 replies
 
-What is printed for a message or a link:
+What is printed for each of them but `show paths` and `show recent`:
   done              it was done
   error CODE VALUE  it is an error of RSVP, which its sender is told
   refused N NAME    it was refused for the reason of this number and name
   tx LINK HEX       behind that, each message that the router sends
+A moment below the last one is `refused 29 Late`, one above 4611686018427387904 (2^62)
+`refused 30 BadMoment`: go on from the last. A cold router takes `start` alone, and answers
+`refused 42 IsCold` to the rest: start it first.
+
+What is printed for `show recent`, the oldest reply first: `done`, `error CODE VALUE` or
+`refused N NAME`, without what was sent.
 
 What is printed for `show paths`, a line for each path, in order:
   path ENDPOINT/TUNNEL/EXTENDED SENDER/LSP transit|tail|head OUT ORIGINS
@@ -44,8 +55,9 @@ examples/middle.toml), or without it the built-in one: 10.0.0.2, link 1 to 10.0.
 2 to 10.0.0.3.
 On standard error, with status 1: `unreadable` (FILE or the input can't be read, isn't
 UTF-8 or has more than 16777216 bytes), `config FAULT NAME` (the first fault of the
-configuration, and its key), `bad line N` (a line of another form, which ends the run),
-`memory` and `unwritable` (the output can't be written).
+configuration, and its key), `bad line N` (line N has another form, and ends the run; what
+the lines before it asked for is done), `memory` and `unwritable` (the output can't be
+written).
 
 Example: a tear of a path that isn't there prints `refused 10 NoMatch`.
   echo rx 1 1005b988ff000030001001070a000004000000010a000001000c03010a00000100000001\

@@ -10,6 +10,7 @@ mod input;
 mod lines;
 mod names;
 mod requests;
+mod router;
 mod session;
 mod shown;
 mod step;

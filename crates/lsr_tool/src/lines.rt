@@ -1,8 +1,8 @@
 //! The lines of standard input, and what a line asks for.
-ghost use Rattle.std.specs.Prelude.{◌≡◌, ◌↔◌, ◌<◌, ◌∷◌, ℕ, List, [], length, IfOk, IfSome, IsNone};
+ghost use Rattle.std.specs.Prelude.{◌≡◌, ◌≢◌, ◌↔◌, ◌<◌, ◌∷◌, ℕ, List, [], codes, length, IfOk, IfSome, IsNone};
 ghost use Rattle.std.specs.Option.{MatchOption};
 ghost use Rattle.lsr_tool.specs.declared.lines.Request.{Request};
-ghost use Rattle.lsr_tool.specs.Lines.{lines_of, AsksFor, AsksOfLink, AsksToReceive, NamesLink};
+ghost use Rattle.lsr_tool.specs.Lines.{lines_of, AsksFor, AsksOf, AsksToReceive, NamesLink, NamesMoment};
 
 use hex::FromHexError;
 use std::alloc::{AllocError, Global};
@@ -21,22 +21,38 @@ pub struct Arrival {
 pub enum Request {
     /// `rx LINK HEX`: the message came.
     Receive(Arrival),
+    /// `tick N`: this moment came, in milliseconds.
+    Tick(u64),
     /// `up LINK`: the link of this number, at least 1, came up.
     LinkUp(u16),
     /// `down LINK`: the link of this number, at least 1, went down.
     LinkDown(u16),
+    /// `restart`: the router lost what messages had set up in it, and is cold.
+    Restart,
+    /// `start`: a cold router is started.
+    Start,
     /// `show paths`: the paths that the router knows are printed.
     ShowPaths,
+    /// `show recent`: the last replies are printed.
+    ShowRecent,
 }
 
 // The words of lines, up to the first number.
 const RECEIVE: &str = "rx ";
 
+const TICK: &str = "tick ";
+
 const LINK_UP: &str = "up ";
 
 const LINK_DOWN: &str = "down ";
 
+const RESTART: &str = "restart";
+
+const START: &str = "start";
+
 const SHOW_PATHS: &str = "show paths";
+
+const SHOW_RECENT: &str = "show recent";
 
 /// The text's first line without its newline, and what stands behind it. None where the text is empty.
 pub fn next_line(text: &str) -> Option<(&str, &str)>
@@ -70,10 +86,53 @@ fn read_link(digits: &str) -> Option<u16>
 
 /// The link that the line names behind the word, which ends with a space; none where it is no such line.
 fn read_link_behind(word: &str, line: &str) -> Option<u16>
-    ensures { MatchOption result ((link : ℕ) → ¬ AsksOfLink word.now line.now link) (AsksOfLink word.now line.now) }
+    ensures { MatchOption result ((link : ℕ) → ¬ AsksOf NamesLink word.now line.now link) (AsksOf NamesLink word.now line.now) }
 {
     let digits = line.strip_prefix(word)?;
     read_link(digits)
+}
+
+/// The moment that the word names, in milliseconds: decimal digits, leading zeros taken, that fit 64 bits.
+fn read_moment(digits: &str) -> Option<u64>
+    ensures { MatchOption result ((moment : ℕ) → ¬ NamesMoment digits.now moment) (NamesMoment digits.now) }
+{
+    // A sign is no digit, but `parse` takes one.
+    if digits.starts_with('+') {
+        return None;
+    }
+    match digits.parse::<u64>() {
+        Ok(moment) => Some(moment),
+        Err(_) => None,
+    }
+}
+
+/// The moment that the line names behind the word, which ends with a space; none where it is no such line.
+fn read_moment_behind(word: &str, line: &str) -> Option<u64>
+    ensures { MatchOption result ((moment : ℕ) → ¬ AsksOf NamesMoment word.now line.now moment) (AsksOf NamesMoment word.now line.now) }
+{
+    let digits = line.strip_prefix(word)?;
+    read_moment(digits)
+}
+
+/// What a line of fixed words asks for; none where it is no such line.
+fn read_words(line: &str) -> Option<Request>
+    ensures { MatchOption result
+        ((line.now ≢ codes "restart") × (line.now ≢ codes "start") × (line.now ≢ codes "show paths") × (line.now ≢ codes "show recent"))
+        (AsksFor line.now) }
+{
+    if line == RESTART {
+        return Some(Request::Restart);
+    }
+    if line == START {
+        return Some(Request::Start);
+    }
+    if line == SHOW_PATHS {
+        return Some(Request::ShowPaths);
+    }
+    if line == SHOW_RECENT {
+        return Some(Request::ShowRecent);
+    }
+    None
 }
 
 /// The arrival that the line asks for, `rx LINK HEX`; none where it is no such line. The only error is want
@@ -103,21 +162,24 @@ fn read_arrival(alloc: Global, line: &str) -> Result<Option<Arrival>, AllocError
     }
 }
 
-/// What the line asks for: `rx LINK HEX`, `up LINK`, `down LINK` or `show paths`; none where it is no such line.
-/// Words are parted by one space. The only error is want of memory.
+/// What the line asks for: `rx LINK HEX`, `tick N`, `up LINK`, `down LINK`, `restart`, `start`, `show paths` or `show
+/// recent`; none where it is no such line. Words are parted by one space. The only error is want of memory.
 pub fn read_request(alloc: Global, line: &str) -> Result<Option<Request>, AllocError>
     ensures { IfOk result (λ request. MatchOption request
         ((asked : Request) → ¬ AsksFor line.now asked)
         (AsksFor line.now)) }
 {
+    if let Some(request) = read_words(line) {
+        return Ok(Some(request));
+    }
+    if let Some(moment) = read_moment_behind(TICK, line) {
+        return Ok(Some(Request::Tick(moment)));
+    }
     if let Some(link) = read_link_behind(LINK_UP, line) {
         return Ok(Some(Request::LinkUp(link)));
     }
     if let Some(link) = read_link_behind(LINK_DOWN, line) {
         return Ok(Some(Request::LinkDown(link)));
-    }
-    if line == SHOW_PATHS {
-        return Ok(Some(Request::ShowPaths));
     }
     match read_arrival(alloc, line)? {
         Some(arrival) => Ok(Some(Request::Receive(arrival))),

@@ -4,16 +4,16 @@ ghost use Rattle.std.specs.Option.{option_map};
 ghost use Rattle.std.specs.Io.KnownBytes.{Appends};
 ghost use Rattle.lsr_config.specs.Configs.{IsConfig};
 ghost use Rattle.lsr_config.specs.declared.config.Config.{Config};
-ghost use Rattle.router_core.specs.States.{opened};
 ghost use Rattle.lsr_tool.specs.declared.step.Ending.{Ending};
-ghost use Rattle.lsr_tool.specs.Sessions.{CannotBegin, IsConfigText, IsConfigured, IsReady, Steps, ending_of};
+ghost use Rattle.lsr_tool.specs.Sessions.{CannotBegin, IsConfigText, IsConfigured, IsReady, Steps, begun, ending_of};
 ghost use Rattle.lsr_tool.specs.Steps.{ending_text, status_of};
 
 use crate::input::{InputFault, read_text};
+use crate::requests::Session;
 use crate::step::{Ending, status_of, step_lines, tell_ending};
 use lsr_config::Config;
-use router_core::{Cold, Running};
-use std::alloc::Global;
+use router_core::Cold;
+use std::alloc::{AllocError, Global};
 use std::io;
 use std::io::{Read, Write};
 
@@ -59,32 +59,41 @@ fn configured(alloc: Global, text: Option<String>) -> Result<Config, Ending>
     }
 }
 
-/// The router of the configuration that the text says, or without a text the built-in one, started.
-fn begin(alloc: Global, text: Option<String>) -> Result<Running, Ending>
-    ensures begun { IfOk result (λ router. (config : Config) × IsConfigured (option_map string_bytes text) config × (router ≡ opened config)) }
+/// A session that begins on the router of the configuration, which runs.
+fn open(alloc: Global, config: Config) -> Result<Session, AllocError>
+    requires { IsConfig config }
+    ensures { IfOk result (λ session. session ≡ begun config) }
+{
+    let router = Cold::new(alloc, config)?.start();
+    Session::new(alloc, router)
+}
+
+/// A session that begins on the router that the text says, or without a text on the built-in one.
+fn begin(alloc: Global, text: Option<String>) -> Result<Session, Ending>
+    ensures begun { IfOk result (λ session. (config : Config) × IsConfigured (option_map string_bytes text) config × (session ≡ begun config)) }
     ensures fault { IfErr result (CannotBegin (option_map string_bytes text)) }
 {
     let config = configured(alloc, text)?;
-    match Cold::new(alloc, config) {
-        Ok(router) => Ok(router.start()),
+    match open(alloc, config) {
+        Ok(session) => Ok(session),
         Err(_) => Err(Ending::Memory),
     }
 }
 
-/// The router, started, and the text of the input; or how the run ends before its first line. Both texts are
+/// The session that begins, and the text of the input; or how the run ends before its first line. Both texts are
 /// read before the configuration is looked at.
 fn prepare<C: Read + Drop, R: Read>(
     alloc: Global,
     config: Option<C>,
     input: &mut R,
-) -> Result<(Running, String), Ending>
+) -> Result<(Session, String), Ending>
     ensures ready { IfOk result (λ ready. IsReady (option_map C.remaining config) (R.remaining input.old) ready.0 (string_bytes ready.1)) }
     ensures fault { IfErr result (Steps (option_map C.remaining config) (R.remaining input.old) []) }
 {
     let config_text = read_config_text(alloc, config)?;
     let text = read_text(alloc, input)?;
-    let router = begin(alloc, config_text)?;
-    Ok((router, text))
+    let session = begin(alloc, config_text)?;
+    Ok((session, text))
 }
 
 /// Answers the lines of the input. The error is the output's.
@@ -98,7 +107,7 @@ fn step_input<C: Read + Drop, R: Read, W: Write>(
         × Steps (option_map C.remaining config) (R.remaining input.old) printed ending) }
 {
     match prepare(alloc, config, input) {
-        Ok((mut router, text)) => step_lines(alloc, &mut router, text.as_str(), output),
+        Ok((session, text)) => step_lines(alloc, session, text.as_str(), output),
         Err(ending) => Ok(ending),
     }
 }

@@ -1,8 +1,10 @@
-//! What `show paths` prints.
+//! What `show paths` and `show recent` print.
 ghost use Rattle.std.specs.Prelude.{◌≡◌, ◌++◌, IfOk, OnOk, string_bytes};
-ghost use Rattle.lsr_tool.specs.Shown.{key_text, path_line, paths_text, role_word};
+ghost use Rattle.lsr_tool.specs.Shown.{key_text, path_line, paths_text, recent_text, role_word};
 
-use lsr_facts::{Key, PathFact, Role};
+use crate::answers::push_reply;
+use circular_buffer::HeapCircularBuffer;
+use lsr_facts::{Key, PathFact, Reply, Role};
 use std::alloc::{AllocError, Global};
 use std::fmt::Write;
 
@@ -51,5 +53,29 @@ pub fn paths_text(alloc: Global, paths: &[(Key, PathFact)]) -> Result<String, Al
     for path in paths {
         push_path(&mut text, path)?;
     }
+    Ok(text)
+}
+
+/// Appends the lines of the replies, in order.
+fn push_replies(text: &mut String, replies: &[Reply]) -> Result<(), AllocError>
+    ensures { OnOk result (string_bytes text.new ≡ string_bytes text.old ++ recent_text replies.now) }
+{
+    for reply in replies {
+        push_reply(text, *reply)?;
+    }
+    Ok(())
+}
+
+/// The lines of the last replies, the oldest first. The only error is want of memory.
+pub(crate) fn recent_text(
+    alloc: Global,
+    recent: &HeapCircularBuffer<Reply>,
+) -> Result<String, AllocError>
+    ensures { IfOk result (λ text. string_bytes text ≡ recent_text recent.now.items) }
+{
+    let (older, newer) = recent.as_slices();
+    let mut text = String::new(alloc);
+    push_replies(&mut text, older)?;
+    push_replies(&mut text, newer)?;
     Ok(text)
 }

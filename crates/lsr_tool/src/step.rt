@@ -12,13 +12,13 @@ use std::alloc::{AllocError, Global};
 use std::io;
 use std::io::Write;
 
-/// What answers requests: a router.
-pub(crate) trait Answers {
+/// What answers requests: a session.
+pub(crate) trait Answers: Drop {
     ghost answers: { Self → Request → List ℕ → Self → Type 0 };
 
-    /// Answers a request: gives the lines that are printed for it. The only error is want of memory.
-    fn answer(&mut self, alloc: Global, request: &Request) -> Result<String, AllocError>
-        ensures { IfOk result (λ text. answers self.old request.now (string_bytes text) self.new) };
+    /// Answers a request: gives itself as it is then, and the lines that are printed. The only error is want of memory.
+    fn answer(self, alloc: Global, request: &Request) -> (Self, Result<String, AllocError>)
+        ensures { IfOk result.1 (λ text. answers self request.now (string_bytes text) result.0) };
 }
 
 /// How a run over lines ends.
@@ -85,44 +85,49 @@ pub(crate) fn tell_ending<E: Write>(error: &mut E, ending: &Ending) -> io::Resul
     }
 }
 
-/// Answers the line, and prints the answer. The error is the output's.
+/// Answers the line, and prints the answer: the session as it is then. The error is the output's.
 fn step_line<A: Answers, W: Write>(
     alloc: Global,
-    router: &mut A,
+    session: A,
     line: &str,
     output: &mut W,
-) -> io::Result<Served>
-    ensures { IfOk result (λ served. (printed : List ℕ) × Appends (W.contents output.old) (W.contents output.new) printed
-        × Becomes A.answers router.old line.now printed served router.new) }
+) -> io::Result<(A, Served)>
+    ensures { IfOk result (λ r. (printed : List ℕ) × Appends (W.contents output.old) (W.contents output.new) printed
+        × Becomes A.answers session line.now printed r.1 r.0) }
 {
     let request = match read_request(alloc, line) {
         Ok(Some(request)) => request,
-        Ok(None) => return Ok(Served::NoRequest),
-        Err(_) => return Ok(Served::Memory),
+        Ok(None) => return Ok((session, Served::NoRequest)),
+        Err(_) => return Ok((session, Served::Memory)),
     };
-    let Ok(text) = router.answer(alloc, &request) else {
-        return Ok(Served::Memory);
-    };
-    output.write_all(text.as_bytes())?;
-    Ok(Served::Printed)
+    match session.answer(alloc, &request) {
+        (session, Ok(text)) => {
+            output.write_all(text.as_bytes())?;
+            Ok((session, Served::Printed))
+        }
+        (session, Err(_)) => Ok((session, Served::Memory)),
+    }
 }
 
 /// Answers the lines of the text, one after the other, up to the first that asks for nothing. The error is the
 /// output's.
 pub(crate) fn step_lines<A: Answers, W: Write>(
     alloc: Global,
-    router: &mut A,
+    session: A,
     text: &str,
     output: &mut W,
 ) -> io::Result<Ending>
     ensures { IfOk result (λ ending. (printed : List ℕ) × Appends (W.contents output.old) (W.contents output.new) printed
-        × Ends A.answers router.old (lines_of text.now) printed ending) }
+        × Ends A.answers session (lines_of text.now) printed ending) }
 {
+    let mut session = session;
     let mut rest = text;
     let mut number = 0usize;
     while let Some((line, behind)) = next_line(rest) {
         number += 1;
-        match step_line(alloc, router, line, output)? {
+        let (next, served) = step_line(alloc, session, line, output)?;
+        session = next;
+        match served {
             Served::Printed => {}
             Served::NoRequest => return Ok(Ending::BadLine(number)),
             Served::Memory => return Ok(Ending::Memory),

@@ -1,16 +1,39 @@
-mod configs;
-mod messages;
-
-use crate::{MAX_INPUT_LEN, refusal_name, run, run_decode, run_step};
-use lsr_facts::Refusal;
-use messages::{CASES, PATH_IN, TEAR_IN};
-use rsvp_contents::Dropped;
+//! What worked cases (crate `lsr_cases`) can't show: words, files that they name, and streams that fail.
+use crate::{MAX_INPUT_LEN, run, run_step};
 use std::alloc::Global;
-use std::io;
 use std::io::{ErrorKind, Read, Write};
 use std::process::Abort;
 use std::rt::Files;
 use std::test::Fail;
+use std::{fs, io};
+
+/// A PathTear, in hexadecimal digits.
+const TEAR: &str =
+    "1005b988ff000030001001070a000004000000010a000001000c03010a00000100000001000c0b070a00000100000001";
+
+/// What `decode` prints for it.
+const TEAR_OBJECTS: &str = "\
+PathTear 48
+1 7 0a000004000000010a000001
+3 1 0a00000100000001
+11 7 0a00000100000001
+";
+
+/// A router with one link, to 10.0.0.1, which is down.
+const ONE_LINK: &str = "\
+router = \"10.0.0.2\"
+labels = [16, 31]
+[[link]]
+number = 1
+address = \"10.1.0.2\"
+peer = \"10.1.0.1\"
+peer_router = \"10.0.0.1\"
+limit = 0
+up = false
+";
+
+/// A configuration that says nothing of its labels.
+const NO_LABELS: &str = "router = \"10.0.0.2\"\n";
 
 /// What a run ended with and printed.
 #[derive(Debug, Drop)]
@@ -104,93 +127,6 @@ fn assert_ran(rt: &impl Abort, ran: &Ran, status: u8, output: &str, error: &str)
 }
 
 #[test]
-fn a_line_that_is_no_event_ends_the_run(rt: HostRuntime) -> Result<(), Fail> {
-    let alloc = rt.alloc();
-    let bad = [
-        "\n",
-        "rx",
-        "rx 1",
-        "rx 1\n",
-        "rx  1 ",
-        "rx 1  ",
-        "rx 0 ",
-        "rx 65536 ",
-        "rx +1 ",
-        "rx -1 ",
-        "rx 1a ",
-        "rx 1 0",
-        "rx 1 0g",
-        "rx 1 10 10",
-        " rx 1 ",
-        "RX 1 ",
-        "rx 1 \r\n",
-        "rx\t1 ",
-        "tick 1",
-        "frame 1 01",
-        "up",
-        "up ",
-        "up 0",
-        "up 65536",
-        "up 1 ",
-        "up  1",
-        "up +1",
-        "up 1 2",
-        "UP 1",
-        " up 1",
-        "down",
-        "down 0",
-        "down -1",
-        "down 1a",
-        "down1",
-        "show",
-        "show ",
-        "show paths ",
-        "show  paths",
-        "show links",
-        "showpaths",
-        "path",
-        "rx 99999999999999999999 ",
-        "rx é 10",
-        "rx  ",
-    ];
-    for line in bad {
-        let ran = step(alloc, &mut line.as_bytes())?;
-        assert_ran(&rt, &ran, 1, "", "bad line 1\n");
-    }
-    Ok(())
-}
-
-#[test]
-fn what_was_printed_before_a_bad_line_stays(rt: HostRuntime) -> Result<(), Fail> {
-    let ran = step(rt.alloc(), &mut "rx 1 \nrx 2 10\n\nrx 1 \n".as_bytes())?;
-    assert_ran(
-        &rt,
-        &ran,
-        1,
-        "refused 1 Short\nrefused 1 Short\n",
-        "bad line 3\n",
-    );
-    Ok(())
-}
-
-#[test]
-fn links_and_digits_are_read(rt: HostRuntime) -> Result<(), Fail> {
-    let alloc = rt.alloc();
-    let none = step(alloc, &mut "".as_bytes())?;
-    assert_ran(&rt, &none, 0, "", "");
-    let tear = TEAR_IN.word;
-    let upper = tear.to_ascii_uppercase(alloc)?;
-    let text = format!(in alloc;
-        "rx 1 \nrx 0001 {tear}\nrx 1 {upper}\nrx 65535 {tear}\nrx 1 {tear}"
-    )?;
-    let ran = step(alloc, &mut text.as_bytes())?;
-    let wanted =
-        "refused 1 Short\nrefused 10 NoMatch\nrefused 10 NoMatch\nrefused 24 UnknownLink\nrefused 10 NoMatch\n";
-    assert_ran(&rt, &ran, 0, wanted, "");
-    Ok(())
-}
-
-#[test]
 fn an_input_that_is_no_text_is_unreadable(rt: HostRuntime) -> Result<(), Fail> {
     let alloc = rt.alloc();
     let ran = step(alloc, &mut [b'r', b'x', 0xff].as_slice())?;
@@ -230,41 +166,21 @@ fn an_output_that_fails_ends_the_run(rt: HostRuntime) -> Result<(), Fail> {
 }
 
 #[test]
-fn messages_are_decoded(rt: HostRuntime) -> Result<(), Fail> {
-    let alloc = rt.alloc();
-    for case in CASES {
-        let mut output = Vec::new(alloc);
-        let mut error = Vec::new(alloc);
-        let status = run_decode(alloc, case.word, &mut output, &mut error)?;
-        let ran = Ran {
-            status,
-            output: String::from_utf8(output)?,
-            error: String::from_utf8(error)?,
-        };
-        assert_ran(&rt, &ran, case.status, case.output, case.error);
-    }
-    Ok(())
-}
-
-#[test]
-fn a_word_that_is_no_digits_is_bad(rt: HostRuntime) -> Result<(), Fail> {
-    let alloc = rt.alloc();
+fn a_word_is_decoded_or_told(rt: HostRuntime) -> Result<(), Fail> {
+    let ran = words(&rt, &["lsr", "decode", TEAR], "")?;
+    assert_ran(&rt, &ran, 0, TEAR_OBJECTS, "");
+    let ran = words(&rt, &["lsr", "decode", ""], "")?;
+    assert_ran(&rt, &ran, 1, "", "refused 1 Short\n");
     let told = "error: HEX is an even number of hexadecimal digits; see lsr decode --help\n";
     for word in ["1", "1g", "0x10", " 10", "é"] {
         let ran = words(&rt, &["lsr", "decode", word], "")?;
         assert_ran(&rt, &ran, 2, "", told);
     }
-    let ran = words(&rt, &["lsr", "decode", ""], "")?;
-    assert_ran(&rt, &ran, 1, "", "refused 1 Short\n");
-    let upper = PATH_IN.word.to_ascii_uppercase(alloc)?;
-    let ran = words(&rt, &["lsr", "decode", upper.as_str()], "")?;
-    assert_ran(&rt, &ran, 0, PATH_IN.output, "");
     Ok(())
 }
 
 #[test]
 fn bad_words_come_before_all_faults(rt: HostRuntime) -> Result<(), Fail> {
-    let alloc = rt.alloc();
     let bad = [
         ["lsr", "steps", ""].as_slice(),
         ["lsr", "step", "more"].as_slice(),
@@ -296,14 +212,16 @@ fn bad_words_come_before_all_faults(rt: HostRuntime) -> Result<(), Fail> {
 
 #[test]
 fn help_shows_lines_and_an_example(rt: HostRuntime) -> Result<(), Fail> {
-    let alloc = rt.alloc();
     let helps = [
-        (["lsr", "--help"].as_slice(), TEAR_IN.word),
-        (["lsr", "step", "--help"].as_slice(), TEAR_IN.word),
+        (["lsr", "--help"].as_slice(), TEAR),
+        (["lsr", "step", "--help"].as_slice(), TEAR),
         (["lsr", "step", "--help"].as_slice(), "--config <FILE>"),
         (["lsr", "step", "--help"].as_slice(), "show paths"),
+        (["lsr", "step", "--help"].as_slice(), "show recent"),
+        (["lsr", "step", "--help"].as_slice(), "tick N"),
+        (["lsr", "step", "--help"].as_slice(), "restart"),
         (["lsr", "help", "step"].as_slice(), "tx LINK HEX"),
-        (["lsr", "decode", "--help"].as_slice(), TEAR_IN.word),
+        (["lsr", "decode", "--help"].as_slice(), TEAR),
     ];
     for (given, text) in helps {
         let ran = words(&rt, given, "no event")?;
@@ -315,46 +233,41 @@ fn help_shows_lines_and_an_example(rt: HostRuntime) -> Result<(), Fail> {
 }
 
 #[test]
-fn refusals_have_their_numbers_and_names(rt: HostRuntime) {
-    let refusals = [
-        (Refusal::Unread(Dropped::Short), 1, "Short"),
-        (Refusal::Unread(Dropped::Version), 2, "Version"),
-        (Refusal::Unread(Dropped::LengthField), 3, "LengthField"),
-        (Refusal::Unread(Dropped::Checksum), 4, "Checksum"),
-        (Refusal::Unread(Dropped::ObjectLength), 5, "ObjectLength"),
-        (Refusal::Unread(Dropped::MissingObject), 6, "MissingObject"),
-        (
-            Refusal::Unread(Dropped::KindUnsupported),
-            7,
-            "KindUnsupported",
-        ),
-        (Refusal::Unread(Dropped::Integrity), 8, "Integrity"),
-        (Refusal::Unread(Dropped::TooLong), 9, "TooLong"),
-        (Refusal::NoMatch, 10, "NoMatch"),
-        (Refusal::NoMerge, 11, "NoMerge"),
-        (Refusal::LinkDown, 12, "LinkDown"),
-        (Refusal::HopLimit, 13, "HopLimit"),
-        (Refusal::NoLabel, 14, "NoLabel"),
-        (Refusal::UnknownTunnel, 20, "UnknownTunnel"),
-        (Refusal::TunnelExists, 21, "TunnelExists"),
-        (Refusal::BadRoute, 22, "BadRoute"),
-        (Refusal::ChangePending, 23, "ChangePending"),
-        (Refusal::UnknownLink, 24, "UnknownLink"),
-        (Refusal::BypassExists, 25, "BypassExists"),
-        (Refusal::BypassOnItsLink, 26, "BypassOnItsLink"),
-        (Refusal::Full, 27, "Full"),
-        (Refusal::InUse, 28, "InUse"),
-        (Refusal::Late, 29, "Late"),
-        (Refusal::BadMoment, 30, "BadMoment"),
-        (Refusal::NoMemory, 40, "NoMemory"),
-        (Refusal::JournalFull, 41, "JournalFull"),
-        (Refusal::IsCold, 42, "IsCold"),
-        (Refusal::WrongPort, 43, "WrongPort"),
-        (Refusal::NoFrame, 50, "NoFrame"),
-        (Refusal::NoRouter, 51, "NoRouter"),
-    ];
-    for (refusal, number, name) in refusals {
-        assert_eq!(rt; refusal.number(), number);
-        assert_eq!(rt; refusal_name(refusal), name);
+fn a_configuration_that_is_no_text_is_unreadable(rt: HostRuntime) -> Result<(), Fail> {
+    let alloc = rt.alloc();
+    let lines = "rx 1 \n";
+    let no_text = [b'#', 0xff].as_slice();
+    let ran = configured(alloc, Some(no_text), &mut lines.as_bytes())?;
+    assert_ran(&rt, &ran, 1, "", "unreadable\n");
+    let breaking = Breaking {
+        line: ONE_LINK.as_bytes(),
+    };
+    let ran = configured(alloc, Some(breaking), &mut lines.as_bytes())?;
+    assert_ran(&rt, &ran, 1, "", "unreadable\n");
+    let long = io::repeat(b'=').take(MAX_INPUT_LEN as u64 + 1);
+    let ran = configured(alloc, Some(long), &mut lines.as_bytes())?;
+    assert_ran(&rt, &ran, 1, "", "unreadable\n");
+    let longest = io::repeat(b'=').take(MAX_INPUT_LEN as u64);
+    let ran = configured(alloc, Some(longest), &mut lines.as_bytes())?;
+    assert_ran(&rt, &ran, 1, "", "config Text\n");
+    Ok(())
+}
+
+#[test]
+fn a_file_is_named_by_the_words(rt: HostRuntime) -> Result<(), Fail> {
+    let file = "one-link.toml";
+    fs::write(&rt, file, ONE_LINK)?;
+    let ran = words(&rt, &["lsr", "step", "--config", file], "up 2\nup 1\n")?;
+    assert_ran(&rt, &ran, 0, "refused 24 UnknownLink\ndone\n", "");
+    let ran = words(&rt, &["lsr", "step", "--config=one-link.toml"], "up 2\n")?;
+    assert_ran(&rt, &ran, 0, "refused 24 UnknownLink\n", "");
+    fs::write(&rt, file, NO_LABELS)?;
+    let ran = words(&rt, &["lsr", "step", "--config", file], "up 2\n")?;
+    assert_ran(&rt, &ran, 1, "", "config Missing labels\n");
+    fs::remove_file(&rt, file)?;
+    for name in [file, "", ".", "no-folder/one-link.toml"] {
+        let ran = words(&rt, &["lsr", "step", "--config", name], "no line\n")?;
+        assert_ran(&rt, &ran, 1, "", "unreadable\n");
     }
+    Ok(())
 }

@@ -2,13 +2,13 @@
 use Rattle.std.proofs.Common.{arith, sym, Ok, false}
 use Rattle.std.specs.declared.num.ParseIntError.{ParseIntError}
 use Rattle.std.proofs.lemmas.Str.Pattern.{starts_char}
-use Rattle.lsr_tool.proofs.LineLaws.{link_value, no_link}
+use Rattle.lsr_tool.proofs.LineLaws.{digits_parsed, no_link}
 use Rattle.lsr_tool.proofs.lines.read_link.Goals as goal
 
 pub returns-in-Ok : goal.returns-in-Ok
 returns-in-Ok c =
     let plain = (starts_char 43 c.args.digits.now false c.if-starts_with.ensures.cases (omega arith) (omega arith)).1 in
-    let value = link_value {E = ParseIntError} c.args.digits.now (Ok c.in-Ok.link) (λ e. let t = plain e in cc) c.in-Ok.ensures.value.0 in
+    let value = digits_parsed {E = ParseIntError} 16 c.args.digits.now (Ok c.in-Ok.link) (λ e. let t = plain e in cc) c.in-Ok.ensures.value.0 in
     record { decimal = value.0.0; value = sym value.1; low = omega (arith, c.in-Ok.link-test); high = omega (arith, value.0.2, value.1) }
 
 pub returns-in-Err : goal.returns-in-Err

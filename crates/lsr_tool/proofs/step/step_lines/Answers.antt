@@ -12,9 +12,9 @@ next_line-requires-text-text g c = λ _. c.loop-line.invariant.utf8
 pub returns-in-NoRequest : goal.returns-in-NoRequest
 returns-in-NoRequest g c =
     let before = c.loop-line.invariant in
-    let became = rw c.in-NoRequest.is at c.in_ok-step_line.ensures in
-    let some : PrintsSome g.A.Answers.answers c.args.router.now (lines_of c.args.text.now) before.printed =
-    record { served = before.served; behind = lines_of c.loop-line.rest.now; after = c.loop-line.router; parts = before.parts; prints = before.prints } in (
+    let became = rw c.in-NoRequest.is at c.in_ok-next.ensures in
+    let some : PrintsSome g.A.Answers.answers c.args.session (lines_of c.args.text.now) before.printed =
+    record { served = before.served; behind = lines_of c.loop-line.rest.now; after = c.loop-line.session; parts = before.parts; prints = before.prints } in (
       before.printed,
       told_none _ _ _ _ _ before.told became.1 became.2.0,
       (some, c.in-Some.line.now, lines_of c.in-Some.behind.now, c.in-Some.ensures.line, ap (λ n. n + 1) before.count, became.2.1),
@@ -23,16 +23,16 @@ returns-in-NoRequest g c =
 pub returns-in-Memory : goal.returns-in-Memory
 returns-in-Memory g c =
     let before = c.loop-line.invariant in
-    let became = rw c.in-Memory.is at c.in_ok-step_line.ensures in (
+    let became = rw c.in-Memory.is at c.in_ok-next.ensures in (
       before.printed,
       told_none _ _ _ _ _ before.told became.1 became.2,
-      record { served = before.served; behind = lines_of c.loop-line.rest.now; after = c.loop-line.router; parts = before.parts; prints = before.prints },
+      record { served = before.served; behind = lines_of c.loop-line.rest.now; after = c.loop-line.session; parts = before.parts; prints = before.prints },
     )
 
 pub loop-line-preserved : goal.loop-line-preserved
 loop-line-preserved g c =
     let before = c.loop-line.invariant in
-    let became = rw c.in-Printed.is at c.in_ok-step_line.ensures in
+    let became = rw c.in-Printed.is at c.in_ok-next.ensures in
     let line = c.in-Some.line.now in
     record {
       served = before.served ++ (line ∷ []);
@@ -51,5 +51,5 @@ returns g c =
     let all = served_all c.args.text.now c.loop-line.rest.now before.served before.parts (c.next_line.ensures.end.0 (none_by c.next_line.result c.in_default.not-Some)) in (
       before.printed,
       before.told,
-      (c.loop-line.router, subst (λ lines. Prints g.A.Answers.answers c.args.router.now lines before.printed c.loop-line.router) (sym all) before.prints),
+      (c.loop-line.session, subst (λ lines. Prints g.A.Answers.answers c.args.session lines before.printed c.loop-line.session) (sym all) before.prints),
     )

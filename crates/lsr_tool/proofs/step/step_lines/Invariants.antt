@@ -5,7 +5,7 @@ use Rattle.lsr_tool.proofs.step.step_lines.Given as goal
 
 abbrev pub invariant-loop-line : goal.invariant-loop-line
 invariant-loop-line g l =
-    IsSteppedTo g.A.Answers.answers l.fn.router l.text (g.W.Write.contents l.fn.output) (g.W.Write.contents l.output) l.rest l.number l.router
+    IsSteppedTo g.A.Answers.answers l.fn.session l.text (g.W.Write.contents l.fn.output) (g.W.Write.contents l.output) l.rest l.number l.session
 
 abbrev pub decreases-loop-line : goal.decreases-loop-line
 decreases-loop-line g l = length l.rest
