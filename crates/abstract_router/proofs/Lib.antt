@@ -1,7 +1,6 @@
-pub mod Arrivals
-pub mod LinkMoments
-pub mod LinkSteps
-pub mod Refusals
-pub mod Repeats
-pub mod Tearing
-pub mod Ticks
+pub mod EventSoundness
+pub mod NextHops
+pub mod PathTable
+pub mod Primitives
+pub mod SoundRuns
+pub mod StepFacts

@@ -1,5 +1,5 @@
 -- What an event is answered, which errors it meets, and what is known after it.
-use Rattle.std.specs.Prelude.{ℕ, List, [], map, Option}
+use Rattle.std.specs.Prelude.{ℕ, Bool, true, false, List, [], filter_map, Option, Some}
 use Rattle.std.specs.declared.net.ipv4_addr.Ipv4Addr.{Ipv4Addr}
 use Rattle.rsvp_objects.specs.declared.values.ErrorSpec.{ErrorSpec}
 use Rattle.rsvp_objects.specs.declared.values.Session.{Session}
@@ -7,9 +7,8 @@ use Rattle.rsvp_objects.specs.declared.values.Template.{Template}
 use Rattle.rsvp_contents.specs.declared.messages.Content.{Content}
 use Rattle.rsvp_contents.specs.declared.messages.Content.TheVariants as contents
 use Rattle.rsvp_contents.specs.declared.message.Reading.TheVariants as readings
-use Rattle.link_frames.specs.declared.frame.Frame.TheVariants as frames
+use Rattle.router_events.specs.Frame.TheVariants as frames
 use Rattle.lsr_facts.specs.declared.errors.RsvpError.{RsvpError}
-use Rattle.lsr_facts.specs.declared.event.Output.{Output}
 use Rattle.lsr_facts.specs.declared.facts.Facts.{Facts}
 use Rattle.lsr_facts.specs.declared.key.Item.{Item}
 use Rattle.lsr_facts.specs.declared.key.Key.{Key}
@@ -19,22 +18,33 @@ use Rattle.lsr_facts.specs.declared.refusal.Refusal.{Refusal}
 use Rattle.lsr_facts.specs.declared.reply.Reply.{Reply}
 use Rattle.lsr_facts.specs.declared.reply.Reply.TheVariants as replies
 use Rattle.lsr_facts.specs.declared.router.Router.{Router}
+use Rattle.router_events.specs.declared.events.Output.{Output}
 
 -- the LSP of a session that has this head and LSP ID
 abbrev pub lsp : Session → Template → Key
 lsp session sender = record { session = session; sender = sender }
 
--- the answer, the errors in the order found, the messages that are due again though nothing about them changed,
--- and the facts after but for the moments at which messages were sent
+-- What an event does of itself: the answer, the errors in the order found, the items that are due again though
+-- nothing about them changed, the facts after, and whether it is silent. A silent event sends nothing, and the
+-- moments at which messages were sent stay.
 pub record Outcome : Type 0 where
   pub reply : Reply
   pub errors : List Output
   pub due : List Item
   pub after : Facts
+  pub is_silent : Bool
 
--- refused: nothing is sent, nothing changes
+-- done, with these errors told to others
+abbrev pub done : List Output → Facts → Outcome
+done errors after = record { reply = replies.Done; errors = errors; due = []; after = after; is_silent = false }
+
+-- answered, and silent
+abbrev pub silent : Reply → Facts → Outcome
+silent reply after = record { reply = reply; errors = []; due = []; after = after; is_silent = true }
+
+-- refused: nothing changes
 abbrev pub refused : Facts → Refusal → Outcome
-refused s refusal = record { reply = replies.Refused refusal; errors = []; due = []; after = s }
+refused s refusal = silent (replies.Refused refusal) s
 
 -- a message that goes out by a link
 abbrev pub sent_by : ℕ → Content → Output
@@ -49,11 +59,11 @@ abbrev pub path_err : Session → Template → Option (List ℕ) → ErrorSpec �
 path_err session sender tspec error =
     contents.PathErr (record { session = session; error = error; sender = sender; tspec = tspec })
 
--- an error of a path, told to one of its origins (RFC 2205, 3.1.7)
-abbrev pub told_to : Key → Option (List ℕ) → ErrorSpec → Ipv4Addr × Origin → Output
+-- An error of a path, told to one of its origins, where there is a way to it (RFC 2205, 3.1.7): to a neighbour there is.
+abbrev pub told_to : Key → Option (List ℕ) → ErrorSpec → Ipv4Addr × Origin → Option Output
 told_to key tspec error origin =
-    sent_by origin.1.link (path_err key.session (record key.sender { sender = origin.0 }) tspec error)
+    Some (sent_by origin.1.link (path_err key.session (record key.sender { sender = origin.0 }) tspec error))
 
 -- and to each of them, in the order of their senders
 abbrev pub told_upstream : Key → PathFact → Option (List ℕ) → ErrorSpec → List Output
-told_upstream key fact tspec error = map (told_to key tspec error) fact.origins
+told_upstream key fact tspec error = filter_map (told_to key tspec error) fact.origins

@@ -5,56 +5,67 @@ use Rattle.std.specs.FinMap.Entries.{find}
 use Rattle.std.specs.List.{list_any}
 use Rattle.std.specs.Option.{option_map, option_map_or}
 use Rattle.std.specs.Ordering.{eq_by_cmp}
-use Rattle.rsvp_contents.specs.Written.{message_bytes}
+use Rattle.std.specs.declared.cmp.Ordering.{Ordering}
 use Rattle.rsvp_contents.specs.declared.messages.Content.{Content}
 use Rattle.rsvp_contents.specs.declared.messages.Content.TheVariants as contents
+use Rattle.rsvp_contents.specs.declared.message.Reading.TheVariants as readings
+use Rattle.router_events.specs.Frames.{frame_bytes}
+use Rattle.router_events.specs.Frame.{Frame}
+use Rattle.router_events.specs.Frame.TheVariants as frames
 use Rattle.lsr_facts.specs.Orders.{item_cmp}
-use Rattle.lsr_facts.specs.declared.event.Output.{Output}
 use Rattle.lsr_facts.specs.declared.facts.Facts.{Facts}
 use Rattle.lsr_facts.specs.declared.key.Item.{Item}
-use Rattle.lsr_facts.specs.declared.key.Item.TheVariants.{Down}
 use Rattle.lsr_facts.specs.declared.router.Router.{Router}
+use Rattle.router_events.specs.declared.events.Output.{Output}
 use Rattle.abstract_router.specs.Outcomes.{sent_by}
 use Rattle.abstract_router.specs.Places.{is_up}
 use Rattle.abstract_router.specs.Wanted.{wanted_of}
 
--- the link that an item's message goes over
-abbrev pub link_of_item : Item → ℕ
-link_of_item (Down key link) = link
-
 -- the message that ends what a message set up: a PathTear for a Path (RFC 2205, 3.1.5)
 abbrev pub tear_of : Content → Option Content
 tear_of (contents.Path p) = Some (contents.PathTear (record { session = p.session; hop = p.hop; sender = p.sender }))
-tear_of (contents.PathErr e) = None
-tear_of (contents.PathTear t) = None
+tear_of _ = None
 
--- the messages are the same, byte for byte
-abbrev pub is_same_message : Content → Content → Bool
-is_same_message a b = pointwise nat_eq (message_bytes a) (message_bytes b)
+-- the tear of what was sent in a frame over a link: it goes the same way
+abbrev pub tear_by : ℕ → Frame → Option Output
+tear_by link (frames.Hop (readings.Whole content)) = option_map (sent_by link) (tear_of content)
+tear_by link (frames.Hop (readings.Unknown content class ctype)) = None
 
--- what was wanted and is no more is torn down, where its link is up (RFC 2205, 2.3)
-abbrev pub tear_for : List (ℕ × Bool) → List (Item × Content) → Item × Content → Option Output
-tear_for up wanted was =
-    if is_none (find item_cmp was.0 wanted) && is_up up (link_of_item was.0)
-    then option_map (sent_by (link_of_item was.0)) (tear_of was.1)
-    else None
+-- the frames are the same, byte for byte
+abbrev pub is_same_frame : Frame → Frame → Bool
+is_same_frame a b = pointwise nat_eq (frame_bytes a) (frame_bytes b)
+
+-- The item was wanted, and is no more: it is torn down over the link that it went over, where that is up
+-- (RFC 2205, 2.3).
+abbrev pub tear_for : List (ℕ × Bool) → Option Output → Item × Output → Option Output
+tear_for up now was = if is_none now && is_up up was.1.link then tear_by was.1.link was.1.frame else None
 
 -- the item is one of those that are due
 abbrev pub is_due : List Item → Item → Bool
 is_due due item = list_any (eq_by_cmp item_cmp item) due
 
--- a wanted message rests where it isn't due, and was wanted before, the same
-abbrev pub rests : List Item → List (Item × Content) → Item × Content → Bool
-rests due before wants = not (is_due due wants.0) && option_map_or (is_same_message wants.1) (find item_cmp wants.0 before) false
+-- an item rests where it isn't due, and was wanted before with the same frame
+abbrev pub rests : List Item → Option Output → Item × Output → Bool
+rests due was wants = not (is_due due wants.0) && option_map_or (λ o. is_same_frame wants.1.frame o.frame) was false
 
--- what is wanted is sent at once where it is new or changed (RFC 2205, 2.3), and where it is due
-abbrev pub send_for : List Item → List (Item × Content) → Item × Content → Option Output
-send_for due before wants = if rests due before wants then None else Some (sent_by (link_of_item wants.0) wants.1)
+-- an item is sent at once where it is new or changed (RFC 2205, 2.3), and where it is due
+abbrev pub send_for : List Item → Option Output → Item × Output → Option Output
+send_for due was wants = if rests due was wants then None else Some wants.1
 
--- Errors go out where their link is up. Then tears for what is wanted no more, then what is wanted and new,
--- changed or due, each in the order of items.
+-- what comes of each row, by what the other rows have under its key
+abbrev pub between : {K C O : Type 0} → (K → K → Ordering) → (Option C → K × C → Option O) → List (K × C) → List (K × C) → List O
+between cmp f rows others = filter_map (λ row. f (find cmp row.0 others) row) rows
+
+-- What is sent between what was wanted and what is: tears for what is wanted no more, and then what is wanted and
+-- new, changed or due, each in the order of items.
+abbrev pub sent_between : List (ℕ × Bool) → List Item → List (Item × Output) → List (Item × Output) → List Output
+sent_between up due was is = between item_cmp (tear_for up) was is ++ between item_cmp (send_for due) is was
+
+-- the errors that go out: those whose link is up
+abbrev pub errors_out : List (ℕ × Bool) → List Output → List Output
+errors_out up errors = filter (λ output. is_up up output.link) errors
+
+-- What a step sends that isn't silent: its errors, and then what is sent between what was wanted and what is.
 unfoldable pub outputs_of : Router → Facts → List Output → List Item → Facts → List Output
 outputs_of r before errors due after =
-    filter (λ output. is_up after.up output.link) errors
-    ++ (filter_map (tear_for after.up (wanted_of r after)) (wanted_of r before)
-    ++ filter_map (send_for due (wanted_of r before)) (wanted_of r after))
+    errors_out after.up errors ++ sent_between after.up due (wanted_of r before) (wanted_of r after)

@@ -22,7 +22,6 @@ use Rattle.lsr_facts.specs.Orders.{address_cmp, key_cmp}
 use Rattle.lsr_facts.specs.declared.choice.Choice.{Choice}
 use Rattle.lsr_facts.specs.declared.choice.Choice.TheVariants.{Link, Tail}
 use Rattle.lsr_facts.specs.declared.errors.RsvpError.{RsvpError}
-use Rattle.lsr_facts.specs.declared.event.Output.{Output}
 use Rattle.lsr_facts.specs.declared.facts.Facts.{Facts}
 use Rattle.lsr_facts.specs.declared.key.Key.{Key}
 use Rattle.lsr_facts.specs.declared.path_fact.Origin.{Origin}
@@ -31,7 +30,9 @@ use Rattle.lsr_facts.specs.declared.path_fact.Role.{Role}
 use Rattle.lsr_facts.specs.declared.path_fact.Role.TheVariants as roles
 use Rattle.lsr_facts.specs.declared.reply.Reply.TheVariants as replies
 use Rattle.lsr_facts.specs.declared.router.Router.{Router}
-use Rattle.abstract_router.specs.Outcomes.{Outcome, lsp, sent_by, found_here, path_err, told_upstream}
+use Rattle.router_events.specs.declared.events.Output.{Output}
+use Rattle.abstract_router.specs.Changes.{with_path}
+use Rattle.abstract_router.specs.Outcomes.{Outcome, done, lsp, sent_by, found_here, path_err, told_upstream}
 use Rattle.abstract_router.specs.Places.{Place, is_own, place_of}
 use Rattle.abstract_router.specs.Routing.{next_hop}
 
@@ -99,19 +100,19 @@ abbrev pub rest_of : Choice → Option (List Step)
 rest_of Tail = None
 rest_of (Link link rest) = rest
 
--- the origin that a Path is: the neighbour that sent it
-abbrev pub origin_of : Facts → ℕ → Path → Origin
-origin_of s link p = record { link = link; hop = p.hop; expiry = s.moment + lifetime p.time.refresh_ms }
+-- the origin that a Path is which comes at a moment: the neighbour that sent it
+abbrev pub origin_of : ℕ → ℕ → Path → Origin
+origin_of moment link p = record { link = link; hop = p.hop; expiry = moment + lifetime p.time.refresh_ms }
 
 -- the origins of a path that may be known
 abbrev pub origins_of : Option PathFact → List (Ipv4Addr × Origin)
 origins_of known = option_map_or (λ fact. fact.origins) known []
 
 -- The path that a Path makes or renews: what the message says, its origin put among those that stand.
-abbrev pub path_by : Facts → Option PathFact → ℕ → Path → Choice → PathFact
-path_by s known link p way = record {
+abbrev pub path_by : ℕ → Option PathFact → ℕ → Path → Choice → PathFact
+path_by moment known link p way = record {
   role = role_of way;
-  origins = put address_cmp p.sender.sender (origin_of s link p) (origins_of known);
+  origins = put address_cmp p.sender.sender (origin_of moment link p) (origins_of known);
   out_link = link_of way;
   given = p.route;
   rest = rest_of way;
@@ -142,13 +143,14 @@ failed r s link p e = record {
   errors = sent_by link (path_err p.session p.sender (Some p.tspec) (found_here r e)) ∷ [];
   due = [];
   after = s;
+  is_silent = false;
 }
 
 -- A Path that is taken.
 abbrev pub taken : Router → Facts → Option PathFact → ℕ → Path → Choice → Outcome
 taken r s known link p way =
-    let fact = path_by s known link p way in
-    record { reply = replies.Done; errors = record_errors r (key_of p) known fact; due = []; after = record s { paths = put key_cmp (key_of p) fact s.paths } }
+    let fact = path_by s.moment known link p way in
+    done (record_errors r (key_of p) known fact) (with_path (key_of p) fact s)
 
 -- A Path whose way is asked for: no way leads on; there is no room for another LSP; or it is taken.
 unfoldable pub path_on_its_way : Router → Facts → Option PathFact → ℕ → Path → Result Choice RsvpError → Outcome

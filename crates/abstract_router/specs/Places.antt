@@ -1,24 +1,16 @@
 -- Where a router is: its own addresses, its links, and its neighbours over the links that are up.
-use Rattle.std.specs.Prelude.{ℕ, ◌-◌, ◌/◌, ◌^◌, ◌||◌, ◌==◌, nat_eq, Bool, false, List, ◌∷◌, map, filter, find, Option}
-use Rattle.std.specs.Cmp.Lexicographic.{pointwise}
+use Rattle.std.specs.Prelude.{ℕ, ◌-◌, ◌/◌, ◌^◌, ◌||◌, ◌==◌, Bool, false, List, filter, find, Option}
 use Rattle.std.specs.FinMap.Entries as rows
 use Rattle.std.specs.List.{list_any}
-use Rattle.std.specs.Net.Addr.{ipv4_octets, ipv4_bits}
+use Rattle.std.specs.Net.Addr.{ipv4_bits}
 use Rattle.std.specs.Option.{option_map_or}
 use Rattle.std.specs.Ordering.{nat_cmp}
 use Rattle.std.specs.declared.net.ipv4_addr.Ipv4Addr.{Ipv4Addr}
 use Rattle.rsvp_routes.specs.declared.prefix.Prefix.{Prefix}
+use Rattle.lsr_facts.specs.Routers.{is_same, own_addresses}
 use Rattle.lsr_facts.specs.declared.facts.Facts.{Facts}
 use Rattle.lsr_facts.specs.declared.router.Link.{Link}
 use Rattle.lsr_facts.specs.declared.router.Router.{Router}
-
--- they are one address
-abbrev pub is_same : Ipv4Addr → Ipv4Addr → Bool
-is_same a b = pointwise nat_eq (ipv4_octets a) (ipv4_octets b)
-
--- the router id and the addresses of the links
-abbrev pub own_addresses : Router → List Ipv4Addr
-own_addresses r = r.id ∷ map (λ l. l.1.address) r.links
 
 -- the address is the router's own
 unfoldable pub is_own : Router → Ipv4Addr → Bool
@@ -41,10 +33,6 @@ pub record Place : Type 0 where
 -- where the router stands, by what is known
 abbrev pub place_of : Router → Facts → Place
 place_of r s = record { router = r; up = s.up; routes = s.routes }
-
--- the router's link of this number
-unfoldable pub link_at : Router → ℕ → Option Link
-link_at r number = rows.find nat_cmp number r.links
 
 -- the link is up
 unfoldable pub is_up : List (ℕ × Bool) → ℕ → Bool

@@ -6,12 +6,13 @@ use Rattle.std.specs.declared.net.ipv4_addr.Ipv4Addr.{Ipv4Addr}
 use Rattle.rsvp_routes.specs.declared.prefix.Prefix.{Prefix}
 use Rattle.rsvp_routes.specs.declared.step.Step.{Step}
 use Rattle.rsvp_routes.specs.declared.step.Step.TheVariants.{Ipv4, Other}
+use Rattle.lsr_facts.specs.Routers.{is_same, link_at}
 use Rattle.lsr_facts.specs.Errors.{bad_explicit_route, bad_strict_node, bad_loose_node, bad_initial_subobject, no_route}
 use Rattle.lsr_facts.specs.declared.choice.Choice.{Choice}
 use Rattle.lsr_facts.specs.declared.choice.Choice.TheVariants.{Link, Tail}
 use Rattle.lsr_facts.specs.declared.errors.RsvpError.{RsvpError}
 use Rattle.lsr_facts.specs.declared.router.Router.{Router}
-use Rattle.abstract_router.specs.Places.{Place, is_same, is_own, contains, is_here, is_up, link_at, neighbour}
+use Rattle.abstract_router.specs.Places.{Place, is_own, contains, is_here, is_up, neighbour}
 
 -- the longer of two static routes, of two as long the first
 abbrev pub longer : Prefix × ℕ → Prefix × ℕ → Prefix × ℕ

@@ -1,11 +1,12 @@
 -- Laws of lists and of rows that the laws of the router stand on, beside those of `sorted_rows`.
 use Rattle.std.specs.Prelude.{◌≡◌, ℕ, suc, ◌≤◌, Bool, true, false, cond, List, [], ◌∷◌, map, drop, length, Option, Some, None, IfSome, IfOk}
 use Rattle.std.specs.FinMap.Entries.{by_order, put}
-use Rattle.std.specs.List.{AllByRecursion, filter, find, fold, reduce, flat_map}
+use Rattle.std.specs.List.{AllByRecursion, filter, find, fold, list_all, reduce, flat_map}
 use Rattle.std.specs.Option.{ok_or, option_map, option_or}
 use Rattle.std.specs.declared.cmp.Ordering.{Ordering}
 use Rattle.std.specs.declared.cmp.Ordering.TheVariants.{Less, Equal, Greater}
 use Rattle.std.proofs.Common.{refl, ap, zero, arith, length-append}
+use Rattle.std.proofs.lemmas.Bool.{and_parts}
 use Rattle.sorted_rows.specs.Rows.{keys_of}
 
 -- what holds of each element holds of the one that is found
@@ -47,6 +48,12 @@ pub length-drop_most : {A : Type 0} (n : ℕ) (xs : List A) → length (drop n x
 length-drop_most zero xs = omega arith
 length-drop_most (suc n) [] = omega arith
 length-drop_most (suc n) (x ∷ xs) = omega (arith, length-drop_most n xs)
+
+-- what holds of all items holds of those from a place on
+pub list_all-drop : {A : Type 0} (test : A → Bool) (n : ℕ) (xs : List A) → list_all test xs ≡ true → list_all test (drop n xs) ≡ true
+list_all-drop test zero xs h = h
+list_all-drop test (suc n) [] h = h
+list_all-drop test (suc n) (x ∷ xs) h = list_all-drop test n xs (and_parts (test x) (list_all test xs) h).1
 
 -- nor are its parts together
 pub flat_map-drop_most : {A B : Type 0} (f : A → List B) (n : ℕ) (xs : List A) → length (flat_map f (drop n xs)) ≤ length (flat_map f xs)

@@ -1,19 +1,19 @@
--- When each wanted message was sent last (RFC 2205, 3.7).
+-- When each wanted item was sent last (RFC 2205, 3.7).
 use Rattle.std.specs.Prelude.{ℕ, if◌then◌else◌, List, map}
 use Rattle.std.specs.FinMap.Entries.{find}
 use Rattle.std.specs.Option.{unwrap_or}
-use Rattle.rsvp_contents.specs.declared.messages.Content.{Content}
 use Rattle.lsr_facts.specs.Orders.{item_cmp}
 use Rattle.lsr_facts.specs.declared.facts.Facts.{Facts}
 use Rattle.lsr_facts.specs.declared.key.Item.{Item}
 use Rattle.lsr_facts.specs.declared.router.Router.{Router}
+use Rattle.router_events.specs.declared.events.Output.{Output}
 use Rattle.abstract_router.specs.Outputs.{rests}
 use Rattle.abstract_router.specs.Wanted.{wanted_of}
 
--- The moment of a wanted message: that of the step where it goes out in it, else the one that it has. What rests
--- was wanted before, and so has one in a sound state.
-abbrev pub stamp : List Item → List (Item × Content) → List (Item × ℕ) → ℕ → Item × Content → ℕ
-stamp due before sent now wants = if rests due before wants then unwrap_or (find item_cmp wants.0 sent) now else now
+-- The moment of a wanted item: that of the step where it is sent in it, else the one that it has. What rests was
+-- wanted before, and so has one in a sound state.
+abbrev pub stamp : List Item → List (Item × Output) → List (Item × ℕ) → ℕ → Item × Output → ℕ
+stamp due was sent now wants = if rests due (find item_cmp wants.0 was) wants then unwrap_or (find item_cmp wants.0 sent) now else now
 
 -- The moments of all that is wanted after a step, in the order of items.
 unfoldable pub stamps_of : Router → Facts → List Item → Facts → List (Item × ℕ)

@@ -1,6 +1,6 @@
 -- What a PathTear and a PathErr do (RFC 2205, 3.1.5 and 3.1.7).
 use Rattle.std.specs.Prelude.{ℕ, ◌&&◌, ◌==◌, not, Bool, false, if◌then◌else◌, List, [], Option, Some, None}
-use Rattle.std.specs.FinMap.Entries.{find, put, where_key}
+use Rattle.std.specs.FinMap.Entries.{find, where_key}
 use Rattle.std.specs.Option.{option_map_or}
 use Rattle.std.specs.Ordering.{is_eq}
 use Rattle.std.specs.declared.net.ipv4_addr.Ipv4Addr.{Ipv4Addr}
@@ -12,10 +12,10 @@ use Rattle.lsr_facts.specs.declared.key.Key.{Key}
 use Rattle.lsr_facts.specs.declared.path_fact.Origin.{Origin}
 use Rattle.lsr_facts.specs.declared.path_fact.PathFact.{PathFact}
 use Rattle.lsr_facts.specs.declared.refusal.Refusal.TheVariants.{NoMatch}
-use Rattle.lsr_facts.specs.declared.reply.Reply.TheVariants as replies
-use Rattle.abstract_router.specs.Outcomes.{Outcome, lsp, refused, told_upstream}
+use Rattle.abstract_router.specs.Changes.{with_path, without_path}
+use Rattle.abstract_router.specs.Outcomes.{Outcome, done, lsp, refused, told_upstream}
 use Rattle.abstract_router.specs.Paths.{goes_on}
-use Rattle.abstract_router.specs.Places.{is_same}
+use Rattle.lsr_facts.specs.Routers.{is_same}
 
 -- the origin is the neighbour of this address, over this link; its interface handle doesn't count
 abbrev pub is_from : ℕ → Ipv4Addr → Origin → Bool
@@ -29,21 +29,17 @@ is_torn_by link t fact = option_map_or (is_from link t.hop.address) (find addres
 abbrev pub origins_without : Ipv4Addr → PathFact → List (Ipv4Addr × Origin)
 origins_without sender fact = where_key address_cmp (λ k. not (is_eq (address_cmp sender k))) fact.origins
 
--- a path goes
-abbrev pub without_path : Key → Facts → Facts
-without_path key s = record s { paths = where_key key_cmp (λ k. not (is_eq (key_cmp key k))) s.paths }
-
 -- The path is left with these origins: with none, it goes.
 abbrev pub left_with : Key → PathFact → List (Ipv4Addr × Origin) → Facts → Facts
 left_with key fact [] s = without_path key s
-left_with key fact origins s = record s { paths = put key_cmp key (record fact { origins = origins }) s.paths }
+left_with key fact origins s = with_path key (record fact { origins = origins }) s
 
 -- A PathTear takes its origin from the path that is known; one that matches none is refused.
 abbrev pub torn : Facts → ℕ → PathTear → Option PathFact → Outcome
 torn s link t None = refused s NoMatch
 torn s link t (Some fact) =
     if is_torn_by link t fact
-    then record { reply = replies.Done; errors = []; due = []; after = left_with (lsp t.session t.sender) fact (origins_without t.sender.sender fact) s }
+    then done [] (left_with (lsp t.session t.sender) fact (origins_without t.sender.sender fact) s)
     else refused s NoMatch
 
 -- What a PathTear does.
@@ -60,7 +56,7 @@ abbrev pub passed_on : Facts → ℕ → PathErr → Option PathFact → Outcome
 passed_on s link e None = refused s NoMatch
 passed_on s link e (Some fact) =
     if leaves_by link fact
-    then record { reply = replies.Done; errors = told_upstream (lsp e.session e.sender) fact e.tspec e.error; due = []; after = s }
+    then done (told_upstream (lsp e.session e.sender) fact e.tspec e.error) s
     else refused s NoMatch
 
 -- What a PathErr does.

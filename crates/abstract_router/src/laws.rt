@@ -1,34 +1,44 @@
-//! What holds of the abstract router.
+//! What holds of each step of the abstract router.
 
-ghost use Rattle.std.specs.Prelude.{◌≡◌, List, true, false};
-ghost use Rattle.lsr_facts.specs.declared.event.Event.{Event};
-ghost use Rattle.lsr_facts.specs.declared.event.Event.TheVariants as events;
-ghost use Rattle.lsr_facts.specs.declared.event.Output.{Output};
+ghost use Rattle.std.specs.Prelude.{◌≡◌, ℕ, List, [], true, false};
 ghost use Rattle.lsr_facts.specs.declared.facts.Facts.{Facts};
+ghost use Rattle.lsr_facts.specs.declared.key.Key.{Key};
+ghost use Rattle.lsr_facts.specs.declared.refusal.Refusal.{Refusal};
 ghost use Rattle.lsr_facts.specs.declared.reply.Reply.{Reply};
+ghost use Rattle.lsr_facts.specs.declared.reply.Reply.TheVariants as replies;
 ghost use Rattle.lsr_facts.specs.declared.router.Router.{Router};
-ghost use Rattle.abstract_router.specs.Steps.{IsEvent, Step};
+ghost use Rattle.router_events.specs.declared.events.Event.{Event};
+ghost use Rattle.router_events.specs.declared.events.Event.TheVariants as events;
+ghost use Rattle.router_events.specs.declared.events.Made.{Made};
+ghost use Rattle.router_events.specs.declared.events.Output.{Output};
+ghost use Rattle.abstract_router.specs.Steps.{IsEvent, IsLabelling, Step, known_after, outcome};
 
-/// A step is determined by the state and the event: its answer, what is sent, and what is known after.
+/// A step is determined by the state, the event and the labels that are chosen: its answer, what is sent, and
+/// what is known after it.
 pub fn one_step()
-    ensures reply { (r : Router) (before a b : Facts) (event : Event)
-        (reply other : Reply) (outputs sent : List Output) →
-        Step r before event reply outputs a → Step r before event other sent b → reply ≡ other }
-    ensures outputs { (r : Router) (before a b : Facts) (event : Event)
-        (reply other : Reply) (outputs sent : List Output) →
-        Step r before event reply outputs a → Step r before event other sent b → outputs ≡ sent }
-    ensures after { (r : Router) (before a b : Facts) (event : Event)
-        (reply other : Reply) (outputs sent : List Output) →
-        Step r before event reply outputs a → Step r before event other sent b → a ≡ b }
+    ensures { (r : Router) (before a b : Facts) (one other : Made) →
+        one.event ≡ other.event → one.labels ≡ other.labels →
+        Step r before one a → Step r before other b → (one ≡ other) × (a ≡ b) }
 {}
 
-/// A running router has a step for each event that can be; a cold one has none but for its start.
+/// A running router has a step for each event that can be, whichever labels are chosen for it, and some can be;
+/// a cold one has none but for its start.
 pub fn running_routers_take_every_event()
-    ensures running { (r : Router) (before : Facts) (event : Event) →
+    ensures any { (r : Router) (before : Facts) (event : Event) (labels : List (Key × ℕ)) →
         before.cold ≡ false → IsEvent event →
-        (reply : Reply) × (outputs : List Output) × (after : Facts)
-        × Step r before event reply outputs after }
-    ensures cold { (r : Router) (before after : Facts) (event : Event)
-        (reply : Reply) (outputs : List Output) →
-        before.cold ≡ true → Step r before event reply outputs after → event ≡ events.Start }
+        IsLabelling r before (known_after r before labels (outcome r before event)) labels →
+        (made : Made) × (made.event ≡ event) × (made.labels ≡ labels)
+        × (after : Facts) × Step r before made after }
+    ensures some { (r : Router) (before : Facts) (event : Event) →
+        (labels : List (Key × ℕ))
+        × IsLabelling r before (known_after r before labels (outcome r before event)) labels }
+    ensures cold { (r : Router) (before : Facts) (made : Made) (after : Facts) →
+        before.cold ≡ true → Step r before made after → made.event ≡ events.Start }
+{}
+
+/// What is refused changes nothing, and nothing is sent for it.
+pub fn refusals_are_silent()
+    ensures { (r : Router) (before : Facts) (made : Made) (after : Facts) (refusal : Refusal) →
+        Step r before made after → made.reply ≡ replies.Refused refusal →
+        (made.outputs ≡ []) × (after ≡ before) }
 {}

@@ -2,7 +2,5 @@
 #![tactic(auto)]
 
 pub mod laws;
-pub mod links;
-pub mod sending;
+pub mod locality;
 pub mod soundness;
-pub mod time;

@@ -6,7 +6,7 @@ ghost use Rattle.std.specs.Prelude.{◌≡◌, ◌≤◌, ◌∷◌, length, IfO
 use rsvp_routes::{Subobject, Subobjects};
 use std::alloc::{AllocError, Global};
 
-/// A copy of subobjects that fit an object. The only error is want of memory.
+/// A copy of subobjects that fit an object. The only error is out of memory.
 pub fn copy_of<T: Subobject>(alloc: Global, items: &[T]) -> Result<Subobjects<T>, AllocError>
     requires { length (flat_map T.spelling items.now) ≤ 65528 }
     ensures { IfOk result (λ copy. copy ≡ items.now) }

@@ -158,7 +158,7 @@ fn hop_by_route(
 }
 
 /// The next hop of a path: by its explicit route, and without one towards its endpoint (RFC 3209, 4.3.4). The
-/// fault is an error of RFC 3209, 7.3, or want of memory for what is left of the route.
+/// fault is an error of RFC 3209, 7.3, or out of memory for what is left of the route.
 #[tactic(auto, unfolding(abstract_router::specs::Routing::next_hop))]
 pub fn choose_hop(
     alloc: Global,

@@ -8,8 +8,6 @@ mod hops;
 mod places;
 mod records;
 mod routing;
-#[cfg(test)]
-mod tests;
 
 pub use fault::{RouteError, RouteFault};
 pub use hops::choose_hop;

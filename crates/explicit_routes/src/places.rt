@@ -4,11 +4,13 @@ ghost use Rattle.std.specs.Option.{option_copied, option_map};
 ghost use Rattle.std.specs.List.{list_any};
 ghost use Rattle.std.specs.Prelude.{map, ◌≡◌, ◌/◌, ◌-◌, ◌^◌};
 ghost use Rattle.std.specs.Net.Addr.{ipv4_bits};
-ghost use Rattle.abstract_router.specs.Places.{contains, is_here, is_own, is_same, is_up, link_at, neighbour};
+ghost use Rattle.lsr_facts.specs.Routers.{is_same, link_at};
+ghost use Rattle.abstract_router.specs.Places.{contains, is_here, is_own, is_up, neighbour};
 ghost use Rattle.explicit_routes.specs.Nodes.{place_at};
 
 use lsr_facts::{Link, Node, Router};
 use rsvp_routes::Prefix;
+use sorted_rows::Table;
 use std::net::Ipv4Addr;
 
 /// The bits of an address, and so the greatest length of a prefix.
@@ -80,7 +82,7 @@ pub(crate) fn is_here(router: &Router, nodes: Prefix) -> bool
 }
 
 /// The router's link of this number, or `None` where it has no such link.
-#[tactic(auto, unfolding(abstract_router::specs::Places::link_at))]
+#[tactic(auto, unfolding(lsr_facts::specs::Routers::link_at))]
 pub fn link_at(router: &Router, number: u16) -> Option<&Link>
     ensures found { option_copied result ≡ link_at router.now number }
 {
@@ -89,10 +91,10 @@ pub fn link_at(router: &Router, number: u16) -> Option<&Link>
 
 /// Whether the link of this number is up, by what is known of each link. An unknown link isn't.
 #[tactic(auto, unfolding(abstract_router::specs::Places::is_up))]
-pub fn is_up(up: &[(u16, bool)], number: u16) -> bool
+pub fn is_up(up: &Table<u16, bool>, number: u16) -> bool
     ensures up { result ≡ is_up up.now number }
 {
-    sorted_rows::get(up, &number).unwrap_or(false)
+    up.get(&number).copied().unwrap_or(false)
 }
 
 /// The least-numbered link that is up and leads to the neighbour of this address.

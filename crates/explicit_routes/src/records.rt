@@ -60,7 +60,7 @@ pub fn has_room(node: &Node, recorded: &Record) -> bool
 }
 
 /// The record that a path goes on with: this router before the others, or `None` where there is no room for it
-/// ([`has_room`]). The only error is want of memory.
+/// ([`has_room`]). The only error is out of memory.
 #[tactic(auto, unfolding(abstract_router::specs::Paths::grown))]
 pub fn push_hop(alloc: Global, node: &Node, recorded: &Record) -> Result<Option<Record>, AllocError>
     ensures grown { IfOk result (λ r. r ≡ grown node.now.router.now recorded.now) }

@@ -27,6 +27,7 @@ fn longest_route(node: &Node, address: Ipv4Addr) -> Option<u16>
     ensures { result ≡ option_map (λ route. route.1) (reduce longer (routes_to (place_at node.now) address)) }
 {
     node.routes
+        .as_slice()
         .iter()
         .copied()
         .filter(|route| contains(route.0, address) && is_up(node.up, route.1))

@@ -10,6 +10,3 @@ pub use laws::{
     written_checksums_are_good,
 };
 pub use message::{checksum, has_good_checksum};
-
-#[cfg(test)]
-mod tests;

@@ -1,13 +1,13 @@
 -- From what a message is read as to what its Hop frame is read as.
-use Rattle.std.proofs.Common.{◌≡◌, ◌≤◌, ℕ, List, [], ◌∷◌, length, drop, get_or, Result, Ok, Err, IsOkAnd, MatchResult, sym, ap, ◌∙◌, refl, inr, arith, subst}
+use Rattle.std.proofs.Common.{◌≡◌, ◌≤◌, ℕ, List, [], ◌∷◌, length, drop, get_or, Option, Some, None, IfSome, Result, Ok, Err, IsOkAnd, MatchResult, sym, ap, ◌∙◌, refl, inr, arith, subst}
 use Rattle.rsvp_messages.specs.Dropped.{Dropped}
 use Rattle.rsvp_messages.specs.Dropped.TheVariants as dropped
 use Rattle.rsvp_messages.specs.Reading.{Reading}
-use Rattle.rsvp_messages.specs.Spelling.{SpellsReading, IsFirstFault, ReadsMessage}
+use Rattle.rsvp_messages.specs.Spelling.{SpellsReading, IsFirstFault, ReadsMessage, header_fault}
 use Rattle.rsvp_messages.specs.Answers.{Tells, IsTold, ReadsOrDrops}
 use Rattle.link_frames.specs.declared.frame.Frame.{Frame}
 use Rattle.link_frames.specs.declared.frame.Frame.TheVariants as frames
-use Rattle.link_frames.specs.Frames.{SpellsFrame, IsFirstFrameFault, ReadsFrame}
+use Rattle.link_frames.specs.Frames.{SpellsFrame, IsFirstFrameFault, ReadsFrame, head_fault}
 
 -- the message's first fault is the frame's
 told_fault : (rest : List ℕ) (fault : Dropped) → IsTold SpellsReading IsFirstFault rest (Err fault) → IsTold SpellsFrame IsFirstFrameFault (1 ∷ rest) (Err fault)
@@ -52,3 +52,16 @@ pub hop_frame : (bytes : List ℕ) (read : Result Reading Dropped) (made : Resul
     MatchResult read (λ r. IsOkAnd made (λ f. f ≡ frames.Hop r)) (λ e. made ≡ Err e) → ReadsMessage (drop 1 bytes) read → ReadsFrame bytes made
 hop_frame [] read made l first m h = absurd (omega arith)
 hop_frame (kind ∷ rest) read made l first m h = subst (λ (k : ℕ). ReadsFrame (k ∷ rest) made) (sym first) (hop rest read made m h)
+
+-- A fault that the message is answered is the frame's.
+told_head : (o : Option Dropped) (read : Result Reading Dropped) (made : Result Frame Dropped) →
+    MatchResult read (λ r. IsOkAnd made (λ f. f ≡ frames.Hop r)) (λ e. made ≡ Err e) → IfSome o (λ f. read ≡ Err f) → IfSome o (λ f. made ≡ Err f)
+told_head None read made m h = tt
+told_head (Some f) (Ok reading) made m h = absurd cc
+told_head (Some f) (Err e) made m h = m ∙ (let same : e ≡ f = cc in ap Err same)
+
+-- so is one of its common header
+pub hop_head : (bytes : List ℕ) (read : Result Reading Dropped) (made : Result Frame Dropped) → 1 ≤ length bytes → get_or bytes 0 0 ≡ 1 →
+    MatchResult read (λ r. IsOkAnd made (λ f. f ≡ frames.Hop r)) (λ e. made ≡ Err e) → IfSome (header_fault (drop 1 bytes)) (λ f. read ≡ Err f) → IfSome (head_fault bytes) (λ f. made ≡ Err f)
+hop_head [] read made l first m h = absurd (omega arith)
+hop_head (kind ∷ rest) read made l first m h = subst (λ (k : ℕ). IfSome (head_fault (k ∷ rest)) (λ f. made ≡ Err f)) (sym first) (told_head (header_fault rest) read made m h)

@@ -1,10 +1,10 @@
 -- Which bytes spell which frame, and which fault is the first of bytes that spell none.
-use Rattle.std.specs.Prelude.{◌≡◌, ◌≢◌, ℕ, List, [], ◌∷◌, ◌++◌, Result, ◌⊎◌}
+use Rattle.std.specs.Prelude.{◌≡◌, ◌≢◌, ◌==◌, ℕ, if◌then◌else◌, List, [], ◌∷◌, ◌++◌, Option, Some, Result, ◌⊎◌}
 use Rattle.rsvp_messages.specs.Dropped.{Dropped}
 use Rattle.rsvp_messages.specs.Dropped.TheVariants as dropped
 use Rattle.rsvp_messages.specs.Reading.{Reading}
 use Rattle.rsvp_messages.specs.Reading.TheVariants as readings
-use Rattle.rsvp_messages.specs.Spelling.{SpellsReading, IsFirstFault}
+use Rattle.rsvp_messages.specs.Spelling.{SpellsReading, IsFirstFault, header_fault}
 use Rattle.rsvp_messages.specs.Answers.{ReadsOrDrops}
 use Rattle.rsvp_messages.specs.Written.{message_bytes}
 use Rattle.link_frames.specs.declared.frame.Frame.{Frame}
@@ -19,6 +19,12 @@ SpellsFrame (kind ∷ rest) (frames.Hop reading) = (kind ≡ 1) × SpellsReading
 abbrev pub IsFirstFrameFault : List ℕ → Dropped → Type 0
 IsFirstFrameFault [] fault = fault ≡ dropped.Short
 IsFirstFrameFault (kind ∷ rest) fault = ((kind ≢ 1) × (fault ≡ dropped.KindUnsupported)) ⊎ ((kind ≡ 1) × IsFirstFault rest fault)
+
+-- The fault that the head of a datagram shows: there is no byte, its kind isn't taken, or the common header of its
+-- message has a fault.
+abbrev pub head_fault : List ℕ → Option Dropped
+head_fault [] = Some dropped.Short
+head_fault (kind ∷ rest) = if kind == 1 then header_fault rest else Some dropped.KindUnsupported
 
 -- what a reader of frames answers
 abbrev pub ReadsFrame : List ℕ → Result Frame Dropped → Type 0

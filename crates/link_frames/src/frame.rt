@@ -16,7 +16,7 @@ pub enum Frame {
 impl Clone for Frame {
     ghost is_clone = { λ source copy. copy ≡ source };
 
-    /// A copy of the frame. The only error is want of memory.
+    /// A copy of the frame. The only error is out of memory.
     fn clone(&self) -> Result<Frame, AllocError> {
         match self {
             Frame::Hop(reading) => Ok(Frame::Hop(reading.clone()?)),

@@ -4,10 +4,8 @@
 
 mod frame;
 mod reading;
-#[cfg(test)]
-mod tests;
 mod writing;
 
-pub use frame::Frame;
+pub use frame::{Frame, KIND_HOP};
 pub use reading::read_frame;
 pub use writing::write_frame;

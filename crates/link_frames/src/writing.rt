@@ -5,7 +5,7 @@ use crate::frame::{Frame, KIND_HOP};
 use rsvp_messages::{Reading, write_message};
 use std::alloc::AllocError;
 
-/// Appends the frame, whose message was read whole. The only error is want of memory, which leaves `out`
+/// Appends the frame, whose message was read whole. The only error is out of memory, which leaves `out`
 /// as it was.
 pub fn write_frame(frame: &Frame, out: &mut Vec<u8>) -> Result<(), AllocError>
     requires { IsWhole frame.now }

@@ -2,28 +2,26 @@
 //! files that they name.
 #![tactic(auto)]
 
-use lsr_tool::run;
-use std::env;
+use lsr_tool::{run, tell_unread_words};
 use std::process::ExitCode;
+use std::{env, io};
 
-/// The status where the words can't be read: there is no memory for them, or they aren't UTF-8.
-const FAILED: u8 = 1;
+/// The words of the command line. The errors are that one isn't UTF-8, or that memory ran out.
+fn read_args(rt: &HostRuntime) -> io::Result<Vec<String>> {
+    Ok(env::args(rt)?.collect::<Vec<String>>(rt.alloc())?)
+}
 
 fn main(rt: HostRuntime) -> ExitCode {
-    let alloc = rt.alloc();
-    let Ok(words) = env::args(&rt) else {
-        return ExitCode::from(FAILED);
+    let status = match read_args(&rt) {
+        Ok(words) => run(
+            &rt,
+            rt.alloc(),
+            words.as_slice(),
+            &mut rt.stdin(),
+            &mut rt.stdout(),
+            &mut rt.stderr(),
+        ),
+        Err(fault) => tell_unread_words(&fault, &mut rt.stderr()),
     };
-    let Ok(words) = words.collect::<Vec<String>>(alloc) else {
-        return ExitCode::from(FAILED);
-    };
-    let status = run(
-        &rt,
-        alloc,
-        words.as_slice(),
-        &mut rt.stdin(),
-        &mut rt.stdout(),
-        &mut rt.stderr(),
-    );
     ExitCode::from(status)
 }

@@ -4,12 +4,16 @@
 //! - `cases.txt` names the runs of `lsr step` over the lines NAME.step, on the router of NAME.toml where there is one,
 //!   and `messages.txt` the runs of `lsr decode` on the words NAME.hex. A run prints NAME.out and tells NAME.err on the
 //!   error stream, nothing where there is no such file. It ends with status 0 where it tells nothing, else with 1.
+//! - `many.txt` names the runs over many LSPs, on the built-in router. A line `FIRST-LAST LINE` of NAME.many is LINE for
+//!   each number from FIRST to LAST, which stands in four hexadecimal digits in place of its `#`. A line `COUNT TEXT` of
+//!   NAME.counts says how many lines that begin with TEXT are printed; there are no others.
 //! - Each line of `bad-lines.txt`, alone, is a bad line of `lsr step`.
 //! - A line `NAME: FAULT` or `NAME: good` of `config/answers.txt` says what is told of the configuration
 //!   config/NAME.toml.
 #![tactic(auto)]
 
 use lsr_tool::{run_decode, run_step};
+use std::fmt::Write;
 use std::io::ErrorKind;
 use std::rt::Files;
 use std::{fs, io};
@@ -18,6 +22,8 @@ use std::{fs, io};
 const RUNS: &str = "cases.txt";
 /// The names of the messages.
 const MESSAGES: &str = "messages.txt";
+/// The names of the runs over many LSPs.
+const MANY: &str = "many.txt";
 /// The lines that are none.
 const BAD_LINES: &str = "bad-lines.txt";
 /// What is told of a first line that is none.
@@ -100,6 +106,53 @@ fn message_agrees<R: Files + AllocGlobal>(rt: &R, name: &str) -> io::Result<bool
     agrees(rt, name, &ran)
 }
 
+/// Appends the lines that a line of a run over many LSPs stands for.
+fn push_lines(lines: &mut String, line: &str) -> io::Result<()> {
+    if let Some((numbers, template)) = line.split_once(' ')
+        && let Some((first, last)) = numbers.split_once('-')
+        && let (Ok(first), Ok(last)) = (first.parse::<u16>(), last.parse::<u16>())
+        && let Some((front, behind)) = template.split_once('#')
+    {
+        for number in first..=last {
+            write!(lines, "{front}{number:04x}{behind}\n")?;
+        }
+        return Ok(());
+    }
+    write!(lines, "{line}\n")?;
+    Ok(())
+}
+
+/// Whether so many lines begin so as each line `COUNT TEXT` says, and there are no others.
+fn counts_agree(counts: &str, printed: &str) -> bool {
+    let mut counted = 0usize;
+    for line in counts.lines() {
+        let (count, text) = line.split_once(' ').unwrap_or((line, ""));
+        let found = printed
+            .lines()
+            .filter(|line| line.starts_with(text))
+            .count();
+        if count.parse::<usize>() != Ok(found) {
+            return false;
+        }
+        counted = counted.saturating_add(found);
+    }
+    counted == printed.lines().count()
+}
+
+/// Whether the run over many LSPs agrees.
+fn many_agree<R: Files + AllocGlobal>(rt: &R, name: &str) -> io::Result<bool> {
+    let alloc = rt.alloc();
+    let many = fs::read_to_string(rt, format!(in alloc; "{name}.many")?)?;
+    let counts = fs::read_to_string(rt, format!(in alloc; "{name}.counts")?)?;
+    let mut lines = String::new(alloc);
+    for line in many.lines() {
+        push_lines(&mut lines, line)?;
+    }
+    let ran = run(rt, None, lines.as_bytes())?;
+    let printed = String::from_utf8(ran.output).unwrap_or(String::new(alloc));
+    Ok(ran.status == 0 && counts_agree(counts.as_str(), printed.as_str()))
+}
+
 /// Whether the line, alone, is told as a bad one.
 fn is_bad_line<R: Files + AllocGlobal>(rt: &R, line: &str) -> io::Result<bool> {
     let input = format!(in rt.alloc(); "{line}\n")?;
@@ -131,6 +184,10 @@ fn main(rt: HostRuntime) -> io::Result<()> {
     }
     for name in fs::read_to_string(&rt, MESSAGES)?.lines() {
         let word = word(message_agrees(&rt, name)?);
+        println!(rt; "{name} {word}")?;
+    }
+    for name in fs::read_to_string(&rt, MANY)?.lines() {
+        let word = word(many_agree(&rt, name)?);
         println!(rt; "{name} {word}")?;
     }
     // `lines` would take off a carriage return, which makes a line a bad one.

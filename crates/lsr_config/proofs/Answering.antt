@@ -5,7 +5,7 @@ use Rattle.toml.specs.Parse.{parse_document}
 use Rattle.lsr_config.specs.Rules.{Rule, given, fitting, new_number, new_address, new_prefix, known_link, few, known, fault_of, FirstBroken}
 use Rattle.lsr_config.specs.Documents.{rules_of, Says}
 use Rattle.lsr_config.specs.Reading.{IsFault, Judges, IsRefused, IsRead}
-use Rattle.lsr_config.specs.declared.config.Config.{Config}
+use Rattle.lsr_config.specs.Configs.{Setup}
 use Rattle.lsr_config.specs.declared.fault.ConfigFault.{ConfigFault}
 use Rattle.lsr_config.specs.declared.fault.ConfigFault.TheVariants as fault
 
@@ -38,7 +38,7 @@ refused text ms (fault.TooMany key) spells h = (ms, spells, h)
 refused text ms (fault.UnknownKey name) spells h = (ms, spells, h)
 refused text ms fault.Memory spells h = tt
 
-pub document_read : (text : List ℕ) (members : Members) (r : Result Config ConfigFault) → parse_document text ≡ Some members → Judges (rules_of (table members)) (Says (table members)) r → IsRead text r
+pub document_read : (text : List ℕ) (members : Members) (r : Result Setup ConfigFault) → parse_document text ≡ Some members → Judges (rules_of (table members)) (Says (table members)) r → IsRead text r
 document_read text ms (Ok c) spells h = (ms, spells, h)
 document_read text ms (Err f) spells h = refused text ms f spells h
 
@@ -47,7 +47,7 @@ pub not_read : (text : List ℕ) (f : ConfigFault) → f ≡ fault.Text → pars
 unfolding IsRefused
 not_read text f is none = rw is none
 
--- want of memory
+-- out of memory
 pub no_memory : (text : List ℕ) (f : ConfigFault) → f ≡ fault.Memory → IsRefused text f
 unfolding IsRefused
 no_memory text f is = rw is tt

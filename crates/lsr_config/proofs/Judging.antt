@@ -153,7 +153,7 @@ pub turn_end : AllByRecursion Holds (in_turn [])
 unfolding in_turn
 turn_end = tt
 
--- want of memory may come anywhere
+-- out of memory may come anywhere
 pub fault_memory : (rules : List Rule) → IsFault rules fault.Memory
 unfolding IsFault
 fault_memory rules = tt
@@ -238,3 +238,21 @@ kept_alone rule h = (h, tt)
 
 pub broken_alone : (rule : Rule) (f : ConfigFault) → ¬ (Holds rule) → f ≡ fault_of rule → IsFault (rule ∷ []) f
 broken_alone rule f h is = subst (IsFault (rule ∷ [])) (sym is) (fault_alone rule h)
+
+-- ---- rules that are kept, taken apart
+
+pub all_front : {A : Type 0} (P : A → Type 0) (xs ys : List A) → AllByRecursion P (xs ++ ys) → AllByRecursion P xs
+all_front P [] ys h = tt
+all_front P (x ∷ xs) ys h = (h.0, all_front P xs ys h.1)
+
+pub all_back : {A : Type 0} (P : A → Type 0) (xs ys : List A) → AllByRecursion P (xs ++ ys) → AllByRecursion P ys
+all_back P [] ys h = h
+all_back P (x ∷ xs) ys h = all_back P xs ys h.1
+
+pub turn_first : (rules : List Rule) (more : List (List Rule)) → AllByRecursion Holds (in_turn (rules ∷ more)) → AllByRecursion Holds rules
+unfolding in_turn
+turn_first rules more h = all_front Holds rules (in_turn more) h
+
+pub turn_rest : (rules : List Rule) (more : List (List Rule)) → AllByRecursion Holds (in_turn (rules ∷ more)) → AllByRecursion Holds (in_turn more)
+unfolding in_turn
+turn_rest rules more h = all_back Holds rules (in_turn more) h

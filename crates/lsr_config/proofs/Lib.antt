@@ -1,4 +1,5 @@
 pub mod Answering
+pub mod Apart
 pub mod Finding
 pub mod Judging
 pub mod Naming

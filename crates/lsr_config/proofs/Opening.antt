@@ -1,58 +1,39 @@
 -- A configuration that a document says, where it keeps all rules, is one that a router can be opened with.
-use Rattle.std.proofs.Common.{◌≡◌, ℕ, ◌+◌, ◌-◌, ◌*◌, ◌/◌, ◌%◌, ◌^◌, ◌<◌, ◌≤◌, true, false, cond, List, [], ◌∷◌, ◌++◌, length, fold, Option, Some, None, is_some, inl, inr, Result, Ok, Err, IfOk, refl, sym, ap, subst, ◌∙◌, arith, T, length-append}
+use Rattle.std.proofs.Common.{◌≡◌, ℕ, ◌+◌, ◌-◌, ◌*◌, ◌/◌, ◌%◌, ◌^◌, ◌<◌, ◌≤◌, false, List, [], ◌∷◌, ◌++◌, map, length, Option, Some, None, is_some, inl, inr, sym, ap, subst, ◌∙◌, arith, T, length-append}
 use Rattle.std.proofs.Math.Nat.{mul-mod_right}
 use Rattle.std.proofs.lemmas.Cmp.{nat_cmp_total}
-use Rattle.std.proofs.lemmas.Map.Lookups.{CmpEqualImpliesEq, exact_unsigned}
+use Rattle.std.proofs.lemmas.Map.Keys.{IsDistinct-cons}
+use Rattle.std.proofs.lemmas.Map.Lookups.{exact_unsigned}
 use Rattle.std.proofs.lemmas.Nat.{from_be_bytes-to_be_bytes_4, pow_pos}
-use Rattle.std.specs.Prelude.{IsSomeAnd, IsTrue}
-use Rattle.std.specs.Cmp.{IsTotalOrder, tied_itself}
-use Rattle.std.specs.List.{AllByRecursion}
-use Rattle.std.specs.FinMap.Entries.{put, find, is_sorted, is_sorted-put, find-put}
+use Rattle.std.specs.Prelude.{IsSomeAnd, IsTrue, MatchOption}
+use Rattle.std.specs.List.{AllByRecursion, IsDistinct}
+use Rattle.std.specs.FinMap.Entries.{find, is_sorted}
 use Rattle.std.specs.Net.Addr.{ipv4_bits, ipv4_octets}
 use Rattle.std.specs.Net.Grammar.{IsIpv4Text}
-use Rattle.std.specs.Ordering.{nat_cmp, is_eq, eq_by_cmp}
-use Rattle.std.specs.declared.cmp.Ordering.{Ordering}
+use Rattle.std.specs.Ordering.{nat_cmp}
 use Rattle.std.specs.declared.net.ipv4_addr.Ipv4Addr.{Ipv4Addr}
 use Rattle.toml.specs.Data.{Data, get}
 use Rattle.rsvp_routes.specs.declared.prefix.Prefix.{Prefix}
-use Rattle.sorted_rows.specs.RowsLaws.{all-put_row, length-put-le}
+use Rattle.sorted_rows.specs.ListLaws.{all-map}
+use Rattle.sorted_rows.specs.Rows.{values_of}
 use Rattle.lsr_facts.specs.Orders.{prefix_cmp}
 use Rattle.lsr_facts.specs.OrderLaws.{prefix_total, prefix_exact}
+use Rattle.lsr_facts.specs.Routers.{AreLabels, AreRoutes, HasLink, IsLink, IsRouter, is_same, link_at, own_addresses}
+use Rattle.lsr_facts.specs.declared.router.LabelRange.{LabelRange}
 use Rattle.lsr_facts.specs.declared.router.Link.{Link}
-use Rattle.abstract_router.specs.Places.{link_at}
-use Rattle.abstract_router.specs.Soundness.{AreRoutes, IsRouter, HasLink}
-use Rattle.lsr_config.specs.BuiltIn.{two_links}
-use Rattle.lsr_config.specs.Configs.{IsConfig}
-use Rattle.lsr_config.specs.ConfigLaws.{two_links_is_config}
+use Rattle.lsr_config.specs.Configs.{IsConfig, Setup}
 use Rattle.lsr_config.specs.Keys.{key_name}
-use Rattle.lsr_config.specs.Values.{SaysAddress, SaysWhole, SaysPrefix, masked}
-use Rattle.lsr_config.specs.Rules.{Rule, HasAddress, HasNumber, HasPrefix, SomeOf, Holds, known_link}
-use Rattle.lsr_config.specs.Documents.{in_turn, each_record, link_rules, route_rules, rules_of, records, SaysEach, SaysLink, SaysRoute, Says, in_order}
-use Rattle.lsr_config.specs.Reading.{Judges}
-use Rattle.lsr_config.specs.declared.fault.ConfigFault.{ConfigFault}
-use Rattle.lsr_config.specs.declared.config.Config.{Config}
+use Rattle.lsr_config.specs.Values.{SaysAddress, SaysLabels, SaysWhole, SaysPrefix, masked}
+use Rattle.lsr_config.specs.Rules.{Rule, some_tables, Has, HasAddress, HasNumber, HasPrefix, SomeOf, Holds, known_link}
+use Rattle.lsr_config.specs.Documents.{all_known_rules, optional, each_record, link_rules, router_rules, route_rules, rules_of, records, HasOr, SaysEach, SaysLink, SaysRoute, Says, in_order}
 use Rattle.lsr_config.specs.declared.key.Key.{Key}
 use Rattle.lsr_config.specs.declared.key.Key.TheVariants as key
-use Rattle.lsr_config.proofs.Judging.{says_length}
+use Rattle.lsr_config.proofs.Apart.{address_rule, addresses_apart, distinct_addresses, not_same, rows_apart, same_link}
+use Rattle.lsr_config.proofs.Judging.{all_front, all_back, says_length, turn_end, turn_first, turn_kept, turn_rest}
+use Rattle.lsr_config.proofs.Placing.{sorted_in_order, length_in_order, all_in_order, found_in_order}
 use Rattle.lsr_config.proofs.Telling.{one_number}
 
--- ---- rules that are kept, taken apart
-
-all_front : {A : Type 0} (P : A → Type 0) (xs ys : List A) → AllByRecursion P (xs ++ ys) → AllByRecursion P xs
-all_front P [] ys h = tt
-all_front P (x ∷ xs) ys h = (h.0, all_front P xs ys h.1)
-
-all_back : {A : Type 0} (P : A → Type 0) (xs ys : List A) → AllByRecursion P (xs ++ ys) → AllByRecursion P ys
-all_back P [] ys h = h
-all_back P (x ∷ xs) ys h = all_back P xs ys h.1
-
-turn_first : (rules : List Rule) (more : List (List Rule)) → AllByRecursion Holds (in_turn (rules ∷ more)) → AllByRecursion Holds rules
-unfolding in_turn
-turn_first rules more h = all_front Holds rules (in_turn more) h
-
-turn_rest : (rules : List Rule) (more : List (List Rule)) → AllByRecursion Holds (in_turn (rules ∷ more)) → AllByRecursion Holds (in_turn more)
-unfolding in_turn
-turn_rest rules more h = all_back Holds rules (in_turn more) h
+-- ---- rules that are kept
 
 links_kept : (d : Data) → AllByRecursion Holds (rules_of d) → AllByRecursion Holds (each_record (link_rules d) [] (records key.Link d))
 unfolding rules_of
@@ -103,63 +84,6 @@ module _ {A : Type 0} (Reads : Data → A → Type 0) (rules : List Data → Dat
     all_rows (before ++ d ∷ []) ds rows (all_back Holds (rules before d) (each_record rules (before ++ d ∷ []) ds) kept) says.1,
   )
 
--- ---- rows in order
-
-module _ {K V : Type 0} (cmp : K → K → Ordering) (total : IsTotalOrder cmp) (exact : CmpEqualImpliesEq cmp) where
-  placed : List (K × V) → List (K × V) → List (K × V)
-  placed table rows = fold (λ t row. put cmp row.0 row.1 t) table rows
-
-  sorted_placed : (table rows : List (K × V)) → T (is_sorted cmp table) → T (is_sorted cmp (placed table rows))
-  unfolding placed
-  sorted_placed table [] h = h
-  sorted_placed table (row ∷ rows) h = sorted_placed (put cmp row.0 row.1 table) rows (is_sorted-put cmp total row.0 row.1 table h)
-
-  length_placed : (table rows : List (K × V)) → length (placed table rows) ≤ length table + length rows
-  unfolding placed
-  length_placed table [] = omega arith
-  length_placed table (row ∷ rows) =
-      let rest : length (placed (put cmp row.0 row.1 table) rows) ≤ length (put cmp row.0 row.1 table) + length rows = length_placed (put cmp row.0 row.1 table) rows in
-      let one : length (put cmp row.0 row.1 table) ≤ length table + 1 = length-put-le cmp row.0 row.1 table in
-      omega arith
-
-  all_placed : (P : K × V → Type 0) (table rows : List (K × V)) → AllByRecursion P table → AllByRecursion P rows → AllByRecursion P (placed table rows)
-  unfolding placed
-  all_placed P table [] h now = h
-  all_placed P table (row ∷ rows) h now =
-      all_placed P (put cmp row.0 row.1 table) rows
-      (all-put_row cmp P row.0 row.1 (λ x tie. subst (λ k. P (k, row.1)) (exact row.0 x tie) now.0) now.0 table h) now.1
-
-  found_stays : (q : K) (table rows : List (K × V)) → is_some (find cmp q table) ≡ true → is_some (find cmp q (placed table rows)) ≡ true
-  unfolding placed
-  found_stays q table [] h = h
-  found_stays q table (row ∷ rows) h =
-      found_stays q (put cmp row.0 row.1 table) rows
-      (ap is_some (find-put cmp total q row.0 row.1 table) ∙ elim (eq_by_cmp cmp q row.0) as (λ b. is_some (cond b (Some row.1) (find cmp q table)) ≡ true) [ true ↦ refl | false ↦ h ])
-
-  found_placed : (q : K) (table rows : List (K × V)) → SomeOf (λ row. row.0 ≡ q) rows → is_some (find cmp q (placed table rows)) ≡ true
-  unfolding placed
-  found_placed q table [] h = absurd h
-  found_placed q table (row ∷ rows) (inl is) =
-      found_stays q (put cmp row.0 row.1 table) rows
-      (ap is_some (find-put cmp total q row.0 row.1 table) ∙ ap (λ b. is_some (cond b (Some row.1) (find cmp q table))) (ap (λ k. is_eq (cmp q k)) is ∙ ap is_eq (tied_itself total q)))
-  found_placed q table (row ∷ rows) (inr h) = found_placed q (put cmp row.0 row.1 table) rows h
-
-  sorted_in_order : (rows : List (K × V)) → T (is_sorted cmp (in_order cmp rows))
-  unfolding in_order placed
-  sorted_in_order rows = sorted_placed [] rows tt
-
-  length_in_order : (rows : List (K × V)) → length (in_order cmp rows) ≤ length rows
-  unfolding in_order placed
-  length_in_order rows = let h = length_placed [] rows in omega (arith, h)
-
-  all_in_order : (P : K × V → Type 0) (rows : List (K × V)) → AllByRecursion P rows → AllByRecursion P (in_order cmp rows)
-  unfolding in_order placed
-  all_in_order P rows h = all_placed P [] rows tt h
-
-  found_in_order : (q : K) (rows : List (K × V)) → SomeOf (λ row. row.0 ≡ q) rows → is_some (find cmp q (in_order cmp rows)) ≡ true
-  unfolding in_order placed
-  found_in_order q rows h = found_placed q [] rows h
-
 -- ---- what the values say
 
 has_some : (P : Data → Type 0) (Q : Type 0) (o : Option Data) → ((d : Data) → P d → Q) → IsSomeAnd o P → Q
@@ -169,6 +93,26 @@ has_some P Q (Some d) from h = from d h
 number_from_one : (key : Key) (d : Data) (n : ℕ) → HasNumber key d n → 1 ≤ n
 unfolding SaysWhole
 number_from_one key d n h = has_some (λ v. SaysWhole 1 65535 v n) (1 ≤ n) (get (key_name key) d) (λ v says. says.1) h
+
+limit_fits : (d : Data) (limit : ℕ) → Has key.Limit d (λ v. SaysWhole 0 (2 ^ 50) v limit) → limit ≤ 2 ^ 50
+unfolding SaysWhole
+limit_fits d limit h = has_some (λ v. SaysWhole 0 (2 ^ 50) v limit) (limit ≤ 2 ^ 50) (get (key_name key.Limit) d) (λ v says. says.2) h
+
+refresh_from_one : (o : Option Data) (n : ℕ) → MatchOption o (n ≡ 30000) (λ v. SaysWhole 1 4294967295 v n) → 1 ≤ n
+unfolding SaysWhole
+refresh_from_one None n is = omega (arith, is)
+refresh_from_one (Some v) n says = says.1
+
+labels_fit : (d : Data) (labels : LabelRange) → Has key.Labels d (λ v. SaysLabels v labels) → AreLabels labels
+unfolding SaysLabels SaysWhole
+labels_fit d labels h =
+    has_some (λ v. SaysLabels v labels) (AreLabels labels) (get (key_name key.Labels) d)
+    (λ v says. record {
+      first = says.3.1;
+      some = says.5;
+      last = says.4.2;
+      few = (let number = says.6 in omega (arith, number));
+    }) h
 
 address_of_four : (key : Key) (d : Data) (a : Ipv4Addr) → HasAddress key d a → length (ipv4_octets a) ≡ 4
 unfolding SaysAddress
@@ -207,23 +151,50 @@ row_of_number n (d ∷ ds) (row ∷ rows) says (inr h) = inr (row_of_number n ds
 
 -- ---- the configuration
 
-module _ (d : Data) (c : Config) (kept : AllByRecursion Holds (rules_of d)) (says : Says d c) where
-  router_opens : IsRouter c.router
-  router_opens =
-      let rows = says.links.0 in
-      let each = says.links.1 in
-      let is = says.links.2 in
-      let count : length rows ≤ 16 =
+module _ (d : Data) (c : Setup) (kept : AllByRecursion Holds (rules_of d)) (says : Says d c) where
+  -- what holds of each record of a link and of what it says holds of each link
+  each_link : (P : ℕ × Link → Type 0) → ((before : List Data) (link : Data) (row : ℕ × Link) → AllByRecursion Holds (link_rules d before link) → SaysLink link row → P row) → AllByRecursion P c.router.links
+  each_link P from =
+      subst (AllByRecursion P) (sym says.links.2)
+      (all_in_order nat_cmp nat_cmp_total exact_unsigned P says.links.0 (all_rows SaysLink (link_rules d) P from [] (records key.Link d) says.links.0 (links_kept d kept) says.links.1))
+
+  few_rows : length says.links.0 ≤ 16
+  few_rows =
       let records_few : 0 + length (records key.Link d) ≤ 16 = at_most (link_rules d) 16 (few_links d) [] (records key.Link d) (links_kept d kept) (omega arith) in
-      omega (arith, says_length SaysLink (records key.Link d) rows each) in
-      let same = λ (P : ℕ × Link → Type 0) (from : (before : List Data) (link : Data) (row : ℕ × Link) → AllByRecursion Holds (link_rules d before link) → SaysLink link row → P row).
-      subst (AllByRecursion P) (sym is) (all_in_order nat_cmp nat_cmp_total exact_unsigned P rows (all_rows SaysLink (link_rules d) P from [] (records key.Link d) rows (links_kept d kept) each)) in
-      record {
-        in_order = subst (λ links. T (is_sorted nat_cmp links)) (sym is) (sorted_in_order nat_cmp nat_cmp_total exact_unsigned rows);
-        few = rw is (let h = length_in_order nat_cmp nat_cmp_total exact_unsigned rows in omega (arith, h));
-        numbered = same (λ l. 1 ≤ l.0) (λ before link row _ this. number_from_one key.Number link row.0 this.number);
-        peers = same (λ l. length (ipv4_octets l.1.peer) ≡ 4) (λ before link row _ this. address_of_four key.Peer link row.1.peer this.peer);
-      }
+      omega (arith, says_length SaysLink (records key.Link d) says.links.0 says.links.1)
+
+  link_fits : (before : List Data) (link : Data) (row : ℕ × Link) → AllByRecursion Holds (link_rules d before link) → SaysLink link row → IsLink row
+  link_fits before link row held this = record {
+    numbered = number_from_one key.Number link row.0 this.number;
+    address = address_of_four key.Address link row.1.address this.address;
+    peer = address_of_four key.Peer link row.1.peer this.peer;
+    peer_router = address_of_four key.PeerRouter link row.1.peer_router this.peer_router;
+    limit = limit_fits link row.1.limit this.limit;
+  }
+
+  not_routers : (before : List Data) (link : Data) (row : ℕ × Link) → AllByRecursion Holds (link_rules d before link) → SaysLink link row → is_same c.router.id row.1.address ≡ false
+  not_routers before link row held this =
+      not_same c.router.id row.1.address (λ e. (address_rule d before link held row.1.address this.address).0 (subst (HasAddress key.Router d) e says.id))
+
+  addresses_differ : IsDistinct is_same (own_addresses c.router)
+  addresses_differ =
+      let links = c.router.links in
+      let apart : IsDistinct same_link (values_of links) =
+      subst (λ rows. IsDistinct same_link (values_of rows)) (sym says.links.2) (addresses_apart nat_cmp says.links.0 (rows_apart d [] (records key.Link d) says.links.0 (links_kept d kept) says.links.1)) in
+      IsDistinct-cons is_same c.router.id (map (λ l. l.1.address) links)
+      (all-map (λ a. is_same c.router.id a ≡ false) (λ l. l.1.address) links (each_link (λ row. is_same c.router.id row.1.address ≡ false) not_routers))
+      (distinct_addresses links apart)
+
+  router_opens : IsRouter c.router
+  router_opens = record {
+    id = address_of_four key.Router d c.router.id says.id;
+    refresh = refresh_from_one (get (key_name key.RefreshMs) d) c.router.refresh_ms says.refresh_ms;
+    labels = labels_fit d c.router.labels says.labels;
+    in_order = subst (λ links. T (is_sorted nat_cmp links)) (sym says.links.2) (sorted_in_order nat_cmp nat_cmp_total exact_unsigned says.links.0);
+    few = rw says.links.2 (let h = length_in_order nat_cmp nat_cmp_total exact_unsigned says.links.0 in omega (arith, h, few_rows));
+    links = each_link IsLink link_fits;
+    apart = addresses_differ;
+  }
 
   link_there : (n : ℕ) → SomeOf (λ link. HasNumber key.Number link n) (records key.Link d) → HasLink c.router n
   unfolding link_at
@@ -253,11 +224,27 @@ module _ (d : Data) (c : Config) (kept : AllByRecursion Holds (rules_of d)) (say
   pub opens : IsConfig c
   opens = record { router = router_opens; routes = routes_open }
 
--- what a judged document answers
-pub document_opens : (d : Data) (r : Result Config ConfigFault) → Judges (rules_of d) (Says d) r → IfOk r IsConfig
-document_opens d (Ok c) h = opens d c h.0 h.1
-document_opens d (Err f) h = tt
-
--- a configuration that is the built-in router's
-pub opens_as_built_in : (c : Config) → c ≡ two_links → IsConfig c
-opens_as_built_in c is = subst IsConfig (sym is) two_links_is_config
+-- A document whose parts were judged one after the other: its rules are kept, it says the configuration of these parts, and a router can be opened with that.
+pub parts_open : (d : Data) (c : Setup) (link_records route_records : List Data) (links : List (ℕ × Link)) (routes : List (Prefix × ℕ))
+    → AllByRecursion Holds (router_rules d) × (HasAddress key.Router d c.router.id × HasOr key.RefreshMs d (c.router.refresh_ms ≡ 30000) (λ v. SaysWhole 1 4294967295 v c.router.refresh_ms) × Has key.Labels d (λ v. SaysLabels v c.router.labels))
+    → AllByRecursion Holds (optional some_tables key.Link d) × (link_records ≡ records key.Link d)
+    → AllByRecursion Holds (each_record (link_rules d) [] link_records) × SaysEach SaysLink link_records links
+    → AllByRecursion Holds (optional some_tables key.Route d) × (route_records ≡ records key.Route d)
+    → AllByRecursion Holds (each_record (route_rules (records key.Link d)) [] route_records) × SaysEach SaysRoute route_records routes
+    → AllByRecursion Holds (all_known_rules d)
+    → c.router.links ≡ in_order nat_cmp links → c.routes ≡ in_order prefix_cmp routes
+    → (AllByRecursion Holds (rules_of d) × Says d c) × IsConfig c
+unfolding rules_of
+parts_open d c link_records route_records links routes top link_tables each_link route_tables each_route known link_order route_order =
+    let link_parts = subst (λ ds. AllByRecursion Holds (each_record (link_rules d) [] ds) × SaysEach SaysLink ds links) link_tables.1 each_link in
+    let route_parts = subst (λ ds. AllByRecursion Holds (each_record (route_rules (records key.Link d)) [] ds) × SaysEach SaysRoute ds routes) route_tables.1 each_route in
+    let kept : AllByRecursion Holds (rules_of d) =
+    turn_kept _ _ top.0 (turn_kept _ _ link_tables.0 (turn_kept _ _ link_parts.0 (turn_kept _ _ route_tables.0 (turn_kept _ _ route_parts.0 (turn_kept _ _ known turn_end))))) in
+    let says : Says d c = record {
+      id = top.1.0;
+      refresh_ms = top.1.1;
+      labels = top.1.2;
+      links = (links, link_parts.1, link_order);
+      routes = (routes, route_parts.1, route_order);
+    } in
+    ((kept, says), opens d c kept says)

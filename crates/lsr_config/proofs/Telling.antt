@@ -60,7 +60,7 @@ one_prefix key d a b p q = has_one SaysPrefix same_prefix (get (key_name key) d)
 
 -- ---- rows beside the records that say them
 
-some_not_none : {A : Type 0} (P : A → Type 0) (xs : List A) → SomeOf P xs → AllByRecursion (λ x. ¬ P x) xs → ⊥
+pub some_not_none : {A : Type 0} (P : A → Type 0) (xs : List A) → SomeOf P xs → AllByRecursion (λ x. ¬ P x) xs → ⊥
 some_not_none P [] h none = absurd h
 some_not_none P (x ∷ xs) (inl h) none = none.0 h
 some_not_none P (x ∷ xs) (inr h) none = some_not_none P xs h none.1
@@ -90,7 +90,7 @@ module _ {R X : Type 0} (Reads : Data → R → Type 0) (Tells : Data → X → 
 number_decides : (n : ℕ) (row : ℕ × Link) → Decides (row.0 == n) (row.0 ≡ n)
 number_decides n row = (eqb-true row.0 n, eq-eqb row.0 n)
 
-address_tells : (a b : Ipv4Addr) → Decides (bytes_eq (ipv4_octets a) (ipv4_octets b)) (a ≡ b)
+pub address_tells : (a b : Ipv4Addr) → Decides (bytes_eq (ipv4_octets a) (ipv4_octets b)) (a ≡ b)
 address_tells a b =
     let octets = bytes_eq-Decides (ipv4_octets a) (ipv4_octets b) in
     ((λ t. ap (λ (o : List ℕ). record { octets = o }) (octets.0 t)), (λ e. octets.1 (ap ipv4_octets e)))

@@ -12,7 +12,7 @@ use Rattle.lsr_config.specs.Values.{SaysWhole, SaysFlag, SaysLabels, elements}
 use Rattle.lsr_config.specs.Rules.{Kind, an_address, a_socket, a_whole, a_flag, some_labels, a_prefix, some_tables, Has, HasAddress, HasNumber, HasPrefix, Rule, given, fitting, new_number, new_address, new_prefix, known_link, few, known}
 use Rattle.lsr_config.specs.declared.key.Key.{Key}
 use Rattle.lsr_config.specs.declared.key.Key.TheVariants as key
-use Rattle.lsr_config.specs.declared.config.Config.{Config}
+use Rattle.lsr_config.specs.Configs.{Setup}
 
 -- ---- the rules
 
@@ -143,7 +143,7 @@ unfoldable pub in_order : {K V : Type 0} → (K → K → Ordering) → List (K 
 in_order cmp rows = fold (λ table row. put cmp row.0 row.1 table) [] rows
 
 -- the document says this configuration
-pub record Says (document : Data) (c : Config) : Type 0 where
+pub record Says (document : Data) (c : Setup) : Type 0 where
   pub id : HasAddress key.Router document c.router.id
   pub refresh_ms : HasOr key.RefreshMs document (c.router.refresh_ms ≡ 30000) (λ v. SaysWhole 1 4294967295 v c.router.refresh_ms)
   pub labels : Has key.Labels document (λ v. SaysLabels v c.router.labels)

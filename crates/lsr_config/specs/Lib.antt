@@ -1,5 +1,3 @@
-pub mod BuiltIn
-pub mod ConfigLaws
 pub mod Configs
 pub mod Documents
 pub mod Faults

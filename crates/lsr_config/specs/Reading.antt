@@ -5,11 +5,11 @@ use Rattle.toml.specs.Data.{Data, Members, table}
 use Rattle.toml.specs.Parse.{parse_document}
 use Rattle.lsr_config.specs.Rules.{Rule, Holds, FirstBroken}
 use Rattle.lsr_config.specs.Documents.{rules_of, Says}
-use Rattle.lsr_config.specs.declared.config.Config.{Config}
+use Rattle.lsr_config.specs.Configs.{Setup}
 use Rattle.lsr_config.specs.declared.fault.ConfigFault.{ConfigFault}
 use Rattle.lsr_config.specs.declared.fault.ConfigFault.TheVariants as fault
 
--- the fault is that of the first rule that isn't kept; want of memory may come at any rule
+-- the fault is that of the first rule that isn't kept; out of memory may come at any rule
 unfoldable pub IsFault : List Rule → ConfigFault → Type 0
 IsFault rules fault.Memory = Unit {0}
 IsFault rules f = FirstBroken rules f
@@ -29,8 +29,8 @@ IsRefused text fault.Memory = Unit {0}
 IsRefused text f = IsOfDocument text (λ document. FirstBroken (rules_of document) f)
 
 -- The answer to a text: the configuration that it says, where it keeps all rules, or the fault of the first that
--- it breaks. A text that isn't TOML is the fault `Text`, and want of memory may come at any point.
-abbrev pub IsRead : List ℕ → Result Config ConfigFault → Type 0
+-- it breaks. A text that isn't TOML is the fault `Text`, and out of memory may come at any point.
+abbrev pub IsRead : List ℕ → Result Setup ConfigFault → Type 0
 IsRead text result =
     MatchResult result
     (λ c. IsOfDocument text (λ document. AllByRecursion Holds (rules_of document) × Says document c))

@@ -1,8 +1,6 @@
 // A whole document.
-ghost use Rattle.std.specs.Ordering.{nat_cmp};
 ghost use Rattle.std.specs.Prelude.{◌≡◌, IfOk};
 ghost use Rattle.toml.specs.View.{view};
-ghost use Rattle.lsr_facts.specs.Orders.{prefix_cmp};
 ghost use Rattle.lsr_config.specs.Values.{SaysWhole, SaysLabels};
 ghost use Rattle.lsr_config.specs.Rules.{Has, HasAddress};
 ghost use Rattle.lsr_config.specs.Documents.{router_rules, rules_of, HasOr, Says, in_order};
@@ -15,8 +13,7 @@ use crate::known::check_keys;
 use crate::links::read_links;
 use crate::reading::{address_at, labels_at, records_of, whole_or};
 use crate::routes::read_routes;
-use lsr_facts::{LabelRange, Link, Router};
-use rsvp_routes::Prefix;
+use lsr_facts::{LabelRange, Router};
 use sorted_rows::Table;
 use std::alloc::{AllocError, Global};
 use std::net::Ipv4Addr;
@@ -48,10 +45,17 @@ pub(crate) fn read_document(alloc: Global, document: &Value) -> Result<Config, C
     let route_records = records_of(document, Key::Route)?;
     let routes = read_routes(alloc, route_records, links.as_slice())?;
     check_keys(alloc, document, link_records, route_records)?;
-    match config_of(alloc, top, links.as_slice(), routes.as_slice()) {
-        Ok(config) => Ok(config),
-        Err(_) => Err(ConfigFault::Memory),
-    }
+    let link_table = table_of(alloc, links.as_slice())?;
+    let route_table = table_of(alloc, routes.as_slice())?;
+    Ok(Config {
+        router: Router {
+            id: top.id,
+            refresh_ms: top.refresh_ms,
+            labels: top.labels,
+            links: link_table,
+        },
+        routes: route_table,
+    })
 }
 
 /// What the document says outside its records.
@@ -74,29 +78,6 @@ fn read_top(document: &Value) -> Result<Top, ConfigFault>
         id,
         refresh_ms: refresh_ms as u32,
         labels,
-    })
-}
-
-/// The configuration of these parts, its links and routes in the order of their keys.
-fn config_of(
-    alloc: Global,
-    top: Top,
-    links: &[(u16, Link)],
-    routes: &[(Prefix, u16)],
-) -> Result<Config, AllocError>
-    ensures { IfOk result (λ config. config ≡ record {
-      router = record { id = top.id; refresh_ms = top.refresh_ms; labels = top.labels; links = in_order nat_cmp links.now };
-      routes = in_order prefix_cmp routes.now;
-    }) }
-{
-    Ok(Config {
-        router: Router {
-            id: top.id,
-            refresh_ms: top.refresh_ms,
-            labels: top.labels,
-            links: table_of(alloc, links)?,
-        },
-        routes: table_of(alloc, routes)?,
     })
 }
 

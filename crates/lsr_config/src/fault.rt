@@ -4,6 +4,7 @@ ghost use Rattle.lsr_config.specs.Faults.{fault_word, fault_name};
 
 use crate::key::Key;
 use crate::unknown_name::UnknownName;
+use std::alloc::AllocError;
 use thiserror::Error;
 
 /// Why a text is no configuration that a router can run with: the first thing that is wrong with it.
@@ -33,6 +34,16 @@ pub enum ConfigFault {
     /// There isn't memory enough to read the text.
     #[error("there is not memory enough to read the configuration")]
     Memory,
+}
+
+impl From<AllocError> for ConfigFault {
+    ghost use Rattle.lsr_config.specs.declared.fault.ConfigFault.TheVariants.{Memory};
+
+    ghost from_gives = { λ _ fault. fault ≡ Memory };
+
+    fn from(_error: AllocError) -> ConfigFault {
+        ConfigFault::Memory
+    }
 }
 
 impl ConfigFault {

@@ -20,7 +20,7 @@ impl Model for UnknownName {
 }
 
 impl UnknownName {
-    /// A copy of the text. Fails only for want of memory.
+    /// A copy of the text. The only error is out of memory.
     pub fn copied(alloc: Global, text: &str) -> Result<UnknownName, AllocError>
         ensures { IfOk result (λ name. name ≡ text.now) }
     {

@@ -1,4 +1,6 @@
 pub mod Errors
+pub mod Lifetimes
 pub mod OrderLaws
 pub mod Orders
 pub mod Refusals
+pub mod Routers

@@ -3,25 +3,23 @@
 
 mod choice;
 mod errors;
-mod event;
 mod facts;
 mod key;
 pub mod laws;
+mod lifetimes;
 pub mod limits;
 mod node;
 mod path_fact;
 mod refusal;
 mod reply;
 mod router;
-#[cfg(test)]
-mod tests;
 mod view;
 
 pub use choice::Choice;
 pub use errors::{RsvpError, UNKNOWN_CLASS, UNKNOWN_CTYPE};
-pub use event::{Arrive, Entry, Event, Output, Outputs};
 pub use facts::Facts;
 pub use key::{Item, Key};
+pub use lifetimes::{has_waited, keep_living, lives_on};
 pub use node::Node;
 pub use path_fact::{Origin, PathFact, Role};
 pub use refusal::Refusal;

@@ -1,6 +1,6 @@
 ghost use Rattle.std.specs.FinMap.Entries.{find};
-ghost use Rattle.std.specs.Option.{option_copied, option_map};
-ghost use Rattle.std.specs.Prelude.{◌≡◌, slice_get};
+ghost use Rattle.std.specs.Option.{option_copied};
+ghost use Rattle.std.specs.Prelude.{◌≡◌};
 ghost use Rattle.lsr_facts.specs.Orders.{item_cmp, key_cmp};
 ghost use Rattle.lsr_facts.specs.declared.facts.Facts.{Facts};
 ghost use Rattle.lsr_facts.specs.declared.router.Router.{Router};
@@ -35,10 +35,6 @@ pub trait FactsView {
     fn path(&self, key: &Key) -> Option<&PathFact>
         ensures path { option_copied result ≡ find key_cmp key.now (facts self.now).paths };
 
-    /// The key at this place, from 0, in the order of keys, or `None` where there are not so many.
-    fn key_at(&self, place: usize) -> Option<Key>
-        ensures key { result ≡ option_map (λ row. row.0) (slice_get (facts self.now).paths place) };
-
     /// When a message was sent last that is kept alive at a neighbour, in milliseconds; `None` for any other.
     fn sent_at(&self, item: &Item) -> Option<u64>
         ensures sent { result ≡ find item_cmp item.now (facts self.now).sent };
@@ -61,8 +57,8 @@ impl<'a> FactsView for Snapshot<'a> {
     fn node(&self) -> Node<'_> {
         Node {
             router: self.router,
-            up: self.facts.up.as_slice(),
-            routes: self.facts.routes.as_slice(),
+            up: &self.facts.up,
+            routes: &self.facts.routes,
         }
     }
 
@@ -76,10 +72,6 @@ impl<'a> FactsView for Snapshot<'a> {
 
     fn path(&self, key: &Key) -> Option<&PathFact> {
         self.facts.paths.get(key)
-    }
-
-    fn key_at(&self, place: usize) -> Option<Key> {
-        self.facts.paths.as_slice().get(place).map(|row| row.0)
     }
 
     fn sent_at(&self, item: &Item) -> Option<u64> {

@@ -1,10 +1,3 @@
-pub mod Lines
-pub mod Names
-pub mod Answers
-pub mod Shown
-pub mod Routers
-pub mod Requests
-pub mod Steps
-pub mod Texts
-pub mod Decoding
+pub mod Endings
 pub mod Sessions
+pub mod Commands

@@ -1,76 +1,85 @@
 -- What `step` prints, and how it ends, on the router that it is given.
 use Rattle.std.specs.Prelude.{◌≡◌, ℕ, List, [], Option, Some, None, Ok, Err, ◌⊎◌}
-use Rattle.lsr_config.specs.BuiltIn.{two_links}
+use Rattle.lsr_config.specs.Configs.{Setup}
 use Rattle.lsr_config.specs.Reading.{IsRead}
-use Rattle.lsr_config.specs.declared.config.Config.{Config}
+use Rattle.lsr_config.specs.declared.config.TheConstants.{BUILT_IN}
 use Rattle.lsr_config.specs.declared.fault.ConfigFault.{ConfigFault}
-use Rattle.router_core.specs.States.{opened}
-use Rattle.lsr_tool.specs.Lines.{lines_of}
-use Rattle.lsr_tool.specs.Requests.{PrintsAnswer, SessionState}
-use Rattle.lsr_tool.specs.Steps.{Ends}
-use Rattle.lsr_tool.specs.Texts.{IsTextOf}
-use Rattle.lsr_tool.specs.declared.input.InputFault.{InputFault}
-use Rattle.lsr_tool.specs.declared.input.InputFault.TheVariants as faults
-use Rattle.lsr_tool.specs.declared.step.Ending.{Ending}
-use Rattle.lsr_tool.specs.declared.step.Ending.TheVariants as endings
+use Rattle.lsr_session.specs.States.{opened}
+use Rattle.lsr_lines.specs.Lines.{lines_of}
+use Rattle.lsr_session.specs.Requests.{PrintsAnswer, SessionState}
+use Rattle.lsr_lines.specs.Steps.{Ends}
+use Rattle.lsr_lines.specs.Texts.{IsTextOf, IsUnreadable, Stream}
+use Rattle.lsr_lines.specs.declared.input.InputFault.{InputFault}
+use Rattle.lsr_lines.specs.declared.input.InputFault.TheVariants as faults
+use Rattle.lsr_lines.specs.declared.step.Ending.{Ending}
+use Rattle.lsr_tool.specs.declared.endings.RunEnding.{RunEnding}
+use Rattle.lsr_tool.specs.declared.endings.RunEnding.TheVariants as endings
 
--- the text of a configuration, where a run has one
-abbrev pub IsConfigText : Option (Option (List ℕ)) → Option (List ℕ) → Type 0
-IsConfigText None None = Unit {0}
-IsConfigText (Some stream) (Some text) = IsTextOf stream text
-IsConfigText stream text = ⊥
+-- the text that says the router: one that was given, or without one that of the built-in router
+abbrev pub said_by : Option (List ℕ) → List ℕ
+said_by None = BUILT_IN.now
+said_by (Some text) = text
 
--- the router that a run begins with: the one that its text says, or without a text the built-in one
-abbrev pub IsConfigured : Option (List ℕ) → Config → Type 0
-IsConfigured None config = config ≡ two_links
-IsConfigured (Some text) config = IsRead text (Ok config)
-
--- why the text of a configuration gives none
-abbrev pub IsMisconfigured : Option (List ℕ) → ConfigFault → Type 0
-IsMisconfigured None fault = ⊥
-IsMisconfigured (Some text) fault = IsRead text (Err fault)
+-- the text of a run's configuration: what is read from its stream, or without one the built-in router's
+abbrev pub IsConfigText : Option Stream → List ℕ → Type 0
+IsConfigText None text = text ≡ BUILT_IN.now
+IsConfigText (Some stream) text = IsTextOf stream text
 
 -- a session that begins: the router as it is opened, and no reply yet
-abbrev pub begun : Config → SessionState
+abbrev pub begun : Setup → SessionState
 begun config = record { router = opened config; recent = [] }
 
--- why no run begins: the fault of its configuration, or want of memory
-abbrev pub CannotBegin : Option (List ℕ) → Ending → Type 0
-CannotBegin configured (endings.BadConfig fault) = IsMisconfigured configured fault
-CannotBegin configured endings.Memory = Unit {0}
+-- why no run begins: the fault of its configuration; or memory ran out
+abbrev pub CannotBegin : List ℕ → RunEnding → Type 0
+CannotBegin configured (endings.BadConfig fault) = IsRead configured (Err fault)
+CannotBegin configured (endings.Unread faults.Memory) = Unit {0}
 CannotBegin configured ending = ⊥
 
--- how a run ends whose texts can't be read
-abbrev pub ending_of : InputFault → Ending
-ending_of faults.Unreadable = endings.Unreadable
-ending_of faults.Memory = endings.Memory
-
--- How a run ends whose texts were read: at once, for the fault of its configuration; or with the answers that a
--- session on the router, as it is opened, gives to the lines, one after the other.
-abbrev pub StepsOver : Option (List ℕ) → List ℕ → List ℕ → Ending → Type 0
-StepsOver configured text printed (endings.BadConfig fault) = (printed ≡ []) × IsMisconfigured configured fault
-StepsOver configured text printed ending =
-    (config : Config) × IsConfigured configured config × Ends PrintsAnswer (begun config) (lines_of text) printed ending
-
 -- The texts of the configuration and of the input are read, and a session begins on the router that the first says.
-pub record IsReady (stream : Option (Option (List ℕ))) (input : Option (List ℕ)) (session : SessionState) (text : List ℕ) : Type 0 where
-  pub configured : Option (List ℕ)
-  pub config : Config
+pub record IsReady (stream : Option Stream) (input : Stream) (session : SessionState) (text : List ℕ) : Type 0 where
+  pub configured : List ℕ
+  pub config : Setup
   pub config_read : IsConfigText stream configured
   pub input_read : IsTextOf input text
-  pub says : IsConfigured configured config
+  pub says : IsRead configured (Ok config)
   pub begins : session ≡ begun config
 
--- The texts of the configuration and of the input are read before all else, and the run is one over these.
-pub record StepsRead (stream : Option (Option (List ℕ))) (input : Option (List ℕ)) (printed : List ℕ) (ending : Ending) : Type 0 where
-  pub configured : Option (List ℕ)
+-- A session began, and gave answers to the lines of the input, one after the other, up to this ending.
+pub record RanLines (stream : Option Stream) (input : Stream) (printed : List ℕ) (ending : Ending) : Type 0 where
+  pub session : SessionState
+  pub text : List ℕ
+  pub ready : IsReady stream input session text
+  pub ends : Ends PrintsAnswer session (lines_of text) printed ending
+
+-- Both texts were read, and that of the configuration gives no router, for this fault.
+pub record IsRefusedFor (stream : Option Stream) (input : Stream) (fault : ConfigFault) : Type 0 where
+  pub configured : List ℕ
   pub text : List ℕ
   pub config_read : IsConfigText stream configured
   pub input_read : IsTextOf input text
-  pub steps : StepsOver configured text printed ending
+  pub misconfigured : IsRead configured (Err fault)
 
--- A run. Nothing is printed where a text can't be read, or where there is no memory to begin.
-abbrev pub Steps : Option (Option (List ℕ)) → Option (List ℕ) → List ℕ → Ending → Type 0
-Steps stream input printed endings.Unreadable = printed ≡ []
-Steps stream input printed endings.Memory = (printed ≡ []) ⊎ StepsRead stream input printed endings.Memory
-Steps stream input printed ending = StepsRead stream input printed ending
+-- a configuration's stream that can't be read as text; the built-in router needs none
+abbrev pub IsUnreadableConfig : Option Stream → Type 0
+IsUnreadableConfig None = ⊥
+IsUnreadableConfig (Some stream) = IsUnreadable stream
+
+-- why a run has no text: one of its streams can't be read as text; or memory ran out
+abbrev pub IsUnreadFor : Option Stream → Stream → InputFault → Type 0
+IsUnreadFor stream input faults.Unreadable = IsUnreadableConfig stream ⊎ IsUnreadable input
+IsUnreadFor stream input faults.Memory = Unit {0}
+
+-- A run. The texts of the configuration and of the input are read before all else. Nothing is printed where one of
+-- them can't be read, where the first gives no router, or where there is no memory to begin.
+abbrev pub Steps : Option Stream → Stream → List ℕ → RunEnding → Type 0
+Steps stream input printed (endings.Ran ending) = RanLines stream input printed ending
+Steps stream input printed (endings.Unread fault) = (printed ≡ []) × IsUnreadFor stream input fault
+Steps stream input printed (endings.BadConfig fault) = (printed ≡ []) × IsRefusedFor stream input fault
+
+-- A run on the router of the file of this name, or without one on the built-in router. `opens` says which file a
+-- name opens, `fails` why it may open none, `stream` what a file is read as. A file that isn't opened is unread.
+abbrev pub StepsOnFile : {F : Type 0} → (List ℕ → F → Type 0) → (List ℕ → InputFault → Type 0) → (F → Stream) → Option (List ℕ) → Stream → List ℕ → RunEnding → Type 0
+StepsOnFile opens fails stream None input printed ending = Steps None input printed ending
+StepsOnFile {F} opens fails stream (Some name) input printed ending =
+    ((file : F) × opens name file × Steps (Some (stream file)) input printed ending)
+    ⊎ ((fault : InputFault) × fails name fault × (printed ≡ []) × (ending ≡ endings.Unread fault))

@@ -1,110 +1,124 @@
-//! What the words of the command line ask for.
-use crate::decoding::run_decode;
-use crate::help::{CONFIG, HEX, command};
-use crate::session::run_step;
-use clap::error::ErrorKind;
+//! What the words of the command line ask for, done.
+ghost use Rattle.std.specs.Prelude.{◌≡◌, ◌⊎◌, IfOk, OnOk, map};
+ghost use Rattle.std.specs.Io.KnownBytes.{Appends};
+ghost use Rattle.clap.specs.Words.{kind_of};
+ghost use Rattle.lsr_tool.specs.Commands.{Does, Runs, words_status};
+
+use crate::endings::FAILED;
+use crate::files::{FilesByName, SystemFiles};
+use crate::session::run_step_of;
+use clap::error::{Error, ErrorKind};
+use lsr_decode::run_decode;
+use lsr_lines::ByteStream;
+use lsr_text::OUT_OF_MEMORY;
+use lsr_words::{Asked, read_words};
 use std::alloc::Global;
 use std::convert::AsStr;
-use std::io::{Read, Write};
+use std::io;
+use std::io::Write;
 use std::rt::Files;
-use std::{fs, io};
 
-/// The status where a stream could not be written, or there is no memory for the words.
-const FAILED: u8 = 1;
 /// The status of words that ask for nothing that there is.
 const BAD_WORDS: u8 = 2;
-/// What is told where there is no memory.
-const MEMORY: &str = "memory\n";
-/// What is told of a file that can't be opened.
-const UNREADABLE: &str = "unreadable\n";
+/// What is told of words that can't be read.
+const UNREAD_WORDS: &str = "error: a word isn't UTF-8; see lsr --help\n";
+/// What is told where a stream can't be written.
+const UNWRITABLE: &str = "unwritable\n";
 
-/// Prints why words were not taken, or the help that they ask for, and gives the status.
-fn tell_words<W: Write, E: Write>(
-    fault: clap::Error,
-    output: &mut W,
-    error: &mut E,
-) -> io::Result<u8> {
-    if fault.kind() == ErrorKind::OutOfMemory {
-        error.write_all(MEMORY.as_bytes())?;
-        return Ok(FAILED);
+/// The status of words that aren't taken: 0 where they ask for help, 1 where memory ran out, else 2.
+fn words_status(kind: ErrorKind) -> u8
+    ensures { result ≡ words_status kind }
+{
+    match kind {
+        ErrorKind::DisplayHelp | ErrorKind::DisplayVersion => 0,
+        ErrorKind::OutOfMemory => FAILED,
+        _ => BAD_WORDS,
     }
-    if fault.use_stderr() {
-        write!(error, "{fault}")?;
-        return Ok(BAD_WORDS);
-    }
-    write!(output, "{fault}")?;
-    Ok(0)
 }
 
-/// Runs `lsr step` on the router of the file, or without one on the built-in router. A file that can't be opened
-/// is unreadable, as one that can't be read.
-fn run_step_of<F: Files, R: Read, W: Write, E: Write>(
+/// Prints the help that the words ask for, or tells on the error stream why they weren't taken, and gives the
+/// status. The error is a stream's.
+fn tell_words<W: Write, E: Write>(fault: Error, output: &mut W, error: &mut E) -> io::Result<u8>
+    ensures status { IfOk result (λ status. status ≡ words_status (kind_of fault)) }
+{
+    let status = words_status(fault.kind());
+    if status == FAILED {
+        write!(error, "{OUT_OF_MEMORY}\n")?;
+    } else if fault.use_stderr() {
+        write!(error, "{fault}")?;
+    } else {
+        write!(output, "{fault}")?;
+    }
+    Ok(status)
+}
+
+/// Does what was asked for, and gives the status. The error is that a stream could not be written.
+pub fn run_asked<F: FilesByName, R: ByteStream, W: Write, E: Write>(
     files: &F,
     alloc: Global,
-    file: Option<&str>,
+    asked: Asked<'_>,
     input: &mut R,
     output: &mut W,
     error: &mut E,
-) -> io::Result<u8> {
-    let Some(name) = file else {
-        return run_step(alloc, None::<F::File>, input, output, error);
-    };
-    match fs::open(files, name) {
-        Ok(stream) => run_step(alloc, Some(stream), input, output, error),
-        Err(fault) => {
-            let told = if fault.kind() == io::ErrorKind::OutOfMemory {
-                MEMORY
-            } else {
-                UNREADABLE
-            };
-            error.write_all(told.as_bytes())?;
-            Ok(FAILED)
-        }
+) -> io::Result<u8>
+    ensures { IfOk result (Does (F.opens files.now) (F.fails files.now) F.File.stream asked.entry (R.stream input.old)
+        (W.contents output.old) (W.contents output.new) (E.contents error.old) (E.contents error.new)) }
+{
+    match asked {
+        Asked::Step(file) => run_step_of(files, alloc, file, input, output, error),
+        Asked::Decode(word) => run_decode(alloc, word, output, error),
     }
 }
 
 /// Does what the words ask for, and gives the status. The error is that a stream could not be written.
-fn run_words<F: Files, S: AsStr, R: Read, W: Write, E: Write>(
+fn run_words<F: FilesByName, S: AsStr, R: ByteStream, W: Write, E: Write>(
     files: &F,
     alloc: Global,
     words: &[S],
     input: &mut R,
     output: &mut W,
     error: &mut E,
-) -> io::Result<u8> {
-    let command = match command(alloc) {
-        Ok(command) => command,
-        Err(fault) => return tell_words(clap::Error::from(fault), output, error),
-    };
-    let matches = match command.try_get_matches_from(words) {
-        Ok(matches) => matches,
-        Err(fault) => return tell_words(fault, output, error),
-    };
-    match matches.subcommand() {
-        Some(("decode", given)) => {
-            run_decode(alloc, given.get_str(HEX).unwrap_or(""), output, error)
-        }
-        Some((_, given)) => run_step_of(files, alloc, given.get_str(CONFIG), input, output, error),
-        None => Ok(BAD_WORDS),
+) -> io::Result<u8>
+    ensures { IfOk result (Runs (F.opens files.now) (F.fails files.now) F.File.stream (map S.text words.now) (R.stream input.old)
+        (W.contents output.old) (W.contents output.new) (E.contents error.old) (E.contents error.new)) }
+{
+    match read_words(alloc, words) {
+        Ok(Some(asked)) => run_asked(files, alloc, asked, input, output, error),
+        Ok(None) => Ok(BAD_WORDS),
+        Err(fault) => tell_words(fault, output, error),
     }
 }
 
 /// The program: does what the words ask for, the first of which is its own name, and gives the status: 0; 1
 /// for a refused file, input, line or message, or a stream that could not be written; 2 for bad words. A file that
 /// they name is opened by `files`.
-pub fn run<F: Files, S: AsStr, R: Read, W: Write, E: Write>(
+pub fn run<F: Files, S: AsStr, R: ByteStream, W: Write, E: Write>(
     files: &F,
     alloc: Global,
     words: &[S],
     input: &mut R,
     output: &mut W,
     error: &mut E,
-) -> u8 {
-    match run_words(files, alloc, words, input, output, error) {
+) -> u8
+    ensures { (result ≡ 1) ⊎ Runs (λ _ _. Unit {0}) (λ _ _. Unit {0}) ⟦<F::File as ByteStream>⟧.stream (map S.text words.now) (R.stream input.old)
+        (W.contents output.old) (W.contents output.new) (E.contents error.old) (E.contents error.new) result }
+{
+    let files = SystemFiles::new(files);
+    match run_words(&files, alloc, words, input, output, error) {
         Ok(status) => status,
         Err(_) => {
-            let _ = error.write_all("unwritable\n".as_bytes());
+            let _ = error.write_all(UNWRITABLE.as_bytes());
             FAILED
         }
     }
+}
+
+/// Tells why there are no words to run: one isn't UTF-8, or memory ran out. Gives the status, 2 or 1.
+pub fn tell_unread_words<E: Write>(fault: &io::Error, error: &mut E) -> u8 {
+    if fault.kind() == io::ErrorKind::OutOfMemory {
+        let _ = write!(error, "{OUT_OF_MEMORY}\n");
+        return FAILED;
+    }
+    let _ = error.write_all(UNREAD_WORDS.as_bytes());
+    BAD_WORDS
 }

@@ -1,8 +1,7 @@
 -- What a reader of messages may answer.
-use Rattle.std.proofs.Common.{◌≡◌, ℕ, Bool, true, false, List, Option, Some, None, Result, Ok, Err, refl, sym, ap, subst, ◌∙◌, inl, inr}
-use Rattle.std.specs.Prelude.{if◌then◌else◌, ◌==◌, drop, slice_index, find}
+use Rattle.std.proofs.Common.{◌≡◌, ℕ, Bool, true, false, List, Option, Some, None, Result, Ok, Err, refl, sym, ap, ◌∙◌, inl, inr}
+use Rattle.std.specs.Prelude.{drop, slice_index, find}
 use Rattle.std.specs.Option.{option_map, ok_or}
-use Rattle.std.specs.List.{list_any}
 use Rattle.rsvp_bodies.specs.Reading.{SpellsEach}
 use Rattle.rsvp_bodies.proofs.Sequences.{SpellsEach-unique}
 use Rattle.rsvp_objects.specs.declared.object.Object.{Object}
@@ -13,19 +12,17 @@ use Rattle.rsvp_contents.specs.declared.dropped.Dropped.{Dropped}
 use Rattle.rsvp_contents.specs.declared.dropped.Dropped.TheVariants as dropped
 use Rattle.rsvp_contents.specs.declared.messages.Content.{Content}
 use Rattle.rsvp_contents.specs.declared.message.Reading.{Reading}
-use Rattle.rsvp_contents.specs.declared.message.Reading.TheVariants as readings
-use Rattle.rsvp_contents.specs.Counting.{class_of, counting, refuses, has_class}
-use Rattle.rsvp_contents.specs.Picking.{reading_of, objects_read, path_of, path_err_of, path_tear_of, has_short_parts, passing_of}
+use Rattle.rsvp_contents.specs.declared.parts.Parts.{Parts}
+use Rattle.rsvp_contents.specs.Behind.{flows_in, is_misplaced, looked_at}
+use Rattle.rsvp_contents.specs.Counting.{class_of, refuses, has_class}
+use Rattle.rsvp_contents.specs.Picking.{parts_in, passing_of, content_with, is_short, reading_of, content_in, kept_read, objects_read}
 use Rattle.rsvp_contents.specs.Spelling.{header_fault, HasObjects, SpellsReading, IsFirstFault, IsMessage, ReadsMessage}
 use Rattle.rsvp_contents.specs.Answers.{Tells, IsTold}
-use Rattle.rsvp_contents.proofs.Asked.{content_in}
 use Rattle.rsvp_contents.proofs.ReadMessages.{what_is_read_is_a_message_lem}
-use Rattle.message_reader.specs.declared.parts.Parts.{Parts}
+use Rattle.message_reader.specs.Answering.{IsAnswer, reading_with}
 use Rattle.message_reader.specs.Counts.{SpellsCounting}
-use Rattle.message_reader.specs.Joining.{parts_in}
-use Rattle.message_reader.specs.Answering.{content_with, refused, reading_with}
 
--- a fault is told where it is the first, and nothing but want of memory comes in place of a reading
+-- a fault is told where it is the first, and nothing but out of memory comes in place of a reading
 told_fault : (bytes : List ℕ) (fault : Dropped) → IsFirstFault bytes fault → IsTold SpellsReading IsFirstFault bytes (Err fault)
 told_fault bytes dropped.NoMemory h = tt
 told_fault bytes _ h = h
@@ -68,84 +65,64 @@ answered bytes objects (Err fault) has e = record {
       no_reading fault other (absurd cc);
 }
 
--- the reading of content that was found, or the fault
-answer_with : Result Content Dropped → Option (ℕ × ℕ) → Result Reading Dropped
-answer_with (Ok content) r = Ok (reading_with content r)
-answer_with (Err fault) r = Err fault
+-- An answer that was made of the objects that count and are looked at.
+pub kept_answered : (bytes : List ℕ) (counted : List Object) (answer : Result Reading Dropped) → None ≡ header_fault bytes → SpellsCounting (slice_index bytes 1) (drop 8 bytes) counted → IsAnswer answer (kept_read (slice_index bytes 1) (looked_at (slice_index bytes 1) counted)) → ReadsMessage bytes answer
+kept_answered bytes counted answer header s is = by_answer answer is
+  where
+    has : HasObjects bytes s.objects
+    has = record { header = sym header; spelled = s.spelled }
 
--- by the type and the limits, whatever they are tests of
-by_tests : (is_path is_path_err short : Bool) (path path_err path_tear : Option Content) (found : Option Object) →
-    (if is_path then (if short then ok_or (option_map (λ content. reading_of content found) path) dropped.MissingObject else Err dropped.TooLong)
-    else if is_path_err then ok_or (option_map readings.Whole path_err) dropped.MissingObject
-    else ok_or (option_map readings.Whole path_tear) dropped.MissingObject)
-    ≡ answer_with
-    (if is_path then (if short then ok_or path dropped.MissingObject else Err dropped.TooLong)
-    else if is_path_err then ok_or path_err dropped.MissingObject
-    else ok_or path_tear dropped.MissingObject)
-    (if is_path then option_map (λ o. (class_of o, (raw_of o).ctype)) found else None)
-unfolding answer_with
-by_tests true b true (Some content) e t (Some o) = refl
-by_tests true b true (Some content) e t None = refl
-by_tests true b true None e t found = refl
-by_tests true b false p e t found = refl
-by_tests false true s p (Some content) t found = refl
-by_tests false true s p None t found = refl
-by_tests false false s p e (Some content) found = refl
-by_tests false false s p e None found = refl
+    said : objects_read (slice_index bytes 1) s.objects ≡ kept_read (slice_index bytes 1) (looked_at (slice_index bytes 1) counted)
+    said = ap (λ (os : List Object). kept_read (slice_index bytes 1) (looked_at (slice_index bytes 1) os)) (sym s.count)
 
--- an INTEGRITY object comes before all else that objects can have
-integrity_read : (type : ℕ) (objects : List Object) → has_class 4 (counting objects) ≡ true → objects_read type objects ≡ Err dropped.Integrity
-integrity_read type objects e = rw e refl
+    by_answer : (answer : Result Reading Dropped) → IsAnswer answer (kept_read (slice_index bytes 1) (looked_at (slice_index bytes 1) counted)) → ReadsMessage bytes answer
+    by_answer (Err dropped.NoMemory) is = no_memory bytes
+    by_answer (Ok reading) is = answered bytes s.objects (Ok reading) has (said ∙ sym is)
+    by_answer (Err dropped.Short) is = answered bytes s.objects (Err dropped.Short) has (said ∙ sym is)
+    by_answer (Err dropped.Version) is = answered bytes s.objects (Err dropped.Version) has (said ∙ sym is)
+    by_answer (Err dropped.LengthField) is = answered bytes s.objects (Err dropped.LengthField) has (said ∙ sym is)
+    by_answer (Err dropped.Checksum) is = answered bytes s.objects (Err dropped.Checksum) has (said ∙ sym is)
+    by_answer (Err dropped.ObjectLength) is = answered bytes s.objects (Err dropped.ObjectLength) has (said ∙ sym is)
+    by_answer (Err dropped.MissingObject) is = answered bytes s.objects (Err dropped.MissingObject) has (said ∙ sym is)
+    by_answer (Err dropped.KindUnsupported) is = answered bytes s.objects (Err dropped.KindUnsupported) has (said ∙ sym is)
+    by_answer (Err dropped.Integrity) is = answered bytes s.objects (Err dropped.Integrity) has (said ∙ sym is)
+    by_answer (Err dropped.TooLong) is = answered bytes s.objects (Err dropped.TooLong) has (said ∙ sym is)
 
--- without one, the content and what is refused make the reading
-without_integrity : (type : ℕ) (objects : List Object) → has_class 4 (counting objects) ≡ false → objects_read type objects ≡ answer_with (content_with type (parts_in (counting objects)) (passing_of (counting objects))) (refused type (counting objects))
-without_integrity type objects e =
-    let os = counting objects in
-    rw e (by_tests (type == 1) (type == 3) (has_short_parts os) (path_of os) (path_err_of os) (path_tear_of os) (find refuses os))
+-- What they say is a message.
+pub kept_is_message : (bytes : List ℕ) (counted : List Object) (reading : Reading) → None ≡ header_fault bytes → SpellsCounting (slice_index bytes 1) (drop 8 bytes) counted → kept_read (slice_index bytes 1) (looked_at (slice_index bytes 1) counted) ≡ Ok reading → IsMessage (content_in reading)
+kept_is_message bytes counted reading header s e =
+    what_is_read_is_a_message_lem bytes reading
+    (s.objects, record { header = sym header; spelled = s.spelled }, ap (λ (os : List Object). kept_read (slice_index bytes 1) (looked_at (slice_index bytes 1) os)) (sym s.count) ∙ e)
 
--- An INTEGRITY object counts.
-pub integrity_found : (bytes : List ℕ) (kept : List Object) → None ≡ header_fault bytes → SpellsCounting (drop 8 bytes) kept → has_class 4 kept ≡ true → ReadsMessage bytes (Err dropped.Integrity)
-integrity_found bytes kept header s found =
-    answered bytes s.objects (Err dropped.Integrity) (record { header = sym header; spelled = s.spelled })
-    (integrity_read (slice_index bytes 1) s.objects (subst (λ (k : List Object). has_class 4 k ≡ true) s.count found))
+-- the answers, one by one
+pub integrity_said : (type : ℕ) (os : List Object) → has_class 4 os ≡ true → Err dropped.Integrity ≡ kept_read type os
+integrity_said type os e = rw e refl
 
--- What the objects that count say, by the parts that were gathered from them.
-pub record HasParts (bytes : List ℕ) (kept : List Object) (parts : Parts) (passing : List Raw) : Type 0 where
-  pub header : None ≡ header_fault bytes
-  pub spelled : SpellsCounting (drop 8 bytes) kept
-  pub integrity : has_class 4 kept ≡ false
-  pub gathered : parts ≡ parts_in kept
-  pub passed_on : passing ≡ passing_of kept
+pub too_long_said : (type : ℕ) (os flows : List Object) (parts : Parts) (passing : List Raw) → has_class 4 os ≡ false → parts ≡ parts_in type os → passing ≡ passing_of type os → flows ≡ flows_in type os → is_short type parts passing flows ≡ false → Err dropped.TooLong ≡ kept_read type os
+too_long_said type os flows parts passing plain p q f short =
+    let long = rw (p, q, f) at short in
+    rw (plain, long) refl
 
-by_parts : (bytes : List ℕ) (kept : List Object) (parts : Parts) (passing : List Raw) → (h : HasParts bytes kept parts passing) → objects_read (slice_index bytes 1) h.spelled.objects ≡ answer_with (content_with (slice_index bytes 1) parts passing) (refused (slice_index bytes 1) kept)
-by_parts bytes kept parts passing h =
-    rw (h.gathered, h.passed_on, h.spelled.count)
-    (without_integrity (slice_index bytes 1) h.spelled.objects (subst (λ (k : List Object). has_class 4 k ≡ false) h.spelled.count h.integrity))
+-- what the objects say where limits are kept
+said : (type : ℕ) (os flows : List Object) (parts : Parts) (passing : List Raw) (misplaced : Bool) (o : Option Content) → has_class 4 os ≡ false → parts ≡ parts_in type os → passing ≡ passing_of type os → flows ≡ flows_in type os → misplaced ≡ is_misplaced os →
+    is_short type parts passing flows ≡ true → o ≡ content_with type parts passing misplaced flows → ok_or (option_map (λ content. reading_of content (find (refuses type) os)) o) dropped.MissingObject ≡ kept_read type os
+said type os flows parts passing misplaced o plain p q f m short e =
+    let kept = rw (p, q, f) at short in
+    let found = rw (p, q, f, m) at e in
+    rw (plain, kept, found) refl
 
--- A limit is passed, or something is absent.
-pub fault_found : (bytes : List ℕ) (kept : List Object) (parts : Parts) (passing : List Raw) (fault : Dropped) → HasParts bytes kept parts passing → Err fault ≡ content_with (slice_index bytes 1) parts passing → ReadsMessage bytes (Err fault)
-unfolding answer_with
-fault_found bytes kept parts passing fault h said =
-    let ends = ap (λ (c : Result Content Dropped). answer_with c (refused (slice_index bytes 1) kept)) (sym said) in
-    answered bytes h.spelled.objects (Err fault) (record { header = sym h.header; spelled = h.spelled.spelled })
-    (by_parts bytes kept parts passing h ∙ ends)
+-- the reading of the content that was found
+made_so : (content : Content) (found : Option Object) → reading_with content (option_map (λ o. (class_of o, (raw_of o).ctype)) found) ≡ reading_of content found
+made_so content None = refl
+made_so content (Some o) = refl
 
--- The message was read.
-pub content_found : (bytes : List ℕ) (kept : List Object) (parts : Parts) (passing : List Raw) (content : Content) (r : Option (ℕ × ℕ)) (reading : Reading) → HasParts bytes kept parts passing → Ok content ≡ content_with (slice_index bytes 1) parts passing → r ≡ refused (slice_index bytes 1) kept → reading ≡ reading_with content r → ReadsMessage bytes (Ok reading)
-unfolding answer_with
-content_found bytes kept parts passing content r reading h said none made =
-    let ends = ap (λ (c : Result Content Dropped). answer_with c (refused (slice_index bytes 1) kept)) (sym said) in
-    answered bytes h.spelled.objects (Ok reading) (record { header = sym h.header; spelled = h.spelled.spelled })
-    (by_parts bytes kept parts passing h ∙ (ends ∙ ap (λ (o : Reading). Ok o) (sym (made ∙ ap (reading_with content) none))))
+pub reading_said : (type : ℕ) (os flows : List Object) (parts : Parts) (passing : List Raw) (misplaced : Bool) (content : Content) (r : Option (ℕ × ℕ)) → has_class 4 os ≡ false → parts ≡ parts_in type os → passing ≡ passing_of type os → flows ≡ flows_in type os → misplaced ≡ is_misplaced os →
+    is_short type parts passing flows ≡ true → Some content ≡ content_with type parts passing misplaced flows → r ≡ option_map (λ o. (class_of o, (raw_of o).ctype)) (find (refuses type) os) → Ok (reading_with content r) ≡ kept_read type os
+reading_said type os flows parts passing misplaced content r plain p q f m short e none =
+    ap (λ (o : Reading). Ok o) (ap (reading_with content) none ∙ made_so content (find (refuses type) os))
+    ∙ said type os flows parts passing misplaced (Some content) plain p q f m short e
 
--- a reading has the content that it was made with
-content_in-reading_with : (content : Content) (r : Option (ℕ × ℕ)) → content_in (reading_with content r) ≡ content
-content_in-reading_with content None = refl
-content_in-reading_with content (Some r) = refl
-
--- the content that was found is that of a message
-pub message_found : (bytes : List ℕ) (kept : List Object) (parts : Parts) (passing : List Raw) (content : Content) → HasParts bytes kept parts passing → Ok content ≡ content_with (slice_index bytes 1) parts passing → IsMessage content
-message_found bytes kept parts passing content h said =
-    let r = refused (slice_index bytes 1) kept in
-    let read = content_found bytes kept parts passing content (refused (slice_index bytes 1) kept) (reading_with content (refused (slice_index bytes 1) kept)) h said refl refl in
-    subst (λ (c : Content). IsMessage c) (content_in-reading_with content (refused (slice_index bytes 1) kept)) (what_is_read_is_a_message_lem bytes (reading_with content (refused (slice_index bytes 1) kept)) read.told)
+-- the content of the reading that was made of it is that content
+pub content_said : (content : Content) (r : Option (ℕ × ℕ)) → IsMessage (content_in (reading_with content r)) → IsMessage content
+content_said content None is = is
+content_said content (Some r) is = is

@@ -5,8 +5,8 @@ use Rattle.rsvp_objects.specs.declared.object.Object.{Object}
 use Rattle.rsvp_objects.specs.Objects.{SpellsObject}
 use Rattle.rsvp_contents.specs.Counting.{counting}
 
--- The bytes spell objects, of which these count.
-pub record SpellsCounting (bytes : List ℕ) (kept : List Object) : Type 0 where
+-- The bytes spell objects, of which these count in a message of this type.
+pub record SpellsCounting (type : ℕ) (bytes : List ℕ) (kept : List Object) : Type 0 where
   pub objects : List Object
   pub spelled : SpellsEach SpellsObject bytes objects
-  pub count : kept ≡ counting objects
+  pub count : kept ≡ counting type objects

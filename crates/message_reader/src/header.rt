@@ -5,9 +5,7 @@ ghost use Rattle.rsvp_contents.specs.Spelling.{is_read_type, header_fault};
 use byteorder::{BigEndian, ByteOrder};
 use internet_checksum::has_good_checksum;
 use rsvp_contents::Dropped;
-use rsvp_contents::numbers::{
-    HEADER_LEN, MAX_MESSAGE_LEN, TYPE_PATH, TYPE_PATH_ERR, TYPE_PATH_TEAR, VERSION,
-};
+use rsvp_contents::numbers::{HEADER_LEN, MAX_MESSAGE_LEN, TYPE_PATH, TYPE_RESV_TEAR, VERSION};
 
 /// Where the length field of the common header stands (RFC 2205, 3.1.1).
 const LENGTH_FIELD: usize = 6;
@@ -18,7 +16,7 @@ const FLAG_BITS: u32 = 4;
 fn is_read_type(kind: u8) -> bool
     ensures { result ≡ is_read_type kind }
 {
-    kind == TYPE_PATH || kind == TYPE_PATH_ERR || kind == TYPE_PATH_TEAR
+    kind >= TYPE_PATH && kind <= TYPE_RESV_TEAR
 }
 
 /// The first fault of the message's common header (RFC 2205, 3.1.1).

@@ -1,43 +1,28 @@
-ghost use Rattle.std.specs.Prelude.{◌≡◌, [], ◌∷◌, ◌++◌, IfOk, OnOk};
+ghost use Rattle.std.specs.Prelude.{◌≡◌, ◌&&◌, [], ◌∷◌, ◌++◌, IfOk, OnOk, false, is_some, if◌then◌else◌};
 ghost use Rattle.std.specs.Option.{option_or};
-ghost use Rattle.rsvp_contents.specs.Picking.{passing_of};
-ghost use Rattle.message_reader.specs.Joining.{adspecs_in, joined, parts_in, passing_in};
+ghost use Rattle.rsvp_flows.specs.Flows.{is_flow};
+ghost use Rattle.rsvp_contents.specs.Behind.{flows_in};
+ghost use Rattle.rsvp_contents.specs.Counting.{has_style};
+ghost use Rattle.rsvp_contents.specs.Picking.{parts_in, passing_of};
+ghost use Rattle.message_reader.specs.Joining.{adspecs_in, flow_more, joined, passing_in};
 
-use crate::look::passes;
-use rsvp_contents::Passing;
+use crate::look::{has_style, is_flow};
+use rsvp_contents::limits::passes;
+use rsvp_contents::{Parts, Passing};
 use rsvp_objects::numbers::CLASS_ADSPEC;
-use rsvp_objects::{
-    Attr, ErrorSpec, FastReroute, Hop, LabelRequest, Object, Opaque, Session, Template, TimeValues,
-};
-use rsvp_routes::{Record, Route};
-use rsvp_traffic::Tspec;
+use rsvp_objects::{Object, Opaque, Style};
 use std::alloc::{AllocError, Global};
-
-/// What the objects of a message say: of each class the first that says it.
-#[derive(Drop)]
-pub struct Parts {
-    pub session: Option<Session>,
-    pub hop: Option<Hop>,
-    pub time: Option<TimeValues>,
-    pub error: Option<ErrorSpec>,
-    pub sender: Option<Template>,
-    pub tspec: Option<Tspec>,
-    pub label_request: Option<LabelRequest>,
-    pub route: Option<Route>,
-    pub recorded: Option<Record>,
-    pub attr: Option<Attr>,
-    pub fast_reroute: Option<FastReroute>,
-}
 
 /// What no objects say.
 fn no_parts() -> Parts
-    ensures { result ≡ parts_in [] }
+    ensures { result ≡ parts_in 0 [] }
 {
     Parts {
         session: None,
         hop: None,
         time: None,
         error: None,
+        style: None,
         sender: None,
         tspec: None,
         label_request: None,
@@ -57,15 +42,17 @@ fn keep_first<T: Drop>(place: &mut Option<T>, value: T)
     }
 }
 
-/// Adds what one more object says.
-fn join(parts: &mut Parts, object: Object)
-    ensures { parts.new ≡ joined parts.old object }
+/// Adds what one more object says, which isn't one of flow descriptors where the type has these.
+fn join(kind: u8, parts: &mut Parts, object: Object)
+    requires { (is_flow object && has_style kind) ≡ false }
+    ensures { parts.new ≡ joined kind parts.old object }
 {
     match object {
         Object::Session(session) => keep_first(&mut parts.session, session),
         Object::Hop(hop) => keep_first(&mut parts.hop, hop),
         Object::TimeValues(time) => keep_first(&mut parts.time, time),
         Object::ErrorSpec(error) => keep_first(&mut parts.error, error),
+        Object::Style(style) => keep_first(&mut parts.style, style),
         Object::SenderTemplate(sender) => keep_first(&mut parts.sender, sender),
         Object::SenderTspec(tspec) => keep_first(&mut parts.tspec, tspec),
         Object::LabelRequest(request) => keep_first(&mut parts.label_request, request),
@@ -79,14 +66,15 @@ fn join(parts: &mut Parts, object: Object)
 
 /// Puts an object that is kept as its bytes with those that are passed on, if it is.
 fn pass_on(
+    kind: u8,
     passing: &mut Passing,
     adspecs: &mut Vec<Opaque>,
     other: Opaque,
 ) -> Result<(), AllocError>
-    ensures passing { OnOk result (passing.new ≡ passing.old ++ passing_in (Object.Other other ∷ [])) }
+    ensures passing { OnOk result (passing.new ≡ passing.old ++ passing_in kind (Object.Other other ∷ [])) }
     ensures adspecs { OnOk result (adspecs.new.items ≡ adspecs.old.items ++ adspecs_in (Object.Other other ∷ [])) }
 {
-    if passes(&other) {
+    if passes(kind, &other) {
         passing.push(other)?;
     } else if other.class() == CLASS_ADSPEC {
         adspecs.push(other)?;
@@ -94,39 +82,85 @@ fn pass_on(
     Ok(())
 }
 
-/// Adds what one more object says, or puts it with those that are passed on.
+/// Puts an object of flow descriptors with those that stand behind STYLE, if it is known already.
+fn keep_flow(
+    style: Option<Style>,
+    flows: &mut Vec<Object>,
+    object: Object,
+) -> Result<(), AllocError>
+    ensures { OnOk result (flows.new.items ≡ flows.old.items ++ (if is_some style then object ∷ [] else [])) }
+{
+    if style.is_some() {
+        flows.push(object)?;
+    }
+    Ok(())
+}
+
+/// Adds what one more object says that isn't kept as its bytes, or puts it with flow descriptors.
+fn add_typed(
+    kind: u8,
+    parts: &mut Parts,
+    flows: &mut Vec<Object>,
+    object: Object,
+) -> Result<(), AllocError>
+    ensures parts { OnOk result (parts.new ≡ joined kind parts.old object) }
+    ensures flows { OnOk result (flows.new.items ≡ flows.old.items ++ flow_more kind parts.old object) }
+{
+    if is_flow(&object) && has_style(kind) {
+        keep_flow(parts.style, flows, object)?;
+    } else {
+        join(kind, parts, object);
+    }
+    Ok(())
+}
+
+/// Adds what one more object says, or puts it with those that are passed on or with flow descriptors.
 fn add(
+    kind: u8,
     parts: &mut Parts,
     passing: &mut Passing,
     adspecs: &mut Vec<Opaque>,
+    flows: &mut Vec<Object>,
     object: Object,
 ) -> Result<(), AllocError>
-    ensures parts { OnOk result (parts.new ≡ joined parts.old object) }
-    ensures passing { OnOk result (passing.new ≡ passing.old ++ passing_in (object ∷ [])) }
+    ensures parts { OnOk result (parts.new ≡ joined kind parts.old object) }
+    ensures passing { OnOk result (passing.new ≡ passing.old ++ passing_in kind (object ∷ [])) }
     ensures adspecs { OnOk result (adspecs.new.items ≡ adspecs.old.items ++ adspecs_in (object ∷ [])) }
+    ensures flows { OnOk result (flows.new.items ≡ flows.old.items ++ flow_more kind parts.old object) }
 {
     match object {
-        Object::Other(other) => pass_on(passing, adspecs, other),
-        object => {
-            join(parts, object);
-            Ok(())
-        }
+        Object::Other(other) => pass_on(kind, passing, adspecs, other),
+        object => add_typed(kind, parts, flows, object),
     }
 }
 
-/// What the objects say, and which of them are passed on: in their order, the ADSPEC last.
-pub fn parts_of(alloc: Global, objects: Vec<Object>) -> Result<(Parts, Passing), AllocError>
-    ensures parts { IfOk result (λ r. r.0 ≡ parts_in objects.items) }
-    ensures passing { IfOk result (λ r. r.1 ≡ passing_of objects.items) }
+/// What the objects that count in a message of this type say: their values; which are passed on, in their
+/// order, the ADSPEC last; and those of flow descriptors behind STYLE.
+pub fn parts_of(
+    alloc: Global,
+    kind: u8,
+    objects: Vec<Object>,
+) -> Result<(Parts, Passing, Vec<Object>), AllocError>
+    ensures parts { IfOk result (λ r. r.0 ≡ parts_in kind objects.items) }
+    ensures passing { IfOk result (λ r. r.1 ≡ passing_of kind objects.items) }
+    ensures flows { IfOk result (λ r. r.2.items ≡ flows_in kind objects.items) }
 {
     let mut parts = no_parts();
     let mut passing = Passing::new(alloc);
     let mut adspecs = Vec::new(alloc);
+    let mut flows = Vec::new(alloc);
     for object in objects {
-        add(&mut parts, &mut passing, &mut adspecs, object)?;
+        add(
+            kind,
+            &mut parts,
+            &mut passing,
+            &mut adspecs,
+            &mut flows,
+            object,
+        )?;
     }
     for adspec in adspecs {
         passing.push(adspec)?;
     }
-    Ok((parts, passing))
+    Ok((parts, passing, flows))
 }

@@ -4,11 +4,12 @@
 ghost use Rattle.std.specs.Prelude.{◌≡◌, ◌++◌, OnOk, OnErr, All, take, length};
 ghost use Rattle.std.specs.List.{flat_map};
 ghost use Rattle.rsvp_objects.specs.Objects.{spelling};
-ghost use Rattle.rsvp_contents.specs.Written.{path_err_objects, path_objects, path_tear_objects};
+ghost use Rattle.rsvp_contents.specs.Written.{path_err_objects, path_objects, path_tear_objects, resv_err_objects, resv_objects, resv_tear_objects};
 ghost use Rattle.message_writer.specs.Parts.{IsSpelled, path_sender, path_start, path_wish};
 
+use crate::flows::{put_error_descriptors, put_filters, put_flow_descriptors};
 use crate::parts::*;
-use rsvp_contents::{Path, PathErr, PathTear};
+use rsvp_contents::{Path, PathErr, PathTear, Resv, ResvErr, ResvTear};
 use rsvp_objects::{Object, write_object, write_tspec};
 use std::alloc::AllocError;
 
@@ -80,4 +81,43 @@ pub(crate) fn put_path_tear(tear: &PathTear, out: &mut Vec<u8>) -> Result<(), Al
     write_object(&Object::Session(tear.session), out)?;
     write_object(&Object::Hop(tear.hop), out)?;
     write_object(&Object::SenderTemplate(tear.sender), out)
+}
+
+/// Appends the objects of a Resv (RFC 2205, 3.1.4; RFC 3209, 3.2).
+pub(crate) fn put_resv(resv: &Resv, out: &mut Vec<u8>) -> Result<(), AllocError>
+    ensures ok { OnOk result (out.new.items ≡ out.old.items ++ flat_map spelling (resv_objects resv.now)) }
+    ensures spelled { OnOk result (All IsSpelled (resv_objects resv.now)) }
+    ensures err { OnErr result (take (length out.old.items) out.new.items ≡ out.old.items) }
+{
+    write_object(&Object::Session(resv.session), out)?;
+    write_object(&Object::Hop(resv.hop), out)?;
+    write_object(&Object::TimeValues(resv.time), out)?;
+    put_passing(resv.passing.as_slice(), out)?;
+    write_object(&Object::Style(resv.style), out)?;
+    put_flow_descriptors(resv.descriptors.as_slice(), out)
+}
+
+/// Appends the objects of a ResvErr (RFC 2205, 3.1.8).
+pub(crate) fn put_resv_err(error: &ResvErr, out: &mut Vec<u8>) -> Result<(), AllocError>
+    ensures ok { OnOk result (out.new.items ≡ out.old.items ++ flat_map spelling (resv_err_objects error.now)) }
+    ensures spelled { OnOk result (All IsSpelled (resv_err_objects error.now)) }
+    ensures err { OnErr result (take (length out.old.items) out.new.items ≡ out.old.items) }
+{
+    write_object(&Object::Session(error.session), out)?;
+    write_object(&Object::Hop(error.hop), out)?;
+    write_object(&Object::ErrorSpec(error.error), out)?;
+    write_object(&Object::Style(error.style), out)?;
+    put_error_descriptors(error.descriptors.as_slice(), out)
+}
+
+/// Appends the objects of a ResvTear (RFC 2205, 3.1.6).
+pub(crate) fn put_resv_tear(tear: &ResvTear, out: &mut Vec<u8>) -> Result<(), AllocError>
+    ensures ok { OnOk result (out.new.items ≡ out.old.items ++ flat_map spelling (resv_tear_objects tear.now)) }
+    ensures spelled { OnOk result (All IsSpelled (resv_tear_objects tear.now)) }
+    ensures err { OnErr result (take (length out.old.items) out.new.items ≡ out.old.items) }
+{
+    write_object(&Object::Session(tear.session), out)?;
+    write_object(&Object::Hop(tear.hop), out)?;
+    write_object(&Object::Style(tear.style), out)?;
+    put_filters(tear.filters.as_slice(), out)
 }

@@ -1,5 +1,5 @@
 //! Writes messages of RSVP: the common header with its length and checksum (RFC 2205, 3.1.1), and behind
-//! it a message's objects in their order (RFC 2205, 3.1.3, 3.1.5 and 3.1.7; RFC 3209, 3.1).
+//! it a message's objects in their order (RFC 2205, 3.1.3 to 3.1.8; RFC 3209, 3).
 #![tactic(auto)]
 
 ghost use Rattle.std.specs.Prelude.{◌≡◌, ◌++◌, OnOk, OnErr};
@@ -7,10 +7,9 @@ ghost use Rattle.rsvp_contents.specs.Spelling.{SpellsReading};
 ghost use Rattle.rsvp_contents.specs.Written.{message_bytes};
 
 mod body;
+mod flows;
 mod header;
 mod parts;
-#[cfg(test)]
-mod tests;
 mod writing;
 
 use crate::writing::write_content;
@@ -18,7 +17,7 @@ use rsvp_contents::{Message, Reading};
 use std::alloc::AllocError;
 
 /// Appends the message as it goes out: the common header, and its objects in their order. The only error is
-/// want of memory, which leaves `out` as it was.
+/// out of memory, which leaves `out` as it was.
 pub fn write_message(message: &Message, out: &mut Vec<u8>) -> Result<(), AllocError>
     ensures ok { OnOk result (out.new.items ≡ out.old.items ++ message_bytes message.now) }
 

@@ -1,6 +1,6 @@
-//! Parts of a message that stand there or don't. The only error is want of memory.
+//! Parts of a message that stand there or don't. The only error is out of memory.
 
-ghost use Rattle.std.specs.Prelude.{◌≡◌, ◌++◌, ◌∷◌, [], OnOk, OnErr, All, take, length};
+ghost use Rattle.std.specs.Prelude.{◌≡◌, ◌++◌, ◌∷◌, [], OnOk, OnErr, All, map, take, length};
 ghost use Rattle.std.specs.List.{flat_map};
 ghost use Rattle.rsvp_objects.specs.Objects.{spelling};
 ghost use Rattle.rsvp_contents.specs.Written.{adspec, before_sender, if_some};
@@ -126,6 +126,18 @@ pub(crate) fn put_adspec(passing: &[Opaque], out: &mut Vec<u8>) -> Result<(), Al
 {
     for object in passing {
         put_if_adspec(object, out)?;
+    }
+    Ok(())
+}
+
+/// Appends all that is passed on. Where there is no memory for it, some of it may stand behind what was there.
+pub(crate) fn put_passing(passing: &[Opaque], out: &mut Vec<u8>) -> Result<(), AllocError>
+    ensures ok { OnOk result (out.new.items ≡ out.old.items ++ flat_map spelling (map Object.Other passing.now)) }
+    ensures spelled { OnOk result (All IsSpelled (map Object.Other passing.now)) }
+    ensures err { OnErr result (take (length out.old.items) out.new.items ≡ out.old.items) }
+{
+    for object in passing {
+        write_opaque(object, out)?;
     }
     Ok(())
 }

@@ -3,10 +3,10 @@ ghost use Rattle.rsvp_contents.specs.Written.{body_of, message_bytes, objects_of
 ghost use Rattle.message_writer.specs.Headers.{bare_header};
 ghost use Rattle.message_writer.specs.Parts.{IsSpelled};
 
-use crate::body::{put_path, put_path_err, put_path_tear};
+use crate::body::*;
 use crate::header::{put_header, seal};
 use rsvp_contents::Content;
-use rsvp_contents::numbers::{TYPE_PATH, TYPE_PATH_ERR, TYPE_PATH_TEAR};
+use rsvp_contents::numbers::*;
 use std::alloc::AllocError;
 
 /// Appends the message without its length and its checksum. Where there is no memory for it, a part of it
@@ -29,10 +29,22 @@ pub(crate) fn put_content(content: &Content, out: &mut Vec<u8>) -> Result<(), Al
             put_header(TYPE_PATH_TEAR, out)?;
             put_path_tear(tear, out)
         }
+        Content::Resv(resv) => {
+            put_header(TYPE_RESV, out)?;
+            put_resv(resv, out)
+        }
+        Content::ResvErr(error) => {
+            put_header(TYPE_RESV_ERR, out)?;
+            put_resv_err(error, out)
+        }
+        Content::ResvTear(tear) => {
+            put_header(TYPE_RESV_TEAR, out)?;
+            put_resv_tear(tear, out)
+        }
     }
 }
 
-/// Appends the message that says this. The only error is want of memory, which leaves `out` as it was.
+/// Appends the message that says this. The only error is out of memory, which leaves `out` as it was.
 pub(crate) fn write_content(content: &Content, out: &mut Vec<u8>) -> Result<(), AllocError>
     requires { 8 + length (body_of content.now) ≤ 4096 }
     ensures ok { OnOk result (out.new.items ≡ out.old.items ++ message_bytes content.now) }

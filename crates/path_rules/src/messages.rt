@@ -3,8 +3,8 @@
 ghost use Rattle.std.specs.Prelude.{◌≡◌};
 ghost use Rattle.abstract_router.specs.Outcomes.{found_here, lsp, sent_by};
 
-use link_frames::Frame;
-use lsr_facts::{Key, Output, Router, RsvpError};
+use lsr_facts::{Key, Router, RsvpError};
+use router_events::{Frame, Output};
 use rsvp_contents::{Message, Reading};
 use rsvp_objects::{ErrorSpec, Session, Template};
 

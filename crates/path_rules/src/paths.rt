@@ -81,7 +81,7 @@ fn way_of(fact: &PathFact) -> Result<Choice, AllocError>
 }
 
 /// The way of a Path: that of the path which stands, where the explicit route is the same; else the next hop
-/// (RFC 3209, 4.3.4). The fault is an error of RFC 3209, 7.3, or want of memory.
+/// (RFC 3209, 4.3.4). The fault is an error of RFC 3209, 7.3, or out of memory.
 #[tactic(auto, unfolding(abstract_router::specs::Paths::way_for))]
 pub fn way_for(
     alloc: Global,
@@ -130,7 +130,7 @@ pub fn rest_of(way: Choice) -> Option<Route>
     }
 }
 
-/// A copy of the origins of a path that may be known. The only error is want of memory.
+/// A copy of the origins of a path that may be known. The only error is out of memory.
 pub fn origins_of(
     alloc: Global,
     known: Option<&PathFact>,
@@ -156,7 +156,7 @@ pub fn drops_record(node: &Node, fact: &PathFact) -> bool
     }
 }
 
-/// Whether the path was known before with the same record, byte for byte. The only error is want of memory.
+/// Whether the path was known before with the same record, byte for byte. The only error is out of memory.
 pub fn knows_record(
     alloc: Global,
     known: Option<&PathFact>,

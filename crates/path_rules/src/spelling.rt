@@ -20,7 +20,7 @@ fn bytes_of<T: Subobject>(alloc: Global, items: &[T]) -> Result<Vec<u8>, AllocEr
 }
 
 /// Whether the subobjects of two objects are equal: their bytes are, or both objects are absent. The only error
-/// is want of memory.
+/// is out of memory.
 pub(crate) fn is_same<T: Subobject>(
     alloc: Global,
     a: &Option<Subobjects<T>>,

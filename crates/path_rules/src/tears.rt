@@ -28,7 +28,7 @@ pub fn is_torn_by(link: u16, tear: &PathTear, fact: &PathFact) -> bool
     }
 }
 
-/// A copy of the path's origins but that of the sender. The only error is want of memory.
+/// A copy of the path's origins but that of the sender. The only error is out of memory.
 pub fn origins_without(
     alloc: Global,
     sender: Ipv4Addr,

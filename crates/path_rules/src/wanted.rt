@@ -38,7 +38,7 @@ fn record_onward(
 }
 
 /// The Path that goes on by the link: this router is its hop, its route is what is left, its record has grown;
-/// all else is as it came (RFC 2205, 3.1.3; RFC 3209, 4.3.4 and 4.4.3). The only error is want of memory.
+/// all else is as it came (RFC 2205, 3.1.3; RFC 3209, 4.3.4 and 4.4.3). The only error is out of memory.
 pub fn path_onward(
     alloc: Global,
     node: &Node,

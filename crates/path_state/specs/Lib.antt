@@ -1,3 +1,1 @@
-pub mod Expiry
-pub mod Keeping
 pub mod Origins

@@ -1,16 +1,16 @@
 ghost use Rattle.std.specs.FinMap.Entries.{find, is_sorted, put, where_key};
 ghost use Rattle.std.specs.Option.{option_copied};
 ghost use Rattle.std.specs.Ordering.{is_eq};
-ghost use Rattle.std.specs.Prelude.{◌≡◌, ◌≤◌, ◌↔◌, T, [], IfOk, IsTrue, length, nat_le, not};
+ghost use Rattle.std.specs.Prelude.{◌≡◌, ◌≤◌, T, [], IfOk, length, not};
+ghost use Rattle.lsr_facts.specs.Lifetimes.{expire};
 ghost use Rattle.lsr_facts.specs.Orders.{key_cmp};
-ghost use Rattle.lsr_facts.specs.declared.path_fact.PathFact.{PathFact};
-ghost use Rattle.path_state.specs.Expiry.{unexpired};
+ghost use Rattle.row_edits.specs.Edits.{edited};
 ghost use Rattle.path_state.specs.Origins.{origins_of};
 
-use crate::expiry::expire_rows;
 use lsr_facts::limits::MAX_LSPS;
-use lsr_facts::{Key, Origin, PathFact};
-use sorted_rows::{TryCopy, contains_key, get_ref};
+use lsr_facts::{Key, Origin, PathFact, keep_living, lives_on};
+use row_edits::make_edits;
+use sorted_rows::{ReservedTable, Sweep, Table, TryCopy};
 use std::alloc::{AllocError, Global};
 use std::marker::Model;
 use std::net::Ipv4Addr;
@@ -19,7 +19,7 @@ use std::net::Ipv4Addr;
 /// Contracts see the list of keys and facts.
 #[derive(Debug, Drop)]
 pub struct PathState {
-    rows: Vec<(Key, PathFact)>,
+    rows: ReservedTable<Key, PathFact, MAX_LSPS>,
 }
 
 impl Model for PathState {
@@ -29,21 +29,39 @@ impl Model for PathState {
 
     ghost Value = { List (Key × PathFact) };
 
-    ghost use Rattle.path_state.specs.Keeping.{IsKept};
+    ghost view = { λ s. s.rows };
+}
 
-    ghost view = { λ s. s.rows.items };
+/// What lives on at a moment, in milliseconds, and what is left of it.
+#[derive(Drop)]
+struct Survivors {
+    moment: u64,
+}
 
-    ghost invariant = { IsKept };
+impl Sweep<Key, PathFact> for Survivors {
+    ghost use Rattle.lsr_facts.specs.Lifetimes.{lives_on, living};
+
+    ghost stays = { λ s. lives_on s.moment };
+
+    ghost left = { λ s. living s.moment };
+
+    fn stays(&self, path: &(Key, PathFact)) -> bool {
+        lives_on(self.moment, path)
+    }
+
+    fn leave(&self, fact: &mut PathFact) {
+        keep_living(self.moment, fact);
+    }
 }
 
 impl PathState {
-    /// No paths. It reserves the memory of all paths that it may ever hold; the only error is want of that
-    /// memory.
+    /// No paths. It reserves the memory of all paths that it may ever hold; the only error is that there is too
+    /// little memory.
     pub fn new(alloc: Global) -> Result<PathState, AllocError>
         ensures { IfOk result (λ state. state ≡ []) }
     {
         Ok(PathState {
-            rows: Vec::with_capacity(alloc, MAX_LSPS)?,
+            rows: ReservedTable::new(alloc)?,
         })
     }
 
@@ -60,7 +78,7 @@ impl PathState {
     pub fn get(&self, key: &Key) -> Option<&PathFact>
         ensures { option_copied result ≡ find key_cmp key.now self.now }
     {
-        get_ref(&self.rows, key)
+        self.rows.get(key)
     }
 
     /// Where an LSP's path comes from, by the sender that the Path named: from nowhere where the LSP isn't known.
@@ -73,27 +91,29 @@ impl PathState {
         }
     }
 
-    /// Whether a path of this LSP can be put: the LSP is known, or fewer than 1,024 are.
-    pub fn has_room(&self, key: &Key) -> bool
-        ensures { (fact : PathFact) → IsTrue result ↔ (length (put key_cmp key.now fact self.now) ≤ 1024) }
-    {
-        self.rows.len() < MAX_LSPS || contains_key(&self.rows, key)
-    }
-
     /// This is known of an LSP's path from now on, in place of what was known. It asks that at most 1,024 LSPs are
-    /// known then ([`PathState::has_room`]). Takes no memory.
+    /// known then. Takes no memory.
     pub fn put(&mut self, key: Key, fact: PathFact)
         requires { length (put key_cmp key fact self.old) ≤ 1024 }
         ensures { self.new ≡ put key_cmp key fact self.old }
     {
-        sorted_rows::set(&mut self.rows, key, fact).unwrap();
+        self.rows.set(key, fact);
     }
 
     /// Nothing is known of an LSP's path any more. Where the LSP isn't known, nothing changes. Takes no memory.
     pub fn remove(&mut self, key: &Key)
         ensures { self.new ≡ where_key key_cmp (λ k. not (is_eq (key_cmp key.now k))) self.old }
     {
-        sorted_rows::remove(&mut self.rows, key);
+        self.rows.remove(key);
+    }
+
+    /// Makes edits: of each LSP that they name this is known from now on, or nothing. It asks that at most 1,024 LSPs
+    /// are known then. Takes no memory.
+    pub fn edit(&mut self, edits: Table<Key, Option<PathFact>>)
+        requires { length (edited key_cmp edits self.old) ≤ 1024 }
+        ensures { self.new ≡ edited key_cmp edits self.old }
+    {
+        make_edits(&mut self.rows, edits);
     }
 
     /// Nothing is known of any LSP's path any more. Takes no memory.
@@ -104,20 +124,19 @@ impl PathState {
     }
 
     /// A moment comes, in milliseconds: each origin goes whose expiry isn't above it, and with its last origin a
-    /// path, unless it begins at this router (RFC 2205, 3.7). Takes no memory.
+    /// path, unless it begins at this router (RFC 2205, 2.3). Takes no memory.
+    #[tactic(auto, unfolding(lsr_facts::specs::Lifetimes::expire))]
     pub fn expire(&mut self, moment: u64)
-        ensures { self.new ≡ unexpired moment self.old }
+        ensures { self.new ≡ expire moment self.old }
     {
-        expire_rows(&mut self.rows, moment);
+        self.rows.sweep(&Survivors { moment });
     }
 }
 
 impl TryCopy for PathState {
     fn try_copy(&self, alloc: Global) -> Result<PathState, AllocError> {
-        let mut rows = Vec::with_capacity(alloc, MAX_LSPS)?;
-        for row in &self.rows {
-            rows.push((row.0, row.1.try_copy(alloc)?))?;
-        }
-        Ok(PathState { rows })
+        Ok(PathState {
+            rows: self.rows.try_copy(alloc)?,
+        })
     }
 }

@@ -1,16 +1,16 @@
--- When messages are due again.
-use Rattle.std.specs.Prelude.{ℕ, ◌+◌, Bool, List, filter, map, nat_le}
+-- What timers say, and which messages are due by them.
+use Rattle.std.specs.Prelude.{ℕ, Bool, false, List}
+use Rattle.std.specs.FinMap.Entries.{find}
+use Rattle.std.specs.Option.{option_map_or}
+use Rattle.lsr_facts.specs.Lifetimes.{has_waited}
+use Rattle.lsr_facts.specs.Orders.{item_cmp}
 use Rattle.lsr_facts.specs.declared.key.Item.{Item}
 
--- what timers say: the refresh period in milliseconds, and the moment at which each message was last sent
+-- the refresh period in milliseconds, and the moment at which each message was last sent
 pub record Timers : Type 0 where
   pub refresh_ms : ℕ
   pub sent : List (Item × ℕ)
 
--- A message is due from the moment on at which the refresh period has passed since it was last sent (RFC 2205, 3.7).
-abbrev pub is_due : ℕ → ℕ → ℕ → Bool
-is_due refresh_ms now moment = nat_le (moment + refresh_ms) now
-
--- the messages that are due, in the order of the items
-abbrev pub due_items : ℕ → Timers → List Item
-due_items now timers = map (λ row. row.0) (filter (λ row. is_due timers.refresh_ms now row.1) timers.sent)
+-- the message is kept, and was last sent a refresh period ago or longer (RFC 2205, 3.7)
+abbrev pub is_due : ℕ → Timers → Item → Bool
+is_due now timers item = option_map_or (λ at. has_waited timers.refresh_ms at now) (find item_cmp item timers.sent) false

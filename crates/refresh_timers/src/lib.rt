@@ -2,8 +2,6 @@
 #![tactic(auto)]
 
 pub mod laws;
-#[cfg(test)]
-mod tests;
 mod timers;
 
 pub use timers::{MAX_ITEMS, RefreshTimers};

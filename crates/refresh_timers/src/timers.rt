@@ -1,12 +1,15 @@
 ghost use Rattle.std.specs.FinMap.Entries.{find, is_sorted, put, where_key};
 ghost use Rattle.std.specs.Ordering.{is_eq};
-ghost use Rattle.std.specs.Prelude.{◌≡◌, ◌≤◌, ◌↔◌, ℕ, T, [], IfOk, IsTrue, is_some, length, not, vec_capacity};
+ghost use Rattle.std.specs.Prelude.{◌≡◌, ◌≤◌, T, [], IfOk, length, not};
+ghost use Rattle.lsr_facts.specs.Lifetimes.{due_items};
 ghost use Rattle.lsr_facts.specs.Orders.{item_cmp};
-ghost use Rattle.refresh_timers.specs.Timers.{due_items, is_due};
+ghost use Rattle.row_edits.specs.Edits.{edited};
+ghost use Rattle.refresh_timers.specs.Timers.{is_due};
 
-use lsr_facts::Item;
 use lsr_facts::limits::{MAX_LSPS, MAX_ORIGINS};
-use sorted_rows::{TryCopy, contains_key, get};
+use lsr_facts::{Item, has_waited};
+use row_edits::make_edits;
+use sorted_rows::{ReservedTable, Table, TryCopy};
 use std::alloc::{AllocError, Global};
 use std::marker::Model;
 
@@ -20,72 +23,27 @@ pub const MAX_ITEMS: usize = MAX_LSPS * (1 + MAX_ORIGINS);
 #[derive(Debug, Drop)]
 pub struct RefreshTimers {
     refresh_ms: u32,
-    rows: Vec<(Item, u64)>,
+    rows: ReservedTable<Item, u64, MAX_ITEMS>,
 }
 
 impl Model for RefreshTimers {
+    ghost use Rattle.row_edits.specs.Edits.{edited};
     ghost use Rattle.refresh_timers.specs.Timers.{Timers};
 
     ghost Value = { Timers };
 
-    ghost use Rattle.refresh_timers.specs.Keeping.{IsKept};
-
-    ghost view = { λ t. record { refresh_ms = t.refresh_ms; sent = t.rows.items } };
-
-    ghost invariant = { IsKept };
-}
-
-/// Whether a message that was last sent at a moment is due again. Nothing is that was sent after now.
-fn is_due(refresh_ms: u32, now: u64, moment: u64) -> bool
-    ensures { result ≡ is_due refresh_ms now moment }
-{
-    now.checked_sub(moment)
-        .is_some_and(|passed| passed >= u64::from(refresh_ms))
-}
-
-/// Whether a message is kept.
-fn is_known(rows: &[(Item, u64)], item: &Item) -> bool
-    ensures { result ≡ is_some (find item_cmp item.now rows.now) }
-{
-    contains_key(rows, item)
-}
-
-/// Keeps a moment in its reserved place.
-fn keep(rows: &mut Vec<(Item, u64)>, item: Item, moment: u64)
-    requires { length (put item_cmp item moment rows.old.items) ≤ vec_capacity rows.old }
-    ensures rows { rows.new.items ≡ put item_cmp item moment rows.old.items }
-    ensures capacity { vec_capacity rows.old ≤ vec_capacity rows.new }
-{
-    sorted_rows::set(rows, item, moment).unwrap();
-}
-
-/// Takes a moment away.
-fn forget(rows: &mut Vec<(Item, u64)>, item: &Item)
-    ensures rows { rows.new.items ≡ where_key item_cmp (λ i. not (is_eq (item_cmp item.now i))) rows.old.items }
-    ensures capacity { vec_capacity rows.new ≡ vec_capacity rows.old }
-{
-    sorted_rows::remove(rows, item);
-}
-
-/// Keeps these moments in the reserved places, and no others.
-fn keep_all(rows: &mut Vec<(Item, u64)>, moments: &[(Item, u64)])
-    requires { length moments.now ≤ vec_capacity rows.old }
-    ensures rows { rows.new.items ≡ moments.now }
-    ensures capacity { vec_capacity rows.old ≤ vec_capacity rows.new }
-{
-    rows.clear();
-    rows.extend_from_slice(moments).unwrap();
+    ghost view = { λ t. record { refresh_ms = t.refresh_ms; sent = t.rows } };
 }
 
 impl RefreshTimers {
     /// No messages, to be sent again every so many milliseconds. It reserves the memory of all messages that it may
-    /// ever hold; the only error is want of that memory.
+    /// ever hold; the only error is that there is too little memory.
     pub fn new(alloc: Global, refresh_ms: u32) -> Result<RefreshTimers, AllocError>
         ensures { IfOk result (λ timers. timers ≡ record { refresh_ms = refresh_ms; sent = [] }) }
     {
         Ok(RefreshTimers {
             refresh_ms,
-            rows: Vec::with_capacity(alloc, MAX_ITEMS)?,
+            rows: ReservedTable::new(alloc)?,
         })
     }
 
@@ -102,23 +60,16 @@ impl RefreshTimers {
     pub fn sent_at(&self, item: &Item) -> Option<u64>
         ensures { result ≡ find item_cmp item.now self.now.sent }
     {
-        get(&self.rows, item)
-    }
-
-    /// Whether a moment of this message can be set: the message is kept, or fewer than [`MAX_ITEMS`] are.
-    pub fn has_room(&self, item: &Item) -> bool
-        ensures { (moment : ℕ) → IsTrue result ↔ (length (put item_cmp item.now moment self.now.sent) ≤ 5120) }
-    {
-        self.rows.len() < MAX_ITEMS || is_known(&self.rows, item)
+        self.rows.get(item).copied()
     }
 
     /// This message was sent at this moment, whenever it was sent before. It asks that at most [`MAX_ITEMS`]
-    /// messages are kept then ([`RefreshTimers::has_room`]). Takes no memory.
+    /// messages are kept then. Takes no memory.
     pub fn set(&mut self, item: Item, moment: u64)
         requires { length (put item_cmp item moment self.old.sent) ≤ 5120 }
         ensures { self.new ≡ record self.old { sent = put item_cmp item moment self.old.sent } }
     {
-        keep(&mut self.rows, item, moment);
+        self.rows.set(item, moment);
     }
 
     /// This message is kept no more. Where it wasn't kept, nothing changes. Takes no memory.
@@ -127,7 +78,16 @@ impl RefreshTimers {
           sent = where_key item_cmp (λ i. not (is_eq (item_cmp item.now i))) self.old.sent;
         } }
     {
-        forget(&mut self.rows, item);
+        self.rows.remove(item);
+    }
+
+    /// Makes edits: each message that they name was sent last at this moment, or is kept no more. It asks that at most
+    /// [`MAX_ITEMS`] messages are kept then. Takes no memory.
+    pub fn edit(&mut self, edits: Table<Item, Option<u64>>)
+        requires { length (edited item_cmp edits self.old.sent) ≤ 5120 }
+        ensures { self.new ≡ record self.old { sent = edited item_cmp edits self.old.sent } }
+    {
+        make_edits(&mut self.rows, edits);
     }
 
     /// These messages were sent last at these moments, and no others are kept. It asks for at most [`MAX_ITEMS`]
@@ -137,18 +97,30 @@ impl RefreshTimers {
         requires few { length moments.now ≤ 5120 }
         ensures { self.new ≡ record self.old { sent = moments.now } }
     {
-        keep_all(&mut self.rows, moments);
+        self.rows.set_all(moments);
+    }
+
+    /// Whether a message is due at this moment: it is kept, and was last sent a refresh period ago or longer.
+    pub fn is_due(&self, item: &Item, now: u64) -> bool
+        ensures { result ≡ is_due now self.now item.now }
+    {
+        match self.sent_at(item) {
+            Some(at) => has_waited(self.refresh_ms, at, now),
+            None => false,
+        }
     }
 
     /// The messages that were last sent a refresh period ago or longer, in the order of the items. The only error
-    /// is want of memory.
+    /// is being out of memory.
+    #[tactic(auto, unfolding(lsr_facts::specs::Lifetimes::due_items))]
     pub fn due(&self, alloc: Global, now: u64) -> Result<Vec<Item>, AllocError>
-        ensures { IfOk result (λ items. items.items ≡ due_items now self.now) }
+        ensures { IfOk result (λ items. items.items ≡ due_items self.now.refresh_ms self.now.sent now) }
     {
         let refresh_ms = self.refresh_ms;
         self.rows
+            .as_slice()
             .iter()
-            .filter(|row| is_due(refresh_ms, now, row.1))
+            .filter(|row| has_waited(refresh_ms, row.1, now))
             .map(|row| row.0)
             .collect(alloc)
     }
@@ -156,11 +128,9 @@ impl RefreshTimers {
 
 impl TryCopy for RefreshTimers {
     fn try_copy(&self, alloc: Global) -> Result<RefreshTimers, AllocError> {
-        let mut rows = Vec::with_capacity(alloc, MAX_ITEMS)?;
-        rows.extend_from_slice(&self.rows)?;
         Ok(RefreshTimers {
             refresh_ms: self.refresh_ms,
-            rows,
+            rows: self.rows.try_copy(alloc)?,
         })
     }
 }

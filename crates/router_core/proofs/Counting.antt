@@ -1,15 +1,13 @@
 -- There is room for the moments of all that may be wanted.
-use Rattle.std.specs.Prelude.{◌≡◌, ◌≤◌, suc, List, [], ◌∷◌, filter_map, length, Option, Some, None, T}
-use Rattle.std.specs.FinMap.Entries.{is_sorted}
+use Rattle.std.specs.Prelude.{◌≡◌, ◌≤◌, suc, List, [], ◌∷◌, filter_map, length, Option, Some, None}
 use Rattle.std.specs.List.{cons_option}
 use Rattle.std.proofs.Common.{refl, ap, arith}
 use Rattle.sorted_rows.specs.Rows.{keys_of}
-use Rattle.lsr_facts.specs.Orders.{item_cmp}
 use Rattle.lsr_facts.specs.declared.facts.Facts.{Facts}
 use Rattle.lsr_facts.specs.declared.router.Router.{Router}
 use Rattle.abstract_router.specs.Soundness.{IsSound}
-use Rattle.abstract_router.specs.StampLaws.{is_sorted-stamped}
-use Rattle.abstract_router.specs.Wanted.{wanted_by, wanted_of}
+use Rattle.abstract_router.specs.Wanted.{downstream_row, wanted_of}
+use Rattle.abstract_router.specs.WantedLaws.{wanted-downstream}
 
 -- rows are as many as their keys
 length_keys : {K X : Type 0} (rows : List (K × X)) → length (keys_of rows) ≡ length rows
@@ -28,10 +26,5 @@ length_asked f (x ∷ xs) = omega (arith, length_cons (f x) (filter_map f xs), l
 
 -- what is known of a sound router has at most a moment for each path
 pub few_moments : (r : Router) (s : Facts) → IsSound r s → length s.sent ≤ 1024
-unfolding wanted_of
 few_moments r s is =
-    omega (arith, length_keys s.sent, ap length is.sent, length_keys (filter_map (wanted_by r s.up) s.paths), length_asked (wanted_by r s.up) s.paths, is.standing.paths.few)
-
--- and they stand in order
-pub moments_in_order : (r : Router) (s : Facts) → IsSound r s → T (is_sorted item_cmp s.sent)
-moments_in_order r s is = is_sorted-stamped r s s.sent is.standing.paths.in_order is.sent
+    omega (arith, length_keys s.sent, ap length is.sent, length_keys (wanted_of r s), ap length (wanted-downstream r s), length_asked (downstream_row r s.up) s.paths, is.standing.paths.few)

@@ -1,7 +1,6 @@
-pub mod Asking
 pub mod Counting
-pub mod Expiring
+pub mod Elsewhere
 pub mod Planning
 pub mod Restarting
-pub mod Sending
 pub mod Serving
+pub mod Touching

@@ -1,63 +1,62 @@
 -- A draft, with what it sends, is the plan of a step.
-use Rattle.std.specs.Prelude.{◌≡◌, ℕ, false, List}
+use Rattle.std.specs.Prelude.{◌≡◌, ℕ, true, false, cond, if◌then◌else◌, List, [], Option}
 use Rattle.std.proofs.Common.{refl, ap, sym, ◌∙◌}
-use Rattle.lsr_facts.specs.declared.event.Event.{Event}
-use Rattle.lsr_facts.specs.declared.event.Event.TheVariants as events
-use Rattle.lsr_facts.specs.declared.event.Output.{Output}
+use Rattle.row_edits.specs.Edits as rows
+use Rattle.lsr_facts.specs.Orders.{item_cmp}
 use Rattle.lsr_facts.specs.declared.facts.Facts.{Facts}
 use Rattle.lsr_facts.specs.declared.key.Item.{Item}
 use Rattle.lsr_facts.specs.declared.router.Router.{Router}
+use Rattle.router_events.specs.declared.events.Event.{Event}
+use Rattle.router_events.specs.declared.events.Output.{Output}
+use Rattle.abstract_router.specs.Outcomes.{Outcome}
 use Rattle.abstract_router.specs.Outputs.{outputs_of}
-use Rattle.abstract_router.specs.Stamps.{stamps_of}
-use Rattle.abstract_router.specs.Soundness.{IsSound}
-use Rattle.abstract_router.specs.Steps.{IsEvent, Step, outcome, sent_in}
-use Rattle.abstract_router.proofs.Refusals.{known_after-sound}
+use Rattle.abstract_router.specs.Stamps.{stamps_of, with_stamps}
+use Rattle.abstract_router.specs.Steps.{IsEvent, Step, outcome, settled}
 use Rattle.abstract_router.specs.Wanted.{wanted_of}
-use Rattle.router_core.specs.Changes.{IsDraft, applied, changed, due_in}
-use Rattle.router_core.specs.Plans.{IsMetRunning}
-use Rattle.router_core.specs.Sending.{IsSending}
-use Rattle.router_core.specs.declared.draft.Draft.{Draft}
-use Rattle.router_core.specs.declared.sent.Sending.{Sending}
+use Rattle.router_core.specs.Plans.{applied}
+use Rattle.router_steps.specs.Drafts.{IsDraft, due_by, edited}
+use Rattle.router_steps.specs.declared.draft.Draft.{Draft}
 
--- what a running router meets can be
-pub met_can_be : (event : Event) → IsMetRunning event → IsEvent event
-met_can_be (events.Arrive a) met = met
-met_can_be (events.Tick n) met = met
-met_can_be (events.LinkUp number) met = met
-met_can_be (events.LinkDown number) met = met
-met_can_be events.Restart met = absurd met
-met_can_be events.Start met = met
-
--- and sends what comes of what it does
-met_sends : (r : Router) (before : Facts) (event : Event) (after : Facts) → IsMetRunning event → sent_in r before event after ≡ outputs_of r before (outcome r before event).errors (outcome r before event).due after
-met_sends r before (events.Arrive a) after met = refl
-met_sends r before (events.Tick n) after met = refl
-met_sends r before (events.LinkUp number) after met = refl
-met_sends r before (events.LinkDown number) after met = refl
-met_sends r before events.Restart after met = absurd met
-met_sends r before events.Start after met = refl
-
--- what is sent doesn't depend on when messages were sent
+-- what is sent doesn't depend on when items were sent
 sent_alike : (r : Router) (before : Facts) (errors : List Output) (due : List Item) (after : Facts) (sent : List (Item × ℕ)) → outputs_of r before errors due after ≡ outputs_of r before errors due (record after { sent = sent })
 unfolding outputs_of wanted_of
 sent_alike r before errors due after sent = refl
 
--- The step of the event that the draft is of.
-pub planned_step : (r : Router) (before : Facts) (event : Event) (draft : Draft) (sending : Sending) → before.cold ≡ false → IsSound r before → IsMetRunning event → IsDraft draft (outcome r before event) before → IsSending sending r before draft.errors (due_in draft.change) (changed draft.change before) → Step r before event draft.reply sending.outputs (applied draft.change sending.stamps before)
-planned_step r before event draft sending runs sound met is sends =
-    let o = outcome r before event in
-    let after = applied draft.change sending.stamps before in
-    record {
-      possible = met_can_be event met;
-      awake = λ cold. absurd (let e = cold in cc);
-      replied = is.reply;
-      changed =
-          ap (λ (sent : List (Item × ℕ)). record (changed draft.change before) { sent = sent }) sends.stamps
-          ∙ (λ i. record (is.after i) { sent = stamps_of r before (is.due i) (is.after i) })
-          ∙ sym (known_after-sound r before event sound);
-      sent =
-          sends.outputs
-          ∙ (λ i. outputs_of r before (is.errors i) (is.due i) (changed draft.change before))
-          ∙ sent_alike r before o.errors o.due (changed draft.change before) after.sent
-          ∙ sym (met_sends r before event after met);
-    }
+module _ (r : Router) (before : Facts) (event : Event) (draft : Draft) (runs : before.cold ≡ false) (possible : IsEvent event) (is : IsDraft draft (outcome r before event) r before) where
+  -- The step of a silent draft.
+  pub silent_step : draft.is_silent ≡ true → Step r before (record { event = event; labels = []; reply = draft.reply; outputs = [] }) (applied draft.edits [] before)
+  silent_step silent =
+      let o = outcome r before event in
+      let after = applied draft.edits [] before in
+      let so : o.is_silent ≡ true = sym is.is_silent ∙ silent in
+      record {
+        possible = possible;
+        awake = λ cold. absurd (let e = sym runs ∙ cold in cc);
+        chosen = refl;
+        replied = is.reply;
+        changed = is.after ∙ sym (ap (λ b. if b then o.after else with_stamps r before o.due (settled r [] o.after)) so);
+        sent = sym (ap (λ b. if b then [] else outputs_of r before o.errors o.due after) so);
+      }
+
+  -- The step of another, with what it sends and what becomes of the moments.
+  pub sending_step : (outputs : List Output) (moments : List (Item × Option ℕ)) → draft.is_silent ≡ false → outputs ≡ outputs_of r before draft.errors (due_by draft.due r before) (edited draft.edits before) → rows.edited item_cmp moments before.sent ≡ stamps_of r before (due_by draft.due r before) (edited draft.edits before) → Step r before (record { event = event; labels = []; reply = draft.reply; outputs = outputs }) (applied draft.edits moments before)
+  sending_step outputs moments loud sends stamps =
+      let o = outcome r before event in
+      let after = applied draft.edits moments before in
+      let so : o.is_silent ≡ false = sym is.is_silent ∙ loud in
+      record {
+        possible = possible;
+        awake = λ cold. absurd (let e = sym runs ∙ cold in cc);
+        chosen = refl;
+        replied = is.reply;
+        changed =
+            ap (λ (sent : List (Item × ℕ)). record (edited draft.edits before) { sent = sent }) stamps
+            ∙ (λ i. record (is.after i) { sent = stamps_of r before (is.due i) (is.after i) })
+            ∙ sym (ap (λ b. if b then o.after else with_stamps r before o.due (settled r [] o.after)) so);
+        sent =
+            sends
+            ∙ (λ i. outputs_of r before (is.errors i) (is.due i) (is.after i))
+            ∙ sent_alike r before o.errors o.due o.after after.sent
+            ∙ (λ i. outputs_of r before o.errors o.due (record (sym is.after i) { sent = after.sent }))
+            ∙ sym (ap (λ b. if b then [] else outputs_of r before o.errors o.due after) so);
+      }

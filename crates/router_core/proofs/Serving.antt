@@ -1,112 +1,93 @@
--- Datagrams that are served one after the other.
-use Rattle.std.specs.Prelude.{◌≡◌, ℕ, List, [], ◌∷◌, ◌++◌, Result, Ok, Err, IfErr, IfOk, OnOk}
-use Rattle.std.proofs.Common.{refl, sym, ap, subst, inl, inr}
+-- What a datagram is served.
+use Rattle.std.specs.Prelude.{◌≡◌, ◌≢◌, ◌==◌, ℕ, Bool, true, false, if◌then◌else◌, List, [], ◌∷◌, Option, Some, None, IfSome, Result, Ok, Err, IfErr, IfOk}
+use Rattle.std.proofs.lemmas.Bool.{cond_both}
+use Rattle.rsvp_contents.specs.Spelling.{header_fault}
 use Rattle.rsvp_contents.specs.declared.dropped.Dropped.{Dropped}
-use Rattle.link_frames.specs.Frames.{IsFirstFrameFault}
-use Rattle.lsr_facts.specs.declared.event.Entry.{Entry}
-use Rattle.lsr_facts.specs.declared.event.Event.{Event}
-use Rattle.lsr_facts.specs.declared.event.Event.TheVariants as events
-use Rattle.lsr_facts.specs.declared.event.Output.{Output}
+use Rattle.rsvp_contents.specs.declared.dropped.Dropped.TheVariants as dropped
+use Rattle.std.proofs.Common.{refl, sym, ap, subst, inl, inr, ◌∙◌}
 use Rattle.lsr_facts.specs.declared.facts.Facts.{Facts}
 use Rattle.lsr_facts.specs.declared.refusal.Refusal.{Refusal}
 use Rattle.lsr_facts.specs.declared.refusal.Refusal.TheVariants as refusals
-use Rattle.lsr_facts.specs.declared.reply.Reply.{Reply}
 use Rattle.lsr_facts.specs.declared.router.Router.{Router}
-use Rattle.abstract_router.specs.EventLaws.{possible_event}
-use Rattle.abstract_router.specs.Steps.{IsServed, Run, Step}
-use Rattle.router_core.specs.Plans.{IsMetRunning}
-use Rattle.router_core.specs.Serving.{AreServed, IsAnswered, IsDropFor, IsEventOf, IsStepOf}
-use Rattle.router_core.specs.declared.serve.Datagram.{Datagram}
+use Rattle.router_events.specs.declared.events.Event.{Event}
+use Rattle.router_events.specs.declared.events.Made.{Made}
+use Rattle.abstract_router.specs.Steps.{IsServed, Step}
+use Rattle.router_events.specs.Frame.{Frame}
+use Rattle.router_events.specs.Frame.TheVariants as frames
+use Rattle.router_events.specs.Frames.{SpellsFrame, head_fault}
+use Rattle.router_events.specs.declared.events.Event.TheVariants as events
+use Rattle.router_core.specs.Plans.{IsOutFor}
+use Rattle.router_core.specs.States.{State}
+use Rattle.router_core.specs.Serving.{IsDatagramAnswered, IsDropFor, IsEventOf}
 
 -- the step of the event that a datagram is, is what the datagram is served
-pub served_event : (r : Router) (before after : Facts) (link : ℕ) (bytes : List ℕ) (event : Event) (reply : Reply) (outputs : List Output) → IsEventOf link bytes event → Step r before event reply outputs after → IsServed r before link bytes reply outputs after
-served_event r before after link bytes (events.Arrive a) reply outputs comes step =
-    inl (a.reading, comes.1, subst (λ (number : ℕ). Step r before (events.Arrive (record { link = number; reading = a.reading })) reply outputs after) comes.0 step)
-served_event r before after link bytes (events.Tick n) reply outputs comes step = absurd comes
-served_event r before after link bytes (events.LinkUp number) reply outputs comes step = absurd comes
-served_event r before after link bytes (events.LinkDown number) reply outputs comes step = absurd comes
-served_event r before after link bytes events.Restart reply outputs comes step = absurd comes
-served_event r before after link bytes events.Start reply outputs comes step = absurd comes
+pub served_event : (r : Router) (before after : Facts) (link : ℕ) (bytes : List ℕ) (made : Made) → IsEventOf link bytes made.event → Step r before made after → IsServed r before link bytes made.reply made.outputs after
+served_event r before after link bytes made comes step =
+    inr (comes.0, comes.2, inr (made.labels, subst (λ (event : Event). Step r before (record made { event = event }) after) comes.1 step))
 
 -- and so whatever comes of serving it
-pub event_answered : (r : Router) (before after : Facts) (link : ℕ) (bytes : List ℕ) (event : Event) (result : Result Entry Refusal) → IsEventOf link bytes event → IfOk result (λ e. e.event ≡ event) → IfOk result (λ e. IsStepOf r before e after) → IfErr result (λ refusal. refusal ≡ refusals.NoMemory) → IsAnswered r before link bytes after result
-event_answered r before after link bytes event (Ok e) comes same step memory =
-    served_event r before after link bytes e.event e.reply e.outputs (subst (IsEventOf link bytes) (sym same) comes) step
-event_answered r before after link bytes event (Err refusal) comes same step memory = inl memory
+pub event_answered : (r : Router) (before after : Facts) (link : ℕ) (bytes : List ℕ) (event : Event) (result : Result Made Refusal) → IsEventOf link bytes event → IfOk result (λ made. made.event ≡ event) → IfOk result (λ made. Step r before made after) → IfErr result (IsOutFor (record { router = r; facts = before }) event) → IsDatagramAnswered r before link bytes after result
+event_answered r before after link bytes event (Ok made) comes same step memory = served_event r before after link bytes made (subst (IsEventOf link bytes) (sym same) comes) step
+event_answered r before after link bytes event (Err refusal) comes same step memory = inl memory.0
 
--- the entry is then of the event that the datagram is
-pub entry_comes : (link : ℕ) (bytes : List ℕ) (event : Event) (result : Result Entry Refusal) → IsEventOf link bytes event → IfOk result (λ e. e.event ≡ event) → IfOk result (λ e. IsEventOf link bytes e.event)
-entry_comes link bytes event (Ok e) comes same = subst (IsEventOf link bytes) (sym same) comes
+-- a datagram that is no event is refused for its first fault, where there is memory
+pub drop_answered : (r : Router) (before : Facts) (link : ℕ) (bytes : List ℕ) (refusal : Refusal) → IsDropFor bytes refusal → IsDatagramAnswered r before link bytes before (Err refusal)
+drop_answered r before link bytes (refusals.Unread fault) first = inr (inl (fault, first, refl, refl, refl))
+drop_answered r before link bytes refusals.NoMemory first = inl refl
+drop_answered r before link bytes _ first = absurd first
+
+-- the step is then of the event that the datagram is
+pub entry_comes : (link : ℕ) (bytes : List ℕ) (event : Event) (result : Result Made Refusal) → IsEventOf link bytes event → IfOk result (λ made. made.event ≡ event) → IfOk result (λ made. IsEventOf link bytes made.event)
+entry_comes link bytes event (Ok made) comes same = subst (IsEventOf link bytes) (sym same) comes
 entry_comes link bytes event (Err refusal) comes same = tt
 
+-- another fault than that memory ran out leaves the next ones
+past_other : (test : Bool) (f : Dropped) (rest : Option Dropped) → (if test then Some f else rest) ≡ Some dropped.NoMemory → f ≢ dropped.NoMemory → rest ≡ Some dropped.NoMemory
+past_other true f rest e other = absurd (let same : f ≡ dropped.NoMemory = cc in other same)
+past_other false f rest e other = e
+
+none_other : None ≡ Some dropped.NoMemory → ⊥
+none_other e = absurd cc
+
+-- so no fault of a header is that
+header_memory : (bytes : List ℕ) → header_fault bytes ≡ Some dropped.NoMemory → ⊥
+unfolding header_fault
+header_memory bytes e =
+    let long = past_other _ dropped.Short _ e (λ x. cc) in
+    let version = past_other _ dropped.Version _ long (λ x. cc) in
+    let short = past_other _ dropped.TooLong _ version (λ x. cc) in
+    let counted = past_other _ dropped.LengthField _ short (λ x. cc) in
+    let good = past_other _ dropped.Checksum _ counted (λ x. cc) in
+    let read = past_other _ dropped.KindUnsupported _ good (λ x. cc) in
+    none_other read
+
+-- nor is one of a datagram's head
+head_memory : (bytes : List ℕ) → head_fault bytes ≡ Some dropped.NoMemory → ⊥
+head_memory [] = λ e. absurd cc
+head_memory (kind ∷ rest) = cond_both (kind == 1) (header_fault rest) (Some dropped.KindUnsupported) (λ o. o ≡ Some dropped.NoMemory → ⊥) (λ hop. header_memory rest) (λ other e. absurd cc)
+
+-- what a reader of frames answers for which memory ran out
+abbrev pub unread : Result Frame Dropped
+unread = Err dropped.NoMemory
+
+-- such a datagram has no fault at its head
+no_head : (o : Option Dropped) → (o ≡ Some dropped.NoMemory → ⊥) → IfSome o (λ f. unread ≡ Err f) → o ≡ None
+no_head None other told = refl
+no_head (Some f) other told = absurd (let same : f ≡ dropped.NoMemory = cc in other (ap Some same))
+
+pub heads_unread : (bytes : List ℕ) → IfSome (head_fault bytes) (λ f. unread ≡ Err f) → head_fault bytes ≡ None
+heads_unread bytes told = no_head (head_fault bytes) (head_memory bytes) told
+
+-- a datagram that spells a frame has no fault at its head
+pub frame_heads : (bytes : List ℕ) (frame : Frame) → SpellsFrame bytes frame → head_fault bytes ≡ None
+frame_heads [] frame s = absurd s
+frame_heads (kind ∷ rest) (frames.Hop reading) s = subst (λ (k : ℕ). head_fault (k ∷ rest) ≡ None) (sym s.0) s.1.1.header
+
 -- and an error is one that a datagram can meet
-pub memory_drops : {A : Type 0} (bytes : List ℕ) (result : Result A Refusal) → IfErr result (λ refusal. refusal ≡ refusals.NoMemory) → IfErr result (IsDropFor bytes)
-memory_drops bytes (Ok value) memory = tt
-memory_drops bytes (Err refusal) memory = subst (IsDropFor bytes) (sym memory) tt
+pub memory_drops : {A : Type 0} (s : State) (link : ℕ) (bytes : List ℕ) (event : Event) (result : Result A Refusal) → IsEventOf link bytes event → IfErr result (IsOutFor s event) → IfErr result (IsDropFor bytes)
+memory_drops s link bytes event (Ok value) comes memory = tt
+memory_drops s link bytes event (Err refusal) comes memory = subst (IsDropFor bytes) (sym memory.0) (frame_heads bytes (frames.Hop comes.0) comes.2)
 
--- the entries of datagrams that are served are a run
-pub served_is_run : (r : Router) (before : Facts) (datagrams : List Datagram) (entries : List Entry) (after : Facts) → AreServed r before datagrams entries after → Run r before entries after
-served_is_run r before [] entries after served = subst (λ (es : List Entry). Run r before es after) (sym served.0) served.1
-served_is_run r before (d ∷ ds) entries after served =
-    elim served [
-      | inl drop ↦ served_is_run r before ds entries after drop.2
-      | inr more ↦ subst (λ (es : List Entry). Run r before es after) (sym more.3) (more.2, more.5, served_is_run r more.2 ds more.1 after more.6)
-    ]
-
--- what is served after another is served behind it
-pub served_behind : (r : Router) (before : Facts) (ds : List Datagram) (es : List Entry) (between : Facts) (more : List Datagram) (later : List Entry) (after : Facts) → AreServed r before ds es between → AreServed r between more later after → AreServed r before (ds ++ more) (es ++ later) after
-served_behind r before [] es between more later after served then =
-    subst (λ (entries : List Entry). AreServed r before more (entries ++ later) after) (sym served.0) (subst (λ (s : Facts). AreServed r s more later after) served.1 then)
-served_behind r before (d ∷ ds) es between more later after served then =
-    elim served [
-      | inl drop ↦ inl (drop.0, drop.1, served_behind r before ds es between more later after drop.2 then)
-      | inr step ↦ inr (step.0, step.1 ++ later, step.2, ap (λ (entries : List Entry). entries ++ later) step.3, step.4, step.5, served_behind r step.2 ds step.1 between more later after step.6 then)
-    ]
-
--- a datagram that is dropped
-pub served_dropped : (r : Router) (s : Facts) (d : Datagram) (fault : Dropped) → IsFirstFrameFault d.bytes.items fault → AreServed r s (d ∷ []) [] s
-served_dropped r s d fault first = inl (fault, first, (refl, refl))
-
--- and one that makes its step
-pub served_step : (r : Router) (before : Facts) (d : Datagram) (e : Entry) (after : Facts) → IsEventOf d.link d.bytes.items e.event → IsStepOf r before e after → AreServed r before (d ∷ []) (e ∷ []) after
-served_step r before d e after comes step = inr (e, [], after, refl, comes, step, (refl, refl))
-
--- the event that a datagram is can come while the router runs
-pub event_can_come : (link : ℕ) (bytes : List ℕ) (event : Event) → IsEventOf link bytes event → IsMetRunning event
-event_can_come link bytes (events.Arrive a) comes = possible_event bytes a.link a.reading comes.1
-event_can_come link bytes (events.Tick n) comes = absurd comes
-event_can_come link bytes (events.LinkUp number) comes = absurd comes
-event_can_come link bytes (events.LinkDown number) comes = absurd comes
-event_can_come link bytes events.Restart comes = absurd comes
-event_can_come link bytes events.Start comes = absurd comes
-
--- a datagram that is no event, while there is memory, has a first fault
-pub dropped_for : (bytes : List ℕ) (refusal : Refusal) → IsDropFor bytes refusal → (refusal ≡ refusals.NoMemory → ⊥) → (fault : Dropped) × IsFirstFrameFault bytes fault
-dropped_for bytes (refusals.Unread fault) first memory = (fault, first)
-dropped_for bytes refusals.NoMemory first memory = absurd (memory refl)
-dropped_for bytes refusals.NoMatch first memory = absurd first
-dropped_for bytes refusals.NoMerge first memory = absurd first
-dropped_for bytes refusals.LinkDown first memory = absurd first
-dropped_for bytes refusals.HopLimit first memory = absurd first
-dropped_for bytes refusals.NoLabel first memory = absurd first
-dropped_for bytes refusals.UnknownTunnel first memory = absurd first
-dropped_for bytes refusals.TunnelExists first memory = absurd first
-dropped_for bytes refusals.BadRoute first memory = absurd first
-dropped_for bytes refusals.ChangePending first memory = absurd first
-dropped_for bytes refusals.UnknownLink first memory = absurd first
-dropped_for bytes refusals.BypassExists first memory = absurd first
-dropped_for bytes refusals.BypassOnItsLink first memory = absurd first
-dropped_for bytes refusals.Full first memory = absurd first
-dropped_for bytes refusals.InUse first memory = absurd first
-dropped_for bytes refusals.Late first memory = absurd first
-dropped_for bytes refusals.BadMoment first memory = absurd first
-dropped_for bytes refusals.JournalFull first memory = absurd first
-dropped_for bytes refusals.IsCold first memory = absurd first
-dropped_for bytes refusals.WrongPort first memory = absurd first
-dropped_for bytes refusals.NoFrame first memory = absurd first
-dropped_for bytes refusals.NoRouter first memory = absurd first
-
--- what follows of a fact that comes with a value holds beside the value
-pub on_ok : {A E : Type 0} (P Q : Type 0) (result : Result A E) → IfOk result (λ _. P) → (P → Q) → OnOk result Q
-on_ok P Q (Ok value) told follows = follows told
-on_ok P Q (Err error) told follows = tt
+-- the event that a datagram is, is no restart
+pub event_is_met : (link : ℕ) (bytes : List ℕ) (event : Event) → IsEventOf link bytes event → event ≢ events.Restart
+event_is_met link bytes event comes = λ is. absurd (let e = sym comes.1 ∙ is in cc)

@@ -1,5 +1,4 @@
-pub mod Changes
 pub mod Plans
-pub mod Sending
 pub mod Serving
 pub mod States
+pub mod Touching

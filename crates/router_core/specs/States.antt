@@ -1,9 +1,10 @@
 -- What a router holds, and what of that contracts see.
 use Rattle.std.specs.Prelude.{◌≡◌, true, false, []}
+use Rattle.lsr_config.specs.Configs.{Setup}
+use Rattle.lsr_facts.specs.Routers.{IsRouter}
 use Rattle.lsr_facts.specs.declared.facts.Facts.{Facts}
 use Rattle.lsr_facts.specs.declared.router.Router.{Router}
-use Rattle.lsr_config.specs.declared.config.Config.{Config}
-use Rattle.abstract_router.specs.Soundness.{IsRouter, IsSound}
+use Rattle.abstract_router.specs.Soundness.{IsSound}
 use Rattle.abstract_router.specs.Steps.{opening}
 use Rattle.router_core.specs.declared.tables.Tables.{Tables}
 
@@ -19,7 +20,7 @@ facts_of t = record { cold = false; moment = t.moment; up = t.up; routes = t.rou
 abbrev pub state_of : Tables → State
 state_of t = record { router = t.router; facts = facts_of t }
 
--- The tables are those of a sound router, and messages are refreshed as often as it says.
+-- The tables are those of a sound router, and items are refreshed as often as it says.
 pub record AreTables (t : Tables) : Type 0 where
   pub router : IsRouter t.router
   pub sound : IsSound t.router (facts_of t)
@@ -32,7 +33,7 @@ pub record AreCold (t : Tables) : Type 0 where
   pub nothing_sent : t.timers.sent ≡ []
 
 -- the router of a configuration as it is opened
-abbrev pub opened : Config → State
+abbrev pub opened : Setup → State
 opened c = record { router = c.router; facts = opening c.router c.routes }
 
 -- the same router, not started yet

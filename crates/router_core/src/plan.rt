@@ -1,15 +1,19 @@
-ghost use Rattle.std.specs.Prelude.{◌≡◌, IfOk};
-ghost use Rattle.abstract_router.specs.Steps.{Step};
-ghost use Rattle.router_core.specs.Changes.{applied};
-ghost use Rattle.router_core.specs.Plans.{IsMetRunning};
-ghost use Rattle.router_core.specs.States.{AreTables, facts_of};
+//! A step that is made ready.
 
-use crate::arrivals::draft_of;
-use crate::change::{Change, Stamps};
-use crate::draft::Draft;
-use crate::sent::{Sending, sending_of};
+ghost use Rattle.std.specs.Prelude.{◌≡◌, ◌≢◌, IfOk, OnErr, false};
+ghost use Rattle.router_events.specs.declared.events.Event.TheVariants as events;
+ghost use Rattle.abstract_router.specs.Steps.{IsEvent, Step, outcome};
+ghost use Rattle.router_core.specs.Plans.{IsPlanOf};
+ghost use Rattle.router_core.specs.States.{AreTables, facts_of, state_of};
+
+use crate::sending::sends_of;
 use crate::tables::Tables;
-use lsr_facts::{Event, Outputs, Reply};
+use lsr_facts::{Item, Reply};
+use router_events::{Event, Outputs};
+use router_sends::Sends;
+use router_steps::{Draft, Edits, draft_of};
+use rsvp_contents::Reading;
+use sorted_rows::Table;
 use std::alloc::{AllocError, Global};
 
 /// A step that is made ready, with all the memory that it takes, and hasn't happened yet. It is of use once, on
@@ -20,10 +24,10 @@ pub struct Plan {
     pub(crate) reply: Reply,
     /// What is sent.
     pub(crate) outputs: Outputs,
-    /// What changes, but for the moments at which messages were sent.
-    pub(crate) change: Change,
+    /// What changes, but for the moments at which items were sent.
+    pub(crate) edits: Edits,
     /// What changes of those.
-    pub(crate) stamps: Stamps,
+    pub(crate) moments: Table<Item, Option<u64>>,
 }
 
 impl Plan {
@@ -35,23 +39,50 @@ impl Plan {
     }
 }
 
-/// The plan of an event's step.
+/// Every event that there is can be: its message is one, by its type. A law: it does nothing when it runs.
+fn is_possible(event: &Event)
+    ensures { IsEvent event.now }
+{
+    if let Event::Arrive(arrive) = event {
+        match &arrive.reading {
+            Reading::Whole(message) => {
+                message.content();
+            }
+            Reading::Unknown(message, ..) => {
+                message.content();
+            }
+        }
+    }
+}
+
+/// The plan of an event's step. The only error is out of memory, and it comes for no event that is silent.
 pub(crate) fn plan_of(alloc: Global, tables: &Tables, event: &Event) -> Result<Plan, AllocError>
     requires tables { AreTables tables.now }
-    requires event { IsMetRunning event.now }
-    ensures { IfOk result (λ plan. Step tables.now.router (facts_of tables.now) event.now plan.reply plan.outputs
-        (applied plan.change plan.stamps (facts_of tables.now))) }
+    requires event { event.now ≢ events.Restart }
+    ensures planned { IfOk result (IsPlanOf (state_of tables.now) event.now) }
+    ensures memory { OnErr result ((outcome tables.now.router (facts_of tables.now) event.now).is_silent ≡ false) }
 {
+    is_possible(event);
     let Draft {
         reply,
         errors,
-        change,
+        due,
+        is_silent,
+        edits,
     } = draft_of(alloc, tables, event)?;
-    let Sending { outputs, stamps } = sending_of(alloc, tables, &change, errors)?;
+    if is_silent {
+        return Ok(Plan {
+            reply,
+            outputs: Outputs::new(alloc),
+            edits,
+            moments: Table::new(alloc),
+        });
+    }
+    let Sends { outputs, moments } = sends_of(alloc, tables, &edits, due, errors)?;
     Ok(Plan {
         reply,
         outputs,
-        change,
-        stamps,
+        edits,
+        moments,
     })
 }

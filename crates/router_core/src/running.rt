@@ -1,21 +1,22 @@
-ghost use Rattle.std.specs.Prelude.{◌≡◌, [], IfOk, map, false, true};
-ghost use Rattle.lsr_facts.specs.declared.event.Event.{Event};
-ghost use Rattle.lsr_facts.specs.declared.event.Event.TheVariants as events;
-ghost use Rattle.lsr_facts.specs.declared.reply.Reply.TheVariants as replies;
-ghost use Rattle.lsr_config.specs.BuiltIn.{two_links};
-ghost use Rattle.lsr_config.specs.Configs.{IsConfig};
-ghost use Rattle.abstract_router.specs.Soundness.{IsRouter, IsSound};
+//! A router, cold or running.
+
+ghost use Rattle.std.specs.Prelude.{◌≡◌, ◌≢◌, [], IfErr, IfOk, map, false, true};
+ghost use Rattle.router_events.specs.declared.events.Event.{Event};
+ghost use Rattle.router_events.specs.declared.events.Event.TheVariants as events;
+ghost use Rattle.lsr_facts.specs.Routers.{IsRouter};
+ghost use Rattle.abstract_router.specs.Soundness.{IsSound};
 ghost use Rattle.abstract_router.specs.Steps.{Step};
-ghost use Rattle.router_core.specs.Plans.{IsMetRunning, IsPlanOf};
+ghost use Rattle.router_core.specs.Plans.{IsOutFor, IsPlanOf, made_by, quiet};
 ghost use Rattle.router_core.specs.States.{cold, facts_of, opened};
 
 use crate::change::{apply, forget};
 use crate::plan::{Plan, plan_of};
 use crate::tables::Tables;
 use lsr_config::Config;
-use lsr_facts::{Event, Facts, Item, Link, Outputs};
+use lsr_facts::{Facts, Item, Link, Refusal};
 use path_state::PathState;
 use refresh_timers::RefreshTimers;
+use router_events::{Event, Outputs};
 use sorted_rows::{Table, TryCopy, copy_plain_rows, copy_rows};
 use std::alloc::{AllocError, Global};
 use std::marker::Model;
@@ -61,9 +62,8 @@ fn links_up(alloc: Global, links: &[(u16, Link)]) -> Result<Vec<(u16, bool)>, Al
 
 impl Cold {
     /// The router of a configuration, not started yet. It reserves the memory of all paths that it may ever
-    /// know, and of all messages that these may want; the only error is want of that memory.
+    /// know, and of all messages that these may want; the only error is out of that memory.
     pub fn new(alloc: Global, config: Config) -> Result<Cold, AllocError>
-        requires { IsConfig config }
         ensures opened { IfOk result (λ router. router ≡ cold (opened config)) }
     {
         let up = links_up(alloc, config.router.links.as_slice())?;
@@ -80,23 +80,16 @@ impl Cold {
         })
     }
 
-    /// The built-in router ([`Config::two_links`]), not started yet. The only error is want of memory.
-    pub fn two_links(alloc: Global) -> Result<Cold, AllocError>
-        ensures opened { IfOk result (λ router. router ≡ cold (opened two_links)) }
-    {
-        Cold::new(alloc, Config::two_links(alloc)?)
-    }
-
     /// Starts the router. Takes no memory, and sends nothing.
     pub fn start(self) -> Running
         ensures started { result ≡ record self { facts = record self.facts { cold = false } } }
-        ensures step { Step self.router self.facts events.Start replies.Done [] result.facts }
+        ensures step { Step self.router self.facts (quiet events.Start) result.facts }
     {
         let Cold { tables } = self;
         Running { tables }
     }
 
-    /// What the router knows, its tables in the order of their keys. The only error is want of memory.
+    /// What the router knows, its tables in the order of their keys. The only error is out of memory.
     pub fn export(&self, alloc: Global) -> Result<Facts, AllocError>
         ensures facts { IfOk result (λ facts. facts ≡ self.now.facts) }
     {
@@ -117,14 +110,15 @@ impl Cold {
 }
 
 impl Running {
-    /// The plan of an event's step, with all the memory that it takes. It changes nothing; the only error is
-    /// want of memory. It asks for an event that can be and is no restart ([`Running::restart`]): what a frame is
-    /// read as always is one.
-    pub fn plan(&self, alloc: Global, event: &Event) -> Result<Plan, AllocError>
-        requires { IsMetRunning event.now }
+    /// The plan of an event's step, with all the memory that it takes. It changes nothing. It asks for an event that is no
+    /// restart ([`Running::restart`]). The only error is [`Refusal::NoMemory`]; a start, and an event that is refused,
+    /// always have their plan.
+    pub fn plan(&self, alloc: Global, event: &Event) -> Result<Plan, Refusal>
+        requires { event.now ≢ events.Restart }
         ensures planned { IfOk result (IsPlanOf self.now event.now) }
+        ensures memory { IfErr result (IsOutFor self.now event.now) }
     {
-        plan_of(alloc, &self.tables, event)
+        Ok(plan_of(alloc, &self.tables, event)?)
     }
 
     /// Makes the step of a plan, and gives what it sends. It asks for a plan of this router as it stands. Takes no
@@ -132,10 +126,10 @@ impl Running {
     pub fn commit(&mut self, plan: Plan) -> Outputs
         requires { (event : Event) × IsPlanOf self.old event plan }
         ensures step { (event : Event) → IsPlanOf self.old event plan →
-            Step self.old.router self.old.facts event plan.reply result self.new.facts }
+            Step self.old.router self.old.facts (record (made_by event plan) { outputs = result }) self.new.facts }
         ensures router { self.new.router ≡ self.old.router }
     {
-        apply(&mut self.tables, plan.change, plan.stamps);
+        apply(&mut self.tables, plan.edits, plan.moments);
         plan.outputs
     }
 
@@ -145,14 +139,14 @@ impl Running {
         ensures restarted { result ≡ record self {
           facts = record self.facts { cold = true; paths = []; sent = [] };
         } }
-        ensures step { Step self.router self.facts events.Restart replies.Done [] result.facts }
+        ensures step { Step self.router self.facts (quiet events.Restart) result.facts }
     {
         let Running { mut tables } = self;
         forget(&mut tables);
         Cold { tables }
     }
 
-    /// What the router knows, its tables in the order of their keys. The only error is want of memory.
+    /// What the router knows, its tables in the order of their keys. The only error is out of memory.
     pub fn export(&self, alloc: Global) -> Result<Facts, AllocError>
         ensures facts { IfOk result (λ facts. facts ≡ self.now.facts) }
     {

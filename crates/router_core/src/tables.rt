@@ -1,15 +1,12 @@
-ghost use Rattle.std.specs.FinMap.Entries.{find};
-ghost use Rattle.std.specs.Option.{option_copied};
-ghost use Rattle.std.specs.Prelude.{◌≡◌, ◌&&◌, is_none, length, nat_le};
-ghost use Rattle.lsr_facts.specs.Orders.{key_cmp};
-ghost use Rattle.abstract_router.specs.Places.{place_of};
-ghost use Rattle.explicit_routes.specs.Nodes.{place_at};
+//! What a router holds: its tables are a view of its facts.
+
+ghost use Rattle.std.specs.Prelude.{◌≡◌};
 ghost use Rattle.router_core.specs.States.{facts_of};
 
-use lsr_facts::limits::MAX_LSPS;
-use lsr_facts::{Key, Node, PathFact, Router};
+use lsr_facts::{FactsView, Item, Key, Node, PathFact, Router};
 use path_state::PathState;
 use refresh_timers::RefreshTimers;
+use router_steps::WholeView;
 use rsvp_routes::Prefix;
 use sorted_rows::Table;
 
@@ -30,30 +27,38 @@ pub(crate) struct Tables {
     pub(crate) timers: RefreshTimers,
 }
 
-/// Where the router stands.
-pub(crate) fn node_of(tables: &Tables) -> Node<'_>
-    ensures { place_at result ≡ place_of tables.now.router (facts_of tables.now) }
-{
-    Node {
-        router: &tables.router,
-        up: tables.up.as_slice(),
-        routes: tables.routes.as_slice(),
+impl FactsView for Tables {
+    ghost router = { λ t. t.router };
+
+    ghost facts = { facts_of };
+
+    fn node(&self) -> Node<'_> {
+        Node {
+            router: &self.router,
+            up: &self.up,
+            routes: &self.routes,
+        }
+    }
+
+    fn refresh_ms(&self) -> u32 {
+        self.router.refresh_ms
+    }
+
+    fn moment(&self) -> u64 {
+        self.moment
+    }
+
+    fn path(&self, key: &Key) -> Option<&PathFact> {
+        self.paths.get(key)
+    }
+
+    fn sent_at(&self, item: &Item) -> Option<u64> {
+        self.timers.sent_at(item)
     }
 }
 
-/// What is known of an LSP's path.
-pub(crate) fn path_at<'a>(tables: &'a Tables, key: &Key) -> Option<&'a PathFact>
-    ensures { option_copied result ≡ find key_cmp key.now (facts_of tables.now).paths }
-{
-    tables.paths.get(key)
-}
-
-/// Whether the path is new, and there is no room for another.
-pub(crate) fn is_full(tables: &Tables, known: Option<&PathFact>) -> bool
-    ensures { result ≡ (is_none (option_copied known.entry) && nat_le 1024 (length (facts_of tables.now).paths)) }
-{
-    match known {
-        Some(_) => false,
-        None => tables.paths.as_slice().len() >= MAX_LSPS,
+impl WholeView for Tables {
+    fn paths(&self) -> &[(Key, PathFact)] {
+        self.paths.as_slice()
     }
 }

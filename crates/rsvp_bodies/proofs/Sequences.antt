@@ -138,7 +138,7 @@ none_read {X} {Spells} bytes items rest left stuck before = record {
     spells_none [] t = left t
     spells_none (y ∷ ys) t = stuck y t.0 t.1 t.2 t.3
 
--- want of memory may come in place of any answer
+-- out of memory may come in place of any answer
 pub memory_read : {X : Type 0} (Spells : List ℕ → X → Type 0) (bytes : List ℕ) → ReadsWhole Spells bytes (Err Memory)
 memory_read Spells bytes = record { found = tt; only = λ x s. tt }
 

@@ -10,7 +10,7 @@ Gives (Err Memory) x = Unit {0}
 Gives (Err Length) x = ⊥
 
 -- The answer is what the whole of the bytes spells. Where they spell nothing it is the fault Length;
--- want of memory can come in place of any answer.
+-- out of memory can come in place of any answer.
 pub record ReadsWhole {X : Type 0} (Spells : List ℕ → X → Type 0) (bytes : List ℕ) (answer : Result X ObjectFault) : Type 0 where
   pub found : IfOk answer (λ x. Spells bytes x)
   pub only : (x : X) → Spells bytes x → Gives answer x

@@ -1,14 +1,13 @@
 //! What the bytes of RSVP objects and of their subobjects have in common: the one way in which such
-//! bytes are refused, and a body that is kept as it came.
+//! bytes are refused, and bytes that are kept as they came, as an object's body is.
 #![tactic(auto)]
 
 mod address;
 mod body;
 mod fault;
+mod kept;
 
 pub use address::address_of;
-pub use body::Body;
+pub use body::{Body, BodyRule};
 pub use fault::ObjectFault;
-
-#[cfg(test)]
-mod tests;
+pub use kept::{Kept, Rule};

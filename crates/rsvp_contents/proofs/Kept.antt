@@ -4,7 +4,7 @@ use Rattle.std.specs.Prelude.{nat_eq}
 use Rattle.std.specs.List.{filter}
 use Rattle.std.proofs.lemmas.Bool.{false≢true, eqb-true, cond-true, cond-false, false_from_ne_true}
 use Rattle.std.specs.Option.{option_map_or}
-use Rattle.rsvp_objects.specs.declared.values.Affinities.{Affinities}
+use Rattle.session_attribute.specs.declared.affinities.Affinities.{Affinities}
 use Rattle.rsvp_objects.specs.declared.object.Object.{Object}
 use Rattle.rsvp_objects.specs.declared.object.Object.TheVariants as objects
 use Rattle.rsvp_objects.specs.Raw.{Raw}
@@ -54,21 +54,21 @@ filter_none p as_object fails None = refl
 filter_none p as_object fails (Some x) = cond-false (p (as_object x)) (as_object x ∷ []) [] (fails x)
 
 -- attributes do not pass
-pub attr_passes : (affinities : Option Affinities) → passes_as (kind_of 207 (option_map_or (λ _. 1) affinities 7)) 207 ≡ false
+pub attr_passes : (type : ℕ) (affinities : Option Affinities) → passes_as type (kind_of 207 (option_map_or (λ _. 1) affinities 7)) 207 ≡ false
 unfolding kind_of
-attr_passes None = refl
-attr_passes (Some a) = refl
+attr_passes type None = refl
+attr_passes type (Some a) = refl
 
 -- a test that fails does not hold
 pub fails_not : {P : Type 0} (test : Bool) → test ≡ false → test ≡ true → P
 fails_not test e f = absurd (false≢true (sym e ∙ f))
 
 -- an object that passes is kept as its bytes
-pub passes-IsKept : (o : Object) → passes o ≡ true → IsKept o
+pub passes-IsKept : (type : ℕ) (o : Object) → passes type o ≡ true → IsKept o
 unfolding kind_of
-passes-IsKept (objects.Other raw) e = refl
-passes-IsKept (objects.SessionAttribute a) e = fails_not (passes (objects.SessionAttribute a)) (attr_passes a.affinities) e
-passes-IsKept o e = absurd (false≢true e)
+passes-IsKept type (objects.Other raw) e = refl
+passes-IsKept type (objects.SessionAttribute a) e = fails_not (passes type (objects.SessionAttribute a)) (attr_passes type a.affinities) e
+passes-IsKept type o e = absurd (false≢true e)
 
 -- and so is an ADSPEC
 pub is_adspec-IsKept : (o : Object) → is_adspec o ≡ true → IsKept o
@@ -76,17 +76,17 @@ is_adspec-IsKept (objects.Other raw) e = refl
 is_adspec-IsKept o e = absurd (false≢true e)
 
 -- class 13 does not pass, whatever the C-Type
-adspec_passes : (class ctype : ℕ) → class ≡ 13 → passes_as (kind_of class ctype) class ≡ false
+adspec_passes : (type class ctype : ℕ) → class ≡ 13 → passes_as type (kind_of class ctype) class ≡ false
 unfolding kind_of
-adspec_passes class ctype e = ap (λ (n : ℕ). passes_as (kind_of n ctype) n) e
+adspec_passes type class ctype e = ap (λ (n : ℕ). passes_as type (kind_of n ctype) n) e
 
 -- so an ADSPEC does not pass
-pub is_adspec-passes : (o : Object) → is_adspec o ≡ true → passes o ≡ false
-is_adspec-passes o e = adspec_passes (class_of o) (raw_of o).ctype (eqb-true (class_of o) 13 e)
+pub is_adspec-passes : (type : ℕ) (o : Object) → is_adspec o ≡ true → passes type o ≡ false
+is_adspec-passes type o e = adspec_passes type (class_of o) (raw_of o).ctype (eqb-true (class_of o) 13 e)
 
 -- and what passes is no ADSPEC
-pub passes-is_adspec : (o : Object) → passes o ≡ true → is_adspec o ≡ false
-passes-is_adspec o e = false_from_ne_true (is_adspec o) (λ is. fails_not (passes o) (is_adspec-passes o is) e)
+pub passes-is_adspec : (type : ℕ) (o : Object) → passes type o ≡ true → is_adspec o ≡ false
+passes-is_adspec type o e = false_from_ne_true (is_adspec o) (λ is. fails_not (passes type o) (is_adspec-passes type o is) e)
 
 -- one step of the next lemma
 other_step : (t : Raw → Bool) (test : Bool) (o : Object) (xs : List Object) → (test ≡ true → t (raw_of o) ≡ true) → (test ≡ true → IsKept o) → map objects.Other (filter t (map raw_of xs)) ≡ xs →

@@ -48,36 +48,26 @@ from_route p front back = if_some p.route objects.ExplicitRoute ++ from_label p 
 abbrev pub path_list : Path → List Object → List Object → List Object
 path_list p front back = (objects.Session p.session ∷ objects.Hop p.hop ∷ objects.TimeValues p.time ∷ []) ++ from_route p front back
 
--- what passed on its way stands there
-abbrev pub listed_path : Path → List Object → List Object
-listed_path p os = path_list p (filter passes os) (filter is_adspec os)
-
 -- what is given back of two lists is what is given back of each
 given_back : (t : Raw → Bool) (xs ys : List Raw) → map objects.Other (filter t (xs ++ ys)) ≡ map objects.Other (filter t xs) ++ map objects.Other (filter t ys)
 given_back t xs ys = ap (λ (v : List Raw). map objects.Other v) (filter-append t xs ys) ∙ map-append objects.Other (filter t xs) (filter t ys)
 
 -- what stands before the sender is what passed
-front_again : (os : List Object) → before_sender (passing_of os) ≡ filter passes os
+pub front_again : (os : List Object) → before_sender (passing_of 1 os) ≡ filter (passes 1) os
 front_again os =
-    given_back (λ o. not (nat_eq o.class 13)) (map raw_of (filter passes os)) (map raw_of (filter is_adspec os))
+    given_back (λ o. not (nat_eq o.class 13)) (map raw_of (filter (passes 1) os)) (map raw_of (filter is_adspec os))
     ∙ ap₂ (λ (xs ys : List Object). xs ++ ys)
-    (other_again passes (λ o. not (nat_eq o.class 13)) (λ o e. not_from_false (is_adspec o) (passes-is_adspec o e)) passes-IsKept os)
+    (other_again (passes 1) (λ o. not (nat_eq o.class 13)) (λ o e. not_from_false (is_adspec o) (passes-is_adspec 1 o e)) (passes-IsKept 1) os)
     (ap (λ (v : List Raw). map objects.Other v) (other_gone is_adspec (λ o. not (nat_eq o.class 13)) (λ o e. not_from_true (is_adspec o) e) os))
-    ∙ append-nil (filter passes os)
+    ∙ append-nil (filter (passes 1) os)
 
 -- what stands behind it is the ADSPEC
-back_again : (os : List Object) → adspec (passing_of os) ≡ filter is_adspec os
+pub back_again : (os : List Object) → adspec (passing_of 1 os) ≡ filter is_adspec os
 back_again os =
-    given_back (λ o. nat_eq o.class 13) (map raw_of (filter passes os)) (map raw_of (filter is_adspec os))
+    given_back (λ o. nat_eq o.class 13) (map raw_of (filter (passes 1) os)) (map raw_of (filter is_adspec os))
     ∙ ap₂ (λ (xs ys : List Object). xs ++ ys)
-    (ap (λ (v : List Raw). map objects.Other v) (other_gone passes (λ o. nat_eq o.class 13) passes-is_adspec os))
+    (ap (λ (v : List Raw). map objects.Other v) (other_gone (passes 1) (λ o. nat_eq o.class 13) (passes-is_adspec 1) os))
     (other_again is_adspec (λ o. nat_eq o.class 13) (λ o e. e) is_adspec-IsKept os)
-
--- a Path's objects, where it passes on what passed
-pub path_objects-listed : (p : Path) (os : List Object) → p.passing ≡ passing_of os → path_objects p ≡ listed_path p os
-path_objects-listed p os e =
-    ap (λ (passing : List Raw). path_list p (before_sender passing) (adspec passing)) e
-    ∙ ap₂ (λ (front back : List Object). path_list p front back) (front_again os) (back_again os)
 
 -- what a Path's objects measure
 abbrev pub path_total : (Object → ℕ) → Path → List Object → List Object → ℕ
@@ -108,34 +98,3 @@ total-path_list w p front back =
     let has_fast = total-if_some w objects.FastReroute p.fast_reroute in
     let has_recorded = total-if_some w objects.RecordRoute p.recorded in
     omega arith
-
--- what passes among a Path's objects is what passed before
-passes_listed : (p : Path) (os : List Object) → filter passes (listed_path p os) ≡ filter passes os
-unfolding kind_of
-passes_listed p os =
-    filter_skip passes objects.ExplicitRoute (λ x. refl) p.route (from_label p (filter passes os) (filter is_adspec os))
-    ∙ filter_skip passes objects.SessionAttribute (λ x. attr_passes x.affinities) p.attr (from_fast p (filter passes os) (filter is_adspec os))
-    ∙ filter_skip passes objects.FastReroute (λ x. refl) p.fast_reroute (from_front p (filter passes os) (filter is_adspec os))
-    ∙ filter-append passes (filter passes os) (from_sender p (filter is_adspec os))
-    ∙ ap₂ (λ (xs ys : List Object). xs ++ ys)
-    (filter_again passes passes (λ o e. e) os)
-    (filter-append passes (filter is_adspec os) (if_some p.recorded objects.RecordRoute)
-    ∙ ap₂ (λ (xs ys : List Object). xs ++ ys) (filter_gone is_adspec passes is_adspec-passes os) (filter_none passes objects.RecordRoute (λ x. refl) p.recorded))
-    ∙ append-nil (filter passes os)
-
--- and so is the ADSPEC
-adspec_listed : (p : Path) (os : List Object) → filter is_adspec (listed_path p os) ≡ filter is_adspec os
-adspec_listed p os =
-    filter_skip is_adspec objects.ExplicitRoute (λ x. refl) p.route (from_label p (filter passes os) (filter is_adspec os))
-    ∙ filter_skip is_adspec objects.SessionAttribute (λ x. refl) p.attr (from_fast p (filter passes os) (filter is_adspec os))
-    ∙ filter_skip is_adspec objects.FastReroute (λ x. refl) p.fast_reroute (from_front p (filter passes os) (filter is_adspec os))
-    ∙ filter-append is_adspec (filter passes os) (from_sender p (filter is_adspec os))
-    ∙ ap₂ (λ (xs ys : List Object). xs ++ ys)
-    (filter_gone passes is_adspec passes-is_adspec os)
-    (filter-append is_adspec (filter is_adspec os) (if_some p.recorded objects.RecordRoute)
-    ∙ ap₂ (λ (xs ys : List Object). xs ++ ys) (filter_again is_adspec is_adspec (λ o e. e) os) (filter_none is_adspec objects.RecordRoute (λ x. refl) p.recorded))
-    ∙ append-nil (filter is_adspec os)
-
--- what a Path passes on is passed on again
-pub passing_of-listed : (p : Path) (os : List Object) → passing_of (listed_path p os) ≡ passing_of os
-passing_of-listed p os = ap₂ (λ (xs ys : List Object). map raw_of xs ++ map raw_of ys) (passes_listed p os) (adspec_listed p os)

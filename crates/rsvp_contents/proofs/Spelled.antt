@@ -22,6 +22,9 @@ is_read_type-type_of : (content : Content) → is_read_type (type_of content) �
 is_read_type-type_of (contents.Path p) = refl
 is_read_type-type_of (contents.PathErr e) = refl
 is_read_type-type_of (contents.PathTear t) = refl
+is_read_type-type_of (contents.Resv r) = refl
+is_read_type-type_of (contents.ResvErr e) = refl
+is_read_type-type_of (contents.ResvTear t) = refl
 
 -- a test that fails chooses what comes next
 next : (test : Bool) (f : Dropped) (rest : Option Dropped) → test ≡ false → rest ≡ None → (if test then Some f else rest) ≡ None

@@ -6,36 +6,8 @@ use Rattle.rsvp_bodies.specs.Reading.{SpellsEach}
 use Rattle.rsvp_objects.specs.declared.object.Object.{Object}
 use Rattle.rsvp_objects.specs.Objects.{SpellsObject, spelling}
 use Rattle.rsvp_contents.specs.Counting.{class_of, object_kind, has_class, repeats, counted, counting}
-use Rattle.rsvp_contents.specs.Written.{if_some}
+pub use Rattle.rsvp_flows.proofs.Totals.{total, size_of, one_if, if_some_of, total-append, total-if_some, length-flat_map-spelling, count-total}
 use Rattle.rsvp_objects.proofs.Sizes.{written_no_longer}
-
--- the sum of a measure
-abbrev pub total : (Object → ℕ) → List Object → ℕ
-total w [] = 0
-total w (o ∷ os) = w o + total w os
-
--- how many bytes an object is written in
-abbrev pub size_of : Object → ℕ
-size_of o = length (spelling o)
-
--- 1 where the test holds
-abbrev pub one_if : (Object → Bool) → Object → ℕ
-one_if p o = if p o then 1 else 0
-
--- the measure of a value, where there is one
-abbrev pub if_some_of : {X : Type 0} → (Object → ℕ) → (X → Object) → Option X → ℕ
-if_some_of w as_object None = 0
-if_some_of w as_object (Some x) = w (as_object x)
-
--- the total of two lists is the sum of theirs
-pub total-append : (w : Object → ℕ) (xs ys : List Object) → total w (xs ++ ys) ≡ total w xs + total w ys
-total-append w [] ys = omega arith
-total-append w (x ∷ xs) ys = omega (arith, total-append w xs ys)
-
--- an object that may be absent has the measure of its value
-pub total-if_some : {X : Type 0} (w : Object → ℕ) (as_object : X → Object) (o : Option X) → total w (if_some o as_object) ≡ if_some_of w as_object o
-total-if_some w as_object None = refl
-total-if_some w as_object (Some x) = omega arith
 
 -- one more object is counted at most once
 total-chosen : (w : Object → ℕ) (test : Bool) (xs : List Object) (o : Object) → total w (if test then xs ++ o ∷ [] else xs) ≤ total w xs + w o
@@ -43,22 +15,17 @@ total-chosen w true xs o = omega (arith, total-append w xs (o ∷ []))
 total-chosen w false xs o = omega arith
 
 -- and so is one that counts
-total-counted : (w : Object → ℕ) (xs : List Object) (o : Object) → total w (counted xs o) ≤ total w xs + w o
-total-counted w xs o = total-chosen w (repeats (object_kind o) || not (has_class (class_of o) xs)) xs o
+total-counted : (w : Object → ℕ) (type : ℕ) (xs : List Object) (o : Object) → total w (counted type xs o) ≤ total w xs + w o
+total-counted w type xs o = total-chosen w (repeats type o || not (has_class (class_of o) xs)) xs o
 
 -- each object is counted at most once
-total-fold : (w : Object → ℕ) (xs os : List Object) → total w (fold counted xs os) ≤ total w xs + total w os
-total-fold w xs [] = omega arith
-total-fold w xs (o ∷ os) = omega (arith, total-fold w (counted xs o) os, total-counted w xs o)
+total-fold : (w : Object → ℕ) (type : ℕ) (xs os : List Object) → total w (fold (counted type) xs os) ≤ total w xs + total w os
+total-fold w type xs [] = omega arith
+total-fold w type xs (o ∷ os) = omega (arith, total-fold w type (counted type xs o) os, total-counted w type xs o)
 
 -- what counts is part of all
-pub total-counting : (w : Object → ℕ) (os : List Object) → total w (counting os) ≤ total w os
-total-counting w os = omega (arith, total-fold w [] os)
-
--- how long objects are written
-pub length-flat_map-spelling : (os : List Object) → length (flat_map spelling os) ≡ total size_of os
-length-flat_map-spelling [] = refl
-length-flat_map-spelling (o ∷ os) = omega (arith, length-append (spelling o) (flat_map spelling os), length-flat_map-spelling os)
+pub total-counting : (w : Object → ℕ) (type : ℕ) (os : List Object) → total w (counting type os) ≤ total w os
+total-counting w type os = omega (arith, total-fold w type [] os)
 
 -- objects are written in no more bytes than they were read from
 pub total-spelled : (bytes : List ℕ) (os : List Object) → SpellsEach SpellsObject bytes os → total size_of os ≤ length bytes

@@ -1,8 +1,11 @@
+pub mod Addresses
 pub mod Answers
+pub mod Behind
 pub mod Counting
 pub mod Dropping
 pub mod Fitting
 pub mod Limits
 pub mod Picking
 pub mod Spelling
+pub mod Values
 pub mod Written

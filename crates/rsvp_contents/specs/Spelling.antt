@@ -1,5 +1,5 @@
 -- Which bytes spell which message, and which fault is the first of bytes that spell none.
-use Rattle.std.specs.Prelude.{◌≡◌, ℕ, ◌/◌, ◌+◌, ◌≤◌, Bool, not, ◌||◌, ◌==◌, nat_lt, if◌then◌else◌, List, length, drop, slice_index, Option, Some, None, Result, Ok, Err, ◌⊎◌}
+use Rattle.std.specs.Prelude.{◌≡◌, ℕ, ◌/◌, ◌+◌, ◌≤◌, Bool, not, ◌&&◌, ◌==◌, nat_le, nat_lt, if◌then◌else◌, List, length, drop, slice_index, Option, Some, None, Result, Ok, Err, ◌⊎◌}
 use Rattle.byteorder.specs.Endian.{big_number}
 use Rattle.internet_checksum.specs.Checksums.{has_good_checksum}
 use Rattle.rsvp_bodies.specs.Reading.{SpellsEach}
@@ -14,9 +14,9 @@ use Rattle.rsvp_contents.specs.Answers.{ReadsOrDrops}
 use Rattle.rsvp_contents.specs.Picking.{objects_read}
 use Rattle.rsvp_contents.specs.Written.{objects_of, type_of, body_of}
 
--- Path, PathErr and PathTear
+-- Path, Resv, PathErr, ResvErr, PathTear and ResvTear
 abbrev pub is_read_type : ℕ → Bool
-is_read_type type = type == 1 || (type == 3 || type == 5)
+is_read_type type = nat_le 1 type && nat_le type 6
 
 -- The first fault of the common header (RFC 2205, 3.1.1): version in the top four bits of byte 0, type in
 -- byte 1, checksum in bytes 2 and 3, length in bytes 6 and 7.

@@ -10,13 +10,14 @@ use Rattle.rsvp_objects.specs.Objects.{spelling}
 use Rattle.rsvp_contents.specs.declared.messages.Path.{Path}
 use Rattle.rsvp_contents.specs.declared.messages.PathErr.{PathErr}
 use Rattle.rsvp_contents.specs.declared.messages.PathTear.{PathTear}
+use Rattle.rsvp_flows.specs.Errors.{error_objects}
+pub use Rattle.rsvp_flows.specs.Flows.{if_some}
+use Rattle.rsvp_flows.specs.Flows.{flow_objects}
+use Rattle.rsvp_contents.specs.declared.messages.Resv.{Resv}
+use Rattle.rsvp_contents.specs.declared.messages.ResvErr.{ResvErr}
+use Rattle.rsvp_contents.specs.declared.messages.ResvTear.{ResvTear}
 use Rattle.rsvp_contents.specs.declared.messages.Content.{Content}
 use Rattle.rsvp_contents.specs.declared.messages.Content.TheVariants as contents
-
--- the object, where there is a value for it
-abbrev pub if_some : {X : Type 0} → Option X → (X → Object) → List Object
-if_some None as_object = []
-if_some (Some x) as_object = as_object x ∷ []
 
 -- what is passed on, but for the ADSPEC; and the ADSPEC
 abbrev pub before_sender : List Raw → List Object
@@ -47,16 +48,36 @@ path_err_objects e =
 abbrev pub path_tear_objects : PathTear → List Object
 path_tear_objects t = objects.Session t.session ∷ objects.Hop t.hop ∷ objects.SenderTemplate t.sender ∷ []
 
+-- Resv (RFC 2205, 3.1.4; RFC 3209, 3.2)
+abbrev pub resv_objects : Resv → List Object
+resv_objects r =
+    (objects.Session r.session ∷ objects.Hop r.hop ∷ objects.TimeValues r.time ∷ [])
+    ++ (map objects.Other r.passing ++ (objects.Style r.style ∷ flow_objects None r.descriptors))
+
+-- ResvErr (RFC 2205, 3.1.8)
+abbrev pub resv_err_objects : ResvErr → List Object
+resv_err_objects e = objects.Session e.session ∷ objects.Hop e.hop ∷ objects.ErrorSpec e.error ∷ objects.Style e.style ∷ error_objects None e.descriptors
+
+-- ResvTear (RFC 2205, 3.1.6)
+abbrev pub resv_tear_objects : ResvTear → List Object
+resv_tear_objects t = objects.Session t.session ∷ objects.Hop t.hop ∷ objects.Style t.style ∷ map objects.FilterSpec t.filters
+
 abbrev pub objects_of : Content → List Object
 objects_of (contents.Path p) = path_objects p
 objects_of (contents.PathErr e) = path_err_objects e
 objects_of (contents.PathTear t) = path_tear_objects t
+objects_of (contents.Resv r) = resv_objects r
+objects_of (contents.ResvErr e) = resv_err_objects e
+objects_of (contents.ResvTear t) = resv_tear_objects t
 
 -- the type of the message (RFC 2205, 3.1.1)
 abbrev pub type_of : Content → ℕ
 type_of (contents.Path p) = 1
 type_of (contents.PathErr e) = 3
 type_of (contents.PathTear t) = 5
+type_of (contents.Resv r) = 2
+type_of (contents.ResvErr e) = 4
+type_of (contents.ResvTear t) = 6
 
 abbrev pub body_of : Content → List ℕ
 body_of content = flat_map spelling (objects_of content)

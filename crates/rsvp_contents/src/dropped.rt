@@ -33,14 +33,14 @@ pub enum Dropped {
     #[error("too long: the message, its route, its record or what it passes on is above the limit")]
     TooLong,
     /// 40: there is no memory to read it. Nothing changed; it may be good.
-    #[error("no memory: the message could not be read for want of memory; its sender repeats it")]
+    #[error("no memory: the message could not be read because memory ran out; its sender repeats it")]
     NoMemory,
 }
 
 impl Dropped {
     ghost use Rattle.rsvp_contents.specs.Dropping.{number_of};
 
-    /// The refusal's number: 1 to 9 where the datagram was dropped unread, 40 for want of memory.
+    /// The refusal's number: 1 to 9 where the datagram was dropped unread, 40 where memory ran out.
     pub fn number(self) -> u8
         ensures { result ≡ number_of self }
     {

@@ -2,13 +2,14 @@
 
 ghost use Rattle.std.specs.Prelude.{◌≡◌, IsTrue, true};
 ghost use Rattle.std.specs.Option.{option_map_or};
-ghost use Rattle.rsvp_contents.specs.Fitting.{HasRoom, are_passed_on, fits, fits_parts, fits_path, has_adspec_last, has_one_fast_reroute};
+ghost use Rattle.rsvp_contents.specs.Fitting.{HasRoom, are_passed_by, fits, fits_parts, fits_path, fits_resv, has_adspec_last, has_one_fast_reroute, have_short_records};
 ghost use Rattle.rsvp_contents.specs.Limits.{is_short_route, is_short_record};
 
-use crate::lengths::{path_err_len, path_len, path_tear_len};
+use crate::lengths::*;
 use crate::limits::{is_short_passing, is_short_record, is_short_route, passes};
-use crate::messages::{Content, Path};
-use crate::numbers::MAX_MESSAGE_LEN;
+use crate::messages::{Content, Path, Resv};
+use crate::numbers::{MAX_MESSAGE_LEN, TYPE_PATH, TYPE_RESV};
+use rsvp_flows::{FlowDescriptor, counts_on, fits_style};
 use rsvp_objects::numbers::{CLASS_ADSPEC, CLASS_FAST_REROUTE};
 use rsvp_objects::{FastReroute, Opaque};
 use rsvp_routes::{Record, Route};
@@ -33,13 +34,11 @@ fn has_short_record(recorded: &Option<Record>) -> bool
     }
 }
 
-/// Whether each object is an ADSPEC or one that a Path passes on.
-fn are_passed_on(objects: &[Opaque]) -> bool
-    ensures { result ≡ are_passed_on objects.now }
+/// Whether each object is an ADSPEC or one that a message of this type passes on.
+fn are_passed_by(kind: u8, objects: &[Opaque]) -> bool
+    ensures { result ≡ are_passed_by kind objects.now }
 {
-    objects
-        .iter()
-        .all(|object| object.class() == CLASS_ADSPEC || passes(object))
+    objects.iter().all(|object| object.class() == CLASS_ADSPEC || passes(kind, object))
 }
 
 /// Whether none but the last is an ADSPEC.
@@ -74,9 +73,31 @@ fn fits_path(path: &Path) -> bool
     has_short_route(&path.route)
         && has_short_record(&path.recorded)
         && is_short_passing(&path.passing)
-        && are_passed_on(objects)
+        && are_passed_by(TYPE_PATH, objects)
         && has_adspec_last(objects)
         && has_one_fast_reroute(path.fast_reroute, objects)
+}
+
+/// Whether the record of each flow descriptor, where it has one, is within its limits.
+fn have_short_records(descriptors: &[FlowDescriptor]) -> bool
+    ensures { result ≡ have_short_records descriptors.now }
+{
+    descriptors
+        .iter()
+        .all(|descriptor| has_short_record(&descriptor.recorded))
+}
+
+/// Whether the parts of a Resv fit.
+fn fits_resv(resv: &Resv) -> bool
+    ensures { result ≡ fits_resv resv.now }
+{
+    let objects = resv.passing.as_slice();
+    let descriptors = resv.descriptors.as_slice();
+    have_short_records(descriptors)
+        && is_short_passing(&resv.passing)
+        && are_passed_by(TYPE_RESV, objects)
+        && has_adspec_last(objects)
+        && fits_style(resv.style, descriptors)
 }
 
 /// Whether the content fits a message.
@@ -86,7 +107,14 @@ pub(crate) fn fits(content: &Content) -> bool
 {
     match content {
         Content::Path(path) => fits_path(path) && path_len(path) <= MAX_MESSAGE_LEN,
+        Content::Resv(resv) => fits_resv(resv) && is_resv_within(resv),
         Content::PathErr(error) => path_err_len(error) <= MAX_MESSAGE_LEN,
+        Content::ResvErr(error) => {
+            counts_on(error.descriptors.as_slice()) && is_resv_err_within(error)
+        }
         Content::PathTear(tear) => path_tear_len(tear) <= MAX_MESSAGE_LEN,
+        Content::ResvTear(tear) => {
+            !tear.filters.as_slice().is_empty() && is_resv_tear_within(tear)
+        }
     }
 }

@@ -1,15 +1,17 @@
 //! What holds of messages whoever reads or writes them. Each law is the contract of a function that does
 //! nothing.
 
-ghost use Rattle.std.specs.Prelude.{◌≡◌, ◌↔◌, IsTrue, ℕ, List};
+ghost use Rattle.std.specs.Prelude.{◌≡◌, ◌↔◌, ◌⊎◌, IsTrue, ℕ, List};
 ghost use Rattle.std.specs.List.{All};
 ghost use Rattle.rsvp_objects.specs.Objects.{SpellsObject, spelling};
 ghost use Rattle.rsvp_contents.specs.declared.dropped.Dropped.{Dropped};
 ghost use Rattle.rsvp_contents.specs.declared.messages.Content.{Content};
 ghost use Rattle.rsvp_contents.specs.declared.message.Reading.{Reading};
 ghost use Rattle.rsvp_contents.specs.declared.message.Reading.TheVariants.{Unknown, Whole};
+ghost use Rattle.rsvp_contents.specs.Addresses.{are_addressed};
 ghost use Rattle.rsvp_contents.specs.Fitting.{fits};
-ghost use Rattle.rsvp_contents.specs.Written.{objects_of, message_bytes};
+ghost use Rattle.rsvp_contents.specs.Picking.{content_in};
+ghost use Rattle.rsvp_contents.specs.Written.{objects_of, message_bytes, type_of};
 ghost use Rattle.rsvp_contents.specs.Spelling.{IsFirstFault, IsMessage, SpellsReading};
 
 /// What is read is a message: it can be written in at most 4,096 bytes, and its objects are read again as
@@ -17,6 +19,16 @@ ghost use Rattle.rsvp_contents.specs.Spelling.{IsFirstFault, IsMessage, SpellsRe
 pub fn what_is_read_is_a_message()
     ensures whole { (bytes : List ℕ) (content : Content) → SpellsReading bytes (Whole content) → IsMessage content }
     ensures unknown { (bytes : List ℕ) (content : Content) (class ctype : ℕ) → SpellsReading bytes (Unknown content class ctype) → IsMessage content }
+{}
+
+/// Every address that was read is four octets.
+pub fn what_is_read_is_addressed()
+    ensures { (bytes : List ℕ) (reading : Reading) → SpellsReading bytes reading → IsTrue (are_addressed (content_in reading)) }
+{}
+
+/// A reading with an object that its type doesn't know is a Path, type 1, or a Resv, type 2.
+pub fn what_is_unknown_is_a_path_or_a_resv()
+    ensures { (bytes : List ℕ) (content : Content) (class ctype : ℕ) → SpellsReading bytes (Unknown content class ctype) → (type_of content ≡ 1) ⊎ (type_of content ≡ 2) }
 {}
 
 /// No bytes spell two readings, none have two first faults, and none that spell a reading have a fault.

@@ -1,27 +1,25 @@
 //! How many bytes content is written in.
 
-ghost use Rattle.std.specs.Prelude.{◌≡◌, ◌≤◌, ◌+◌, ◌*◌, IsTrue, length, sum_by};
+ghost use Rattle.std.specs.Prelude.{◌≡◌, ◌≤◌, ◌+◌, ◌*◌, IsTrue, true, nat_le, length, sum_by};
 ghost use Rattle.std.specs.List.{flat_map};
 ghost use Rattle.rsvp_objects.specs.declared.object.Object.TheVariants as object;
 ghost use Rattle.rsvp_objects.specs.Objects.{spelling};
 ghost use Rattle.rsvp_contents.specs.declared.messages.Content.TheVariants as content;
-ghost use Rattle.rsvp_contents.specs.Fitting.{HasRoom, fits_path, written_len};
+ghost use Rattle.rsvp_contents.specs.Fitting.{HasRoom, fits_path, fits_resv, written_len};
 ghost use Rattle.rsvp_contents.specs.Written.{if_some};
 
-use crate::messages::{Path, PathErr, PathTear};
-use crate::numbers::HEADER_LEN;
+use crate::messages::{Path, PathErr, PathTear, Resv, ResvErr, ResvTear};
+use crate::numbers::{ADDRESS_LEN, HEADER_LEN, MAX_MESSAGE_LEN};
 use crate::passing::Passing;
+use rsvp_flows::{are_errors_within, are_filters_within, are_flows_within};
 use rsvp_objects::numbers::{
     AFFINITIES_LEN, ATTRIBUTE_HEAD_LEN, ERROR_SPEC_LEN, FAST_REROUTE_LEN,
-    HEADER_LEN as OBJECT_HEADER_LEN, HOP_LEN, LABEL_REQUEST_LEN, SESSION_LEN, TEMPLATE_LEN,
-    TIME_VALUES_LEN, WORD_LEN,
+    HEADER_LEN as OBJECT_HEADER_LEN, HOP_LEN, LABEL_REQUEST_LEN, SESSION_LEN, STYLE_LEN,
+    TEMPLATE_LEN, TIME_VALUES_LEN, WORD_LEN,
 };
 use rsvp_objects::{Attr, ErrorSpec, FastReroute, Hop, Session, Template};
 use rsvp_routes::{Record, Route};
 use rsvp_traffic::Tspec;
-
-/// Bytes of an IPv4 address.
-const ADDRESS_LEN: usize = 4;
 
 /// How many bytes a SESSION is written in.
 fn session_len(session: Session) -> usize
@@ -173,4 +171,47 @@ pub(crate) fn path_tear_len(tear: &PathTear) -> usize
     ensures room { result ≤ 4096 }
 {
     HEADER_LEN + session_len(tear.session) + hop_len(tear.hop) + sender_len(tear.sender)
+}
+
+/// Bytes of a STYLE with its header.
+const STYLE_SIZE: usize = OBJECT_HEADER_LEN + STYLE_LEN;
+/// Bytes of a TIME_VALUES with its header.
+const TIME_SIZE: usize = OBJECT_HEADER_LEN + TIME_VALUES_LEN;
+
+/// Whether a Resv is written in at most [`MAX_MESSAGE_LEN`] bytes, with the header.
+pub(crate) fn is_resv_within(resv: &Resv) -> bool
+    requires { length resv.now.passing ≤ 8 }
+    ensures within { result ≡ nat_le (written_len (content.Resv resv.now)) 4096 }
+    ensures room { IsTrue (fits_resv resv.now) → HasRoom (content.Resv resv.now) → result ≡ true }
+{
+    let head_len = HEADER_LEN
+        + session_len(resv.session)
+        + hop_len(resv.hop)
+        + TIME_SIZE
+        + passing_len(&resv.passing)
+        + STYLE_SIZE;
+    head_len <= MAX_MESSAGE_LEN
+        && are_flows_within(MAX_MESSAGE_LEN - head_len, resv.descriptors.as_slice())
+}
+
+/// Whether a ResvErr is written in at most [`MAX_MESSAGE_LEN`] bytes, with the header.
+pub(crate) fn is_resv_err_within(error: &ResvErr) -> bool
+    ensures within { result ≡ nat_le (written_len (content.ResvErr error.now)) 4096 }
+    ensures room { HasRoom (content.ResvErr error.now) → result ≡ true }
+{
+    let head_len = HEADER_LEN
+        + session_len(error.session)
+        + hop_len(error.hop)
+        + error_len(error.error)
+        + STYLE_SIZE;
+    are_errors_within(MAX_MESSAGE_LEN - head_len, error.descriptors.as_slice())
+}
+
+/// Whether a ResvTear is written in at most [`MAX_MESSAGE_LEN`] bytes, with the header.
+pub(crate) fn is_resv_tear_within(tear: &ResvTear) -> bool
+    ensures within { result ≡ nat_le (written_len (content.ResvTear tear.now)) 4096 }
+    ensures room { HasRoom (content.ResvTear tear.now) → result ≡ true }
+{
+    let head_len = HEADER_LEN + session_len(tear.session) + hop_len(tear.hop) + STYLE_SIZE;
+    are_filters_within(MAX_MESSAGE_LEN - head_len, tear.filters.as_slice())
 }

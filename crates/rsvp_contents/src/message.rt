@@ -84,7 +84,7 @@ impl Message {
 impl Clone for Message {
     ghost is_clone = { λ source copy. copy ≡ source };
 
-    /// A copy of the message. The only error is want of memory.
+    /// A copy of the message. The only error is out of memory.
     fn clone(&self) -> Result<Message, AllocError> {
         Ok(Message {
             content: self.content.clone()?,
@@ -104,7 +104,7 @@ pub enum Reading {
 impl Clone for Reading {
     ghost is_clone = { λ source copy. copy ≡ source };
 
-    /// A copy of the reading. The only error is want of memory.
+    /// A copy of the reading. The only error is out of memory.
     fn clone(&self) -> Result<Reading, AllocError> {
         match self {
             Reading::Whole(message) => Ok(Reading::Whole(message.clone()?)),

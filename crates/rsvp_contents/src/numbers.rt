@@ -2,6 +2,8 @@
 
 /// Bytes of the common header (RFC 2205, 3.1.1).
 pub const HEADER_LEN: usize = 8;
+/// Bytes of an IPv4 address.
+pub const ADDRESS_LEN: usize = 4;
 /// The version of RSVP (RFC 2205, 3.1.1).
 pub const VERSION: u8 = 1;
 /// The most bytes of a message that the router reads or writes.
@@ -11,10 +13,16 @@ pub const SEND_TTL: u8 = 255;
 
 /// Path (RFC 2205, 3.1.3).
 pub const TYPE_PATH: u8 = 1;
+/// Resv (RFC 2205, 3.1.4).
+pub const TYPE_RESV: u8 = 2;
 /// PathErr (RFC 2205, 3.1.7).
 pub const TYPE_PATH_ERR: u8 = 3;
+/// ResvErr (RFC 2205, 3.1.8).
+pub const TYPE_RESV_ERR: u8 = 4;
 /// PathTear (RFC 2205, 3.1.5).
 pub const TYPE_PATH_TEAR: u8 = 5;
+/// ResvTear (RFC 2205, 3.1.6).
+pub const TYPE_RESV_TEAR: u8 = 6;
 
 /// The most subobjects of an explicit route.
 pub const MAX_STEPS: usize = 32;

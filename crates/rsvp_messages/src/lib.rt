@@ -1,6 +1,6 @@
-//! Messages of RSVP for whoever embeds them: Path, PathErr and PathTear (RFC 2205, 3.1; RFC 3209, 3) are
-//! read from bytes as values and written to bytes again, with their header, their length and their
-//! checksum. This crate only gathers what the crates below it have; its contracts are theirs.
+//! Messages of RSVP for whoever embeds them: Path, Resv, PathErr, ResvErr, PathTear and ResvTear (RFC 2205,
+//! 3.1; RFC 3209, 3) are read from bytes as values and written to bytes again, with their header, their
+//! length and their checksum. This crate only gathers what the crates below it have; its contracts are theirs.
 //!
 //! [`read_message`] reads what came, [`write_message`] appends what is to go out. A [`Message`] is
 //! [`Content`] that can be written; what is read is one. The [`laws`] say what holds of all messages, and
@@ -23,14 +23,16 @@
 //! ```
 #![tactic(auto)]
 
-#[cfg(test)]
-mod tests;
-
 pub use internet_checksum::{checksum, has_good_checksum};
 pub use message_reader::read_message;
 pub use message_writer::write_message;
 pub use rsvp_contents::{
-    Content, Dropped, Message, Passing, Path, PathErr, PathTear, Reading, laws, limits, numbers,
+    Content, Dropped, Message, Passing, Path, PathErr, PathTear, Reading, Resv, ResvErr, ResvTear,
+    laws, limits, numbers,
+};
+pub use rsvp_flows::{
+    ErrorDescriptor, ErrorDescriptors, Filters, FlowDescriptor, FlowDescriptors, is_fixed,
+    is_other, is_shared,
 };
 pub use rsvp_objects::{
     Affinities, Attr, Body, ErrorSpec, FastReroute, Hop, Kind, LabelRequest, Name, Opaque,

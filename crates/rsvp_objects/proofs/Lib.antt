@@ -1,5 +1,4 @@
 pub mod Again
-pub mod AttrAgain
 pub mod Cells
 pub mod Frames
 pub mod Mapped

@@ -8,7 +8,7 @@ use Rattle.rsvp_objects.specs.declared.kind.Kind.{Kind}
 use Rattle.rsvp_objects.specs.declared.kind.Kind.TheVariants as kinds
 use Rattle.rsvp_objects.specs.declared.object.Object.{Object}
 use Rattle.rsvp_objects.specs.declared.object.Object.TheVariants as objects
-use Rattle.rsvp_objects.specs.declared.attribute.Attr.{Attr}
+use Rattle.session_attribute.specs.declared.attr.Attr.{Attr}
 use Rattle.rsvp_objects.specs.Raw.{Raw, object_bytes}
 use Rattle.rsvp_objects.specs.Kinds.{kind_of}
 use Rattle.rsvp_objects.specs.Framing.{frame_in}

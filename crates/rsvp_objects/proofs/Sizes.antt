@@ -12,13 +12,14 @@ use Rattle.rsvp_objects.specs.declared.kind.Kind.{Kind}
 use Rattle.rsvp_objects.specs.declared.kind.Kind.TheVariants as kinds
 use Rattle.rsvp_objects.specs.declared.object.Object.{Object}
 use Rattle.rsvp_objects.specs.declared.object.Object.TheVariants as objects
-use Rattle.rsvp_objects.specs.declared.attribute.Attr.{Attr}
+use Rattle.session_attribute.specs.declared.attr.Attr.{Attr}
 use Rattle.rsvp_objects.specs.Raw.{Raw, object_bytes}
 use Rattle.rsvp_objects.specs.Kinds.{kind_of}
 use Rattle.rsvp_objects.specs.Values.{session_at, hop_at, error_spec_at, template_at}
-use Rattle.rsvp_objects.specs.Attributes.{HasName, attr_with, affinities_at, name_body}
+use Rattle.session_attribute.specs.Affinities.{affinities_at}
+use Rattle.session_attribute.specs.Attributes.{HasName, attr_with, name_body}
 use Rattle.rsvp_objects.specs.Objects.{SpellsAs, SpellsObject, raw_of, spelling}
-use Rattle.rsvp_objects.proofs.AttrAgain.{length-name_body}
+use Rattle.session_attribute.proofs.AttrAgain.{length-name_body}
 
 -- how long the body is that the object is written with
 abbrev written : Object → ℕ

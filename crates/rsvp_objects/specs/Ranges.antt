@@ -7,7 +7,7 @@ use Rattle.rsvp_objects.specs.declared.values.Session.{Session}
 use Rattle.rsvp_objects.specs.declared.values.Hop.{Hop}
 use Rattle.rsvp_objects.specs.declared.values.ErrorSpec.{ErrorSpec}
 use Rattle.rsvp_objects.specs.declared.values.Template.{Template}
-use Rattle.rsvp_objects.specs.declared.values.Affinities.{Affinities}
+use Rattle.session_attribute.specs.Affinities.{IsAffinities}
 use Rattle.rsvp_objects.specs.declared.values.FastReroute.{FastReroute}
 
 -- four octets
@@ -30,11 +30,6 @@ pub record IsErrorSpec (e : ErrorSpec) : Type 0 where
 pub record IsTemplate (t : Template) : Type 0 where
   pub sender : IsAddress t.sender
   pub lsp : t.lsp < 2 ^ 16
-
-pub record IsAffinities (a : Affinities) : Type 0 where
-  pub exclude_any : a.exclude_any < 2 ^ 32
-  pub include_any : a.include_any < 2 ^ 32
-  pub include_all : a.include_all < 2 ^ 32
 
 pub record IsFastReroute (f : FastReroute) : Type 0 where
   pub bandwidth : f.bandwidth < 2 ^ 32

@@ -1,17 +1,16 @@
 ghost use Rattle.std.specs.Prelude.{◌≡◌, ◌<◌, ◌^◌, length};
 ghost use Rattle.byteorder.specs.Endian.{big_bytes};
 ghost use Rattle.rsvp_objects.specs.Values.{session_at, session_body, hop_at, hop_body, time_values_at, error_spec_at, error_spec_body, style_at, template_at, template_body, label_at, label_request_at, label_request_body, fast_reroute_at, fast_reroute_body};
-ghost use Rattle.rsvp_objects.specs.Ranges.{IsSession, IsHop, IsErrorSpec, IsTemplate, IsFastReroute, IsAffinities};
-ghost use Rattle.rsvp_objects.specs.Attributes.{affinities_body};
+ghost use Rattle.rsvp_objects.specs.Ranges.{IsSession, IsHop, IsErrorSpec, IsTemplate, IsFastReroute};
 
 use crate::numbers::*;
 use crate::values::{
-    Affinities, ErrorSpec, FastReroute, Hop, Label, LabelRequest, Session, Style, Template,
-    TimeValues,
+    ErrorSpec, FastReroute, Hop, Label, LabelRequest, Session, Style, Template, TimeValues,
 };
 use byteorder::{BigEndian, ByteOrder};
 use rsvp_bodies::address_of;
 use rsvp_traffic::RateWord;
+use session_attribute::Affinities;
 
 /// The SESSION that a body of its length says (RFC 3209, 4.6.1.1). Bytes 4 and 5 are reserved and not read.
 pub fn session_of(body: &[u8]) -> Session
@@ -212,15 +211,4 @@ pub fn fast_reroute_bytes(request: FastReroute) -> [u8; FAST_REROUTE_LEN]
         o,
         p,
     ]
-}
-
-/// The affinities of SESSION_ATTRIBUTE as they stand before the rest of its body (RFC 3209, 4.7.2).
-pub fn affinities_bytes(affinities: Affinities) -> [u8; AFFINITIES_LEN]
-    ensures bytes { result ≡ affinities_body affinities }
-    ensures fits { IsAffinities affinities }
-{
-    let [a, b, c, d] = affinities.exclude_any.to_be_bytes();
-    let [e, f, g, h] = affinities.include_any.to_be_bytes();
-    let [i, j, k, l] = affinities.include_all.to_be_bytes();
-    [a, b, c, d, e, f, g, h, i, j, k, l]
 }

@@ -2,6 +2,7 @@ ghost use Rattle.std.specs.Prelude.{◌≡◌, if◌then◌else◌};
 ghost use Rattle.rsvp_objects.specs.Kinds.{kind_of, treatment_of, is_kept};
 
 use crate::numbers::*;
+use session_attribute::numbers::{CTYPE_LSP_TUNNEL, CTYPE_LSP_TUNNEL_RA};
 
 /// What a router does with an object whose class it doesn't know, by the two top bits of the class
 /// (RFC 2205, 3.10).
@@ -89,7 +90,7 @@ impl Kind {
     {
         match class {
             CLASS_NULL => Kind::Null,
-            CLASS_SESSION => Kind::listed(ctype == CTYPE_LSP_TUNNEL, Kind::Session),
+            CLASS_SESSION => Kind::listed(ctype == CTYPE_LSP_TUNNEL_IPV4, Kind::Session),
             CLASS_RSVP_HOP => Kind::listed(ctype == CTYPE_FIRST, Kind::Hop),
             CLASS_INTEGRITY => Kind::Integrity,
             CLASS_TIME_VALUES => Kind::listed(ctype == CTYPE_FIRST, Kind::TimeValues),
@@ -97,8 +98,11 @@ impl Kind {
             CLASS_SCOPE => Kind::Scope,
             CLASS_STYLE => Kind::listed(ctype == CTYPE_FIRST, Kind::Style),
             CLASS_FLOWSPEC => Kind::listed(ctype == CTYPE_INTSERV, Kind::Flowspec),
-            CLASS_FILTER_SPEC => Kind::listed(ctype == CTYPE_LSP_TUNNEL, Kind::FilterSpec),
-            CLASS_SENDER_TEMPLATE => Kind::listed(ctype == CTYPE_LSP_TUNNEL, Kind::SenderTemplate),
+            CLASS_FILTER_SPEC => Kind::listed(ctype == CTYPE_LSP_TUNNEL_IPV4, Kind::FilterSpec),
+            CLASS_SENDER_TEMPLATE => Kind::listed(
+                ctype == CTYPE_LSP_TUNNEL_IPV4,
+                Kind::SenderTemplate,
+            ),
             CLASS_SENDER_TSPEC => Kind::listed(ctype == CTYPE_INTSERV, Kind::SenderTspec),
             CLASS_ADSPEC => Kind::Adspec,
             CLASS_POLICY_DATA => Kind::PolicyData,

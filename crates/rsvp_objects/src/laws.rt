@@ -1,8 +1,7 @@
 //! What holds of the bytes of objects whoever reads or writes them. Each law is the contract of a
 //! function that does nothing.
 
-ghost use Rattle.std.specs.Prelude.{◌≡◌, ◌≤◌, ◌++◌, ◌↔◌, ℕ, List, length, IsTrue};
-ghost use Rattle.rsvp_objects.specs.declared.attribute.Attr.{Attr};
+ghost use Rattle.std.specs.Prelude.{◌≡◌, ◌≤◌, ◌++◌, ℕ, List, length};
 ghost use Rattle.rsvp_objects.specs.declared.object.Object.{Object};
 ghost use Rattle.rsvp_objects.specs.Objects.{SpellsObject, spelling};
 
@@ -18,9 +17,4 @@ pub fn one_object()
 pub fn written_no_longer()
     ensures { (bytes : List ℕ) (object : Object) →
         SpellsObject bytes object → length (spelling object) ≤ length bytes }
-{}
-
-/// Attributes compare as equal exactly where they are the same.
-pub fn equal_attributes_are_same()
-    ensures { (a b : Attr) → (IsTrue (⟦<crate::Attr as PartialEq>⟧.eq a b) ↔ (a ≡ b)) }
 {}

@@ -4,8 +4,6 @@
 //! RFC 4090. Every other object is kept as its class, its C-Type and its body.
 #![tactic(auto)]
 
-mod attribute;
-mod attributes;
 mod fixed;
 mod kind;
 mod laws;
@@ -13,14 +11,11 @@ pub mod numbers;
 mod object;
 mod opaque;
 mod reading;
-#[cfg(test)]
-mod tests;
 mod values;
 mod writing;
 
-pub use attribute::{Attr, Name};
 pub use kind::{Kind, Treatment};
-pub use laws::{equal_attributes_are_same, one_object, written_no_longer};
+pub use laws::{one_object, written_no_longer};
 pub use object::Object;
 pub use opaque::Opaque;
 pub use reading::read_object;
@@ -29,9 +24,9 @@ pub use rsvp_routes::{
     OtherStep, OtherTrace, Prefix, Record, Route, Step, Subobject, Subobjects, Trace,
 };
 pub use rsvp_traffic::{Flowspec, RateWord, TrafficFault, Tspec};
+pub use session_attribute::{Affinities, Attr, Name, NameRule};
 pub use values::{
-    Affinities, ErrorSpec, FastReroute, Hop, Label, LabelRequest, Session, Style, Template,
-    TimeValues,
+    ErrorSpec, FastReroute, Hop, Label, LabelRequest, Session, Style, Template, TimeValues,
 };
 pub use writing::{
     write_explicit_route, write_flowspec, write_object, write_opaque, write_record_route,

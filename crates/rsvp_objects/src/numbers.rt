@@ -1,5 +1,7 @@
 //! The numbers of the protocol, each in one place: Class-Nums, C-Types and lengths of bodies in bytes.
 
+pub use session_attribute::numbers::{AFFINITIES_LEN, HEAD_LEN as ATTRIBUTE_HEAD_LEN};
+
 /// Bytes of an object's header: length 16 bits, Class-Num 8, C-Type 8 (RFC 2205, 3.1.2).
 pub const HEADER_LEN: usize = 4;
 
@@ -54,11 +56,8 @@ pub const CLASS_SESSION_ATTRIBUTE: u8 = 207;
 pub const CTYPE_FIRST: u8 = 1;
 /// The Integrated Services form of FLOWSPEC and SENDER_TSPEC (RFC 2210, 3).
 pub const CTYPE_INTSERV: u8 = 2;
-/// The form for LSP tunnels over IPv4 of SESSION, FILTER_SPEC and SENDER_TEMPLATE (RFC 3209, 4.6), and
-/// of SESSION_ATTRIBUTE without affinities (RFC 3209, 4.7.1).
-pub const CTYPE_LSP_TUNNEL: u8 = 7;
-/// SESSION_ATTRIBUTE with resource affinities (RFC 3209, 4.7.2).
-pub const CTYPE_LSP_TUNNEL_RA: u8 = 1;
+/// The form for LSP tunnels over IPv4 of SESSION, FILTER_SPEC and SENDER_TEMPLATE (RFC 3209, 4.6).
+pub const CTYPE_LSP_TUNNEL_IPV4: u8 = 7;
 
 /// Bytes of the body of SESSION.
 pub const SESSION_LEN: usize = 12;
@@ -78,10 +77,6 @@ pub const LABEL_LEN: usize = 4;
 pub const LABEL_REQUEST_LEN: usize = 4;
 /// Bytes of the body of FAST_REROUTE.
 pub const FAST_REROUTE_LEN: usize = 20;
-/// Bytes of the three affinity words of SESSION_ATTRIBUTE.
-pub const AFFINITIES_LEN: usize = 12;
-/// Bytes of SESSION_ATTRIBUTE's priorities, flags and name length, which stand before its name.
-pub const ATTRIBUTE_HEAD_LEN: usize = 4;
 
 /// The least class that, where it isn't known, doesn't refuse its message: `10bbbbbb` (RFC 2205, 3.10).
 pub const UNKNOWN_IGNORED: u8 = 0x80;

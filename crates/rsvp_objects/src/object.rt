@@ -1,6 +1,5 @@
 ghost use Rattle.std.specs.Prelude.{◌≡◌};
 
-use crate::attribute::Attr;
 use crate::numbers::*;
 use crate::opaque::Opaque;
 use crate::values::{
@@ -8,6 +7,7 @@ use crate::values::{
 };
 use rsvp_routes::{Record, Route};
 use rsvp_traffic::{Flowspec, Tspec};
+use session_attribute::Attr;
 
 /// An object of RSVP (RFC 2205, 3.1.2 and A; RFC 3209, 4; RFC 4090, 4.1).
 #[derive(Debug, Drop)]
@@ -79,10 +79,9 @@ impl Object {
     {
         match self {
             Object::Session(_) | Object::FilterSpec(_) | Object::SenderTemplate(_) =>
-                CTYPE_LSP_TUNNEL,
+                CTYPE_LSP_TUNNEL_IPV4,
             Object::Flowspec(_) | Object::SenderTspec(_) => CTYPE_INTSERV,
-            Object::SessionAttribute(attr) if attr.affinities.is_some() => CTYPE_LSP_TUNNEL_RA,
-            Object::SessionAttribute(_) => CTYPE_LSP_TUNNEL,
+            Object::SessionAttribute(attr) => attr.ctype(),
             Object::Other(other) => other.ctype(),
             _ => CTYPE_FIRST,
         }

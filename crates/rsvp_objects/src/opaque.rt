@@ -61,13 +61,6 @@ impl Opaque {
         &self.body
     }
 
-    /// The body, given back without taking memory.
-    pub fn into_body(self) -> Body
-        ensures { result ≡ self.body }
-    {
-        self.body
-    }
-
     /// What the object is, as far as its class and C-Type tell.
     pub fn kind(&self) -> Kind
         ensures kind { result ≡ kind_of self.now.class self.now.ctype }
@@ -99,7 +92,7 @@ impl Eq for Opaque {
 impl Clone for Opaque {
     ghost is_clone = { λ source copy. copy ≡ source };
 
-    /// A copy of the object. The only error is want of memory.
+    /// A copy of the object. The only error is out of memory.
     fn clone(&self) -> Result<Opaque, AllocError> {
         Ok(Opaque {
             class: self.class,

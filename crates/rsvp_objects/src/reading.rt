@@ -6,7 +6,6 @@ ghost use Rattle.rsvp_objects.specs.Framing.{frame_in};
 ghost use Rattle.rsvp_objects.specs.Kinds.{kind_of};
 ghost use Rattle.rsvp_objects.specs.Objects.{SpellsAs, SpellsObject};
 
-use crate::attributes::{read_attr, read_attr_ra};
 use crate::fixed::*;
 use crate::kind::Kind;
 use crate::numbers::*;
@@ -16,6 +15,7 @@ use byteorder::{BigEndian, ByteOrder};
 use rsvp_bodies::{Body, ObjectFault};
 use rsvp_routes::{read_record, read_route};
 use rsvp_traffic::{Flowspec, Tspec};
+use session_attribute::{read_attr, read_attr_ra};
 use std::alloc::Global;
 
 /// The parts of an object where it lies.
@@ -108,7 +108,7 @@ fn read_value(alloc: Global, class: u8, ctype: u8, body: &[u8]) -> Result<Object
 
 /// The object that the first bytes spell, and how many bytes it takes. What follows it isn't read.
 ///
-/// [`ObjectFault::Length`] comes only where the first bytes spell no object. Want of memory can come in
+/// [`ObjectFault::Length`] comes only where the first bytes spell no object. Out of memory can come in
 /// place of any answer.
 pub fn read_object(alloc: Global, bytes: &[u8]) -> Result<(Object, usize), ObjectFault>
     ensures { ReadsFirst SpellsObject bytes.now result }

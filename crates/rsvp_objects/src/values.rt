@@ -1,4 +1,5 @@
 use rsvp_traffic::RateWord;
+use session_attribute::Affinities;
 use std::net::Ipv4Addr;
 
 /// SESSION of an LSP tunnel (RFC 3209, 4.6.1.1): what all LSPs of a tunnel share.
@@ -70,17 +71,6 @@ pub struct Label {
 pub struct LabelRequest {
     /// The EtherType of what the LSP is to carry: 0x0800 for IPv4.
     pub l3pid: u16,
-}
-
-/// Resource affinities (RFC 3209, 4.7.2): sets of link attributes, a bit each.
-#[derive(Clone, Copy, Debug, PartialEq, Eq)]
-pub struct Affinities {
-    /// No link with any of these may be used.
-    pub exclude_any: u32,
-    /// Only links with at least one of these may be used, or any link where the set is empty.
-    pub include_any: u32,
-    /// Only links with all of these may be used.
-    pub include_all: u32,
 }
 
 /// FAST_REROUTE (RFC 4090, 4.1): what protection of an LSP is asked for.

@@ -1,20 +1,17 @@
-ghost use Rattle.std.specs.Prelude.{◌≡◌, ◌≤◌, ◌+◌, ◌-◌, ◌%◌, ◌∷◌, [], ◌++◌, OnOk, OnErr, take, length};
+ghost use Rattle.std.specs.Prelude.{◌≡◌, ◌≤◌, ◌+◌, ◌∷◌, [], ◌++◌, OnOk, OnErr, take, length};
 ghost use Rattle.byteorder.specs.Endian.{big_bytes};
 ghost use Rattle.rsvp_bodies.specs.Bodies.{IsBody};
-ghost use Rattle.rsvp_objects.specs.Attributes.{affinities_body, name_body, IsAttr};
-ghost use Rattle.rsvp_objects.specs.Names.{IsName};
 ghost use Rattle.rsvp_objects.specs.Objects.{IsObject, SpellsObject, attr_raw, raw_of, spelling};
-ghost use Rattle.rsvp_objects.specs.Ranges.{IsAffinities};
 ghost use Rattle.rsvp_objects.specs.Raw.{object_bytes};
+ghost use Rattle.session_attribute.specs.Attributes.{IsAttr};
 
-use crate::attribute::Attr;
 use crate::fixed::*;
 use crate::numbers::*;
 use crate::object::Object;
 use crate::opaque::Opaque;
-use crate::values::Affinities;
 use rsvp_routes::{Record, Route, write_record, write_route};
 use rsvp_traffic::{Flowspec, Tspec};
+use session_attribute::Attr;
 use std::alloc::AllocError;
 
 /// Appends an object's header: its length with these four bytes, its class and its C-Type.
@@ -61,61 +58,14 @@ fn put_record(out: &mut Vec<u8>, recorded: &Record) -> Result<(), AllocError>
     write_record(recorded, out)
 }
 
-/// How many zeros fill the last word of a name of so many bytes.
-fn padding_len(name_len: usize) -> usize
-    ensures { result ≡ (4 - name_len % 4) % 4 }
-{
-    (WORD_LEN - name_len % WORD_LEN) % WORD_LEN
-}
-
-/// Appends what stands behind the affinities of SESSION_ATTRIBUTE; zeros fill its last word.
-fn put_name(out: &mut Vec<u8>, attr: &Attr) -> Result<(), AllocError>
-    ensures ok { OnOk result (out.new.items ≡ out.old.items ++ name_body attr.now) }
-    ensures err { OnErr result (take (length out.old.items) out.new.items ≡ out.old.items) }
-{
-    let name = attr.name.as_slice();
-    out.extend_from_slice(&[attr.setup, attr.hold, attr.flags, name.len() as u8])?;
-    out.extend_from_slice(name)?;
-    out.extend_from_slice(&[0; WORD_LEN][..padding_len(name.len())])
-}
-
-/// Appends the header of a SESSION_ATTRIBUTE with affinities, and these. So many bytes are to follow.
-fn put_affinities(out: &mut Vec<u8>, affinities: Affinities, len: usize) -> Result<(), AllocError>
-    requires { len ≤ 65516 }
-    ensures ok { OnOk result
-        (out.new.items ≡
-        out.old.items ++ (big_bytes 2 (12 + len + 4) ++ (207 ∷ 1 ∷ affinities_body affinities))) }
-    ensures err { OnErr result (take (length out.old.items) out.new.items ≡ out.old.items) }
-    ensures fits { IsAffinities affinities }
-{
-    put_header(
-        out,
-        CLASS_SESSION_ATTRIBUTE,
-        CTYPE_LSP_TUNNEL_RA,
-        AFFINITIES_LEN + len,
-    )?;
-    out.extend_from_slice(&affinities_bytes(affinities))
-}
-
 /// Appends a SESSION_ATTRIBUTE, of the C-Type with affinities where it has them.
 fn put_attr(out: &mut Vec<u8>, attr: &Attr) -> Result<(), AllocError>
-    ensures ok { OnOk result
-        (out.new.items ≡ out.old.items ++ object_bytes (attr_raw attr.now)) }
+    ensures ok { OnOk result (out.new.items ≡ out.old.items ++ object_bytes (attr_raw attr.now)) }
     ensures err { OnErr result (take (length out.old.items) out.new.items ≡ out.old.items) }
     ensures fits { OnOk result (IsAttr attr.now) }
 {
-    let name_len = attr.name.as_slice().len();
-    let len = ATTRIBUTE_HEAD_LEN + name_len + padding_len(name_len);
-    match attr.affinities {
-        None => {
-            put_header(out, CLASS_SESSION_ATTRIBUTE, CTYPE_LSP_TUNNEL, len)?;
-            put_name(out, attr)
-        }
-        Some(affinities) => {
-            put_affinities(out, affinities, len)?;
-            put_name(out, attr)
-        }
-    }
+    put_header(out, CLASS_SESSION_ATTRIBUTE, attr.ctype(), attr.byte_len())?;
+    attr.write(out)
 }
 
 /// Appends the object. Where there is no memory for it, a part of it may stand behind what was there.
@@ -124,68 +74,24 @@ fn put_object(object: &Object, out: &mut Vec<u8>) -> Result<(), AllocError>
     ensures err { OnErr result (take (length out.old.items) out.new.items ≡ out.old.items) }
     ensures fits { OnOk result (IsObject object.now) }
 {
+    let (class, ctype) = (object.class(), object.ctype());
     match object {
-        Object::Session(session) => put_raw(
-            out,
-            CLASS_SESSION,
-            CTYPE_LSP_TUNNEL,
-            &session_bytes(*session),
-        ),
-        Object::Hop(hop) => put_raw(out, CLASS_RSVP_HOP, CTYPE_FIRST, &hop_bytes(*hop)),
-        Object::TimeValues(time) => put_raw(
-            out,
-            CLASS_TIME_VALUES,
-            CTYPE_FIRST,
-            &word_bytes(time.refresh_ms),
-        ),
-        Object::ErrorSpec(error) => put_raw(
-            out,
-            CLASS_ERROR_SPEC,
-            CTYPE_FIRST,
-            &error_spec_bytes(*error),
-        ),
-        Object::Style(style) => put_raw(out, CLASS_STYLE, CTYPE_FIRST, &word_bytes(style.word)),
-        Object::Flowspec(flowspec) => put_raw(
-            out,
-            CLASS_FLOWSPEC,
-            CTYPE_INTSERV,
-            flowspec.as_slice(),
-        ),
-        Object::FilterSpec(filter) => put_raw(
-            out,
-            CLASS_FILTER_SPEC,
-            CTYPE_LSP_TUNNEL,
-            &template_bytes(*filter),
-        ),
-        Object::SenderTemplate(sender) => put_raw(
-            out,
-            CLASS_SENDER_TEMPLATE,
-            CTYPE_LSP_TUNNEL,
-            &template_bytes(*sender),
-        ),
-        Object::SenderTspec(tspec) => put_raw(
-            out,
-            CLASS_SENDER_TSPEC,
-            CTYPE_INTSERV,
-            tspec.as_slice(),
-        ),
-        Object::Label(label) => put_raw(out, CLASS_LABEL, CTYPE_FIRST, &word_bytes(label.number)),
-        Object::LabelRequest(request) => put_raw(
-            out,
-            CLASS_LABEL_REQUEST,
-            CTYPE_FIRST,
-            &label_request_bytes(*request),
-        ),
+        Object::Session(session) => put_raw(out, class, ctype, &session_bytes(*session)),
+        Object::Hop(hop) => put_raw(out, class, ctype, &hop_bytes(*hop)),
+        Object::TimeValues(time) => put_raw(out, class, ctype, &word_bytes(time.refresh_ms)),
+        Object::ErrorSpec(error) => put_raw(out, class, ctype, &error_spec_bytes(*error)),
+        Object::Style(style) => put_raw(out, class, ctype, &word_bytes(style.word)),
+        Object::Flowspec(flowspec) => put_raw(out, class, ctype, flowspec.as_slice()),
+        Object::FilterSpec(filter) => put_raw(out, class, ctype, &template_bytes(*filter)),
+        Object::SenderTemplate(sender) => put_raw(out, class, ctype, &template_bytes(*sender)),
+        Object::SenderTspec(tspec) => put_raw(out, class, ctype, tspec.as_slice()),
+        Object::Label(label) => put_raw(out, class, ctype, &word_bytes(label.number)),
+        Object::LabelRequest(request) => put_raw(out, class, ctype, &label_request_bytes(*request)),
         Object::ExplicitRoute(route) => put_route(out, route),
         Object::RecordRoute(recorded) => put_record(out, recorded),
-        Object::FastReroute(request) => put_raw(
-            out,
-            CLASS_FAST_REROUTE,
-            CTYPE_FIRST,
-            &fast_reroute_bytes(*request),
-        ),
+        Object::FastReroute(request) => put_raw(out, class, ctype, &fast_reroute_bytes(*request)),
         Object::SessionAttribute(attr) => put_attr(out, attr),
-        Object::Other(other) => put_raw(out, other.class(), other.ctype(), other.body().as_slice()),
+        Object::Other(other) => put_raw(out, class, ctype, other.body().as_slice()),
     }
 }
 
@@ -207,7 +113,7 @@ fn or_undo(
 }
 
 /// Appends the object's one written spelling, with reserved bytes and padding as zeros. The only error
-/// is want of memory, which leaves `out` as it was.
+/// is out of memory, which leaves `out` as it was.
 pub fn write_object(object: &Object, out: &mut Vec<u8>) -> Result<(), AllocError>
     ensures ok { OnOk result (out.new.items ≡ out.old.items ++ spelling object.now) }
 

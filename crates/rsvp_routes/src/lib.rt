@@ -9,13 +9,11 @@ mod routes;
 mod step;
 mod subobject;
 mod subobjects;
-#[cfg(test)]
-mod tests;
 mod trace;
 
 pub use prefix::Prefix;
 pub use routes::{Record, Route, read_record, read_route, write_record, write_route};
-pub use step::{OtherStep, Step};
+pub use step::{OtherStep, OtherStepRule, Step};
 pub use subobject::Subobject;
 pub use subobjects::Subobjects;
-pub use trace::{OtherTrace, Trace};
+pub use trace::{OtherTrace, OtherTraceRule, Trace};

@@ -1,14 +1,10 @@
-ghost use Rattle.std.specs.Prelude.{◌≡◌, ◌↔◌, nat_eq, IfOk, IsTrue};
-ghost use Rattle.std.specs.Cmp.{partial_equiv_from_equiv};
-ghost use Rattle.std.specs.Cmp.Lexicographic.{pointwise, nat_list_eq_equiv};
-ghost use Rattle.rsvp_routes.specs.Subobjects.{IsOtherStep};
+ghost use Rattle.std.specs.Prelude.{◌≡◌};
 
 use crate::numbers::{HEAD_LEN, IPV4_LEN, IPV4_TYPE, LOOSE, PREFIX_TAIL_LEN};
 use crate::prefix::{Prefix, prefix_of};
 use crate::subobject::Subobject;
-use rsvp_bodies::ObjectFault;
+use rsvp_bodies::{Kept, ObjectFault, Rule};
 use std::alloc::{AllocError, Global};
-use std::marker::Model;
 
 /// A step of an explicit route (RFC 3209, 4.3.3).
 #[derive(Debug, PartialEq, Eq, Drop)]
@@ -20,90 +16,23 @@ pub enum Step {
     Other(OtherStep),
 }
 
-/// A step that isn't of type IPv4, kept byte for byte as it came, with its type and its length. Contracts see
-/// the list of its bytes.
+/// The rule of steps of another type than IPv4: with their type and their length, whole words of four bytes.
 #[derive(Debug, Drop)]
-pub struct OtherStep {
-    bytes: Vec<u8>,
-}
+pub struct OtherStepRule;
 
-impl Model for OtherStep {
-    ghost use Rattle.std.specs.Prelude.{List, ℕ};
+impl Rule for OtherStepRule {
     ghost use Rattle.rsvp_routes.specs.Subobjects.{IsOtherStep};
 
-    ghost Value = { List ℕ };
-
-    ghost view = { λ s. s.bytes.items };
-
-    ghost invariant = { λ s. IsOtherStep s.bytes.items };
+    ghost Allows = { IsOtherStep };
 }
 
-impl OtherStep {
-    /// The step with these bytes. Takes no memory.
-    pub fn from_vec(bytes: Vec<u8>) -> OtherStep
-        requires { IsOtherStep bytes.items }
-        ensures { result ≡ bytes.items }
-    {
-        OtherStep { bytes }
-    }
-
-    /// A step that holds a copy of these bytes. The only error is want of memory.
-    pub fn copy_of(alloc: Global, bytes: &[u8]) -> Result<OtherStep, AllocError>
-        requires { IsOtherStep bytes.now }
-        ensures { IfOk result (λ step. step ≡ bytes.now) }
-    {
-        Ok(OtherStep::from_vec(Vec::from_slice(alloc, bytes)?))
-    }
-
-    /// The bytes, given back without taking memory.
-    pub fn into_vec(self) -> Vec<u8>
-        ensures bytes { result.items ≡ self }
-        ensures fits { IsOtherStep self }
-    {
-        let OtherStep { bytes } = self;
-        bytes
-    }
-
-    /// The bytes.
-    pub fn as_slice(&self) -> &[u8]
-        ensures bytes { result.now ≡ self.now }
-        ensures fits { IsOtherStep self.now }
-    {
-        self.bytes.as_slice()
-    }
-}
-
-impl Clone for OtherStep {
-    ghost is_clone = { λ source copy. copy ≡ source };
-
-    /// A copy of the step. The only error is want of memory.
-    fn clone(&self) -> Result<OtherStep, AllocError> {
-        OtherStep::copy_of(*self.bytes.allocator(), self.as_slice())
-    }
-}
-
-impl PartialEq for OtherStep {
-    ghost eq = { pointwise nat_eq };
-
-    ghost laws = { partial_equiv_from_equiv nat_list_eq_equiv };
-
-    /// Whether their bytes are the same.
-    fn eq(&self, other: &OtherStep) -> bool
-        ensures same { IsTrue result ↔ (self.now ≡ other.now) }
-        ensures pairwise { result ≡ pointwise nat_eq self.now other.now }
-    {
-        self.as_slice() == other.as_slice()
-    }
-}
-
-impl Eq for OtherStep {
-    ghost laws = { nat_list_eq_equiv };
-}
+/// A step that isn't of type IPv4, kept byte for byte as it came, with its type and its length.
+pub type OtherStep = Kept<OtherStepRule>;
 
 impl Clone for Step {
     ghost is_clone = { λ source copy. copy ≡ source };
 
-    /// A copy of the step. The only error is want of memory.
+    /// A copy of the step. The only error is out of memory.
     fn clone(&self) -> Result<Step, AllocError> {
         match self {
             Step::Ipv4 { loose, prefix } => Ok(Step::Ipv4 {

@@ -21,7 +21,7 @@ pub trait Subobject: Clone + Eq + Drop {
         requires { IsSubobject bytes.now }
         ensures { ReadsWhole Spells bytes.now result };
 
-    /// Writes the value behind what `out` holds. The only error is want of memory, which leaves `out` as it
+    /// Writes the value behind what `out` holds. The only error is out of memory, which leaves `out` as it
     /// was.
     fn write(&self, out: &mut Vec<u8>) -> Result<(), AllocError>
         ensures ok { OnOk result (out.new.items ≡ out.old.items ++ spelling self.now) }

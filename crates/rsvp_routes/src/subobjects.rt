@@ -45,15 +45,6 @@ impl<T: Subobject> Subobjects<T> {
         Subobjects { items }
     }
 
-    /// The subobjects, given back without taking memory.
-    pub fn into_vec(self) -> Vec<T>
-        ensures items { result.items ≡ self }
-        ensures fits { length (flat_map T.spelling self) ≤ 65528 }
-    {
-        let Subobjects { items } = self;
-        items
-    }
-
     /// The subobjects.
     pub fn as_slice(&self) -> &[T]
         ensures items { result.now ≡ self.now }
@@ -108,7 +99,7 @@ impl<T: Subobject> Subobjects<T> {
         Ok(Subobjects::from_vec(items))
     }
 
-    /// Writes the subobjects behind what `out` holds. The only error is want of memory, which leaves `out`
+    /// Writes the subobjects behind what `out` holds. The only error is out of memory, which leaves `out`
     /// as it was.
     pub(crate) fn write(&self, out: &mut Vec<u8>) -> Result<(), AllocError>
         ensures ok { OnOk result (out.new.items ≡ out.old.items ++ flat_map T.spelling self.now) }
@@ -148,7 +139,7 @@ impl<T: Subobject> Eq for Subobjects<T> {
 impl<T: Subobject> Clone for Subobjects<T> {
     ghost is_clone = { λ source copy. copy ≡ source };
 
-    /// A copy of the subobjects. The only error is want of memory.
+    /// A copy of the subobjects. The only error is out of memory.
     fn clone(&self) -> Result<Subobjects<T>, AllocError> {
         Ok(Subobjects::from_vec(self.items.clone()?))
     }

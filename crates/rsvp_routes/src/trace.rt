@@ -1,7 +1,4 @@
-ghost use Rattle.std.specs.Prelude.{◌≡◌, ◌↔◌, nat_eq, IfOk, IsTrue};
-ghost use Rattle.std.specs.Cmp.{partial_equiv_from_equiv};
-ghost use Rattle.std.specs.Cmp.Lexicographic.{pointwise, nat_list_eq_equiv};
-ghost use Rattle.rsvp_routes.specs.Subobjects.{IsOtherTrace};
+ghost use Rattle.std.specs.Prelude.{◌≡◌};
 
 use crate::numbers::{
     HEAD_LEN, IPV4_LEN, IPV4_TYPE, LABEL_C_TYPE, LABEL_LEN, LABEL_TYPE, PREFIX_TAIL_LEN,
@@ -9,9 +6,8 @@ use crate::numbers::{
 use crate::prefix::{Prefix, prefix_of};
 use crate::subobject::Subobject;
 use byteorder::{BigEndian, ByteOrder};
-use rsvp_bodies::ObjectFault;
+use rsvp_bodies::{Kept, ObjectFault, Rule};
 use std::alloc::{AllocError, Global};
-use std::marker::Model;
 
 /// An entry of a recorded route (RFC 3209, 4.4.1).
 #[derive(Debug, PartialEq, Eq, Drop)]
@@ -26,90 +22,24 @@ pub enum Trace {
     Other(OtherTrace),
 }
 
-/// An entry that is neither an IPv4 address nor a label in the form of [`Trace::Label`], kept byte for byte
-/// as it came, with its type and its length. Contracts see the list of its bytes.
+/// The rule of entries that are neither an IPv4 address nor a label in the form of [`Trace::Label`].
 #[derive(Debug, Drop)]
-pub struct OtherTrace {
-    bytes: Vec<u8>,
-}
+pub struct OtherTraceRule;
 
-impl Model for OtherTrace {
-    ghost use Rattle.std.specs.Prelude.{List, ℕ};
+impl Rule for OtherTraceRule {
     ghost use Rattle.rsvp_routes.specs.Subobjects.{IsOtherTrace};
 
-    ghost Value = { List ℕ };
-
-    ghost view = { λ t. t.bytes.items };
-
-    ghost invariant = { λ t. IsOtherTrace t.bytes.items };
+    ghost Allows = { IsOtherTrace };
 }
 
-impl OtherTrace {
-    /// The entry with these bytes. Takes no memory.
-    pub fn from_vec(bytes: Vec<u8>) -> OtherTrace
-        requires { IsOtherTrace bytes.items }
-        ensures { result ≡ bytes.items }
-    {
-        OtherTrace { bytes }
-    }
-
-    /// An entry that holds a copy of these bytes. The only error is want of memory.
-    pub fn copy_of(alloc: Global, bytes: &[u8]) -> Result<OtherTrace, AllocError>
-        requires { IsOtherTrace bytes.now }
-        ensures { IfOk result (λ trace. trace ≡ bytes.now) }
-    {
-        Ok(OtherTrace::from_vec(Vec::from_slice(alloc, bytes)?))
-    }
-
-    /// The bytes, given back without taking memory.
-    pub fn into_vec(self) -> Vec<u8>
-        ensures bytes { result.items ≡ self }
-        ensures fits { IsOtherTrace self }
-    {
-        let OtherTrace { bytes } = self;
-        bytes
-    }
-
-    /// The bytes.
-    pub fn as_slice(&self) -> &[u8]
-        ensures bytes { result.now ≡ self.now }
-        ensures fits { IsOtherTrace self.now }
-    {
-        self.bytes.as_slice()
-    }
-}
-
-impl Clone for OtherTrace {
-    ghost is_clone = { λ source copy. copy ≡ source };
-
-    /// A copy of the entry. The only error is want of memory.
-    fn clone(&self) -> Result<OtherTrace, AllocError> {
-        OtherTrace::copy_of(*self.bytes.allocator(), self.as_slice())
-    }
-}
-
-impl PartialEq for OtherTrace {
-    ghost eq = { pointwise nat_eq };
-
-    ghost laws = { partial_equiv_from_equiv nat_list_eq_equiv };
-
-    /// Whether their bytes are the same.
-    fn eq(&self, other: &OtherTrace) -> bool
-        ensures same { IsTrue result ↔ (self.now ≡ other.now) }
-        ensures pairwise { result ≡ pointwise nat_eq self.now other.now }
-    {
-        self.as_slice() == other.as_slice()
-    }
-}
-
-impl Eq for OtherTrace {
-    ghost laws = { nat_list_eq_equiv };
-}
+/// An entry that is neither an IPv4 address nor a label in the form of [`Trace::Label`], kept byte for byte
+/// as it came, with its type and its length.
+pub type OtherTrace = Kept<OtherTraceRule>;
 
 impl Clone for Trace {
     ghost is_clone = { λ source copy. copy ≡ source };
 
-    /// A copy of the entry. The only error is want of memory.
+    /// A copy of the entry. The only error is out of memory.
     fn clone(&self) -> Result<Trace, AllocError> {
         match self {
             Trace::Ipv4 { prefix, flags } => Ok(Trace::Ipv4 {

@@ -1,29 +1,16 @@
 -- The rate of a SENDER_TSPEC and of a FLOWSPEC, and the fault of one that has none.
-use Rattle.std.specs.Prelude.{ℕ, ◌==◌, nat_lt, if◌then◌else◌, List, length, Option, Result, Err, ok_or}
+use Rattle.std.specs.Prelude.{ℕ, ◌==◌, nat_lt, if◌then◌else◌, List, length, Result, Err, ok_or}
 use Rattle.rsvp_traffic.specs.declared.fault.TrafficFault.{TrafficFault}
 use Rattle.rsvp_traffic.specs.declared.fault.TrafficFault.TheVariants.{ServiceUnsupported, BadFlowspec, BadTspec}
-use Rattle.rsvp_traffic.specs.TokenBuckets.{service_of, rate_word_of, token_rate, with_service}
+use Rattle.rsvp_traffic.specs.TokenBuckets.{service_of, token_rate, with_service}
 
--- the value of an error of code 21, "Traffic Control Error" (RFC 2205, appendix B)
-abbrev pub value_of : TrafficFault → ℕ
-value_of ServiceUnsupported = 2
-value_of BadFlowspec = 3
-value_of BadTspec = 4
-
--- a SENDER_TSPEC is a token bucket for service 1, generic information (RFC 2210, 3.1)
-abbrev pub tspec_rate_word : List ℕ → Option ℕ
-tspec_rate_word body = rate_word_of 1 body
-
--- its rate in whole bytes per second, or what is wrong with it
+-- The rate of a SENDER_TSPEC, a token bucket for service 1, generic information (RFC 2210, 3.1), in whole
+-- bytes per second, or what is wrong with it.
 unfoldable pub tspec_rate : List ℕ → Result ℕ TrafficFault
 tspec_rate body = ok_or (token_rate 1 body) BadTspec
 
--- a FLOWSPEC is a token bucket for service 5, controlled load (RFC 2210, 3.2.1)
-abbrev pub flowspec_rate_word : List ℕ → Option ℕ
-flowspec_rate_word body = rate_word_of 5 body
-
--- Its rate in whole bytes per second, or what is wrong with it. The service comes first, where there are
--- two words and so a service.
+-- The rate of a FLOWSPEC, a token bucket for service 5, controlled load (RFC 2210, 3.2.1), in whole bytes
+-- per second, or what is wrong with it. The service comes first, where there are two words and so a service.
 unfoldable pub flowspec_rate : List ℕ → Result ℕ TrafficFault
 flowspec_rate body =
     if nat_lt (length body) 8 then Err BadFlowspec

@@ -2,6 +2,7 @@
 //! request for controlled load, with the token bucket that both describe (RFC 2210, RFC 2215).
 #![tactic(auto)]
 
+mod description;
 mod fault;
 mod flowspec;
 mod laws;
@@ -10,11 +11,9 @@ mod rate;
 mod shape;
 mod tspec;
 
+pub use description::Description;
 pub use fault::TrafficFault;
-pub use flowspec::Flowspec;
+pub use flowspec::{Flowspec, Receiver};
 pub use laws::rates_mean_their_words;
 pub use rate::RateWord;
-pub use tspec::Tspec;
-
-#[cfg(test)]
-mod tests;
+pub use tspec::{Sender, Tspec};

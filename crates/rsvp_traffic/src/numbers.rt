@@ -1,14 +1,5 @@
 //! The numbers of the protocol, each with the place that assigns it.
 
-/// Error code "Traffic Control Error" (RFC 2205, appendix B).
-pub const TRAFFIC_CONTROL_ERROR: u8 = 21;
-/// Its value "Service unsupported".
-pub const SERVICE_UNSUPPORTED: u16 = 2;
-/// Its value "Bad Flowspec value".
-pub const BAD_FLOWSPEC: u16 = 3;
-/// Its value "Bad Tspec value".
-pub const BAD_TSPEC: u16 = 4;
-
 /// The version of the message format, in the top 4 bits of word 1 (RFC 2210, 3.1 and 3.2.1).
 pub const FORMAT_VERSION: u8 = 0;
 /// The service number of a SENDER_TSPEC, "generic information" (RFC 2210, 3.1).

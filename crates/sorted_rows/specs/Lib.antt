@@ -1,4 +1,5 @@
 pub mod Closures
 pub mod ListLaws
+pub mod Reserved
 pub mod Rows
 pub mod RowsLaws

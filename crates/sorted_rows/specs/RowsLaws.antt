@@ -1,9 +1,9 @@
 -- Laws of rows in order, in std's words `put`, `find`, `where_key` and `is_sorted`. Beside them stand std's own:
 -- `is_sorted-put`, `is_sorted-where_key`, `find-put`, `find-where_key`, `is_some-find`, `length-put`, `length_without` and `same_entries`.
-use Rattle.std.specs.Prelude.{◌≡◌, ℕ, suc, ◌+◌, ◌≤◌, Bool, true, false, cond, not, ◌&&◌, T, List, [], ◌∷◌, ◌++◌, map, length, is_some, None, Some, IfSome}
+use Rattle.std.specs.Prelude.{◌≡◌, ◌≢◌, ℕ, suc, ◌+◌, ◌≤◌, Bool, true, false, cond, not, ◌&&◌, T, List, [], ◌∷◌, ◌++◌, map, length, is_some, None, Some, IfSome}
 use Rattle.std.specs.Option.{option_and_then, option_map, option_map_or, option_or}
 use Rattle.std.specs.Bool.{then_some}
-use Rattle.std.specs.List.{AllByRecursion, IsDistinct, filter, list_any, sum_by}
+use Rattle.std.specs.List.{AllByRecursion, IsDistinct, filter, items_where_true, list_any, sum_by}
 use Rattle.std.specs.Cmp.{IsTotalOrder, IsEquivalence}
 use Rattle.std.specs.Ordering.{is_lt, is_eq, eq_by_cmp, ordering_reverse}
 use Rattle.std.specs.declared.cmp.Ordering.{Ordering}
@@ -22,12 +22,12 @@ both true b p q = q
 both false b p q = p
 
 -- the first of two tests that pass
-first : (a b : Bool) → T (a && b) → T a
+pub first : (a b : Bool) → T (a && b) → T a
 first true b p = tt
 first false b p = p
 
 -- the second of two tests that pass
-second : (a b : Bool) → T (a && b) → T b
+pub second : (a b : Bool) → T (a && b) → T b
 second true b p = p
 second false b p = absurd p
 
@@ -42,10 +42,16 @@ from_less : (o : Ordering) → o ≡ Less → T (is_lt o)
 from_less o p = subst (λ r. T (is_lt r)) (sym p) tt
 
 -- what `is_eq` says
-ties : (o : Ordering) → is_eq o ≡ true → o ≡ Equal
+pub ties : (o : Ordering) → is_eq o ≡ true → o ≡ Equal
 ties Less p = cc
 ties Equal p = refl
 ties Greater p = cc
+
+-- an order that is no tie
+no_tie : (o : Ordering) → (o ≡ Equal → ⊥) → is_eq o ≡ false
+no_tie Less apart = refl
+no_tie Equal apart = absurd (apart refl)
+no_tie Greater apart = refl
 
 -- the steps of the two laws on sums, where a is the sum over a list and b that over the list from its first row on
 first_more : (v e s a b o : ℕ) → a ≡ v + b → b ≡ e + s → o ≡ 0 → a + o ≡ b + v
@@ -92,6 +98,20 @@ module _ {K X : Type 0} (cmp : K → K → Ordering) where
   below_all-append : (x : K) (es fs : List (K × X)) → T (below_all cmp x es) → T (below_all cmp x fs) → T (below_all cmp x (es ++ fs))
   below_all-append x [] fs g h = h
   below_all-append x (e ∷ es) fs g h = both _ _ (first _ _ g) (below_all-append x es fs (second _ _ g) h)
+
+  -- a key below rows is below whichever of them are picked
+  below_all-picked : (x : K) (picks : List Bool) (es : List (K × X)) → T (below_all cmp x es) → T (below_all cmp x (items_where_true picks es))
+  below_all-picked x [] es h = tt
+  below_all-picked x (pick ∷ picks) [] h = tt
+  below_all-picked x (true ∷ picks) (e ∷ es) h = both _ _ (first _ _ h) (below_all-picked x picks es (second _ _ h))
+  below_all-picked x (false ∷ picks) (e ∷ es) h = below_all-picked x picks es (second _ _ h)
+
+  -- rows in order stay so whichever of them are picked
+  pub is_sorted-picked : (picks : List Bool) (es : List (K × X)) → T (is_sorted cmp es) → T (is_sorted cmp (items_where_true picks es))
+  is_sorted-picked [] es h = tt
+  is_sorted-picked (pick ∷ picks) [] h = tt
+  is_sorted-picked (true ∷ picks) (e ∷ es) h = both _ _ (below_all-picked e.0 picks es (first _ _ h)) (is_sorted-picked picks es (second _ _ h))
+  is_sorted-picked (false ∷ picks) (e ∷ es) h = is_sorted-picked picks es (second _ _ h)
 
   -- two lists in order, the first below the second, are in order together
   pub is_sorted-append : (es fs : List (K × X)) → T (is_sorted cmp es) → T (is_sorted cmp fs) → AllByRecursion (λ e. T (below_all cmp e.0 fs)) es → T (is_sorted cmp (es ++ fs))
@@ -259,6 +279,10 @@ module _ {K X : Type 0} (cmp : K → K → Ordering) where
     pub find-put_other : (q k : K) (v : X) (es : List (K × X)) → is_eq (cmp q k) ≡ false → find cmp q (put cmp k v es) ≡ find cmp q es
     find-put_other q k v es apart = find-put cmp total q k v es ∙ ap (λ b. cond b (Some v) (find cmp q es)) apart
 
+    -- where keys that tie are equal, every key that differs is found as before
+    pub find-put_apart : ((x y : K) → cmp x y ≡ Equal → x ≡ y) → (q k : K) (v : X) (es : List (K × X)) → q ≢ k → find cmp q (put cmp k v es) ≡ find cmp q es
+    find-put_apart exact q k v es apart = find-put_other q k v es (no_tie (cmp q k) (λ tie. apart (exact q k tie)))
+
     -- what is found after a key was removed
     pub find-removed : (q k : K) (es : List (K × X)) → find cmp q (where_key cmp (λ x. not (is_eq (cmp k x))) es) ≡ cond (not (is_eq (cmp k q))) (find cmp q es) None
     find-removed q k es = find-where_key cmp (λ x. not (is_eq (cmp k x))) q (λ x p. ap (λ r. not (is_eq r)) (sym (alike_right total q x k p))) es
@@ -270,6 +294,10 @@ module _ {K X : Type 0} (cmp : K → K → Ordering) where
     -- and every other key as before
     pub find-removed_other : (q k : K) (es : List (K × X)) → is_eq (cmp k q) ≡ false → find cmp q (where_key cmp (λ x. not (is_eq (cmp k x))) es) ≡ find cmp q es
     find-removed_other q k es apart = find-removed q k es ∙ ap (λ b. cond (not b) (find cmp q es) None) apart
+
+    -- and where keys that tie are equal every key that differs
+    pub find-removed_apart : ((x y : K) → cmp x y ≡ Equal → x ≡ y) → (q k : K) (es : List (K × X)) → q ≢ k → find cmp q (where_key cmp (λ x. not (is_eq (cmp k x))) es) ≡ find cmp q es
+    find-removed_apart exact q k es apart = find-removed_other q k es (no_tie (cmp k q) (λ tie. apart (sym (exact k q tie))))
 
     -- a put of what is there already changes nothing
     pub put-found : (k : K) (v : X) (es : List (K × X)) → T (is_sorted cmp es) → find cmp k es ≡ Some v → put cmp k v es ≡ es

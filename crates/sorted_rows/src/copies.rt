@@ -5,7 +5,7 @@ use std::alloc::{AllocError, Global};
 
 /// A value that can be copied where there is memory for it.
 pub trait TryCopy {
-    /// A copy, equal to its source. Fails only for want of memory.
+    /// A copy, equal to its source. Fails only when out of memory.
     fn try_copy(&self, alloc: Global) -> Result<Self, AllocError>
         ensures { IfOk result (λ copy. copy ≡ self.now) };
 }
@@ -55,7 +55,7 @@ impl<T: TryCopy> TryCopy for Option<T> {
     }
 }
 
-/// A copy of rows whose values own memory. Fails only for want of memory.
+/// A copy of rows whose values own memory. Fails only when out of memory.
 pub fn copy_rows<K: Copy, V: TryCopy + Drop>(
     alloc: Global,
     rows: &[(K, V)],
@@ -69,7 +69,7 @@ pub fn copy_rows<K: Copy, V: TryCopy + Drop>(
     Ok(copy)
 }
 
-/// A copy of rows whose values are `Copy`. Fails only for want of memory.
+/// A copy of rows whose values are `Copy`. Fails only when out of memory.
 pub fn copy_plain_rows<K: Copy, V: Copy>(
     alloc: Global,
     rows: &[(K, V)],

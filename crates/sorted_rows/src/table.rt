@@ -2,7 +2,8 @@
 ghost use Rattle.std.specs.FinMap.Entries.{find, is_sorted, put, where_key};
 ghost use Rattle.std.specs.Option.{option_copied};
 ghost use Rattle.std.specs.Ordering.{is_eq};
-ghost use Rattle.std.specs.Prelude.{◌≡◌, T, [], not, OnOk, OnErr};
+ghost use Rattle.std.specs.Prelude.{◌≡◌, Bool, T, [], filter, is_some, not, OnOk, OnErr};
+ghost use Rattle.sorted_rows.specs.Closures.{ComputesTest};
 
 use crate::copies::{TryCopy, copy_rows};
 use std::alloc::{AllocError, Global};
@@ -66,10 +67,17 @@ impl<K: Ord, V> Table<K, V> {
     {
         crate::get_ref(self.rows.as_slice(), key)
     }
+
+    /// Whether the table has a key.
+    pub fn contains_key(&self, key: &K) -> bool
+        ensures found { result ≡ is_some (find K.cmp key.now self.now) }
+    {
+        crate::contains_key(self.rows.as_slice(), key)
+    }
 }
 
 impl<K: Ord + Drop, V: Drop> Table<K, V> {
-    /// Sets the value under a key. Fails only for want of memory, and then nothing changed.
+    /// Sets the value under a key. Fails only when out of memory, and then nothing changed.
     pub fn set(&mut self, key: K, value: V) -> Result<(), AllocError>
         ensures ok { OnOk result (self.new ≡ put K.cmp key value self.old) }
         ensures err { OnErr result (self.new ≡ self.old) }
@@ -82,6 +90,17 @@ impl<K: Ord + Drop, V: Drop> Table<K, V> {
         ensures removed { self.new ≡ where_key K.cmp (λ k. not (is_eq (K.cmp key.now k))) self.old }
     {
         crate::remove(&mut self.rows, key);
+    }
+
+    /// Keeps the rows that pass a test of the key and the value, in their order. Takes no memory.
+    pub fn retain<F: Fn(&K, &V) -> bool>(&mut self, test: F)
+        requires { F.IsAlwaysCallable test }
+
+        // For whichever test of a row gives the answers of the closure.
+        ensures kept { (passes : K × V → Bool) → ComputesTest F.Fn test passes →
+            self.new ≡ filter passes self.old }
+    {
+        crate::retain(&mut self.rows, test);
     }
 }
 

@@ -1,3 +1,5 @@
 pub mod AskingLaws
 pub mod Fitting
 pub mod FittingLaws
+pub mod Rows
+pub mod RowsAtKeys

@@ -1,11 +1,10 @@
-//! The messages that a router keeps alive at its neighbours (RFC 2205, 3.7): what its paths want, and what an item
-//! wants, whoever keeps the facts.
+//! What a router keeps alive at its neighbours (RFC 2205, 3.7): what paths want, and what an item wants, whoever
+//! keeps the facts.
 #![tactic(auto)]
 
 mod items;
-mod paths;
-#[cfg(test)]
-mod tests;
+mod rows;
 
 pub use items::message_of;
-pub use paths::{wanted_by, wanted_of, wanted_row};
+pub use path_rules::{is_up, sent_by};
+pub use rows::{Wanted, row_of_key, rows_at_keys};

@@ -1,6 +1,6 @@
 -- Each change of the facts keeps them sound.
-use Rattle.abstract_router.specs.RunLaws.{sound_opening, sound_step, sound_run}
 use Rattle.abstract_router.specs.Steps.{opening}
+use Rattle.abstract_router.proofs.SoundRuns.{sound_opening, sound_step, sound_run}
 use Rattle.abstract_router.proofs.soundness.every_run_stays_sound.Goals as goal
 
 pub returns-clause-opening : goal.returns-clause-opening
@@ -10,4 +10,4 @@ pub returns-clause-step : goal.returns-clause-step
 returns-clause-step c = sound_step
 
 pub returns-clause-run : goal.returns-clause-run
-returns-clause-run c = λ r routes entries after router are run. sound_run r (opening r routes) entries after router (sound_opening r routes router are) run
+returns-clause-run c = λ r routes run after router are ran. sound_run r (opening r routes) run after router (sound_opening r routes router are) ran

@@ -3,7 +3,7 @@ use Rattle.message_reader.proofs.CountedUpTo.{IsCountedUpTo}
 use Rattle.message_reader.proofs.counts.read_objects.Given as goal
 
 abbrev pub invariant-loop-rest : goal.invariant-loop-rest
-invariant-loop-rest l = IsCountedUpTo l.bytes l.kept.items l.rest
+invariant-loop-rest l = IsCountedUpTo l.kind l.bytes l.kept.items l.rest
 
 abbrev pub decreases-loop-rest : goal.decreases-loop-rest
 decreases-loop-rest l = length l.rest

@@ -1,11 +1,10 @@
-use Rattle.sorted_rows.specs.RowsLaws.{find-removed_same, find-removed_other}
+use Rattle.sorted_rows.specs.RowsLaws.{find-removed_same, find-removed_apart}
 use Rattle.lsr_facts.specs.Orders.{item_cmp}
-use Rattle.lsr_facts.specs.OrderLaws.{item_total}
-use Rattle.refresh_timers.proofs.Apart.{items_apart_back}
+use Rattle.lsr_facts.specs.OrderLaws.{item_exact, item_total}
 use Rattle.refresh_timers.proofs.laws.clear_changes_one_message.Goals as goal
 
 pub returns-clause-same : goal.returns-clause-same
 returns-clause-same c = find-removed_same item_cmp item_total
 
 pub returns-clause-others : goal.returns-clause-others
-returns-clause-others c = λ item other sent apart. find-removed_other item_cmp item_total other item sent (items_apart_back other item apart)
+returns-clause-others c = λ item other sent apart. find-removed_apart item_cmp item_total item_exact other item sent apart

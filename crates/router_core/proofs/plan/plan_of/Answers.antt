@@ -1,17 +1,24 @@
-use Rattle.std.proofs.Common.{refl, subst, sym}
-use Rattle.abstract_router.specs.RunLaws.{outcome_sound}
+use Rattle.std.proofs.Common.{Bool, refl, subst, sym, ◌∙◌}
+use Rattle.abstract_router.proofs.EventSoundness.{IsLeft, outcome_sound}
 use Rattle.abstract_router.specs.Soundness.{IsStanding}
+use Rattle.abstract_router.specs.Steps.{outcome}
 use Rattle.router_core.specs.States.{facts_of}
-use Rattle.router_core.proofs.Planning.{met_can_be, planned_step}
+use Rattle.router_core.proofs.Planning.{sending_step}
 use Rattle.router_core.proofs.plan.plan_of.Goals as goal
 
-pub sending_of-requires-clause-standing : goal.sending_of-requires-clause-standing
-sending_of-requires-clause-standing c =
+pub sends_of-requires-clause-standing : goal.sends_of-requires-clause-standing
+sends_of-requires-clause-standing c =
     let t = c.args.tables.now in
+    let s = facts_of t in
     let event = c.args.event.now in
-    subst (IsStanding t.router) (sym c.in_ok-reply.ensures.after) (outcome_sound t.router (facts_of t) event c.requires.tables.router c.requires.tables.sound.standing (met_can_be event c.requires.event))
+    let o = outcome t.router s event in
+    let is = c.in_ok-reply.ensures.draft in
+    subst (IsStanding t.router) (sym is.after)
+    (subst (λ (silent : Bool). IsLeft t.router silent o.after) (sym is.is_silent ∙ c.if-is_silent.false)
+    (outcome_sound t.router s event c.requires.tables.router c.requires.tables.sound c.is_possible.ensures (λ cold. absurd (let e = cold in cc))))
 
-pub returns : goal.returns
-returns c =
+pub returns-clause-planned : goal.returns-clause-planned
+returns-clause-planned c =
     let t = c.args.tables.now in
-    planned_step t.router (facts_of t) c.args.event.now c.in_ok-reply.field-0 c.in_ok-outputs.field-0 refl c.requires.tables.sound c.requires.event c.in_ok-reply.ensures c.in_ok-outputs.ensures
+    let sends = c.in_ok-outputs.ensures in
+    sending_step t.router (facts_of t) c.args.event.now c.in_ok-reply.field-0 refl c.is_possible.ensures c.in_ok-reply.ensures.draft c.in_ok-outputs.field-0.outputs c.in_ok-outputs.field-0.moments c.if-is_silent.false sends.outputs sends.moments

@@ -7,4 +7,4 @@ use Rattle.router_core.proofs.running.Cold.soundness.Goals as goal
 pub returns-clause-sound : goal.returns-clause-sound
 returns-clause-sound c =
     let t = c.self.inside.tables in
-    subst (λ (s : State). IsSound s.router s.facts) c.self.view_is (sound_stopped t.router (facts_of t) c.self.invariant.tables.sound)
+    subst (λ (s : State). IsSound s.router s.facts) c.self.view_is (sound_stopped t.router (facts_of t) c.self.invariant.no_paths c.self.invariant.tables.sound)

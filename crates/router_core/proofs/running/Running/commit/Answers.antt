@@ -1,7 +1,7 @@
 use Rattle.std.proofs.Common.{subst, sym}
-use Rattle.abstract_router.specs.RunLaws.{sound_step}
+use Rattle.abstract_router.proofs.SoundRuns.{sound_step}
 use Rattle.abstract_router.specs.Steps.{Step}
-use Rattle.router_core.specs.Changes.{applied}
+use Rattle.router_core.specs.Plans.{IsPlanOf, applied, made_by}
 use Rattle.router_core.specs.States.{State, facts_of}
 use Rattle.router_core.proofs.running.Running.commit.Goals as goal
 
@@ -9,8 +9,8 @@ pub apply-requires : goal.apply-requires
 apply-requires c =
     let t = c.self.inside.tables in
     let plan = c.args.plan in
-    let step = subst (λ (s : State). Step s.router s.facts c.requires.0 plan.reply plan.outputs (applied plan.change plan.stamps s.facts)) (sym c.self.view_is) c.requires.1 in
+    let step = subst (λ (s : State). IsPlanOf s c.requires.0 plan) (sym c.self.view_is) c.requires.1 in
     record {
       tables = c.self.invariant;
-      sound = sound_step t.router (facts_of t) (applied plan.change plan.stamps (facts_of t)) c.requires.0 plan.reply plan.outputs c.self.invariant.router c.self.invariant.sound step;
+      sound = sound_step t.router (facts_of t) (made_by c.requires.0 plan) (applied plan.edits plan.moments (facts_of t)) c.self.invariant.router c.self.invariant.sound step;
     }

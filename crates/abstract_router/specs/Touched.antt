@@ -1,0 +1,45 @@
+-- The part of what is known that belongs to the LSPs that a step touches, and what becomes of the moments there.
+use Rattle.std.specs.Prelude.{◌≡◌, ◌++◌, ℕ, not, Bool, if◌then◌else◌, List, filter_map, Option, Some, None, is_none, is_some}
+use Rattle.std.specs.FinMap.Entries.{find, where_key}
+use Rattle.std.specs.Option.{option_map}
+use Rattle.std.specs.declared.cmp.Ordering.{Ordering}
+use Rattle.lsr_facts.specs.Orders.{item_cmp, key_cmp}
+use Rattle.lsr_facts.specs.declared.facts.Facts.{Facts}
+use Rattle.lsr_facts.specs.declared.key.Item.{Item}
+use Rattle.lsr_facts.specs.declared.key.Item.TheVariants.{Down}
+use Rattle.lsr_facts.specs.declared.key.Key.{Key}
+use Rattle.router_events.specs.declared.events.Output.{Output}
+use Rattle.abstract_router.specs.Outputs.{between, rests}
+
+-- the LSP of an item
+abbrev pub key_of_item : Item → Key
+key_of_item (Down key link) = key
+
+-- what is known of the LSPs that are touched
+abbrev pub at_keys : (Key → Bool) → Facts → Facts
+at_keys touched s = record s { paths = where_key key_cmp touched s.paths }
+
+-- Of the LSPs that aren't touched the same is known before and after, and the same links are up.
+pub record IsSameElsewhere (touched : Key → Bool) (before after : Facts) : Type 0 where
+  pub up : before.up ≡ after.up
+  pub paths : where_key key_cmp (λ key. not (touched key)) before.paths ≡ where_key key_cmp (λ key. not (touched key)) after.paths
+
+-- the key is one of these rows'
+abbrev pub is_among : {K E : Type 0} → (K → K → Ordering) → List (K × E) → K → Bool
+is_among cmp es key = is_some (find cmp key es)
+
+-- what rows have under the keys of others, one look-up after the other
+abbrev pub found_rows : {K E X : Type 0} → (K → K → Ordering) → List (K × E) → List (K × X) → List (K × X)
+found_rows cmp es rows = filter_map (λ e. option_map (λ x. (e.0, x)) (find cmp e.0 rows)) es
+
+-- the moment goes of an item that was wanted and is no more
+abbrev pub forgotten : Option Output → Item × Output → Option (Item × Option ℕ)
+forgotten now was = if is_none now then Some (was.0, None) else None
+
+-- an item that is sent has this moment from then on
+abbrev pub renewed : List Item → ℕ → Option Output → Item × Output → Option (Item × Option ℕ)
+renewed due moment was wants = if rests due was wants then None else Some (wants.0, Some moment)
+
+-- what becomes of the moments between what was wanted and what is: no other moment changes
+abbrev pub moments_between : List Item → ℕ → List (Item × Output) → List (Item × Output) → List (Item × Option ℕ)
+moments_between due moment was is = between item_cmp (renewed due moment) is was ++ between item_cmp forgotten was is

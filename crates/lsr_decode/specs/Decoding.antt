@@ -1,0 +1,85 @@
+-- What `decode` prints for a message.
+use Rattle.std.specs.Prelude.{◌≡◌, ℕ, List, [], ◌∷◌, ◌++◌, length, drop, codes, flat_map, Ok, string_bytes}
+use Rattle.std.specs.Fmt.{decimal}
+use Rattle.hex.specs.Hex.{encode_lower, decode_of}
+use Rattle.rsvp_objects.specs.Raw.{Raw, object_bytes}
+use Rattle.rsvp_contents.specs.declared.dropped.Dropped.{Dropped}
+use Rattle.rsvp_contents.specs.declared.dropped.Dropped.TheVariants.{NoMemory}
+use Rattle.rsvp_contents.specs.declared.message.Reading.{Reading}
+use Rattle.rsvp_contents.specs.Picking.{content_in}
+use Rattle.rsvp_contents.specs.Spelling.{SpellsReading, IsFirstFault}
+use Rattle.rsvp_contents.specs.declared.messages.Content.{Content}
+use Rattle.rsvp_contents.specs.declared.messages.Content.TheVariants as contents
+use Rattle.lsr_facts.specs.declared.refusal.Refusal.TheVariants.{Unread}
+use Rattle.lsr_text.specs.Answers.{refusal_line}
+use Rattle.lsr_decode.specs.declared.decoding.Decoded.{Decoded}
+use Rattle.lsr_decode.specs.declared.decoding.Decoded.TheVariants as answers
+
+-- the name of a message's type (RFC 2205, 3.1.1)
+abbrev pub kind_of : Content → List ℕ
+kind_of (contents.Path p) = codes "Path"
+kind_of (contents.Resv r) = codes "Resv"
+kind_of (contents.PathErr e) = codes "PathErr"
+kind_of (contents.ResvErr e) = codes "ResvErr"
+kind_of (contents.PathTear t) = codes "PathTear"
+kind_of (contents.ResvTear t) = codes "ResvTear"
+
+-- a body in hexadecimal digits behind a space, or nothing
+abbrev pub body_word : List ℕ → List ℕ
+body_word [] = []
+body_word (byte ∷ bytes) = codes " " ++ encode_lower (byte ∷ bytes)
+
+-- `CLASS CTYPE BODY`
+abbrev pub object_line : Raw → List ℕ
+object_line raw = decimal raw.class ++ (codes " " ++ (decimal raw.ctype ++ (body_word raw.body ++ codes "\n")))
+
+-- `KIND LENGTH`, and behind it the lines of the objects
+abbrev pub message_lines : Content → ℕ → List ℕ → List ℕ
+message_lines content size lines = kind_of content ++ (codes " " ++ (decimal size ++ (codes "\n" ++ lines)))
+
+-- The objects stand behind the message's header of eight bytes, one behind the other; each has its line.
+pub record ShowsObjects (bytes printed : List ℕ) : Type 0 where
+  pub raws : List Raw
+  pub parts : bytes ≡ flat_map object_bytes raws
+  pub lines : printed ≡ flat_map object_line raws
+
+-- The bytes are read as a message: the line of its type, and behind it those of its objects.
+pub record ShowsMessage (bytes printed : List ℕ) : Type 0 where
+  pub reading : Reading
+  pub spelled : SpellsReading bytes reading
+  pub lines : List ℕ
+  pub objects : ShowsObjects (drop 8 bytes) lines
+  pub shown : printed ≡ message_lines (content_in reading) (length bytes) lines
+
+-- the bytes are read as no message, for this first fault; or there was no memory to read them
+abbrev pub RefusesMessage : List ℕ → Dropped → Type 0
+RefusesMessage bytes NoMemory = Unit {0}
+RefusesMessage bytes fault = IsFirstFault bytes fault
+
+-- What a word is decoded as, where it is the bytes of a message in hexadecimal digits, or isn't.
+abbrev pub Decodes : List ℕ → Decoded → Type 0
+Decodes word (answers.Shown text) = (bytes : List ℕ) × (decode_of word ≡ Ok bytes) × ShowsMessage bytes (string_bytes text)
+Decodes word (answers.Refused fault) = (bytes : List ℕ) × (decode_of word ≡ Ok bytes) × RefusesMessage bytes fault
+Decodes word answers.NoDigits = (bytes : List ℕ) → decode_of word ≡ Ok bytes → ⊥
+Decodes word answers.Memory = Unit {0}
+
+-- what is printed on the output
+abbrev pub shown_text : Decoded → List ℕ
+shown_text (answers.Shown text) = string_bytes text
+shown_text (answers.Refused fault) = []
+shown_text answers.NoDigits = []
+shown_text answers.Memory = []
+
+-- what is told on the error stream
+abbrev pub told_text : Decoded → List ℕ
+told_text (answers.Shown text) = []
+told_text (answers.Refused fault) = refusal_line (Unread fault)
+told_text answers.NoDigits = codes "error: HEX is an even number of hexadecimal digits; see lsr decode --help\n"
+told_text answers.Memory = codes "memory\n"
+
+-- the status: 2 where the word is none
+abbrev pub decoded_status : Decoded → ℕ
+decoded_status (answers.Shown text) = 0
+decoded_status (answers.Refused fault) = 1
+decoded_status answers.NoDigits = 2
+decoded_status answers.Memory = 1

@@ -1,0 +1,207 @@
+//! `lsr decode`: one message, and its objects line by line.
+ghost use Rattle.std.specs.Prelude.{◌≡◌, ◌++◌, ◌<◌, IfOk, IfErr, OnOk, length, string_bytes};
+ghost use Rattle.rsvp_objects.specs.Raw.{Raw, object_bytes};
+ghost use Rattle.std.specs.Io.KnownBytes.{Appends};
+ghost use Rattle.rsvp_contents.specs.Picking.{content_in};
+ghost use Rattle.lsr_decode.specs.declared.decoding.Decoded.{Decoded};
+ghost use Rattle.lsr_decode.specs.Decoding.{Decodes, RefusesMessage, ShowsMessage, ShowsObjects, body_word, decoded_status, kind_of, object_line, shown_text, told_text};
+
+use hex::FromHexError;
+use lsr_facts::Refusal;
+use lsr_text::{OUT_OF_MEMORY, push_refusal};
+use rsvp_contents::Dropped;
+use rsvp_messages::{Content, Message, Reading, read_message};
+use rsvp_objects::{ObjectFault, read_object};
+use std::alloc::{AllocError, Global};
+use std::fmt::Write as _;
+use std::io;
+use std::io::Write;
+
+/// The length of a message's common header in bytes (RFC 2205, 3.1.1).
+const MESSAGE_HEADER_LEN: usize = 8;
+
+/// What a word is answered that is no message's bytes.
+const NO_DIGITS: &str =
+    "error: HEX is an even number of hexadecimal digits; see lsr decode --help\n";
+
+/// The message that was read, whole or with an object that its type doesn't know.
+fn message_read(reading: &Reading) -> &Message
+    ensures { result.now ≡ content_in reading.now }
+{
+    match reading {
+        Reading::Whole(message) => message,
+        Reading::Unknown(message, _, _) => message,
+    }
+}
+
+/// The name of the message's type.
+fn kind_of(content: &Content) -> &'static str
+    ensures { result.now ≡ kind_of content.now }
+{
+    match content {
+        Content::Path(_) => "Path",
+        Content::Resv(_) => "Resv",
+        Content::PathErr(_) => "PathErr",
+        Content::ResvErr(_) => "ResvErr",
+        Content::PathTear(_) => "PathTear",
+        Content::ResvTear(_) => "ResvTear",
+    }
+}
+
+/// Appends the body of an object in hexadecimal digits behind a space, or nothing where it is empty.
+fn push_body(alloc: Global, text: &mut String, body: &[u8]) -> Result<(), AllocError>
+    ensures { OnOk result (string_bytes text.new ≡ string_bytes text.old ++ body_word body.now) }
+{
+    if body.is_empty() {
+        return Ok(());
+    }
+    let digits = hex::encode(alloc, body)?;
+    write!(text, " {digits}")
+}
+
+/// Appends the line of the object: `CLASS CTYPE BODY`.
+fn push_object(
+    alloc: Global,
+    text: &mut String,
+    class: u8,
+    ctype: u8,
+    body: &[u8],
+) -> Result<(), AllocError>
+    ensures { OnOk result (string_bytes text.new ≡ string_bytes text.old
+        ++ object_line (record { class = class; ctype = ctype; body = body.now })) }
+{
+    write!(text, "{class} {ctype}")?;
+    push_body(alloc, text, body)?;
+    text.push_str("\n")
+}
+
+/// Appends the line of the first object of the bytes, and gives what stands behind it.
+fn push_first<'a>(
+    alloc: Global,
+    text: &mut String,
+    bytes: &'a [u8],
+) -> Result<&'a [u8], ObjectFault>
+    ensures found { IfOk result (λ rest. (raw : Raw) × (bytes.entry.now ≡ object_bytes raw ++ rest.now)
+        × (string_bytes text.new ≡ string_bytes text.old ++ object_line raw)) }
+    ensures shorter { IfOk result (λ rest. length rest.now < length bytes.entry.now) }
+{
+    let (_object, len) = read_object(alloc, bytes)?;
+    let (first, rest) = bytes.split_at(len);
+    let [_, _, class, ctype, body @ ..] = first else {
+        return Err(ObjectFault::Length);
+    };
+    push_object(alloc, text, *class, *ctype, body)?;
+    Ok(rest)
+}
+
+/// The lines of the objects that the bytes are.
+fn object_lines(alloc: Global, bytes: &[u8]) -> Result<String, ObjectFault>
+    ensures { IfOk result (λ text. ShowsObjects bytes.now (string_bytes text)) }
+{
+    let mut text = String::new(alloc);
+    let mut rest = bytes;
+    while !rest.is_empty() {
+        rest = push_first(alloc, &mut text, rest)?;
+    }
+    Ok(text)
+}
+
+/// What `decode` answers to a word.
+#[derive(Debug, Drop)]
+pub enum Decoded {
+    /// The lines of the message that it is.
+    Shown(String),
+    /// It is no message, or there was no memory to read it.
+    Refused(Dropped),
+    /// It isn't an even number of hexadecimal digits.
+    NoDigits,
+    /// There was no memory for its bytes.
+    Memory,
+}
+
+/// The lines of the message that the bytes are: `KIND LENGTH`, and one for each object.
+fn message_text(alloc: Global, bytes: &[u8]) -> Result<String, Dropped>
+    ensures text { IfOk result (λ text. ShowsMessage bytes.now (string_bytes text)) }
+    ensures fault { IfErr result (λ fault. RefusesMessage bytes.now fault) }
+{
+    let reading = read_message(alloc, bytes)?;
+    let (_header, objects) = bytes.split_at(MESSAGE_HEADER_LEN);
+    let kind = kind_of(message_read(&reading).content());
+    let len = bytes.len();
+    // The objects were read before, so that all that can go wrong is that memory runs out.
+    let Ok(lines) = object_lines(alloc, objects) else {
+        return Err(Dropped::NoMemory);
+    };
+    match format!(in alloc; "{kind} {len}\n{lines}") {
+        Ok(text) => Ok(text),
+        Err(_) => Err(Dropped::NoMemory),
+    }
+}
+
+/// What the word is decoded as: the bytes of one message in hexadecimal digits of either case.
+pub fn decode_word(alloc: Global, word: &str) -> Decoded
+    ensures { Decodes word.now result }
+{
+    match hex::decode(alloc, word) {
+        Ok(bytes) => match message_text(alloc, bytes.as_slice()) {
+            Ok(text) => Decoded::Shown(text),
+            Err(fault) => Decoded::Refused(fault),
+        },
+        Err(error) => {
+            if error == FromHexError::OutOfMemory {
+                return Decoded::Memory;
+            }
+            Decoded::NoDigits
+        }
+    }
+}
+
+/// Prints what a word was decoded as, and gives the status. The error is a stream's.
+fn tell_decoded<W: Write, E: Write>(
+    alloc: Global,
+    decoded: &Decoded,
+    output: &mut W,
+    error: &mut E,
+) -> io::Result<u8>
+    ensures status { IfOk result (λ status. status ≡ decoded_status decoded.now) }
+    ensures shown { OnOk result (Appends (W.contents output.old) (W.contents output.new) (shown_text decoded.now)) }
+    ensures told { OnOk result (Appends (E.contents error.old) (E.contents error.new) (told_text decoded.now)) }
+{
+    match decoded {
+        Decoded::Shown(text) => {
+            output.write_all(text.as_bytes())?;
+            Ok(0)
+        }
+        Decoded::Refused(fault) => {
+            let mut line = String::new(alloc);
+            push_refusal(&mut line, Refusal::Unread(*fault))?;
+            error.write_all(line.as_bytes())?;
+            Ok(1)
+        }
+        Decoded::NoDigits => {
+            error.write_all(NO_DIGITS.as_bytes())?;
+            Ok(2)
+        }
+        Decoded::Memory => {
+            write!(error, "{OUT_OF_MEMORY}\n")?;
+            Ok(1)
+        }
+    }
+}
+
+/// `lsr decode HEX`: prints the message's lines, or on the error stream why there are none, and gives the
+/// status: 0, 1 for a refused message, 2 for a word that isn't an even number of hexadecimal digits. The
+/// error is that a stream could not be written.
+pub fn run_decode<W: Write, E: Write>(
+    alloc: Global,
+    word: &str,
+    output: &mut W,
+    error: &mut E,
+) -> io::Result<u8>
+    ensures { IfOk result (λ status. (decoded : Decoded) × Decodes word.now decoded × (status ≡ decoded_status decoded)
+        × Appends (W.contents output.old) (W.contents output.new) (shown_text decoded)
+        × Appends (E.contents error.old) (E.contents error.new) (told_text decoded)) }
+{
+    let decoded = decode_word(alloc, word);
+    tell_decoded(alloc, &decoded, output, error)
+}

@@ -1,0 +1,61 @@
+-- How a text is cut into lines, and which line asks for what.
+use Rattle.std.specs.Prelude.{◌≡◌, ◌≤◌, ◌<◌, ◌^◌, ◌==◌, ℕ, length, List, [], ◌∷◌, ◌++◌, Ok, true, codes, if◌then◌else◌}
+use Rattle.std.specs.List.{onto_first}
+use Rattle.std.specs.Str.{all_ascii_digits}
+use Rattle.std.specs.Str.Parse.{digits_value}
+use Rattle.hex.specs.Hex.{decode_of}
+use Rattle.lsr_lines.specs.declared.lines.Request.{Request}
+use Rattle.lsr_lines.specs.declared.lines.Request.TheVariants as requests
+
+-- The lines of a text: each ends at a newline, which is no part of it, and the last may end with the text.
+unfoldable pub lines_of : List ℕ → List (List ℕ)
+lines_of [] = []
+lines_of (byte ∷ rest) = if byte == 10 then [] ∷ lines_of rest else onto_first byte (lines_of rest)
+
+-- A link's number: decimal digits, leading zeros taken, 1 to 65,535.
+pub record NamesLink (digits : List ℕ) (link : ℕ) : Type 0 where
+  pub decimal : all_ascii_digits digits ≡ true
+  pub value : digits_value 10 digits ≡ link
+  pub low : 1 ≤ link
+  pub high : link ≤ 65535
+
+-- `rx LINK HEX`: a link, and the bytes of a message in hexadecimal digits of either case, perhaps none; the
+-- words are parted by one space.
+pub record AsksToReceive (line : List ℕ) (link : ℕ) (message : List ℕ) : Type 0 where
+  pub link_digits : List ℕ
+  pub hex_digits : List ℕ
+  pub parts : line ≡ codes "rx " ++ (link_digits ++ (32 ∷ hex_digits))
+  pub names : NamesLink link_digits link
+  pub bytes : decode_of hex_digits ≡ Ok message
+
+-- A line that brings bytes: `rx LINK HEX` with a message that isn't empty.
+pub record BringsBytes (line : List ℕ) : Type 0 where
+  pub link : ℕ
+  pub message : List ℕ
+  pub asks : AsksToReceive line link message
+  pub some : 1 ≤ length message
+
+-- A moment: decimal digits, leading zeros taken, that fit 64 bits.
+pub record NamesMoment (digits : List ℕ) (moment : ℕ) : Type 0 where
+  pub some : 1 ≤ length digits
+  pub decimal : all_ascii_digits digits ≡ true
+  pub value : digits_value 10 digits ≡ moment
+  pub high : moment < 2 ^ 64
+
+-- A word with one space behind it, and then a number alone; `Names` says which digits are which number.
+pub record AsksOf (Names : List ℕ → ℕ → Type 0) (word line : List ℕ) (number : ℕ) : Type 0 where
+  pub digits : List ℕ
+  pub parts : line ≡ word ++ digits
+  pub names : Names digits number
+
+-- What a line asks for: `rx LINK HEX`, `tick N`, `up LINK`, `down LINK`, `restart`, `start`, `show paths` or `show
+-- recent`.
+abbrev pub AsksFor : List ℕ → Request → Type 0
+AsksFor line (requests.Receive arrival) = AsksToReceive line arrival.link arrival.message.items
+AsksFor line (requests.Tick moment) = AsksOf NamesMoment (codes "tick ") line moment
+AsksFor line (requests.LinkUp link) = AsksOf NamesLink (codes "up ") line link
+AsksFor line (requests.LinkDown link) = AsksOf NamesLink (codes "down ") line link
+AsksFor line requests.Restart = line ≡ codes "restart"
+AsksFor line requests.Start = line ≡ codes "start"
+AsksFor line requests.ShowPaths = line ≡ codes "show paths"
+AsksFor line requests.ShowRecent = line ≡ codes "show recent"

@@ -1,0 +1,15 @@
+//! An operator's lines: the text of an input, what each of its lines asks for, and a run that answers them one
+//! after the other, whoever answers.
+#![tactic(auto)]
+
+mod input;
+mod lines;
+mod step;
+mod stream;
+#[cfg(test)]
+mod tests;
+
+pub use input::{InputFault, MAX_INPUT_LEN, read_text};
+pub use lines::{Arrival, Request, next_line, read_request};
+pub use step::{Answers, Ending, step_lines};
+pub use stream::ByteStream;

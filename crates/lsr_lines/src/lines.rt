@@ -1,0 +1,225 @@
+//! The lines of standard input, and what a line asks for.
+ghost use Rattle.std.specs.Prelude.{◌≡◌, ◌≢◌, ◌↔◌, ◌<◌, ◌≤◌, ◌∷◌, ℕ, List, [], Ok, codes, length, IfOk, OnErr, IfSome, IsNone};
+ghost use Rattle.std.specs.Bool.{MatchBool};
+ghost use Rattle.std.specs.Char.{is_ascii_hexdigit};
+ghost use Rattle.std.specs.List.{list_all};
+ghost use Rattle.std.specs.Option.{MatchOption};
+ghost use Rattle.hex.specs.Hex.{decode_of};
+ghost use Rattle.lsr_lines.specs.declared.lines.Request.{Request};
+ghost use Rattle.lsr_lines.specs.Lines.{lines_of, AsksFor, AsksOf, AsksToReceive, BringsBytes, NamesLink, NamesMoment};
+
+use std::alloc::{AllocError, Global};
+
+/// A message that came over a link.
+#[derive(Debug, Drop)]
+pub struct Arrival {
+    /// The link's number, at least 1.
+    pub link: u16,
+    /// The message's bytes.
+    pub message: Vec<u8>,
+}
+
+/// What a line of standard input asks for.
+#[derive(Debug, Drop)]
+pub enum Request {
+    /// `rx LINK HEX`: the message came.
+    Receive(Arrival),
+    /// `tick N`: this moment came, in milliseconds.
+    Tick(u64),
+    /// `up LINK`: the link of this number, at least 1, came up.
+    LinkUp(u16),
+    /// `down LINK`: the link of this number, at least 1, went down.
+    LinkDown(u16),
+    /// `restart`: the router lost what messages had set up in it, and is cold.
+    Restart,
+    /// `start`: a cold router is started.
+    Start,
+    /// `show paths`: the paths that the router knows are printed.
+    ShowPaths,
+    /// `show recent`: the last replies are printed.
+    ShowRecent,
+}
+
+// The words of lines, up to the first number.
+const RECEIVE: &str = "rx ";
+
+const TICK: &str = "tick ";
+
+const LINK_UP: &str = "up ";
+
+const LINK_DOWN: &str = "down ";
+
+const RESTART: &str = "restart";
+
+const START: &str = "start";
+
+const SHOW_PATHS: &str = "show paths";
+
+const SHOW_RECENT: &str = "show recent";
+
+/// The text's first line without its newline, and what stands behind it. None where the text is empty.
+pub fn next_line(text: &str) -> Option<(&str, &str)>
+    ensures end { IsNone result ↔ (text.now ≡ []) }
+    ensures line { IfSome result (λ r. lines_of text.now ≡ r.0.now ∷ lines_of r.1.now) }
+    ensures shorter { IfSome result (λ r. length r.1.now < length text.now) }
+{
+    if text.is_empty() {
+        return None;
+    }
+    match text.split_once('\n') {
+        Some((line, rest)) => Some((line, rest)),
+        None => Some((text, "")),
+    }
+}
+
+/// The link that the word names: decimal digits, leading zeros taken, 1 to 65,535.
+fn read_link(digits: &str) -> Option<u16>
+    ensures { MatchOption result ((link : ℕ) → ¬ NamesLink digits.now link) (NamesLink digits.now) }
+{
+    // A sign is no digit, but `parse` takes one.
+    if digits.starts_with('+') {
+        return None;
+    }
+    match digits.parse::<u16>() {
+        Ok(0) => None,
+        Ok(link) => Some(link),
+        Err(_) => None,
+    }
+}
+
+/// The link that the line names behind the word, which ends with a space; none where it is no such line.
+fn read_link_behind(word: &str, line: &str) -> Option<u16>
+    ensures { MatchOption result ((link : ℕ) → ¬ AsksOf NamesLink word.now line.now link) (AsksOf NamesLink word.now line.now) }
+{
+    let digits = line.strip_prefix(word)?;
+    read_link(digits)
+}
+
+/// The moment that the word names, in milliseconds: decimal digits, leading zeros taken, that fit 64 bits.
+fn read_moment(digits: &str) -> Option<u64>
+    ensures { MatchOption result ((moment : ℕ) → ¬ NamesMoment digits.now moment) (NamesMoment digits.now) }
+{
+    // A sign is no digit, but `parse` takes one.
+    if digits.starts_with('+') {
+        return None;
+    }
+    match digits.parse::<u64>() {
+        Ok(moment) => Some(moment),
+        Err(_) => None,
+    }
+}
+
+/// The moment that the line names behind the word, which ends with a space; none where it is no such line.
+fn read_moment_behind(word: &str, line: &str) -> Option<u64>
+    ensures { MatchOption result ((moment : ℕ) → ¬ AsksOf NamesMoment word.now line.now moment) (AsksOf NamesMoment word.now line.now) }
+{
+    let digits = line.strip_prefix(word)?;
+    read_moment(digits)
+}
+
+/// What a line of fixed words asks for; none where it is no such line.
+fn read_words(line: &str) -> Option<Request>
+    ensures { MatchOption result
+        ((line.now ≢ codes "restart") × (line.now ≢ codes "start") × (line.now ≢ codes "show paths") × (line.now ≢ codes "show recent"))
+        (AsksFor line.now) }
+{
+    if line == RESTART {
+        return Some(Request::Restart);
+    }
+    if line == START {
+        return Some(Request::Start);
+    }
+    if line == SHOW_PATHS {
+        return Some(Request::ShowPaths);
+    }
+    if line == SHOW_RECENT {
+        return Some(Request::ShowRecent);
+    }
+    None
+}
+
+/// Whether all are hexadecimal digits, of either case.
+fn are_hex_digits(digits: &[u8]) -> bool
+    ensures { result ≡ list_all is_ascii_hexdigit digits.now }
+{
+    digits.iter().all(|digit| digit.is_ascii_hexdigit())
+}
+
+/// Whether the digits spell bytes, two digits for each.
+fn spells_bytes(digits: &str) -> bool
+    ensures { MatchBool result
+        ((bytes : List ℕ) × (decode_of digits.now ≡ Ok bytes))
+        ((bytes : List ℕ) → ¬ (decode_of digits.now ≡ Ok bytes)) }
+{
+    digits.len() % 2 == 0 && are_hex_digits(digits.as_bytes())
+}
+
+/// The bytes that the hexadecimal digits spell, perhaps none; none where they spell no bytes. The only error is that
+/// there is no memory for the bytes.
+fn read_bytes(alloc: Global, digits: &str) -> Result<Option<Vec<u8>>, AllocError>
+    ensures bytes { IfOk result (λ bytes. MatchOption bytes
+        ((some : List ℕ) → ¬ (decode_of digits.now ≡ Ok some))
+        (λ b. decode_of digits.now ≡ Ok b.items)) }
+    ensures memory { OnErr result ((some : List ℕ) × (decode_of digits.now ≡ Ok some) × (1 ≤ length some)) }
+{
+    if digits.is_empty() {
+        return Ok(Some(Vec::new(alloc)));
+    }
+    if !spells_bytes(digits) {
+        return Ok(None);
+    }
+    match hex::decode(alloc, digits) {
+        Ok(bytes) => Ok(Some(bytes)),
+        Err(_) => Err(AllocError),
+    }
+}
+
+/// The arrival that the line asks for, `rx LINK HEX`; none where it is no such line. The only error is that there is no
+/// memory for the message's bytes.
+fn read_arrival(alloc: Global, line: &str) -> Result<Option<Arrival>, AllocError>
+    ensures arrival { IfOk result (λ arrival. MatchOption arrival
+        ((link : ℕ) (message : List ℕ) → ¬ AsksToReceive line.now link message)
+        (λ a. AsksToReceive line.now a.link a.message.items)) }
+    ensures memory { OnErr result (BringsBytes line.now) }
+{
+    let Some(words) = line.strip_prefix(RECEIVE) else {
+        return Ok(None);
+    };
+    let Some((link_digits, hex_digits)) = words.split_once(' ') else {
+        return Ok(None);
+    };
+    let Some(link) = read_link(link_digits) else {
+        return Ok(None);
+    };
+    match read_bytes(alloc, hex_digits)? {
+        Some(message) => Ok(Some(Arrival { link, message })),
+        None => Ok(None),
+    }
+}
+
+/// What the line asks for: `rx LINK HEX`, `tick N`, `up LINK`, `down LINK`, `restart`, `start`, `show paths` or `show
+/// recent`; none where it is no such line. Words are parted by one space. The only error is that there is no memory for
+/// the bytes of a message, so it never comes in place of none.
+pub fn read_request(alloc: Global, line: &str) -> Result<Option<Request>, AllocError>
+    ensures request { IfOk result (λ request. MatchOption request
+        ((asked : Request) → ¬ AsksFor line.now asked)
+        (AsksFor line.now)) }
+    ensures memory { OnErr result (BringsBytes line.now) }
+{
+    if let Some(request) = read_words(line) {
+        return Ok(Some(request));
+    }
+    if let Some(moment) = read_moment_behind(TICK, line) {
+        return Ok(Some(Request::Tick(moment)));
+    }
+    if let Some(link) = read_link_behind(LINK_UP, line) {
+        return Ok(Some(Request::LinkUp(link)));
+    }
+    if let Some(link) = read_link_behind(LINK_DOWN, line) {
+        return Ok(Some(Request::LinkDown(link)));
+    }
+    match read_arrival(alloc, line)? {
+        Some(arrival) => Ok(Some(Request::Receive(arrival))),
+        None => Ok(None),
+    }
+}

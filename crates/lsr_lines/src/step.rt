@@ -1,0 +1,96 @@
+//! The lines of a text, answered one after the other.
+ghost use Rattle.std.specs.Prelude.{ℕ, List, IfOk, string_bytes};
+ghost use Rattle.std.specs.Io.KnownBytes.{Appends};
+ghost use Rattle.lsr_lines.specs.declared.lines.Request.{Request};
+ghost use Rattle.lsr_lines.specs.Lines.{lines_of};
+ghost use Rattle.lsr_lines.specs.Steps.{Becomes, Ends};
+
+use crate::lines::{Request, next_line, read_request};
+use std::alloc::{AllocError, Global};
+use std::io;
+use std::io::Write;
+
+/// What answers requests.
+pub trait Answers: Drop {
+    ghost answers: { Self → Request → List ℕ → Self → Type 0 };
+
+    /// Answers a request: gives itself as it is then, and the lines that are printed. The only error is that
+    /// memory ran out.
+    fn answer(self, alloc: Global, request: &Request) -> (Self, Result<String, AllocError>)
+        ensures { IfOk result.1 (λ text. answers self request.now (string_bytes text) result.0) };
+}
+
+/// How a run over lines ends.
+#[derive(Clone, Copy, Debug, PartialEq, Eq)]
+pub enum Ending {
+    /// Every line was served.
+    Done,
+    /// The line of this number, from 1, asks for nothing that there is. The lines before it were served.
+    BadLine(usize),
+    /// There was no memory for a line that asks for something: for its message, or to answer it. The lines before it
+    /// were served.
+    Memory,
+}
+
+/// What became of one line.
+#[derive(Clone, Copy, Debug, PartialEq, Eq)]
+enum Served {
+    /// It was served, and its answer printed.
+    Printed,
+    /// It asks for nothing that there is.
+    NoRequest,
+    /// There was no memory for its message, or to answer it.
+    Memory,
+}
+
+/// Answers the line, and prints the answer: the session as it is then. The error is the output's.
+fn step_line<A: Answers, W: Write>(
+    alloc: Global,
+    session: A,
+    line: &str,
+    output: &mut W,
+) -> io::Result<(A, Served)>
+    ensures { IfOk result (λ r. (printed : List ℕ) × Appends (W.contents output.old) (W.contents output.new) printed
+        × Becomes A.answers session line.now printed r.1 r.0) }
+{
+    let request = match read_request(alloc, line) {
+        Ok(Some(request)) => request,
+        Ok(None) => return Ok((session, Served::NoRequest)),
+        Err(_) => return Ok((session, Served::Memory)),
+    };
+    match session.answer(alloc, &request) {
+        (session, Ok(text)) => {
+            output.write_all(text.as_bytes())?;
+            Ok((session, Served::Printed))
+        }
+        (session, Err(_)) => Ok((session, Served::Memory)),
+    }
+}
+
+/// Answers the lines of the text, one after the other, up to the first that asks for nothing. The error is the
+/// output's.
+pub fn step_lines<A: Answers, W: Write>(
+    alloc: Global,
+    session: A,
+    text: &str,
+    output: &mut W,
+) -> io::Result<Ending>
+    ensures { IfOk result (λ ending. (printed : List ℕ) × Appends (W.contents output.old) (W.contents output.new) printed
+        × Ends A.answers session (lines_of text.now) printed ending) }
+{
+    let mut session = session;
+    let mut rest = text;
+    let mut number = 0usize;
+    while let Some((line, behind)) = next_line(rest) {
+        number += 1;
+        let (next, served) = step_line(alloc, session, line, output)?;
+        session = next;
+        match served {
+            Served::Printed => {}
+            Served::NoRequest => return Ok(Ending::BadLine(number)),
+            Served::Memory => return Ok(Ending::Memory),
+        }
+        rest = behind;
+    }
+    Ok(Ending::Done)
+}

@@ -1,0 +1,5 @@
+-- Both clauses of the machine.
+use Rattle.lsr_session.proofs.requests.take_event.Goals as goal
+
+pub returns : goal.returns
+returns c = record { taken = c.serve_event.ensures.taken; router = c.serve_event.ensures.router }

@@ -1,0 +1,2 @@
+pub mod Requests
+pub use Rattle.router_machine.specs.States

@@ -1,0 +1,7 @@
+//! A session of `lsr step`: its router, and what it answers to requests. The router's type is passed on.
+#![tactic(auto)]
+
+mod requests;
+
+pub use requests::Session;
+pub use router_machine::Machine;

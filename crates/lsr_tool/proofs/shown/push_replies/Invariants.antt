@@ -1,7 +1,0 @@
--- The lines of the replies so far, behind what there was.
-use Rattle.std.proofs.Common.{◌≡◌, ◌++◌, take, string_bytes}
-use Rattle.lsr_tool.specs.Shown.{recent_text}
-use Rattle.lsr_tool.proofs.shown.push_replies.Given as goal
-
-abbrev pub invariant-loop-reply : goal.invariant-loop-reply
-invariant-loop-reply l = string_bytes l.text ≡ string_bytes l.fn.text ++ recent_text (take l.reply-index l.replies)

@@ -1,0 +1,47 @@
+-- What is done of what the words ask for, and the status of words that aren't taken.
+use Rattle.std.specs.Prelude.{◌≡◌, ◌⊎◌, ℕ, List, Option}
+use Rattle.std.specs.Option.{option_map}
+use Rattle.std.specs.Io.KnownBytes.{Appends}
+use Rattle.clap.specs.Words.{IsAmong, fault_of}
+use Rattle.clap.specs.declared.error.kind.ErrorKind.{ErrorKind}
+use Rattle.clap.specs.declared.error.kind.ErrorKind.TheVariants as kinds
+use Rattle.lsr_decode.specs.Decoding.{Decodes, decoded_status, shown_text, told_text}
+use Rattle.lsr_decode.specs.declared.decoding.Decoded.{Decoded}
+use Rattle.lsr_lines.specs.Texts.{Stream}
+use Rattle.lsr_lines.specs.declared.input.InputFault.{InputFault}
+use Rattle.lsr_words.specs.Words.{AsksFor, lsr_words}
+use Rattle.lsr_words.specs.declared.words.Asked.{Asked}
+use Rattle.lsr_words.specs.declared.words.Asked.TheVariants as asked
+use Rattle.lsr_tool.specs.Endings.{ending_text, status_of}
+use Rattle.lsr_tool.specs.Sessions.{StepsOnFile}
+use Rattle.lsr_tool.specs.declared.endings.RunEnding.{RunEnding}
+
+-- What was asked for is done, with this status: a run on the router of the file that is named, or without a name on
+-- the built-in router; or a word is decoded. What is printed and told stands behind what the streams held.
+abbrev pub Does : {F : Type 0} → (List ℕ → F → Type 0) → (List ℕ → InputFault → Type 0) → (F → Stream) → Asked → Stream → Option (List ℕ) → Option (List ℕ) → Option (List ℕ) → Option (List ℕ) → ℕ → Type 0
+Does opens fails stream (asked.Step file) input output printed error told status =
+    (ending : RunEnding) × (text : List ℕ) × (status ≡ status_of ending)
+    × StepsOnFile opens fails stream (option_map (λ f. f.now) file) input text ending
+    × Appends output printed text × Appends error told (ending_text ending)
+Does opens fails stream (asked.Decode word) input output printed error told status =
+    (decoded : Decoded) × Decodes word.now decoded × (status ≡ decoded_status decoded)
+    × Appends output printed (shown_text decoded) × Appends error told (told_text decoded)
+
+-- The status of words that aren't taken: 0 for help, 1 where memory ran out, else 2.
+abbrev pub words_status : ErrorKind → ℕ
+words_status kinds.DisplayHelp = 0
+words_status kinds.DisplayVersion = 0
+words_status kinds.OutOfMemory = 1
+words_status kind = 2
+
+-- the status of words that aren't taken: that of one of their faults, or of memory that ran out
+abbrev pub IsFaultStatus : List (List ℕ) → ℕ → Type 0
+IsFaultStatus words status =
+    (kind : ErrorKind) × ((kind ≡ kinds.OutOfMemory) ⊎ IsAmong kind (fault_of lsr_words words)) × (status ≡ words_status kind)
+
+-- Words are run, with this status: what they ask for is done; or they aren't taken, and the status says so; or they
+-- name nothing that there is.
+abbrev pub Runs : {F : Type 0} → (List ℕ → F → Type 0) → (List ℕ → InputFault → Type 0) → (F → Stream) → List (List ℕ) → Stream → Option (List ℕ) → Option (List ℕ) → Option (List ℕ) → Option (List ℕ) → ℕ → Type 0
+Runs opens fails stream words input output printed error told status =
+    ((asked : Asked) × AsksFor words asked × Does opens fails stream asked input output printed error told status)
+    ⊎ (IsFaultStatus words status ⊎ (((asked : Asked) → AsksFor words asked → ⊥) × (status ≡ 2)))

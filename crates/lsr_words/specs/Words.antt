@@ -1,0 +1,43 @@
+-- Which words ask for what.
+use Rattle.std.specs.Prelude.{◌≡◌, List, Option, Some, true, codes, option_map}
+use Rattle.clap.specs.Words.{App, Row, Rule, Text, first_of, new_app, new_rule, subcommand_of, with_rule, with_subcommand}
+use Rattle.clap.specs.Simple.{on_top}
+use Rattle.lsr_words.specs.declared.words.Asked.{Asked}
+use Rattle.lsr_words.specs.declared.words.Asked.TheVariants as asked
+
+-- `--config FILE`
+abbrev pub file_words : Rule
+file_words = record (new_rule (codes "config")) { long = Some (codes "config"); value_names = 1 }
+
+-- `HEX`
+abbrev pub digits_word : Rule
+digits_word = record (new_rule (codes "HEX")) { required = true }
+
+-- `step [--config FILE]`
+abbrev pub step_words : App
+step_words = with_rule (new_app (codes "step")) file_words
+
+-- `decode HEX`
+abbrev pub decode_words : App
+decode_words = with_rule (new_app (codes "decode")) digits_word
+
+-- the program's name; a command has to follow
+abbrev pub program_words : App
+program_words = on_top (λ top. record top { subcommand_required = true; arg_required_else_help = true }) (new_app (codes "lsr"))
+
+-- the program's name, and one of the two
+abbrev pub lsr_words : App
+lsr_words = with_subcommand (with_subcommand program_words step_words.top) decode_words.top
+
+-- what a command asks for, with the values that it was given
+abbrev pub Asks : Text → List Row → Asked → Type 0
+Asks command given (asked.Step file) = (command ≡ codes "step") × (option_map (λ f. f.now) file ≡ first_of (codes "config") given)
+Asks command given (asked.Decode word) = (command ≡ codes "decode") × (first_of (codes "HEX") given ≡ Some word.now)
+
+-- what a command asks for that was found with its values
+abbrev pub AsksIn : Option (Text × List Row) → Asked → Type 0
+AsksIn found what = (command : Text) × (given : List Row) × (found ≡ Some (command, given)) × Asks command given what
+
+-- what the words ask for
+abbrev pub AsksFor : List Text → Asked → Type 0
+AsksFor words = AsksIn (subcommand_of lsr_words words)

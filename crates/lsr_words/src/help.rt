@@ -1,0 +1,164 @@
+//! The words that `lsr` takes, and what its help says.
+ghost use Rattle.std.specs.Prelude.{◌≡◌, false, IfOk};
+ghost use Rattle.clap.specs.Words.{app_of, rule_of};
+ghost use Rattle.lsr_words.specs.Words.{digits_word, file_words, lsr_words};
+
+use clap::{Arg, Command};
+use std::alloc::{AllocError, Global};
+
+const ABOUT: &str = "The control plane of an MPLS label switching router, in an operator's hands.";
+
+const HELP: &str = "\
+Where to go on:
+  lsr step --help     the lines that a router takes, and what it prints for them
+  lsr decode --help   what one message is made of
+
+Example: the router refuses to tear down a path that it doesn't know.
+  echo rx 1 1005b988ff000030001001070a000004000000010a000001000c03010a00000100000001\
+000c0b070a00000100000001 | lsr step
+
+The status is 0; 1 for a refused file, input, line or message, and where the output can't be
+written or memory runs out; 2 for words that aren't taken. Why is said on standard error.
+";
+
+const STEP_ABOUT: &str = "\
+Serves messages, moments, links that come up and go down, and restarts, a line each from
+standard input, and prints what the router answers and sends";
+
+const STEP_HELP: &str = "\
+A line of standard input, its words parted by one space:
+  rx LINK HEX       a message came over link LINK, 1 to 65535; HEX is its bytes in
+                    hexadecimal digits of either case, and may be empty
+  tick N            moment N came, in milliseconds; the router is opened at moment 0
+  up LINK           link LINK came up
+  down LINK         link LINK went down
+  restart           the router lost what messages had set up in it, and is cold
+  start             a cold router is started; a running one goes on as it is
+  show paths        asks for the paths that the router knows
+  show recent       asks for the last 32 replies
+
+What is printed for each of them but `show paths` and `show recent`:
+  done              it was done
+  error CODE VALUE  it is an error of RSVP, which its sender is told
+  refused N NAME    it was refused for the reason of this number and name, and nothing
+                    changed: the run goes on with the next line
+  tx LINK HEX       behind that, each message that the router sends
+
+What to do next:
+  refused 24 UnknownLink   name a link of the configuration
+  refused 12 LinkDown      `up LINK` first
+  refused 29 Late          a moment below the last one: go on from that
+  refused 30 BadMoment     a moment above 4611686018427387904 (2^62)
+  refused 42 IsCold        the router was restarted: `start` it first
+  refused 1 to 9           the message can't be read: `lsr decode HEX` tells the same
+
+What is printed for `show recent`, the oldest reply first: `done`, `error CODE VALUE` or
+`refused N NAME`, without what was sent.
+
+What is printed for `show paths`, a line for each path, in order:
+  path ENDPOINT/TUNNEL/EXTENDED SENDER/LSP transit|tail|head OUT ORIGINS
+                    its session, sender and LSP ID; what the router is on its way; the
+                    link that it leaves by, 0 for a tail; how many origins it has
+
+The router is the one that FILE says (docs/CONFIGURATION.md has the keys; begin with a copy
+of examples/middle.toml), or without it the built-in one: 10.0.0.2, link 1 to 10.0.0.1, link
+2 to 10.0.0.3.
+
+On standard error, with status 1:
+  bad line N        line N has none of the forms above, and ends the run; what the lines
+                    before it asked for is done. Mend it, and run the whole again
+  config FAULT KEY  the first fault of FILE, and the key that it is about; mend that, and
+                    run again for the next. docs/CONFIGURATION.md says what each FAULT is
+  unreadable        FILE or the input can't be opened or read, isn't UTF-8, or has more than
+                    16777216 bytes
+  memory            there is no memory; what was printed before is done
+  unwritable        the output or the error stream can't be written
+
+Example: a tear of a path that isn't there prints `refused 10 NoMatch`.
+  echo rx 1 1005b988ff000030001001070a000004000000010a000001000c03010a00000100000001\
+000c0b070a00000100000001 | lsr step
+";
+
+const DECODE_ABOUT: &str = "Prints the objects of one message";
+
+const DECODE_HELP: &str = "\
+What is printed:
+  KIND LENGTH       the message's type (Path, PathErr or PathTear) and its bytes
+  CLASS CTYPE BODY  a line for each object, in the order of the bytes: its class and
+                    C-Type in decimal, and its body in hexadecimal digits, if it has any
+
+A message that can't be read prints `refused N NAME` on standard error, status 1: what is
+wrong with it first. A router answers the same to `rx LINK HEX` (lsr step --help).
+  1 Short              fewer than 8 bytes
+  2 Version            its version isn't 1
+  3 LengthField        its length field isn't the number of its bytes
+  4 Checksum           its checksum field is neither 0 nor right
+  5 ObjectLength       an object's length is wrong
+  6 MissingObject      an object that its type needs isn't there
+  7 KindUnsupported    its type isn't Path, PathErr or PathTear
+  8 Integrity          it has an INTEGRITY object
+  9 TooLong            it has more than 4096 bytes, or a route, a record or passing objects
+                       above the limit
+  40 NoMemory          there is no memory to read it
+
+Example: this PathTear prints `PathTear 48`, `1 7 0a000004000000010a000001`,
+`3 1 0a00000100000001` and `11 7 0a00000100000001`.
+  lsr decode 1005b988ff000030001001070a000004000000010a000001000c03010a0000010000000\
+1000c0b070a00000100000001
+";
+
+const HEX_HELP: &str = "The message's bytes: an even number of hexadecimal digits of either case";
+
+const CONFIG_HELP: &str =
+    "The file of the router's configuration (TOML); without it the built-in router serves";
+
+/// The program's name.
+const PROGRAM: &str = "lsr";
+/// The name of the command that answers lines.
+pub(crate) const STEP: &str = "step";
+/// The name of the command that decodes a message.
+pub(crate) const DECODE: &str = "decode";
+/// The name of the argument of `decode`.
+pub(crate) const HEX: &str = "HEX";
+/// The name of the option of `step`.
+pub(crate) const CONFIG: &str = "config";
+
+/// `--config FILE`.
+fn config_option<'a>(alloc: Global) -> Arg<'a>
+    ensures rule { rule_of result ≡ file_words }
+    ensures local { result.global ≡ false }
+{
+    Arg::new(alloc, CONFIG)
+        .long(CONFIG)
+        .value_name("FILE")
+        .help(CONFIG_HELP)
+}
+
+/// `HEX`.
+fn hex_word<'a>(alloc: Global) -> Arg<'a>
+    ensures rule { rule_of result ≡ digits_word }
+    ensures local { result.global ≡ false }
+{
+    Arg::new(alloc, HEX).required(true).help(HEX_HELP)
+}
+
+/// The words that `lsr` takes: `step [--config FILE]` and `decode HEX`. The only error is that memory ran out.
+pub(crate) fn command<'a>(alloc: Global) -> Result<Command<'a>, AllocError>
+    ensures { IfOk result (λ command. app_of command ≡ lsr_words) }
+{
+    let step = Command::new(alloc, STEP)
+        .about(STEP_ABOUT)
+        .after_help(STEP_HELP)
+        .arg(config_option(alloc))?;
+    let decode = Command::new(alloc, DECODE)
+        .about(DECODE_ABOUT)
+        .after_help(DECODE_HELP)
+        .arg(hex_word(alloc))?;
+    let program = Command::new(alloc, PROGRAM)
+        .about(ABOUT)
+        .after_help(HELP)
+        .subcommand_required(true)
+        .arg_required_else_help(true)
+        .subcommand(step)?;
+    program.subcommand(decode)
+}

@@ -1,0 +1,81 @@
+//! Words that are taken, words that aren't, and help.
+use crate::{Asked, read_words};
+use std::alloc::Global;
+use std::test::Fail;
+
+/// A message that a help's example tears a path with.
+const TEAR: &str =
+    "1005b988ff000030001001070a000004000000010a000001000c03010a00000100000001000c0b070a00000100000001";
+
+/// What is told of words that ask for nothing, and whether it goes to the error stream.
+fn told(alloc: Global, words: &[&str]) -> Result<(bool, String), Fail> {
+    match read_words(alloc, words) {
+        Ok(_) => Ok((false, String::new(alloc))),
+        Err(fault) => Ok((fault.use_stderr(), format!(in alloc; "{fault}")?)),
+    }
+}
+
+#[test]
+fn words_ask_for_a_command(rt: HostRuntime) -> Result<(), Fail> {
+    let file = Some(Asked::Step(Some("a.toml")));
+    let taken = [
+        (["lsr", "step"].as_slice(), Some(Asked::Step(None))),
+        (["lsr", "step", "--config", "a.toml"].as_slice(), file),
+        (["lsr", "step", "--config=a.toml"].as_slice(), file),
+        (
+            ["lsr", "step", "--config", ""].as_slice(),
+            Some(Asked::Step(Some(""))),
+        ),
+        (
+            ["lsr", "decode", "1005"].as_slice(),
+            Some(Asked::Decode("1005")),
+        ),
+        (["lsr", "decode", ""].as_slice(), Some(Asked::Decode(""))),
+        (["lsr", "decode", "é"].as_slice(), Some(Asked::Decode("é"))),
+    ];
+    for (words, asked) in taken {
+        assert_eq!(rt; read_words(rt.alloc(), words)?, asked);
+    }
+    Ok(())
+}
+
+#[test]
+fn other_words_are_told_on_the_error_stream(rt: HostRuntime) -> Result<(), Fail> {
+    let others = [
+        ["lsr", "steps", ""].as_slice(),
+        ["lsr", "step", "more"].as_slice(),
+        ["lsr", "step", "--turns"].as_slice(),
+        ["lsr", "step", "--config"].as_slice(),
+        ["lsr", "step", "--config", "file", "more"].as_slice(),
+        ["lsr", "step", "--config", "file", "--config", "file"].as_slice(),
+        ["lsr", "decode", "--config", "file", "10"].as_slice(),
+        ["lsr", "decode"].as_slice(),
+        ["lsr", "decode", "10", "10"].as_slice(),
+        ["lsr"].as_slice(),
+    ];
+    for words in others {
+        let (is_error, text) = told(rt.alloc(), words)?;
+        assert!(rt; is_error);
+        assert!(rt; !text.is_empty());
+    }
+    Ok(())
+}
+
+#[test]
+fn help_shows_lines_and_an_example(rt: HostRuntime) -> Result<(), Fail> {
+    let helps = [
+        (["lsr", "--help"].as_slice(), TEAR),
+        (["lsr", "--help"].as_slice(), "lsr decode --help"),
+        (["lsr", "step", "--help"].as_slice(), TEAR),
+        (["lsr", "step", "--help"].as_slice(), "--config <FILE>"),
+        (["lsr", "step", "--help"].as_slice(), "show recent"),
+        (["lsr", "help", "step"].as_slice(), "tx LINK HEX"),
+        (["lsr", "decode", "--help"].as_slice(), TEAR),
+    ];
+    for (words, text) in helps {
+        let (is_error, help) = told(rt.alloc(), words)?;
+        assert!(rt; !is_error);
+        assert!(rt; help.as_str().contains(text));
+    }
+    Ok(())
+}

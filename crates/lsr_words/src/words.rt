@@ -1,0 +1,52 @@
+//! Reads the words of the command line.
+ghost use Rattle.std.specs.Prelude.{◌≡◌, true, map, IfOk, IfErr};
+ghost use Rattle.std.specs.Option.{MatchOption};
+ghost use Rattle.clap.specs.Words.{FailsBy, fault_of, kind_of, subcommand_rows_of, takes};
+ghost use Rattle.lsr_words.specs.declared.words.Asked.{Asked};
+ghost use Rattle.lsr_words.specs.Words.{AsksFor, AsksIn, lsr_words};
+
+use crate::help::{CONFIG, DECODE, HEX, STEP, command};
+use clap::ArgMatches;
+use clap::error::{Error, ErrorKind};
+use std::alloc::Global;
+use std::convert::AsStr;
+
+/// What the words ask for.
+#[derive(Clone, Copy, Debug, PartialEq, Eq)]
+pub enum Asked<'a> {
+    /// `step`: lines are answered by the router of the file of this name, or without one by the built-in router.
+    Step(Option<&'a str>),
+    /// `decode HEX`: the word is decoded.
+    Decode(&'a str),
+}
+
+/// What the matches of the program's words ask for; none where they name no command.
+fn asked_in<'a>(matches: &ArgMatches<'a>) -> Option<Asked<'a>>
+    ensures { MatchOption result
+        ((other : Asked) → ¬ AsksIn (subcommand_rows_of matches.now) other)
+        (AsksIn (subcommand_rows_of matches.now)) }
+{
+    match matches.subcommand() {
+        Some((STEP, given)) => Some(Asked::Step(given.get_str(CONFIG))),
+        Some((DECODE, given)) => match given.get_str(HEX) {
+            Some(word) => Some(Asked::Decode(word)),
+            None => None,
+        },
+        _ => None,
+    }
+}
+
+/// What the words ask for, the first of which is the program's own name; none where they name no command. The error
+/// is why they aren't taken, the help that they ask for, or that memory ran out.
+pub fn read_words<'a, S: AsStr>(alloc: Global, words: &'a [S]) -> Result<Option<Asked<'a>>, Error>
+    ensures asked { IfOk result (λ asked. MatchOption asked
+        ((other : Asked) → ¬ AsksFor (map S.text words.entry.now) other)
+        (AsksFor (map S.text words.entry.now))) }
+    ensures taken { IfErr result (λ fault. takes lsr_words (map S.text words.entry.now) ≡ true → kind_of fault ≡ ErrorKind.OutOfMemory) }
+    ensures kinds { FailsBy (fault_of lsr_words (map S.text words.entry.now)) result }
+{
+    match command(alloc)?.try_get_matches_from(words) {
+        Ok(matches) => Ok(asked_in(&matches)),
+        Err(fault) => Err(fault),
+    }
+}

@@ -1,0 +1,3 @@
+pub use Rattle.explicit_routes.specs.Choosing
+pub use Rattle.explicit_routes.specs.Nodes
+pub use Rattle.explicit_routes.specs.declared.fault.RouteFault

@@ -1,0 +1,161 @@
+//! The events of a router, the frames that it sends for them, and its steps as they were made.
+
+ghost use Rattle.std.specs.Prelude.{◌≡◌, ◌∷◌, ◌++◌, [], OnOk, OnErr};
+
+use link_frames::Frame;
+use lsr_facts::{Key, Reply};
+use rsvp_contents::Reading;
+use sorted_rows::{Table, TryCopy};
+use std::alloc::{AllocError, Global};
+use std::marker::Model;
+
+/// A message that came from a neighbour in a Hop frame.
+#[derive(Debug, Drop)]
+pub struct Arrive {
+    /// The number of the link that it came over.
+    pub link: u16,
+    /// What it was read as.
+    pub reading: Reading,
+}
+
+/// What happens to a router.
+#[derive(Debug, Drop)]
+pub enum Event {
+    /// A message came.
+    Arrive(Arrive),
+    /// This moment came, in milliseconds.
+    Tick(u64),
+    /// The link of this number came up.
+    LinkUp(u16),
+    /// The link of this number went down.
+    LinkDown(u16),
+    /// The router lost what messages had set up in it, and is cold until it is started.
+    Restart,
+    /// A cold router is started. A running one goes on as it is.
+    Start,
+}
+
+/// A frame that the router sends.
+#[derive(Debug, Drop)]
+pub struct Output {
+    /// The number of the link that it leaves by.
+    pub link: u16,
+    /// The frame.
+    pub frame: Frame,
+}
+
+/// Frames that the router sends, in their order. Contracts see the list.
+#[derive(Debug, Drop)]
+pub struct Outputs {
+    items: Vec<Output>,
+}
+
+impl Model for Outputs {
+    ghost use Rattle.std.specs.Prelude.{List};
+    ghost use Rattle.router_events.specs.declared.events.Output.{Output};
+
+    ghost Value = { List Output };
+
+    ghost view = { λ o. o.items.items };
+}
+
+impl Outputs {
+    /// No frames. Takes no memory.
+    pub fn new(alloc: Global) -> Outputs
+        ensures { result ≡ [] }
+    {
+        Outputs {
+            items: Vec::new(alloc),
+        }
+    }
+
+    /// These frames. Takes no memory.
+    pub fn from_vec(items: Vec<Output>) -> Outputs
+        ensures { result ≡ items.items }
+    {
+        Outputs { items }
+    }
+
+    /// The frames, given back without taking memory.
+    pub fn into_vec(self) -> Vec<Output>
+        ensures { result.items ≡ self }
+    {
+        let Outputs { items } = self;
+        items
+    }
+
+    /// Puts a frame behind the others. The only error is out of memory, and then nothing changed.
+    pub fn push(&mut self, output: Output) -> Result<(), AllocError>
+        ensures ok { OnOk result (self.new ≡ self.old ++ output ∷ []) }
+        ensures err { OnErr result (self.new ≡ self.old) }
+    {
+        self.items.push(output)?;
+        Ok(())
+    }
+
+    /// The frames.
+    pub fn as_slice(&self) -> &[Output]
+        ensures { result.now ≡ self.now }
+    {
+        self.items.as_slice()
+    }
+}
+
+/// One step of a router as it was made.
+#[derive(Debug, Drop)]
+pub struct Made {
+    /// What happened.
+    pub event: Event,
+    /// The labels that were chosen: of each LSP that is new its own.
+    pub labels: Table<Key, u32>,
+    /// What was answered.
+    pub reply: Reply,
+    /// What was sent.
+    pub outputs: Outputs,
+}
+
+impl TryCopy for Event {
+    fn try_copy(&self, _alloc: Global) -> Result<Event, AllocError> {
+        match self {
+            Event::Arrive(arrive) => Ok(Event::Arrive(Arrive {
+                link: arrive.link,
+                reading: arrive.reading.clone()?,
+            })),
+            Event::Tick(moment) => Ok(Event::Tick(*moment)),
+            Event::LinkUp(number) => Ok(Event::LinkUp(*number)),
+            Event::LinkDown(number) => Ok(Event::LinkDown(*number)),
+            Event::Restart => Ok(Event::Restart),
+            Event::Start => Ok(Event::Start),
+        }
+    }
+}
+
+impl TryCopy for Output {
+    fn try_copy(&self, _alloc: Global) -> Result<Output, AllocError> {
+        Ok(Output {
+            link: self.link,
+            frame: self.frame.clone()?,
+        })
+    }
+}
+
+impl TryCopy for Outputs {
+    fn try_copy(&self, alloc: Global) -> Result<Outputs, AllocError> {
+        let mut items = Vec::with_capacity(alloc, self.items.len())?;
+        for output in &self.items {
+            items.push(output.try_copy(alloc)?)?;
+        }
+        Ok(Outputs { items })
+    }
+}
+
+impl TryCopy for Made {
+    fn try_copy(&self, alloc: Global) -> Result<Made, AllocError> {
+        Ok(Made {
+            event: self.event.try_copy(alloc)?,
+            labels: self.labels.try_copy(alloc)?,
+            reply: self.reply,
+            outputs: self.outputs.try_copy(alloc)?,
+        })
+    }
+}

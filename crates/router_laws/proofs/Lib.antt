@@ -1,0 +1,4 @@
+pub mod Led
+pub mod Repeats
+pub mod Unchanged
+pub mod Ticks

@@ -1,0 +1,24 @@
+-- What the laws speak of.
+use Rattle.std.specs.Prelude.{◌<◌, ℕ, Bool, true, false}
+use Rattle.std.specs.List.{AllByRecursion}
+use Rattle.std.specs.declared.net.ipv4_addr.Ipv4Addr.{Ipv4Addr}
+use Rattle.rsvp_contents.specs.declared.message.Reading.TheVariants as readings
+use Rattle.rsvp_contents.specs.declared.messages.Content.{Content}
+use Rattle.lsr_facts.specs.declared.key.Key.{Key}
+use Rattle.lsr_facts.specs.declared.path_fact.Origin.{Origin}
+use Rattle.lsr_facts.specs.declared.path_fact.PathFact.{PathFact}
+use Rattle.router_events.specs.declared.events.Event.{Event}
+use Rattle.router_events.specs.declared.events.Event.TheVariants as events
+
+-- a message that is read whole comes over a link
+abbrev pub comes : ℕ → Content → Event
+comes link content = events.Arrive (record { link = link; reading = readings.Whole content })
+
+-- a link comes up, or it goes down
+abbrev pub link_event : ℕ → Bool → Event
+link_event number true = events.LinkUp number
+link_event number false = events.LinkDown number
+
+-- each origin of the path has its expiry above the moment
+abbrev pub IsUnexpired : ℕ → Key × PathFact → Type 0
+IsUnexpired moment path = AllByRecursion (λ (origin : Ipv4Addr × Origin). moment < origin.1.expiry) path.1.origins

@@ -1,0 +1,27 @@
+use Rattle.std.proofs.Common.{◌≡◌, ◌+◌, ◌++◌, ◌∷◌, [], List, ap, sym, take, ◌∙◌}
+use Rattle.std.proofs.lemmas.List.{take_more}
+use Rattle.router_machine.specs.declared.inputs.Input.{Input}
+use Rattle.router_machine.proofs.Taking.{taken_is_run, taken_more, taken_still}
+use Rattle.router_machine.proofs.machine.Machine.serve_all.Goals as goal
+
+pub loop-input-preserved : goal.loop-input-preserved
+loop-input-preserved c =
+    let inputs = c.args.inputs.now in
+    let i = c.loop-input.input-index in
+    let input = c.input-item.result in
+    let before = c.loop-input.invariant in
+    let more : take (i + 1) inputs ≡ take i inputs ++ input ∷ [] = take_more inputs i input c.loop-input-test.true ∙ ap (λ (v : Input). take i inputs ++ v ∷ []) (sym c.input-item.is) in
+    record {
+      count = ap (λ n. n + 1) before.count;
+      taken = taken_more c.args.self.router c.loop-input.machine.router c.args.self.facts inputs i input c.loop-input.steps.items c.serve_next-next.new.steps.items c.loop-input.machine.facts c.serve_next-next.result.0.facts _ c.serve_next-next.result.1 c.in-Ok.is more before.taken before.router c.serve_next-next.ensures.taken;
+      router = c.serve_next-next.ensures.router ∙ before.router;
+    }
+
+pub returns-in-Err-clause-run : goal.returns-in-Err-clause-run
+returns-in-Err-clause-run c =
+    let inputs = take c.loop-input.input-index c.args.inputs.now in
+    taken_is_run c.args.self.router c.args.self.facts inputs c.serve_next-next.new.steps.items c.serve_next-next.result.0.facts
+    (taken_still c.args.self.router c.args.self.facts inputs c.loop-input.steps.items c.serve_next-next.new.steps.items c.loop-input.machine.facts c.serve_next-next.result.0.facts _ c.serve_next-next.result.1 c.in-Err.is c.loop-input.invariant.taken c.serve_next-next.ensures.kept)
+
+pub returns-clause-run : goal.returns-clause-run
+returns-clause-run c = taken_is_run c.args.self.router c.args.self.facts (take c.loop-input.input-index c.args.inputs.now) c.loop-input.steps.items c.loop-input.machine.facts c.loop-input.invariant.taken

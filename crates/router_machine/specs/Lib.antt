@@ -1,0 +1,3 @@
+pub mod Machines
+pub use Rattle.router_core.specs.Serving
+pub use Rattle.router_core.specs.States

@@ -1,0 +1,322 @@
+//! A router that is cold or runs.
+
+ghost use Rattle.std.specs.Prelude.{◌≡◌, ◌≢◌, List, None, IfOk, OnErr, false, length, take, ◌++◌, ◌∷◌, []};
+ghost use Rattle.lsr_facts.specs.Routers.{IsRouter};
+ghost use Rattle.lsr_facts.specs.declared.refusal.Refusal.TheVariants.{NoMemory};
+ghost use Rattle.router_events.specs.declared.events.Made.{Made};
+ghost use Rattle.abstract_router.specs.Soundness.{IsSound};
+ghost use Rattle.abstract_router.specs.Steps.{Run, opening};
+ghost use Rattle.router_core.specs.Plans.{quiet};
+ghost use Rattle.router_core.specs.Serving.{IsDatagramAnswered, IsEventOf};
+ghost use Rattle.router_events.specs.Frames.{head_fault};
+ghost use Rattle.router_core.specs.States.{opened};
+ghost use Rattle.router_machine.specs.Machines.{AreTaken, IsDatagramLeft, IsEventFor, IsEventLeft, IsLeft, IsRefusedCold, IsTaken, MayRunOut, MayRunOutFor, state_in};
+
+use crate::inputs::{Input, Served};
+use lsr_config::Config;
+use lsr_facts::{Facts, Refusal, Reply};
+use router_core::{Cold, Running, read_event};
+use router_events::{Event, Made, Outputs};
+use sorted_rows::Table;
+use std::alloc::{AllocError, Global};
+use std::marker::Model;
+
+/// Whether a router runs.
+#[derive(Debug, Drop)]
+enum Inside {
+    /// It runs.
+    Running(Running),
+    /// It was restarted, and takes no event but its start.
+    Cold(Cold),
+}
+
+/// A router, cold or running. Contracts see what it is and knows.
+#[derive(Debug, Drop)]
+pub struct Machine {
+    inside: Inside,
+}
+
+impl Model for Machine {
+    ghost use Rattle.router_core.specs.States.{State};
+    ghost use Rattle.router_machine.specs.Machines.{state_in};
+
+    ghost Value = { State };
+
+    ghost view = { λ m. state_in m.inside };
+}
+
+/// The step of an event that is done, and for which nothing is sent.
+fn done(alloc: Global, event: Event) -> Made
+    ensures { result ≡ quiet event }
+{
+    Made {
+        event,
+        labels: Table::new(alloc),
+        reply: Reply::Done,
+        outputs: Outputs::new(alloc),
+    }
+}
+
+/// Serves an event by a running router.
+fn serve_running(
+    mut router: Running,
+    alloc: Global,
+    event: Event,
+) -> (Inside, Result<Made, Refusal>)
+    ensures taken { IsTaken router.router router.facts (λ e. e ≡ event) (IsEventLeft router.facts event)
+        (MayRunOut router.router router.facts event) (state_in result.0).facts result.1 }
+    ensures router { (state_in result.0).router ≡ router.router }
+{
+    router.soundness();
+    match event {
+        Event::Restart => (
+            Inside::Cold(router.restart()),
+            Ok(done(alloc, Event::Restart)),
+        ),
+        event => {
+            let answer = router.serve_event(alloc, event);
+            (Inside::Running(router), answer)
+        }
+    }
+}
+
+/// Serves an event by a cold router.
+fn serve_cold(router: Cold, alloc: Global, event: Event) -> (Inside, Result<Made, Refusal>)
+    ensures taken { IsTaken router.router router.facts (λ e. e ≡ event) (IsEventLeft router.facts event)
+        (MayRunOut router.router router.facts event) (state_in result.0).facts result.1 }
+    ensures router { (state_in result.0).router ≡ router.router }
+{
+    router.soundness();
+    match event {
+        Event::Start => (
+            Inside::Running(router.start()),
+            Ok(done(alloc, Event::Start)),
+        ),
+        _ => (Inside::Cold(router), Err(Refusal::IsCold)),
+    }
+}
+
+/// Serves a datagram by a running router.
+fn serve_datagram_running(
+    mut router: Running,
+    alloc: Global,
+    link: u16,
+    datagram: &[u8],
+) -> (Inside, Result<Made, Refusal>)
+    ensures taken { IsTaken router.router router.facts (IsEventOf link datagram.now) (IsDatagramLeft router.facts datagram.now)
+        (head_fault datagram.now ≡ None) (state_in result.0).facts result.1 }
+    ensures served { IsDatagramAnswered router.router router.facts link datagram.now (state_in result.0).facts result.1 }
+    ensures router { (state_in result.0).router ≡ router.router }
+{
+    let answer = router.serve_datagram(alloc, link, datagram);
+    (Inside::Running(router), answer)
+}
+
+/// Why a cold router leaves a datagram out: its first fault, else that the router is cold.
+fn refusal_while_cold(alloc: Global, link: u16, datagram: &[u8]) -> Refusal
+    ensures { IsRefusedCold datagram.now result }
+{
+    match read_event(alloc, link, datagram) {
+        Ok(_event) => Refusal::IsCold,
+        Err(refusal) => refusal,
+    }
+}
+
+/// Serves a datagram by a cold router: it leaves it out.
+fn serve_datagram_cold(
+    router: Cold,
+    alloc: Global,
+    link: u16,
+    datagram: &[u8],
+) -> (Inside, Result<Made, Refusal>)
+    ensures taken { IsTaken router.router router.facts (IsEventOf link datagram.now) (IsDatagramLeft router.facts datagram.now)
+        (head_fault datagram.now ≡ None) (state_in result.0).facts result.1 }
+    ensures served { IsDatagramAnswered router.router router.facts link datagram.now (state_in result.0).facts result.1 }
+    ensures router { (state_in result.0).router ≡ router.router }
+{
+    router.soundness();
+    let refusal = refusal_while_cold(alloc, link, datagram);
+    (Inside::Cold(router), Err(refusal))
+}
+
+/// Out of memory is passed on as the error; what is left out for another reason is passed over.
+fn only_memory(refusal: Refusal) -> Result<(), AllocError>
+    ensures over { IfOk result (λ _. refusal ≢ NoMemory) }
+    ensures memory { OnErr result (refusal ≡ NoMemory) }
+{
+    match refusal {
+        Refusal::NoMemory => Err(AllocError),
+        _ => Ok(()),
+    }
+}
+
+impl Machine {
+    /// The router of a configuration as it is opened: it runs. It reserves the memory of all paths that it may ever
+    /// know, and of all messages that these may want; the only error is out of memory.
+    pub fn open(alloc: Global, config: Config) -> Result<Machine, AllocError>
+        ensures opened { IfOk result (λ machine. machine ≡ opened config) }
+    {
+        let router = Cold::new(alloc, config)?.start();
+        Ok(Machine {
+            inside: Inside::Running(router),
+        })
+    }
+
+    /// Serves an event: the router as it is then, and the step that was made. A cold router refuses each event but
+    /// [`Event::Start`] ([`Refusal::IsCold`]); else the only error is [`Refusal::NoMemory`]. What is refused changes
+    /// nothing.
+    pub fn serve_event(self, alloc: Global, event: Event) -> (Machine, Result<Made, Refusal>)
+        ensures taken { IsTaken self.router self.facts (λ e. e ≡ event) (IsEventLeft self.facts event)
+            (MayRunOut self.router self.facts event) result.0.facts result.1 }
+        ensures router { result.0.router ≡ self.router }
+    {
+        let (inside, answer) = match self.inside {
+            Inside::Running(router) => serve_running(router, alloc, event),
+            Inside::Cold(router) => serve_cold(router, alloc, event),
+        };
+        (Machine { inside }, answer)
+    }
+
+    /// Serves a datagram: the router as it is then, and the step of the event that the datagram is. One that spells
+    /// no frame is refused for its first fault ([`Refusal::Unread`]), and behind that a cold router refuses each
+    /// ([`Refusal::IsCold`]); else the only error is [`Refusal::NoMemory`]. What is refused changes nothing.
+    pub fn serve_datagram(
+        self,
+        alloc: Global,
+        link: u16,
+        datagram: &[u8],
+    ) -> (Machine, Result<Made, Refusal>)
+        ensures taken { IsTaken self.router self.facts (IsEventOf link datagram.now) (IsDatagramLeft self.facts datagram.now)
+            (head_fault datagram.now ≡ None) result.0.facts result.1 }
+        ensures served { IsDatagramAnswered self.router self.facts link datagram.now result.0.facts result.1 }
+        ensures router { result.0.router ≡ self.router }
+    {
+        let (inside, answer) = match self.inside {
+            Inside::Running(router) => serve_datagram_running(router, alloc, link, datagram),
+            Inside::Cold(router) => serve_datagram_cold(router, alloc, link, datagram),
+        };
+        (Machine { inside }, answer)
+    }
+
+    /// Serves whatever comes, as [`Machine::serve_datagram`] and [`Machine::serve_event`] do.
+    pub fn serve(self, alloc: Global, input: &Input) -> (Machine, Result<Made, Refusal>)
+        ensures taken { IsTaken self.router self.facts (IsEventFor input.now) (IsLeft self.facts input.now)
+            (MayRunOutFor self.router self.facts input.now) result.0.facts result.1 }
+        ensures router { result.0.router ≡ self.router }
+    {
+        match input {
+            Input::Datagram(datagram) => self.serve_datagram(alloc, datagram.link, &datagram.bytes),
+            Input::Tick(moment) => self.serve_event(alloc, Event::Tick(*moment)),
+            Input::LinkUp(number) => self.serve_event(alloc, Event::LinkUp(*number)),
+            Input::LinkDown(number) => self.serve_event(alloc, Event::LinkDown(*number)),
+            Input::Restart => self.serve_event(alloc, Event::Restart),
+            Input::Start => self.serve_event(alloc, Event::Start),
+        }
+    }
+
+    /// Serves an input, and puts its step, if it makes one, behind the others: the router as it is then, and whether
+    /// there was memory for it. Where there was none, nothing changed.
+    fn serve_next(
+        self,
+        alloc: Global,
+        input: &Input,
+        steps: &mut Vec<Made>,
+    ) -> (Machine, Result<(), AllocError>)
+        ensures taken { IfOk result.1 (λ _. (later : List Made) × (steps.new.items ≡ steps.old.items ++ later)
+            × AreTaken self.router self.facts (input.now ∷ []) later result.0.facts) }
+        ensures kept { OnErr result.1 ((steps.new.items ≡ steps.old.items) × (result.0.facts ≡ self.facts)) }
+        ensures router { result.0.router ≡ self.router }
+    {
+        if let Err(error) = steps.reserve(1) {
+            return (self, Err(error));
+        }
+        let (machine, answer) = self.serve(alloc, input);
+        match answer {
+            Ok(made) => {
+                steps.push(made).unwrap();
+                (machine, Ok(()))
+            }
+            Err(refusal) => (machine, only_memory(refusal)),
+        }
+    }
+
+    /// Serves what comes, one input after the other, as long as there is memory: the router as it is then, and what
+    /// came of the inputs. One for which there is no memory changes nothing, and waits with those behind it.
+    pub fn serve_all(self, alloc: Global, inputs: &[Input]) -> (Machine, Served)
+        ensures taken { AreTaken self.router self.facts (take result.1.count inputs.now) result.1.steps.items result.0.facts }
+        ensures all { result.1.is_out_of_memory ≡ false → result.1.count ≡ length inputs.now }
+        ensures run { Run self.router self.facts result.1.steps.items result.0.facts }
+        ensures sound { IsSound result.0.router result.0.facts }
+        ensures router { result.0.router ≡ self.router }
+    {
+        let mut machine = self;
+        let mut steps = Vec::new(alloc);
+        let mut count = 0;
+        for input in inputs {
+            let (next, answer) = machine.serve_next(alloc, input, &mut steps);
+            machine = next;
+            match answer {
+                Ok(()) => count += 1,
+                Err(_no_memory) => {
+                    machine.soundness();
+                    let is_out_of_memory = true;
+                    return (
+                        machine,
+                        Served {
+                            steps,
+                            count,
+                            is_out_of_memory,
+                        },
+                    );
+                }
+            }
+        }
+        machine.soundness();
+        let is_out_of_memory = false;
+        (
+            machine,
+            Served {
+                steps,
+                count,
+                is_out_of_memory,
+            },
+        )
+    }
+
+    /// Opens the router of a configuration and serves what comes: the steps that were made are a run from its
+    /// opening, and what it knows at the end is sound. The only error is out of memory, before anything is served.
+    pub fn run(
+        alloc: Global,
+        config: Config,
+        inputs: &[Input],
+    ) -> Result<(Machine, Served), AllocError>
+        ensures run { IfOk result (λ after. Run config.router (opening config.router config.routes)
+            after.1.steps.items after.0.facts) }
+        ensures sound { IfOk result (λ after. IsSound config.router after.0.facts) }
+        ensures taken { IfOk result (λ after. AreTaken config.router (opening config.router config.routes)
+            (take after.1.count inputs.now) after.1.steps.items after.0.facts) }
+    {
+        Ok(Machine::open(alloc, config)?.serve_all(alloc, inputs))
+    }
+
+    /// What the router knows, its tables in the order of their keys. The only error is out of memory.
+    pub fn export(&self, alloc: Global) -> Result<Facts, AllocError>
+        ensures facts { IfOk result (λ facts. facts ≡ self.now.facts) }
+    {
+        match &self.inside {
+            Inside::Running(router) => router.export(alloc),
+            Inside::Cold(router) => router.export(alloc),
+        }
+    }
+
+    /// What the router knows is sound. A law: it does nothing when it runs.
+    pub fn soundness(&self)
+        ensures router { IsRouter self.now.router }
+        ensures sound { IsSound self.now.router self.now.facts }
+    {
+        match &self.inside {
+            Inside::Running(router) => router.soundness(),
+            Inside::Cold(router) => router.soundness(),
+        }
+    }
+}

@@ -1,0 +1,18 @@
+//! What an event does of itself to the facts of a router, whoever keeps them: each decision of a step, once, as a
+//! draft that holds the answer, the errors and the edits.
+#![tactic(auto)]
+
+mod arrivals;
+mod draft;
+mod edits;
+mod links;
+mod paths;
+mod tears;
+mod ticks;
+mod told;
+mod view;
+
+pub use arrivals::draft_of;
+pub use draft::Draft;
+pub use edits::{Changed, Edits};
+pub use view::{WholeView, node_of};

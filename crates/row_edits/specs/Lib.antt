@@ -1,0 +1,3 @@
+pub mod EditLaws
+pub mod Edits
+pub mod InTurn

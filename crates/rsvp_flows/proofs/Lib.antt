@@ -1,0 +1,5 @@
+pub mod ErrorsAgain
+pub mod FlowsAgain
+pub mod Sizes
+pub mod Stepwise
+pub mod Totals

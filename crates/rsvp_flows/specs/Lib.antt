@@ -1,0 +1,5 @@
+pub mod Errors
+pub mod Firsts
+pub mod Flows
+pub mod Lengths
+pub mod Styles

@@ -1,0 +1,34 @@
+//! Reservation styles (RFC 2205, A.7).
+
+ghost use Rattle.std.specs.Prelude.{◌≡◌};
+ghost use Rattle.rsvp_flows.specs.Styles.{is_fixed, is_shared, is_other};
+
+use rsvp_objects::Style;
+
+/// How many values the low five bits of the option vector have, which name the style.
+const STYLES: u32 = 32;
+/// Fixed filter, FF: 01010.
+const FIXED_FILTER: u32 = 10;
+/// Shared explicit, SE: 10010.
+const SHARED_EXPLICIT: u32 = 18;
+
+/// Whether the style is fixed filter: each LSP has its own reservation.
+pub fn is_fixed(style: Style) -> bool
+    ensures { result ≡ is_fixed style }
+{
+    style.word % STYLES == FIXED_FILTER
+}
+
+/// Whether the style is shared explicit: the LSPs that are named share one reservation.
+pub fn is_shared(style: Style) -> bool
+    ensures { result ≡ is_shared style }
+{
+    style.word % STYLES == SHARED_EXPLICIT
+}
+
+/// Whether the style is another one.
+pub fn is_other(style: Style) -> bool
+    ensures { result ≡ is_other style }
+{
+    !(is_fixed(style) || is_shared(style))
+}

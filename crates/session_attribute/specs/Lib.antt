@@ -1,0 +1,3 @@
+pub mod Affinities
+pub mod Attributes
+pub mod Names

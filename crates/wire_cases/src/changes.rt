@@ -1,0 +1,170 @@
+use crate::outcomes::{Counts, Outcome};
+use rsvp_messages::checksum;
+use std::alloc::{AllocError, Global};
+
+/// The bytes of a message's common header (RFC 2205, 3.1.1).
+const HEADER_LEN: usize = 8;
+/// The first byte of a message of version 1 without flags (RFC 2205, 3.1.1).
+const VERSION_1: u8 = 0x10;
+/// The Send_TTL of messages that are made here.
+const SEND_TTL: u8 = 255;
+/// The bytes of an object's header, the least length that it may have (RFC 2205, 3.1.2).
+const OBJECT_HEADER_LEN: usize = 4;
+/// What chance begins with.
+const SEED: u64 = 0x2545_f491_4f6c_dd1d;
+
+/// Puts the message's byte count into its length field, and no checksum into its checksum field.
+fn mend(message: &mut [u8]) {
+    let [high, low] = u16::try_from(message.len())
+        .unwrap_or(u16::MAX)
+        .to_be_bytes();
+    if let [_, _, sum_high, sum_low, _, _, length_high, length_low, ..] = message {
+        (*sum_high, *sum_low) = (0, 0);
+        (*length_high, *length_low) = (high, low);
+    }
+}
+
+/// The message of the type in the first byte with the objects that follow it, with its length and its checksum.
+pub fn sealed(alloc: Global, kind_and_objects: &[u8]) -> Result<Vec<u8>, AllocError> {
+    let mut message = Vec::new(alloc);
+    if let [kind, objects @ ..] = kind_and_objects {
+        message.extend_from_slice(&[VERSION_1, *kind, 0, 0, SEND_TTL, 0, 0, 0])?;
+        message.extend_from_slice(objects)?;
+        mend(message.as_mut_slice());
+        let [high, low] = checksum(message.as_slice()).to_be_bytes();
+        if let [_, _, sum_high, sum_low, ..] = message.as_mut_slice() {
+            (*sum_high, *sum_low) = (high, low);
+        }
+    }
+    Ok(message)
+}
+
+/// How the message is read with one bit turned, bit by bit.
+pub fn turned(alloc: Global, message: &[u8]) -> Result<String, AllocError> {
+    let mut counts = Counts::new(alloc);
+    let mut changed = Vec::from_slice(alloc, message)?;
+    for at in 0..message.len() {
+        for bit in (0..8u32).rev() {
+            turn(changed.as_mut_slice(), at, 1 << bit);
+            counts.follow(Outcome::of(alloc, changed.as_slice()))?;
+            turn(changed.as_mut_slice(), at, 1 << bit);
+        }
+    }
+    counts.text(alloc)
+}
+
+/// Turns these bits of the byte at the place, where there is one.
+fn turn(bytes: &mut [u8], at: usize, bits: u8) {
+    if let Some(byte) = bytes.get_mut(at) {
+        *byte ^= bits;
+    }
+}
+
+/// How the message is read cut short, at each length, with the length field that it came with or one put right.
+pub fn cut(alloc: Global, message: &[u8], is_mended: bool) -> Result<String, AllocError> {
+    let mut counts = Counts::new(alloc);
+    for len in 0..message.len() {
+        let mut start = Vec::from_slice(alloc, &message[..len])?;
+        if is_mended {
+            mend(start.as_mut_slice());
+        }
+        counts.follow(Outcome::of(alloc, start.as_slice()))?;
+    }
+    counts.text(alloc)
+}
+
+/// How the message is read again and again.
+pub fn repeated(alloc: Global, message: &[u8], times: u32) -> Result<String, AllocError> {
+    let mut counts = Counts::new(alloc);
+    for _ in 0..times {
+        counts.add(Outcome::of(alloc, message))?;
+    }
+    counts.text(alloc)
+}
+
+/// How so many mutants of the message are read, the same ones in each run.
+pub fn mutated(alloc: Global, message: &[u8], times: u32) -> Result<String, AllocError> {
+    let mut counts = Counts::new(alloc);
+    let mut chance = Chance(SEED);
+    for _ in 0..times {
+        let bytes = mutant(alloc, message, &mut chance)?;
+        counts.add(Outcome::of(alloc, bytes.as_slice()))?;
+    }
+    counts.text(alloc)
+}
+
+/// Numbers by chance: xorshift64 (Marsaglia, 2003).
+#[derive(Drop)]
+struct Chance(u64);
+
+impl Chance {
+    /// A number below the bound, or 0.
+    fn below(&mut self, bound: u32) -> u32 {
+        self.0 ^= self.0 << 13;
+        self.0 ^= self.0 >> 7;
+        self.0 ^= self.0 << 17;
+        (self.0 % u64::from(bound.max(1))) as u32
+    }
+
+    /// A place in a list of so many things.
+    fn place(&mut self, len: usize) -> usize {
+        self.below(u32::try_from(len).unwrap_or(u32::MAX)) as usize
+    }
+}
+
+/// The message's header and its objects, each by its own length, or by the least where that is wrong.
+fn parts(alloc: Global, message: &[u8]) -> Result<Vec<&[u8]>, AllocError> {
+    let (header, mut rest) = message.split_at(message.len().min(HEADER_LEN));
+    let mut parts = vec![in alloc; header]?;
+    'objects: while let [high, low, ..] = rest {
+        let len = usize::from(u16::from_be_bytes([*high, *low])).max(OBJECT_HEADER_LEN);
+        let (object, behind) = rest.split_at(len.min(rest.len()));
+        parts.push(object)?;
+        rest = behind;
+    }
+    Ok(parts)
+}
+
+/// Takes an object away, or puts a copy of it before another or last.
+fn change_objects(parts: &mut Vec<&[u8]>, chance: &mut Chance) -> Result<(), AllocError> {
+    let from = chance
+        .place(parts.len().saturating_sub(1))
+        .saturating_add(1);
+    let to = chance.place(parts.len()).saturating_add(1);
+    let is_taken = chance.below(2) == 0;
+    if from < parts.len() {
+        let object = parts.remove(from);
+        if !is_taken {
+            parts.insert(from, object)?;
+            parts.insert(to.min(parts.len()), object)?;
+        }
+    }
+    Ok(())
+}
+
+/// The message with changes by chance: up to two objects more or fewer, up to two bytes changed, and mostly a length put
+/// right and no checksum.
+fn mutant(alloc: Global, message: &[u8], chance: &mut Chance) -> Result<Vec<u8>, AllocError> {
+    let mut parts = parts(alloc, message)?;
+    for _ in 0..chance.below(3) {
+        change_objects(&mut parts, chance)?;
+    }
+    let mut bytes = Vec::new(alloc);
+    for part in &parts {
+        bytes.extend_from_slice(part)?;
+    }
+    for _ in 0..chance.below(3) {
+        let at = chance.place(bytes.len());
+        let bits = chance.below(256);
+        let bits = if chance.below(2) == 0 {
+            1 << (bits % 8)
+        } else {
+            bits
+        };
+        turn(bytes.as_mut_slice(), at, u8::try_from(bits).unwrap_or(0));
+    }
+    if chance.below(8) != 0 {
+        mend(bytes.as_mut_slice());
+    }
+    Ok(bytes)
+}

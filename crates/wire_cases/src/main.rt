@@ -1,0 +1,100 @@
+//! Runs the worked cases of the wire formats, and prints each that differs. `files.txt`, in the folder that this runs
+//! in, names the files that have them. Their lines:
+//!
+//! - `NAME = PIECES` names bytes, for all lines that follow. PIECES are words: hexadecimal digits or names, each with
+//!   `N*` before it where it stands N times.
+//! - `VERB PIECES -> ANSWER` is a case. Where something is read, it is written again too, and the bytes are those of
+//!   the line, or those that stand as PIECES behind ` as `.
+//! - `#` begins a comment.
+//!
+//! The verbs: `message` reads a message, `show` says what it says, `objects` reads a message of the type in the first
+//! byte with the objects that follow; `object` reads an object, `frame` a frame; `rate` is the rate of a word,
+//! `traffic` that of a Tspec or a FLOWSPEC, `checksum` the checksum of a message; `turn` reads the message with each
+//! bit turned, `cut` with each length, `shorten` with each length in its length field and no checksum; `mutate N` reads
+//! N messages that chance made of this one, `repeat N` this one N times. The last five count what came.
+#![tactic(auto)]
+
+mod answers;
+mod changes;
+mod outcomes;
+mod pieces;
+
+use answers::{answer, input};
+use anyhow::{Context, Result};
+use pieces::Pieces;
+use std::alloc::Global;
+use std::fs;
+
+/// The names of the files of cases.
+const FILES: &str = "files.txt";
+
+/// How many cases agree.
+#[derive(Drop)]
+struct Score {
+    agreeing: u32,
+    cases: u32,
+}
+
+/// What the case gives in place of what it is to give, where it differs.
+fn difference(alloc: Global, pieces: &Pieces, case: &str, wanted: &str) -> Result<Option<String>> {
+    let (verb, text) = case.split_once(' ').unwrap_or((case, ""));
+    let (words, form) = wanted.split_once(" as ").unwrap_or((wanted, text));
+    let (said, written) = match answer(alloc, pieces, verb, text) {
+        Ok(answered) => answered,
+        Err(fault) => (format!(in alloc; "{fault}")?, None),
+    };
+    if said.as_str() != words {
+        return Ok(Some(said));
+    }
+    if let Some(bytes) = written {
+        if bytes != input(alloc, pieces, verb, form)? {
+            let digits = hex::encode(alloc, bytes)?;
+            return Ok(Some(format!(in alloc; "{said} as {digits}")?));
+        }
+    }
+    Ok(None)
+}
+
+/// Takes the line in, and tells how its case differs.
+fn take_line(
+    alloc: Global,
+    pieces: &mut Pieces,
+    line: &str,
+    score: &mut Score,
+) -> Result<Option<String>> {
+    if line.is_empty() || line.starts_with('#') {
+        return Ok(None);
+    }
+    let Some((case, wanted)) = line.split_once(" -> ") else {
+        let (name, text) = line.split_once(" = ").context("no case")?;
+        pieces.name(name, text)?;
+        return Ok(None);
+    };
+    score.cases = score.cases.saturating_add(1);
+    let difference = difference(alloc, pieces, case, wanted)?;
+    if difference.is_none() {
+        score.agreeing = score.agreeing.saturating_add(1);
+    }
+    Ok(difference)
+}
+
+fn main(rt: HostRuntime) -> Result<()> {
+    let alloc = rt.alloc();
+    let mut pieces = Pieces::new(alloc);
+    for file in fs::read_to_string(&rt, FILES)?.lines() {
+        let mut score = Score {
+            agreeing: 0,
+            cases: 0,
+        };
+        for (place, line) in fs::read_to_string(&rt, file)?.lines().enumerate() {
+            let differs = match take_line(alloc, &mut pieces, line, &mut score) {
+                Ok(None) => continue,
+                Ok(Some(got)) => got,
+                Err(fault) => format!(in alloc; "{fault}")?,
+            };
+            println!(rt; "{file}, line {}: {differs}", place.saturating_add(1))?;
+        }
+        println!(rt; "{file}: {} of {} cases agree", score.agreeing, score.cases)?;
+    }
+    Ok(())
+}
