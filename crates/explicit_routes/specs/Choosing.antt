@@ -16,7 +16,7 @@ error_of BadLooseNode = bad_loose_node
 error_of BadInitialSubobject = bad_initial_subobject
 error_of NoRoute = no_route
 
--- The answer is the wanted choice, or the wanted error. Want of memory can come in place of any.
+-- The answer is the wanted choice, or the wanted error. Out of memory can come in place of any.
 abbrev pub IsChosen : Result Choice RsvpError → Result Choice RouteFault → Type 0
 IsChosen wanted (Ok choice) = wanted ≡ Ok choice
 IsChosen wanted (Err (Error error)) = wanted ≡ Err (error_of error)

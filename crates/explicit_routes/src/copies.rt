@@ -15,7 +15,7 @@ pub fn copy_of<T: Subobject>(alloc: Global, items: &[T]) -> Result<Subobjects<T>
     Ok(Subobjects::from_vec(copy))
 }
 
-/// A copy of subobjects with one more before them, which fit an object together. The only error is want of
+/// A copy of subobjects with one more before them, which fit an object together. The only error is out of
 /// memory.
 pub fn copy_behind<T: Subobject>(
     alloc: Global,

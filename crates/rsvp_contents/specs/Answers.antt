@@ -16,7 +16,7 @@ IsTold Spells IsFirst bytes (Ok x) = Spells bytes x
 IsTold Spells IsFirst bytes (Err dropped.NoMemory) = Unit {0}
 IsTold Spells IsFirst bytes (Err fault) = IsFirst bytes fault
 
--- The answer is the value that the bytes spell, or their first fault where they spell none. Want of memory
+-- The answer is the value that the bytes spell, or their first fault where they spell none. Out of memory
 -- can come in place of any answer.
 pub record ReadsOrDrops {X : Type 0} (Spells : List ℕ → X → Type 0) (IsFirst : List ℕ → Dropped → Type 0) (bytes : List ℕ) (answer : Result X Dropped) : Type 0 where
   pub told : IsTold Spells IsFirst bytes answer
