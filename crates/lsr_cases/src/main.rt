@@ -13,8 +13,9 @@
 #![tactic(auto)]
 
 use lsr_tool::{run_decode, run_step};
+use std::alloc::Global;
 use std::fmt::Write;
-use std::io::ErrorKind;
+use std::io::{ErrorKind, Read};
 use std::rt::Files;
 use std::{fs, io};
 
@@ -33,6 +34,9 @@ const ANSWERS: &str = "config/answers.txt";
 /// The answer to a configuration that has no fault.
 const GOOD: &str = "good";
 
+/// No configuration: the built-in router.
+const NO_CONFIG: Option<&[u8]> = None;
+
 /// What a run ends with, prints and tells.
 #[derive(Drop)]
 struct Ran {
@@ -42,8 +46,7 @@ struct Ran {
 }
 
 /// Runs the lines of the input on the router of the configuration.
-fn run<R: Files + AllocGlobal>(rt: &R, config: Option<R::File>, input: &[u8]) -> io::Result<Ran> {
-    let alloc = rt.alloc();
+fn run<C: Read + Drop>(alloc: Global, config: Option<C>, input: &[u8]) -> io::Result<Ran> {
     let mut lines = input;
     let mut output = Vec::new(alloc);
     let mut error = Vec::new(alloc);
@@ -62,32 +65,43 @@ fn is_as_wanted(ran: &Ran, output: &[u8], error: &[u8]) -> bool {
 }
 
 /// The bytes of the file, none where it isn't there.
-fn read_or_none<R: Files + AllocGlobal>(rt: &R, name: &str) -> io::Result<Vec<u8>> {
+fn read_or_none<R: Files + AllocGlobal>(rt: &R, name: &str) -> io::Result<Option<Vec<u8>>> {
     match fs::read(rt, name) {
-        Ok(bytes) => Ok(bytes),
+        Ok(bytes) => Ok(Some(bytes)),
         Err(fault) => {
             if fault.kind() == ErrorKind::NotFound {
-                return Ok(Vec::new(rt.alloc()));
+                return Ok(None);
             }
             Err(fault)
         }
     }
 }
 
+/// The bytes of the file, no bytes where it isn't there.
+fn read_or_empty<R: Files + AllocGlobal>(rt: &R, name: &str) -> io::Result<Vec<u8>> {
+    match read_or_none(rt, name)? {
+        Some(bytes) => Ok(bytes),
+        None => Ok(Vec::new(rt.alloc())),
+    }
+}
+
 /// Whether the run printed and told what the files of this name say.
 fn agrees<R: Files + AllocGlobal>(rt: &R, name: &str, ran: &Ran) -> io::Result<bool> {
     let alloc = rt.alloc();
-    let output = read_or_none(rt, format!(in alloc; "{name}.out")?.as_str())?;
-    let error = read_or_none(rt, format!(in alloc; "{name}.err")?.as_str())?;
+    let output = read_or_empty(rt, format!(in alloc; "{name}.out")?.as_str())?;
+    let error = read_or_empty(rt, format!(in alloc; "{name}.err")?.as_str())?;
     Ok(is_as_wanted(ran, output.as_slice(), error.as_slice()))
 }
 
 /// Whether the run over lines agrees.
 fn run_agrees<R: Files + AllocGlobal>(rt: &R, name: &str) -> io::Result<bool> {
     let alloc = rt.alloc();
-    let config = fs::open(rt, format!(in alloc; "{name}.toml")?).ok();
-    let input = fs::read(rt, format!(in alloc; "{name}.step")?)?;
-    let ran = run(rt, config, input.as_slice())?;
+    let config = read_or_none(rt, format!(in alloc; "{name}.toml")?.as_str())?;
+    let input = fs::read(rt, format!(in alloc; "{name}.step")?.as_str())?;
+    let ran = match &config {
+        Some(config) => run(alloc, Some(config.as_slice()), input.as_slice())?,
+        None => run(alloc, NO_CONFIG, input.as_slice())?,
+    };
     agrees(rt, name, &ran)
 }
 
@@ -148,15 +162,15 @@ fn many_agree<R: Files + AllocGlobal>(rt: &R, name: &str) -> io::Result<bool> {
     for line in many.lines() {
         push_lines(&mut lines, line)?;
     }
-    let ran = run(rt, None, lines.as_bytes())?;
+    let ran = run(alloc, NO_CONFIG, lines.as_bytes())?;
     let printed = String::from_utf8(ran.output).unwrap_or(String::new(alloc));
     Ok(ran.status == 0 && counts_agree(counts.as_str(), printed.as_str()))
 }
 
 /// Whether the line, alone, is told as a bad one.
-fn is_bad_line<R: Files + AllocGlobal>(rt: &R, line: &str) -> io::Result<bool> {
-    let input = format!(in rt.alloc(); "{line}\n")?;
-    let ran = run(rt, None, input.as_bytes())?;
+fn is_bad_line(alloc: Global, line: &str) -> io::Result<bool> {
+    let input = format!(in alloc; "{line}\n")?;
+    let ran = run(alloc, NO_CONFIG, input.as_bytes())?;
     Ok(is_as_wanted(&ran, &[], BAD_LINE.as_bytes()))
 }
 
@@ -164,7 +178,7 @@ fn is_bad_line<R: Files + AllocGlobal>(rt: &R, line: &str) -> io::Result<bool> {
 fn config_agrees<R: Files + AllocGlobal>(rt: &R, name: &str, answer: &str) -> io::Result<bool> {
     let alloc = rt.alloc();
     let config = fs::open(rt, format!(in alloc; "config/{name}.toml")?)?;
-    let ran = run(rt, Some(config), &[])?;
+    let ran = run(alloc, Some(config), &[])?;
     if answer == GOOD {
         return Ok(is_as_wanted(&ran, &[], &[]));
     }
@@ -177,28 +191,57 @@ fn word(agrees: bool) -> &'static str {
     if agrees { "agrees" } else { "differs" }
 }
 
-fn main(rt: HostRuntime) -> io::Result<()> {
-    for name in fs::read_to_string(&rt, RUNS)?.lines() {
-        let word = word(run_agrees(&rt, name)?);
+/// Tells of each run over lines whether it agrees.
+fn tell_runs(rt: &HostRuntime) -> io::Result<()> {
+    for name in fs::read_to_string(rt, RUNS)?.lines() {
+        let word = word(run_agrees(rt, name)?);
         println!(rt; "{name} {word}")?;
     }
-    for name in fs::read_to_string(&rt, MESSAGES)?.lines() {
-        let word = word(message_agrees(&rt, name)?);
+    Ok(())
+}
+
+/// Tells of each message whether it is decoded as its files say.
+fn tell_messages(rt: &HostRuntime) -> io::Result<()> {
+    for name in fs::read_to_string(rt, MESSAGES)?.lines() {
+        let word = word(message_agrees(rt, name)?);
         println!(rt; "{name} {word}")?;
     }
-    for name in fs::read_to_string(&rt, MANY)?.lines() {
-        let word = word(many_agree(&rt, name)?);
+    Ok(())
+}
+
+/// Tells of each run over many LSPs whether it agrees.
+fn tell_many(rt: &HostRuntime) -> io::Result<()> {
+    for name in fs::read_to_string(rt, MANY)?.lines() {
+        let word = word(many_agree(rt, name)?);
         println!(rt; "{name} {word}")?;
     }
+    Ok(())
+}
+
+/// Tells of each line that is none whether it is told as a bad one.
+fn tell_bad_lines(rt: &HostRuntime) -> io::Result<()> {
     // `lines` would take off a carriage return, which makes a line a bad one.
-    for (place, line) in fs::read_to_string(&rt, BAD_LINES)?.split('\n').enumerate() {
-        let word = word(is_bad_line(&rt, line)?);
+    for (place, line) in fs::read_to_string(rt, BAD_LINES)?.split('\n').enumerate() {
+        let word = word(is_bad_line(rt.alloc(), line)?);
         println!(rt; "bad-lines {place} {word}")?;
     }
-    for line in fs::read_to_string(&rt, ANSWERS)?.lines() {
+    Ok(())
+}
+
+/// Tells of each configuration whether it is answered as it should be.
+fn tell_configs(rt: &HostRuntime) -> io::Result<()> {
+    for line in fs::read_to_string(rt, ANSWERS)?.lines() {
         let (name, answer) = line.split_once(": ").unwrap_or((line, ""));
-        let word = word(config_agrees(&rt, name, answer)?);
+        let word = word(config_agrees(rt, name, answer)?);
         println!(rt; "config/{name} {word}")?;
     }
     Ok(())
+}
+
+fn main(rt: HostRuntime) -> io::Result<()> {
+    tell_runs(&rt)?;
+    tell_messages(&rt)?;
+    tell_many(&rt)?;
+    tell_bad_lines(&rt)?;
+    tell_configs(&rt)
 }
