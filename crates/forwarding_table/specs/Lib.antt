@@ -1,0 +1,4 @@
+pub mod Actions
+pub mod Forwarding
+pub mod ForwardingLaws
+pub mod Labels

@@ -1,0 +1,180 @@
+ghost use Rattle.std.specs.FinMap.Entries.{find, is_sorted, put};
+ghost use Rattle.std.specs.Ordering.{nat_cmp};
+ghost use Rattle.std.specs.Prelude.{◌≡◌, ◌≤◌, T, [], All, IfOk, IfSome, length};
+ghost use Rattle.row_edits.specs.Edits.{at_key, edited};
+ghost use Rattle.forwarding_table.specs.Actions.{AllWriteLabels, WritesLabels};
+ghost use Rattle.forwarding_table.specs.Forwarding.{action_at, forward_of};
+
+use crate::action::{Action, EXPLICIT_NULL};
+use crate::forwarding::{Fault, Forwarding, pass_on};
+use label_stacks::{Stack, StackEntry};
+use row_edits::make_edits;
+use sorted_rows::{ReservedTable, Table, TryCopy};
+use std::alloc::{AllocError, Global};
+use std::marker::Model;
+
+/// Labels that have an action: one for each LSP of a router.
+pub const MAX_LABEL_ROWS: usize = 1_024;
+/// Tunnels that have an action.
+pub const MAX_TUNNEL_ROWS: usize = 256;
+
+/// The actions of labels (RFC 3031, 3.11), at most [`MAX_LABEL_ROWS`], and of the tunnels that begin here (RFC 3031,
+/// 3.12), by number, at most [`MAX_TUNNEL_ROWS`]; each in order. Contracts see both lists.
+#[derive(Debug, Drop)]
+pub struct ForwardingTable {
+    labels: ReservedTable<u32, Action, MAX_LABEL_ROWS>,
+    tunnels: ReservedTable<u16, Action, MAX_TUNNEL_ROWS>,
+}
+
+impl Model for ForwardingTable {
+    ghost use Rattle.forwarding_table.specs.Actions.{Actions, IsTable};
+
+    ghost Value = { Actions };
+
+    ghost view = { λ t. record { labels = t.labels; tunnels = t.tunnels } };
+
+    ghost invariant = { λ t. IsTable t.labels t.tunnels };
+}
+
+impl ForwardingTable {
+    /// No actions. It reserves the memory of all actions that it may ever hold; the only error is that there is too
+    /// little memory.
+    pub fn new(alloc: Global) -> Result<ForwardingTable, AllocError>
+        ensures { IfOk result (λ table. table ≡ record { labels = []; tunnels = [] }) }
+    {
+        Ok(ForwardingTable {
+            labels: ReservedTable::new(alloc)?,
+            tunnels: ReservedTable::new(alloc)?,
+        })
+    }
+
+    /// The labels and their actions, in the order of the labels.
+    pub fn label_rows(&self) -> &[(u32, Action)]
+        ensures rows { result.now ≡ self.now.labels }
+        ensures sorted { T (is_sorted nat_cmp self.now.labels) }
+        ensures few { length self.now.labels ≤ 1024 }
+        ensures labels { AllWriteLabels self.now.labels }
+    {
+        self.labels.as_slice()
+    }
+
+    /// The tunnels and their actions, in the order of the tunnels' numbers.
+    pub fn tunnel_rows(&self) -> &[(u16, Action)]
+        ensures rows { result.now ≡ self.now.tunnels }
+        ensures sorted { T (is_sorted nat_cmp self.now.tunnels) }
+        ensures few { length self.now.tunnels ≤ 256 }
+        ensures labels { AllWriteLabels self.now.tunnels }
+    {
+        self.tunnels.as_slice()
+    }
+
+    /// The action of a label, or `None` where it has none.
+    pub fn look(&self, label: u32) -> Option<Action>
+        ensures found { result ≡ find nat_cmp label self.now.labels }
+        ensures labels { IfSome result WritesLabels }
+    {
+        self.labels.get(&label).copied()
+    }
+
+    /// The action of a tunnel, or `None` where it has none.
+    pub fn look_tunnel(&self, tunnel: u16) -> Option<Action>
+        ensures found { result ≡ find nat_cmp tunnel self.now.tunnels }
+        ensures labels { IfSome result WritesLabels }
+    {
+        self.tunnels.get(&tunnel).copied()
+    }
+
+    /// A label has this action from now on, or none. Of an action it asks that what it writes for labels are labels,
+    /// and that at most [`MAX_LABEL_ROWS`] labels have one then. Takes no memory.
+    pub fn change(&mut self, label: u32, action: Option<Action>)
+        requires labels { IfSome action WritesLabels }
+        requires room { IfSome action (λ now. length (put nat_cmp label now self.old.labels) ≤ 1024) }
+        ensures { self.new ≡ record self.old { labels = at_key nat_cmp label action self.old.labels } }
+    {
+        match action {
+            Some(action) => self.labels.set(label, action),
+            None => self.labels.remove(&label),
+        }
+    }
+
+    /// A tunnel has this action from now on, or none. Of an action it asks that what it writes for labels are labels,
+    /// and that at most [`MAX_TUNNEL_ROWS`] tunnels have one then. Takes no memory.
+    pub fn change_tunnel(&mut self, tunnel: u16, action: Option<Action>)
+        requires labels { IfSome action WritesLabels }
+        requires room { IfSome action (λ now. length (put nat_cmp tunnel now self.old.tunnels) ≤ 256) }
+        ensures { self.new ≡ record self.old { tunnels = at_key nat_cmp tunnel action self.old.tunnels } }
+    {
+        match action {
+            Some(action) => self.tunnels.set(tunnel, action),
+            None => self.tunnels.remove(&tunnel),
+        }
+    }
+
+    /// Makes edits: each label that they name has this action from now on, or none. It asks that what the actions
+    /// write for labels are labels, and that at most [`MAX_LABEL_ROWS`] labels have one then. Takes no memory.
+    pub fn edit(&mut self, edits: Table<u32, Option<Action>>)
+        requires labels { All (λ edit. IfSome edit.1 WritesLabels) edits }
+        requires room { length (edited nat_cmp edits self.old.labels) ≤ 1024 }
+        ensures { self.new ≡ record self.old { labels = edited nat_cmp edits self.old.labels } }
+    {
+        make_edits(&mut self.labels, edits);
+    }
+
+    /// Makes edits: each tunnel that they name has this action from now on, or none. It asks that what the actions
+    /// write for labels are labels, and that at most [`MAX_TUNNEL_ROWS`] tunnels have one then. Takes no memory.
+    pub fn edit_tunnels(&mut self, edits: Table<u16, Option<Action>>)
+        requires labels { All (λ edit. IfSome edit.1 WritesLabels) edits }
+        requires room { length (edited nat_cmp edits self.old.tunnels) ≤ 256 }
+        ensures { self.new ≡ record self.old { tunnels = edited nat_cmp edits self.old.tunnels } }
+    {
+        make_edits(&mut self.tunnels, edits);
+    }
+
+    /// No label and no tunnel has an action any more. Takes no memory.
+    pub fn clear(&mut self)
+        ensures { self.new ≡ record { labels = []; tunnels = [] } }
+    {
+        self.labels.clear();
+        self.tunnels.clear();
+    }
+
+    /// The action of an entry: explicit null is popped, and any other label is looked up.
+    fn action_at(&self, entry: &StackEntry) -> Option<Action>
+        ensures action { result ≡ action_at (λ label. find nat_cmp label self.now.labels) entry.now }
+        ensures labels { IfSome result WritesLabels }
+    {
+        if entry.label == EXPLICIT_NULL {
+            Some(Action::Pop)
+        } else {
+            self.look(entry.label)
+        }
+    }
+
+    /// What becomes of a stack of labels by the actions of its labels (RFC 3031, 3.13; RFC 3032, 2.1 and 2.4.1). It
+    /// is dropped for the first of its faults in the order of [`Fault`]. Takes no memory.
+    pub fn forward(&self, stack: &Stack) -> Forwarding
+        ensures { result ≡ forward_of (λ label. find nat_cmp label self.now.labels) stack.now }
+    {
+        let mut rest = stack.as_slice();
+        while let [last, below @ ..] = rest {
+            match self.action_at(last) {
+                Some(Action::Pop) => rest = below,
+                Some(Action::Swap { label, link }) => return pass_on(&[label], link, last, below),
+                Some(Action::SwapPush { inner, outer, link }) => {
+                    return pass_on(&[outer, inner], link, last, below);
+                }
+                Some(Action::PushHead { .. }) | None => return Forwarding::Drop(Fault::NoLabel),
+            }
+        }
+        Forwarding::Deliver
+    }
+}
+
+impl TryCopy for ForwardingTable {
+    fn try_copy(&self, alloc: Global) -> Result<ForwardingTable, AllocError> {
+        Ok(ForwardingTable {
+            labels: self.labels.try_copy(alloc)?,
+            tunnels: self.tunnels.try_copy(alloc)?,
+        })
+    }
+}
