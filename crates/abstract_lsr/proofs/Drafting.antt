@@ -1,0 +1,299 @@
+-- Whatever an event does of itself leaves the state such that what follows makes it sound: each by its few primitives.
+use Rattle.std.specs.Prelude.{◌≡◌, ℕ, ◌^◌, ◌&&◌, ◌==◌, Bool, true, false, not, if◌then◌else◌, nat_lt, List, [], ◌∷◌, length, filter, filter_map, fold, nat_le, Option, Some, None, is_none, Result, Ok, Err, IsTrue}
+use Rattle.std.specs.FinMap.Entries.{find}
+use Rattle.std.specs.List.{AllByRecursion, IsDistinct, list_any}
+use Rattle.std.specs.Option.{option_map_or}
+use Rattle.std.proofs.Common.{refl, sym, ap, subst, ◌∙◌, arith}
+use Rattle.std.proofs.lemmas.Bool.{and_parts, cond_both, ltb-true}
+use Rattle.rsvp_contents.proofs.Fitted.{message_fits}
+use Rattle.rsvp_contents.specs.Fitting.{are_passed_by, fits_resv, has_adspec_last, have_short_records, written_len}
+use Rattle.rsvp_flows.specs.Flows.{fits_style}
+use Rattle.rsvp_contents.specs.Limits.{is_short_passing, is_short_record}
+use Rattle.rsvp_contents.specs.Picking.{content_in}
+use Rattle.rsvp_contents.specs.Spelling.{IsMessage}
+use Rattle.rsvp_contents.specs.declared.message.Reading.TheVariants as readings
+use Rattle.rsvp_contents.specs.declared.message.Reading.{Reading}
+use Rattle.rsvp_contents.specs.declared.messages.Content.TheVariants as contents
+use Rattle.rsvp_contents.specs.declared.messages.Content.{Content}
+use Rattle.rsvp_contents.specs.declared.messages.Path.{Path}
+use Rattle.rsvp_contents.specs.declared.messages.PathErr.{PathErr}
+use Rattle.rsvp_contents.specs.declared.messages.PathTear.{PathTear}
+use Rattle.rsvp_contents.specs.declared.messages.Resv.{Resv}
+use Rattle.rsvp_contents.specs.declared.messages.ResvErr.{ResvErr}
+use Rattle.rsvp_contents.specs.declared.messages.ResvTear.{ResvTear}
+use Rattle.rsvp_flows.specs.declared.descriptors.FlowDescriptor.{FlowDescriptor}
+use Rattle.sorted_rows.specs.ListLaws.{all-both, all-filter, all-filter_passes}
+use Rattle.lsr_facts.specs.Errors.{system_error}
+use Rattle.lsr_facts.specs.Lifetimes as lifetimes
+use Rattle.lsr_facts.specs.Orders.{key_cmp}
+use Rattle.lsr_facts.specs.Routers.{IsRouter, link_at}
+use Rattle.lsr_facts.specs.declared.choice.Choice.{Choice}
+use Rattle.lsr_facts.specs.declared.errors.RsvpError.{RsvpError}
+use Rattle.lsr_facts.specs.declared.facts.Facts.{Facts}
+use Rattle.lsr_facts.specs.declared.key.Key.{Key}
+use Rattle.lsr_facts.specs.declared.path_fact.Origin.{Origin}
+use Rattle.lsr_facts.specs.declared.path_fact.PathFact.{PathFact}
+use Rattle.std.specs.declared.net.ipv4_addr.Ipv4Addr.{Ipv4Addr}
+use Rattle.lsr_facts.specs.declared.refusal.Refusal.TheVariants.{LinkDown, NoMatch, UnknownLink}
+use Rattle.lsr_facts.specs.declared.router.Router.{Router}
+use Rattle.resv_facts.specs.Reservations.{expire, lives_past, style_of}
+use Rattle.resv_facts.specs.declared.resv_fact.ResvStyle.{ResvStyle}
+use Rattle.router_events.specs.declared.events.Arrive.{Arrive}
+use Rattle.router_events.specs.declared.events.Event.TheVariants as events
+use Rattle.router_events.specs.declared.events.Event.{Event}
+use Rattle.router_events.specs.declared.events.Output.{Output}
+use Rattle.abstract_router.proofs.EventSoundness.{IsLeft, LeavesSound, outcome_sound}
+use Rattle.abstract_router.specs.Links.{link_change}
+use Rattle.abstract_router.specs.Outcomes as paths
+use Rattle.abstract_router.specs.Outcomes.{lsp}
+use Rattle.abstract_router.specs.Paths.{failed, taken, has_loop, key_of, path_arrival, path_on_its_way, way_for}
+use Rattle.abstract_router.specs.Places.{is_up, place_of}
+use Rattle.abstract_router.specs.Soundness as standing
+use Rattle.abstract_router.specs.Steps as steps
+use Rattle.abstract_router.specs.Steps.{IsEvent}
+use Rattle.abstract_router.specs.Tears.{is_torn_by, leaves_by, left_with, origins_without, passed_on, path_err_arrival, path_tear_arrival, torn}
+use Rattle.abstract_router.specs.Time.{tick}
+use Rattle.rsvp_traffic.specs.TokenBuckets.{token_rate}
+use Rattle.abstract_lsr.proofs.Granting.{IsGranted, granted_means, held_granted}
+use Rattle.abstract_lsr.proofs.Holding.{held_where, held_with_facts}
+use Rattle.abstract_lsr.proofs.Settling.{IsDrafted, Leaves, LeavesBy}
+use Rattle.abstract_lsr.specs.Arrivals.{arrival, for_reservations, is_done, labelled_path_arrival, lost, message_arrival, moment_comes, outcome, reading_arrival}
+use Rattle.abstract_lsr.specs.Errors.{unknown_style}
+use Rattle.abstract_lsr.specs.Labels.{has_free_label}
+use Rattle.abstract_lsr.specs.Preempting.{claims_of}
+use Rattle.abstract_lsr.specs.Upstreams.{upstream_of}
+use Rattle.resv_facts.specs.Claims.{rate_of_all, reserved_of}
+use Rattle.abstract_lsr.specs.Outcomes.{of_paths, refused}
+use Rattle.abstract_lsr.specs.Reserving.{Progress, Verdict, Failed, PassedOver, Granted, all_descriptors, carried_on, key_in, next_descriptor, resv_arrival, resv_by, resv_failed, resv_replied, unknown_resv, verdict_of}
+use Rattle.abstract_lsr.specs.Soundness.{AreHeld, IsResv, IsSound}
+use Rattle.abstract_lsr.specs.States.{State, with_facts, with_resvs_where}
+use Rattle.abstract_lsr.specs.Tearing.{is_torn_by as is_resv_torn_by, passed_on as err_passed_on, err_onward, resv_err_arrival, resv_tear_arrival}
+
+-- A path event keeps what reservations look at: a silent one all, any other the moment.
+abbrev KeepsBy : Facts → Bool → Facts → Type 0
+KeepsBy s true after = after ≡ s
+KeepsBy s false after = after.moment ≡ s.moment
+
+abbrev Keeps : Facts → paths.Outcome → Type 0
+Keeps s o = KeepsBy s o.is_silent o.after
+
+keeps_on_its_way : (r : Router) (s : Facts) (known : Option PathFact) (link : ℕ) (p : Path) (way : Result Choice RsvpError) → Keeps s (path_on_its_way r s known link p way)
+unfolding path_on_its_way
+keeps_on_its_way r s known link p (Err e) = refl
+keeps_on_its_way r s known link p (Ok way) = cond_both (is_none known && nat_le 1024 (length s.paths)) (failed r s link p system_error) (taken r s known link p way) (Keeps s) (λ full. refl) (λ room. refl)
+
+keeps_path : (r : Router) (s : Facts) (link : ℕ) (p : Path) → Keeps s (path_arrival r s link p)
+unfolding path_arrival
+keeps_path r s link p =
+    cond_both (not (p.label_request.l3pid == 0x0800)) _ _ (Keeps s) (λ a. refl)
+    (λ a. cond_both (is_none (token_rate 1 p.tspec)) _ _ (Keeps s) (λ b. refl)
+    (λ b. cond_both (has_loop r p.recorded) _ _ (Keeps s) (λ c. refl)
+    (λ c. keeps_on_its_way r s (find key_cmp (key_of p) s.paths) link p (way_for (place_of r s) (find key_cmp (key_of p) s.paths) p))))
+
+keeps_left : (s : Facts) (key : Key) (fact : PathFact) (origins : List (Ipv4Addr × Origin)) → (left_with key fact origins s).moment ≡ s.moment
+keeps_left s key fact [] = refl
+keeps_left s key fact (o ∷ os) = refl
+
+keeps_torn : (s : Facts) (link : ℕ) (t : PathTear) (known : Option PathFact) → Keeps s (torn s link t known)
+keeps_torn s link t None = refl
+keeps_torn s link t (Some fact) =
+    cond_both (is_torn_by link t fact) _ _ (Keeps s) (λ a. keeps_left s (lsp t.session t.sender) fact (origins_without t.sender.sender fact)) (λ a. refl)
+
+keeps_passed : (s : Facts) (link : ℕ) (e : PathErr) (known : Option PathFact) → Keeps s (passed_on s link e known)
+keeps_passed s link e None = refl
+keeps_passed s link e (Some fact) = cond_both (leaves_by link fact) _ _ (Keeps s) (λ a. refl) (λ a. refl)
+
+keeps_link : (r : Router) (s : Facts) (number : ℕ) (up : Bool) → Keeps s (link_change r s number up)
+unfolding link_change
+keeps_link r s number up = cond_both (is_none (link_at r number)) _ _ (Keeps s) (λ a. refl) (λ a. refl)
+
+-- a state is the same with its own facts
+rewrapped : (r : Router) (s : State) → IsSound r s → IsSound r (with_facts s.facts s)
+rewrapped r s is = is
+
+-- What a path event does leaves the state so that what follows makes it sound.
+of_paths-leaves : (r : Router) (s : State) (o : paths.Outcome) → IsSound r s → LeavesSound r o → Keeps s.facts o → Leaves r s (of_paths s o)
+of_paths-leaves r s o is leaves keeps = by o.is_silent leaves keeps
+  where
+    by : (silent : Bool) → IsLeft r silent o.after → KeepsBy s.facts silent o.after → LeavesBy r s silent (with_facts o.after s)
+    by true sound same = subst (λ facts. IsSound r (with_facts facts s)) (sym same) (rewrapped r s is)
+    by false stands same = record {
+      paths = stands;
+      held = held_with_facts r s o.after is.held (subst (λ m. AllByRecursion (IsResv m) s.resvs) (sym same) is.held.each);
+      labels = refl;
+    }
+
+-- What some descriptors of a Resv lead to is as it should be, and touches reservations alone.
+record IsCarried (r : Router) (s : State) (after : State) : Type 0 where
+  held : AreHeld r after
+  facts : after.facts ≡ s.facts
+  labels : after.labels ≡ s.labels
+
+-- what a Resv carries that is a message fits
+record Fits (v : Resv) : Type 0 where
+  passing : IsTrue (is_short_passing v.passing)
+  passed_on : IsTrue (are_passed_by 2 v.passing)
+  adspec_last : IsTrue (has_adspec_last v.passing)
+  records : IsTrue (have_short_records v.descriptors)
+
+resv_fits : (v : Resv) → IsMessage (contents.Resv v) → Fits v
+resv_fits v is =
+    let whole = (and_parts (fits_resv v) (nat_le (written_len (contents.Resv v)) 4096) (message_fits (contents.Resv v) is)).0 in
+    let a = and_parts (have_short_records v.descriptors) _ whole in
+    let b = and_parts (is_short_passing v.passing) _ a.1 in
+    let c = and_parts (are_passed_by 2 v.passing) _ b.1 in
+    let d = and_parts (has_adspec_last v.passing) (fits_style v.style v.descriptors) c.1 in
+    record { passing = b.0; passed_on = c.0; adspec_last = d.0; records = a.0 }
+
+module _ (r : Router) (s : State) (link : ℕ) (style : ResvStyle) (v : Resv) (fit : Fits v) where
+  -- the reservation that a descriptor asks for is as it should be, once it was tested
+  is_resv : (state : State) (d : FlowDescriptor) → IsTrue (option_map_or is_short_record d.recorded true) → IsGranted r state (key_in v d) (resv_by state.facts.moment link style v d)
+      → IsResv state.facts.moment (key_in v d, resv_by state.facts.moment link style v d)
+  is_resv state d short may = record {
+    has_rate = may.rate;
+    label = may.label;
+    live = omega arith;
+    recorded = short;
+    passing = fit.passing;
+    passed_on = fit.passed_on;
+    adspec_last = fit.adspec_last;
+  }
+
+  -- one descriptor more
+  carried : (progress : Progress) (d : FlowDescriptor) → IsTrue (option_map_or is_short_record d.recorded true) → IsCarried r s progress.state → (verdict : Verdict)
+      → verdict_of r progress.state (key_in v d) (resv_by progress.state.facts.moment link style v d) ≡ verdict
+      → IsCarried r s (carried_on r link v d (resv_by progress.state.facts.moment link style v d) progress verdict).state
+  carried progress d short is (Failed e) by = is
+  carried progress d short is PassedOver by = is
+  carried progress d short is Granted by =
+      let fact = resv_by progress.state.facts.moment link style v d in
+      let may = granted_means r progress.state (key_in v d) fact by in
+      record { held = held_granted r progress.state (key_in v d) fact is.held may (is_resv progress.state d short may); facts = is.facts; labels = is.labels }
+
+  all_carried : (ds : List FlowDescriptor) (progress : Progress) → IsTrue (have_short_records ds) → IsCarried r s progress.state → IsCarried r s (fold (next_descriptor r link style v) progress ds).state
+  all_carried [] progress short is = is
+  all_carried (d ∷ ds) progress short is =
+      let parts = and_parts (option_map_or is_short_record d.recorded true) (have_short_records ds) short in
+      all_carried ds (next_descriptor r link style v progress d) parts.1 (carried progress d parts.0 is (verdict_of r progress.state (key_in v d) (resv_by progress.state.facts.moment link style v d)) refl)
+
+-- a state whose reservations changed as they should
+drafted : (r : Router) (s after : State) → IsSound r s → IsCarried r s after → IsDrafted r s after
+drafted r s after is carried = record { paths = subst (standing.IsStanding r) (sym carried.facts) is.paths.standing; held = carried.held; labels = carried.labels }
+
+unchanged : (r : Router) (s : State) → IsSound r s → IsDrafted r s s
+unchanged r s is = record { paths = is.paths.standing; held = is.held; labels = refl }
+
+-- a Resv
+resv-leaves : (r : Router) (s : State) (link : ℕ) (v : Resv) → IsSound r s → Fits v → Leaves r s (resv_arrival r s link v)
+unfolding resv_arrival
+resv-leaves r s link v is fit = by_style (style_of v.style)
+  where
+    by_first : (progress : Progress) → IsCarried r s progress.state → (first : Option RsvpError) → Leaves r s (resv_replied s progress first)
+    by_first progress carried (Some e) = drafted r s progress.state is carried
+    by_first progress carried None = cond_both progress.has_granted _ (refused s NoMatch) (Leaves r s) (λ some. drafted r s progress.state is carried) (λ none. is)
+
+    by_style : (style : Option ResvStyle) → Leaves r s (option_map_or (λ style. let progress = all_descriptors r s link style v in resv_replied s progress progress.first) style (resv_failed r s link v false [] unknown_style))
+    by_style None = unchanged r s is
+    by_style (Some style) =
+        let progress = all_descriptors r s link style v in
+        by_first progress (all_carried r s link style v fit v.descriptors (record { state = s; errors = []; first = None; has_granted = false }) fit.records (record { held = is.held; facts = refl; labels = refl })) progress.first
+
+-- a ResvTear
+resv_tear-leaves : (r : Router) (s : State) (link : ℕ) (t : ResvTear) → IsSound r s → Leaves r s (resv_tear_arrival s link t)
+unfolding resv_tear_arrival
+resv_tear-leaves r s link t is =
+    cond_both (list_any (is_resv_torn_by link t) s.resvs) _ (refused s NoMatch) (Leaves r s)
+    (λ some. record { paths = is.paths.standing; held = held_where r s (λ resv. not (is_resv_torn_by link t resv)) is.held; labels = refl })
+    (λ none. is)
+
+-- a ResvErr
+resv_err-leaves : (r : Router) (s : State) (link : ℕ) (e : ResvErr) → IsSound r s → Leaves r s (resv_err_arrival r s link e)
+unfolding resv_err_arrival
+resv_err-leaves r s link e is = by (filter_map (err_onward r s link e) e.descriptors)
+  where
+    by : (matched : List (List Output)) → Leaves r s (err_passed_on s matched)
+    by [] = is
+    by (one ∷ more) = unchanged r s is
+
+-- a Path
+path-leaves : (r : Router) (s : State) (link : ℕ) (p : Path) → IsSound r s → LeavesSound r (path_arrival r s.facts link p) → Leaves r s (labelled_path_arrival r s link p)
+unfolding labelled_path_arrival
+path-leaves r s link p is leaves =
+    cond_both (is_done (path_arrival r s.facts link p).reply && is_none (find key_cmp (key_of p) s.facts.paths) && not (has_free_label r s.labels)) _ _ (Leaves r s)
+    (λ full. unchanged r s is)
+    (λ room. of_paths-leaves r s (path_arrival r s.facts link p) is leaves (keeps_path r s.facts link p))
+
+-- what the router of paths does with a message that comes over a link that is up
+pub came : (r : Router) (s : Facts) (a : Arrive) → is_none (link_at r a.link) ≡ false → not (is_up s.up a.link) ≡ false → steps.arrival r s a ≡ steps.reading_arrival r s a.link a.reading
+unfolding steps.arrival
+came r s a there up =
+    ap (λ b. if b then paths.refused s UnknownLink else if not (is_up s.up a.link) then paths.refused s LinkDown else steps.reading_arrival r s a.link a.reading) there
+    ∙ ap (λ b. if b then paths.refused s LinkDown else steps.reading_arrival r s a.link a.reading) up
+
+-- a message that is read whole
+message-leaves : (r : Router) (s : State) (link : ℕ) (content : Content) → IsSound r s → IsMessage content → LeavesSound r (steps.message_arrival r s.facts link content) → Leaves r s (message_arrival r s link content)
+unfolding path_err_arrival path_tear_arrival
+message-leaves r s link (contents.Path p) is message leaves = path-leaves r s link p is leaves
+message-leaves r s link (contents.Resv v) is message leaves = resv-leaves r s link v is (resv_fits v message)
+message-leaves r s link (contents.PathErr e) is message leaves = of_paths-leaves r s (path_err_arrival s.facts link e) is leaves (keeps_passed s.facts link e (find key_cmp (lsp e.session e.sender) s.facts.paths))
+message-leaves r s link (contents.ResvErr e) is message leaves = resv_err-leaves r s link e is
+message-leaves r s link (contents.PathTear t) is message leaves = of_paths-leaves r s (path_tear_arrival s.facts link t) is leaves (keeps_torn s.facts link t (find key_cmp (lsp t.session t.sender) s.facts.paths))
+message-leaves r s link (contents.ResvTear t) is message leaves = resv_tear-leaves r s link t is
+
+-- or with an object that it doesn't know
+reading-leaves : (r : Router) (s : State) (link : ℕ) (reading : Reading) → IsSound r s → IsMessage (content_in reading) → LeavesSound r (steps.reading_arrival r s.facts link reading) → Leaves r s (reading_arrival r s link reading)
+unfolding unknown_resv
+reading-leaves r s link (readings.Whole content) is message leaves = message-leaves r s link content is message leaves
+reading-leaves r s link (readings.Unknown (contents.Path p) class ctype) is message leaves = unchanged r s is
+reading-leaves r s link (readings.Unknown (contents.Resv v) class ctype) is message leaves = unchanged r s is
+reading-leaves r s link (readings.Unknown (contents.PathErr e) class ctype) is message leaves = message-leaves r s link (contents.PathErr e) is message leaves
+reading-leaves r s link (readings.Unknown (contents.ResvErr e) class ctype) is message leaves = message-leaves r s link (contents.ResvErr e) is message leaves
+reading-leaves r s link (readings.Unknown (contents.PathTear t) class ctype) is message leaves = message-leaves r s link (contents.PathTear t) is message leaves
+reading-leaves r s link (readings.Unknown (contents.ResvTear t) class ctype) is message leaves = message-leaves r s link (contents.ResvTear t) is message leaves
+
+-- a message that comes
+arrival-leaves : (r : Router) (s : State) (a : Arrive) → IsSound r s → IsMessage (content_in a.reading) → LeavesSound r (steps.arrival r s.facts a) → Leaves r s (arrival r s a)
+unfolding arrival
+arrival-leaves r s a is possible leaves =
+    cond_both (is_none (link_at r a.link)) (refused s UnknownLink) _ (Leaves r s) (λ none. is)
+    (λ there. cond_both (not (is_up s.facts.up a.link)) (refused s LinkDown) _ (Leaves r s) (λ down. is)
+    (λ up. reading-leaves r s a.link a.reading is possible (subst (LeavesSound r) (came r s.facts a there up) leaves)))
+
+-- a moment that comes
+tick-leaves : (r : Router) (s : State) (n : ℕ) → IsSound r s → LeavesSound r (tick r s.facts n) → Leaves r s (moment_comes r s n)
+unfolding moment_comes tick expire
+tick-leaves r s n is =
+    cond_both (nat_lt (2 ^ 62) n) _ _ (λ o. LeavesSound r o → Leaves r s (for_reservations r s n (of_paths s o))) (λ above. λ leaves. is)
+    (λ most. cond_both (nat_lt n s.facts.moment) _ _ (λ o. LeavesSound r o → Leaves r s (for_reservations r s n (of_paths s o))) (λ below. λ leaves. is)
+    (λ later. λ leaves. record {
+      paths = leaves;
+      held = held_with_facts r (with_resvs_where (λ resv. lives_past n resv.1) s) (record s.facts { moment = n; paths = lifetimes.expire n s.facts.paths }) (held_where r s (λ resv. lives_past n resv.1) is.held)
+          (all-both (IsResv s.facts.moment) (λ resv. lives_past n resv.1 ≡ true) (IsResv n) (λ resv was lives. record { has_rate = was.has_rate; label = was.label; live = omega (arith, ltb-true n resv.1.expiry lives); recorded = was.recorded; passing = was.passing; passed_on = was.passed_on; adspec_last = was.adspec_last }) (filter (λ resv. lives_past n resv.1) s.resvs)
+          (all-filter (IsResv s.facts.moment) (λ resv. lives_past n resv.1) s.resvs is.held.each) (all-filter_passes (λ resv. lives_past n resv.1 ≡ true) (λ resv. lives_past n resv.1) (λ resv passes. passes) s.resvs));
+      labels = refl;
+    }))
+
+-- What is lost by a restart leaves nothing but what the router of paths keeps.
+lost-sound : (r : Router) (s : State) → standing.IsSound r (steps.restarted s.facts).after → IsSound r (lost s).after
+unfolding claims_of reserved_of rate_of_all upstream_of IsDistinct
+lost-sound r s is = record {
+  paths = is;
+  held = record { in_order = tt; each = tt; one_style = λ a b x y at_a at_b. absurd (let e = at_a in cc); within = λ link priority most. omega arith };
+  standing = tt;
+  labels = record { of_lsps = refl; from_first = tt; to_last = tt; apart = tt };
+  sent_upstream = refl;
+}
+
+-- Whatever an event does of itself leaves the state so that what follows makes it sound.
+pub outcome-leaves : (r : Router) (s : State) (event : Event) → IsRouter r → IsSound r s → IsEvent event → (s.facts.cold ≡ true → event ≡ events.Start) → Leaves r s (outcome r s event)
+unfolding upstream_of
+outcome-leaves r s (events.Arrive a) router is possible awake = arrival-leaves r s a is possible (outcome_sound r s.facts (events.Arrive a) router is.paths possible awake)
+outcome-leaves r s (events.Tick n) router is possible awake = tick-leaves r s n is (outcome_sound r s.facts (events.Tick n) router is.paths possible awake)
+outcome-leaves r s (events.LinkUp number) router is possible awake =
+    of_paths-leaves r s (link_change r s.facts number true) is (outcome_sound r s.facts (events.LinkUp number) router is.paths possible awake) (keeps_link r s.facts number true)
+outcome-leaves r s (events.LinkDown number) router is possible awake =
+    of_paths-leaves r s (link_change r s.facts number false) is (outcome_sound r s.facts (events.LinkDown number) router is.paths possible awake) (keeps_link r s.facts number false)
+outcome-leaves r s events.Restart router is possible awake = lost-sound r s (outcome_sound r s.facts events.Restart router is.paths possible awake)
+outcome-leaves r s events.Start router is possible awake =
+    let started = outcome_sound r s.facts events.Start router is.paths possible awake in
+    record { paths = started; held = record { in_order = is.held.in_order; each = is.held.each; one_style = is.held.one_style; within = is.held.within }; standing = is.standing; labels = record { of_lsps = is.labels.of_lsps; from_first = is.labels.from_first; to_last = is.labels.to_last; apart = is.labels.apart }; sent_upstream = is.sent_upstream }

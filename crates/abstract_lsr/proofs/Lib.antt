@@ -1,0 +1,9 @@
+mod Claiming
+mod Drafting
+mod Entries
+mod Granting
+mod Holding
+mod Labelling
+mod Running
+mod Settling
+mod Stepping

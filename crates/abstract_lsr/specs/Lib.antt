@@ -1,0 +1,13 @@
+pub mod Arrivals
+pub mod Errors
+pub mod Labels
+pub mod Outcomes
+pub mod Outputs
+pub mod Preempting
+pub mod Reserving
+pub mod Soundness
+pub mod States
+pub mod Steps
+pub mod Tables
+pub mod Tearing
+pub mod Upstreams

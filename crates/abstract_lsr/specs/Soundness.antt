@@ -1,0 +1,64 @@
+-- What holds of every state that a label switching router comes to.
+use Rattle.std.specs.Prelude.{◌≡◌, ℕ, ◌≤◌, true, List, Some, IsOk, IsTrue, T, nat_eq}
+use Rattle.std.specs.FinMap.Entries.{find, is_sorted}
+use Rattle.std.specs.List.{AllByRecursion, IsDistinct}
+use Rattle.std.specs.Option.{option_map_or}
+use Rattle.rsvp_contents.specs.Fitting.{are_passed_by, has_adspec_last}
+use Rattle.rsvp_contents.specs.Limits.{is_short_passing, is_short_record}
+use Rattle.rsvp_traffic.specs.Traffic.{flowspec_rate}
+use Rattle.sorted_rows.specs.Rows.{keys_of, values_of}
+use Rattle.lsr_facts.specs.Orders.{key_cmp}
+use Rattle.lsr_facts.specs.declared.key.Key.{Key}
+use Rattle.lsr_facts.specs.declared.router.Router.{Router}
+use Rattle.resv_facts.specs.Claims.{is_same_session, reserved_of}
+use Rattle.resv_facts.specs.declared.resv_fact.ResvFact.{ResvFact}
+use Rattle.abstract_router.specs.Soundness as paths
+use Rattle.abstract_lsr.specs.Upstreams.{upstream_of}
+use Rattle.abstract_lsr.specs.Labels.{labelled_keys}
+use Rattle.abstract_lsr.specs.Preempting.{claims_of, limit_of}
+use Rattle.forwarding_table.specs.Labels.{is_label}
+use Rattle.abstract_lsr.specs.Reserving.{is_same_style}
+use Rattle.abstract_lsr.specs.States.{State}
+use Rattle.abstract_lsr.specs.Steps.{stands}
+
+-- What a reservation says of itself is as it should be: its rate is defined; its label can be written; its expiry
+-- isn't below the moment (with a refresh period of 0 they are equal); and what it carries fits a Resv, type 2.
+pub record IsResv (moment : ℕ) (resv : Key × ResvFact) : Type 0 where
+  pub has_rate : IsOk (flowspec_rate resv.1.flowspec)
+  pub label : is_label resv.1.label ≡ true
+  pub live : moment ≤ resv.1.expiry
+  pub recorded : IsTrue (option_map_or is_short_record resv.1.recorded true)
+  pub passing : IsTrue (is_short_passing resv.1.passing)
+  pub passed_on : IsTrue (are_passed_by 2 resv.1.passing)
+  pub adspec_last : IsTrue (has_adspec_last resv.1.passing)
+
+-- the LSPs of one session on one link are reserved in one style
+abbrev pub AreOfOneStyle : List (Key × ResvFact) → Type 0
+AreOfOneStyle resvs =
+    (a b : Key) (x y : ResvFact) → find key_cmp a resvs ≡ Some x → find key_cmp b resvs ≡ Some y
+    → is_same_session a.session b.session ≡ true → x.link ≡ y.link → is_same_style x.style y.style ≡ true
+
+-- The table of reservations: in the order of keys, each as it should be, one style for a session on a link, and on each
+-- link, at each priority, no more than its limit.
+pub record AreHeld (r : Router) (s : State) : Type 0 where
+  pub in_order : T (is_sorted key_cmp s.resvs)
+  pub each : AllByRecursion (IsResv s.facts.moment) s.resvs
+  pub one_style : AreOfOneStyle s.resvs
+  pub within : (link priority : ℕ) → priority ≤ 7 → reserved_of link priority (claims_of s.facts.paths s.resvs) ≤ limit_of r link
+
+-- The labels: held by exactly the LSPs that don't begin here, each by one, all of the router's range.
+pub record AreLabelled (r : Router) (s : State) : Type 0 where
+  pub of_lsps : keys_of s.labels ≡ labelled_keys s.facts.paths
+  pub from_first : AllByRecursion (λ row. r.labels.first ≤ row.1) s.labels
+  pub to_last : AllByRecursion (λ row. row.1 ≤ r.labels.last) s.labels
+  pub apart : IsDistinct nat_eq (values_of s.labels)
+
+-- What holds of every state: of links, routes, time and paths as for a router of paths; reservations are within the
+-- limits of their links, and each stands on its path; each LSP that doesn't begin here has a label of its own; and the
+-- moments are known of exactly the Resvs that are wanted.
+pub record IsSound (r : Router) (s : State) : Type 0 where
+  pub paths : paths.IsSound r s.facts
+  pub held : AreHeld r s
+  pub standing : AllByRecursion (λ resv. stands s.facts resv ≡ true) s.resvs
+  pub labels : AreLabelled r s
+  pub sent_upstream : keys_of s.sent_upstream ≡ keys_of (upstream_of r s)

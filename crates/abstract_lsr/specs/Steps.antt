@@ -1,0 +1,100 @@
+-- One step of the abstract label switching router, and runs of steps.
+use Rattle.std.specs.Prelude.{◌≡◌, ◌≢◌, ◌&&◌, ℕ, true, if◌then◌else◌, Bool, false, List, [], ◌∷◌, ◌⊎◌}
+use Rattle.std.specs.FinMap.Entries.{find}
+use Rattle.std.specs.Option.{option_map_or}
+use Rattle.rsvp_routes.specs.declared.prefix.Prefix.{Prefix}
+use Rattle.lsr_facts.specs.Orders.{key_cmp}
+use Rattle.lsr_facts.specs.declared.facts.Facts.{Facts}
+use Rattle.lsr_facts.specs.declared.key.Key.{Key}
+use Rattle.lsr_facts.specs.declared.path_fact.PathFact.{PathFact}
+use Rattle.lsr_facts.specs.declared.router.Router.{Router}
+use Rattle.resv_facts.specs.declared.resv_fact.ResvFact.{ResvFact}
+use Rattle.lsr_facts.specs.declared.refusal.Refusal.TheVariants.{IsCold}
+use Rattle.lsr_facts.specs.declared.reply.Reply.{Reply}
+use Rattle.lsr_facts.specs.declared.reply.Reply.TheVariants as replies
+use Rattle.router_events.specs.declared.events.Event.TheVariants as events
+use Rattle.router_events.specs.declared.events.Event.{Event}
+use Rattle.router_events.specs.declared.events.Made.{Made}
+use Rattle.router_events.specs.declared.events.Output.{Output}
+use Rattle.abstract_router.specs.Places.{is_up}
+use Rattle.abstract_router.specs.Stamps.{with_stamps}
+use Rattle.abstract_router.specs.Steps as paths
+use Rattle.abstract_router.specs.Steps.{IsEvent}
+use Rattle.abstract_router.specs.Tears.{leaves_by}
+use Rattle.abstract_lsr.specs.Arrivals.{outcome}
+use Rattle.abstract_lsr.specs.Labels.{IsLabelling, labels_after}
+use Rattle.abstract_lsr.specs.Outcomes.{Outcome}
+use Rattle.abstract_lsr.specs.Outputs.{upstream_stamps, outputs_of}
+use Rattle.abstract_lsr.specs.States.{State, with_resvs_where}
+
+-- a router as it is opened: no path, no reservation, no label
+abbrev pub opening : Router → List (Prefix × ℕ) → State
+opening r routes = record { facts = paths.opening r routes; resvs = []; labels = []; sent_upstream = [] }
+
+-- A reservation stands on its path: on the link that this leaves by, which is up.
+abbrev pub stands : Facts → Key × ResvFact → Bool
+stands facts resv = is_up facts.up resv.1.link && option_map_or (leaves_by resv.1.link) (find key_cmp resv.0 facts.paths) false
+
+-- Reservations go that stand no more: their path went, or leaves by another link, or ends here now; or their link
+-- went down (RFC 2205, 2.3 and 3.6).
+abbrev pub left_standing : State → State
+left_standing s = with_resvs_where (stands s.facts) s
+
+-- Then a tunnel whose new LSP has its reservation goes over to it. No tunnel begins here yet.
+abbrev pub taken_over : Router → State → State
+taken_over r s = s
+
+-- Then what a lost link takes away is repaired. Nothing is repaired yet.
+abbrev pub repaired : Router → State → State
+repaired r s = s
+
+-- Then each LSP that is new has the label that was chosen for it, and the labels of those that went are free.
+abbrev pub labelled : List (Key × ℕ) → State → State
+labelled chosen s = record s { labels = labels_after s.labels chosen s.facts.paths }
+
+-- what follows from an event's own change, in this order
+abbrev pub settled : Router → List (Key × ℕ) → State → State
+settled r chosen s = labelled chosen (left_standing (repaired r (taken_over r s)))
+
+-- and when each message was sent last
+abbrev pub with_moments : Router → State → Outcome → State → State
+with_moments r before o after =
+    record after { facts = with_stamps r before.facts o.due after.facts; sent_upstream = upstream_stamps r before o.upstream_due after }
+
+-- What is known after a step.
+abbrev pub known_after : Router → State → List (Key × ℕ) → Outcome → State
+known_after r before chosen o = if o.is_silent then o.after else with_moments r before o (settled r chosen o.after)
+
+-- What a step sends.
+abbrev pub sent_in : Router → State → Outcome → State → List Output
+sent_in r before o after = if o.is_silent then [] else outputs_of r before o.errors o.due o.upstream_due after
+
+-- The labels that a step may choose: a silent one gives none.
+abbrev pub MayChooseBy : Bool → Router → List (Key × ℕ) → List (Key × PathFact) → List (Key × ℕ) → Type 0
+MayChooseBy true r labels paths chosen = chosen ≡ []
+MayChooseBy false r labels paths chosen = IsLabelling r labels paths chosen
+
+abbrev pub MayChoose : Router → State → Outcome → List (Key × ℕ) → Type 0
+MayChoose r before o chosen = MayChooseBy o.is_silent r before.labels o.after.facts.paths chosen
+
+-- One step, made: what the event does and what follows from it, its answer, and what is sent. While the router is
+-- cold, no event but Start is one.
+pub record Step (r : Router) (before : State) (made : Made) (after : State) : Type 0 where
+  pub possible : IsEvent made.event
+  pub awake : before.facts.cold ≡ true → made.event ≡ events.Start
+  pub chosen : MayChoose r before (outcome r before made.event) made.labels
+  pub replied : made.reply ≡ (outcome r before made.event).reply
+  pub changed : after ≡ known_after r before made.labels (outcome r before made.event)
+  pub sent : made.outputs ≡ sent_in r before (outcome r before made.event) after
+
+-- Steps, one after the other.
+abbrev pub Run : Router → State → List Made → State → Type 0
+Run r before [] after = after ≡ before
+Run r before (made ∷ more) after = (between : State) × Step r before made between × Run r between more after
+
+-- What an event is answered, and what is sent for it, be the router cold or not: a cold one refuses all but its
+-- start, and that leaves no trace; else the event's step is made.
+abbrev pub IsAnswered : Router → State → Event → Reply → List Output → State → Type 0
+IsAnswered r before event reply outputs after =
+    ((before.facts.cold ≡ true) × (event ≢ events.Start) × (reply ≡ replies.Refused IsCold) × (outputs ≡ []) × (after ≡ before))
+    ⊎ ((labels : List (Key × ℕ)) × Step r before (record { event = event; labels = labels; reply = reply; outputs = outputs }) after)

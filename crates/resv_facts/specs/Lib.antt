@@ -1,0 +1,10 @@
+pub mod Admission
+pub mod AdmissionLaws
+pub mod ClaimLaws
+pub mod Claims
+pub mod Holdings
+pub mod Priorities
+pub mod RateLaws
+pub mod Reservations
+pub mod SumLaws
+pub mod TurnLaws

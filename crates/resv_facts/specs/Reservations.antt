@@ -1,0 +1,20 @@
+-- What a reservation says of itself (RFC 2205, 1.3 and 2.3).
+use Rattle.std.specs.Prelude.{ℕ, nat_lt, Bool, if◌then◌else◌, List, filter, Option, Some, None}
+use Rattle.rsvp_flows.specs.Styles.{is_fixed, is_shared}
+use Rattle.rsvp_objects.specs.declared.values.Style.{Style}
+use Rattle.lsr_facts.specs.declared.key.Key.{Key}
+use Rattle.resv_facts.specs.declared.resv_fact.ResvFact.{ResvFact}
+use Rattle.resv_facts.specs.declared.resv_fact.ResvStyle.{ResvStyle}
+use Rattle.resv_facts.specs.declared.resv_fact.ResvStyle.TheVariants.{FixedFilter, SharedExplicit}
+
+-- the style that an object says, where it is one of the two (RFC 2205, A.7)
+abbrev pub style_of : Style → Option ResvStyle
+style_of style = if is_fixed style then Some FixedFilter else if is_shared style then Some SharedExplicit else None
+
+-- the reservation's expiry is yet to come: one whose expiry is this moment has expired (RFC 2205, 2.3)
+abbrev pub lives_past : ℕ → ResvFact → Bool
+lives_past moment fact = nat_lt moment fact.expiry
+
+-- Each reservation goes that has expired (RFC 2205, 2.3).
+unfoldable pub expire : ℕ → List (Key × ResvFact) → List (Key × ResvFact)
+expire moment resvs = filter (λ resv. lives_past moment resv.1) resvs

@@ -1,0 +1,11 @@
+//! What a router knows of reservations, the priorities at which they stand, and the bandwidth that they take.
+#![tactic(auto)]
+
+mod claim;
+pub mod laws;
+mod priorities;
+mod resv_fact;
+
+pub use claim::{Claim, Request};
+pub use priorities::{WORST_PRIORITY, holding_of, setup_of};
+pub use resv_fact::{ResvFact, ResvStyle};

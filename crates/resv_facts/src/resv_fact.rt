@@ -1,0 +1,76 @@
+ghost use Rattle.std.specs.Prelude.{◌≡◌, nat_lt};
+ghost use Rattle.resv_facts.specs.Reservations.{lives_past, style_of};
+
+use rsvp_contents::Passing;
+use rsvp_flows::{is_fixed, is_shared};
+use rsvp_objects::Style;
+use rsvp_routes::Record;
+use rsvp_traffic::Flowspec;
+use sorted_rows::TryCopy;
+use std::alloc::{AllocError, Global};
+
+/// How the LSPs of a session reserve (RFC 2205, 1.3; RFC 3209, 2.4).
+#[derive(Clone, Copy, Debug, PartialEq, Eq)]
+pub enum ResvStyle {
+    /// Fixed filter, FF: each LSP has bandwidth of its own.
+    FixedFilter,
+    /// Shared explicit, SE: the LSPs of the session share what the greatest of them asks for.
+    SharedExplicit,
+}
+
+impl ResvStyle {
+    /// The style that an object says, or `None` for another style than these two (RFC 2205, A.7).
+    pub fn of(style: Style) -> Option<ResvStyle>
+        ensures { result ≡ style_of style }
+    {
+        if is_fixed(style) {
+            Some(ResvStyle::FixedFilter)
+        } else if is_shared(style) {
+            Some(ResvStyle::SharedExplicit)
+        } else {
+            None
+        }
+    }
+}
+
+/// What the router knows of one LSP's reservation: reservation state (RFC 2205, 2.3; RFC 3209, 2).
+#[derive(Debug, Drop)]
+pub struct ResvFact {
+    /// The number of the link that it is on: the one that its path leaves by.
+    pub link: u16,
+    /// Whether the LSPs of the session share it.
+    pub style: ResvStyle,
+    /// The traffic that is reserved for.
+    pub flowspec: Flowspec,
+    /// The label that the next hop takes the LSP with.
+    pub label: u32,
+    /// The route that its Resv took so far, where that is recorded.
+    pub recorded: Option<Record>,
+    /// Objects that are passed on unread.
+    pub passing: Passing,
+    /// The moment in milliseconds at which it counts no more, unless it is refreshed before.
+    pub expiry: u64,
+}
+
+impl ResvFact {
+    /// Whether its expiry is yet to come at a moment, in milliseconds.
+    pub fn lives_past(&self, moment: u64) -> bool
+        ensures { result ≡ lives_past moment self.now }
+    {
+        moment < self.expiry
+    }
+}
+
+impl TryCopy for ResvFact {
+    fn try_copy(&self, _alloc: Global) -> Result<ResvFact, AllocError> {
+        Ok(ResvFact {
+            link: self.link,
+            style: self.style,
+            flowspec: self.flowspec.clone()?,
+            label: self.label,
+            recorded: self.recorded.clone()?,
+            passing: self.passing.clone()?,
+            expiry: self.expiry,
+        })
+    }
+}
