@@ -1,10 +1,11 @@
 -- Whatever an event does of itself leaves the state such that what follows makes it sound: each by its few primitives.
-use Rattle.std.specs.Prelude.{◌≡◌, ℕ, ◌^◌, ◌&&◌, ◌==◌, Bool, true, false, not, if◌then◌else◌, nat_lt, List, [], ◌∷◌, length, filter, filter_map, fold, nat_le, Option, Some, None, is_none, Result, Ok, Err, IsTrue}
-use Rattle.std.specs.FinMap.Entries.{find}
+use Rattle.std.specs.Prelude.{is_some, ◌≡◌, ◌≢◌, ◌⊎◌, IfSome, ℕ, ◌^◌, ◌&&◌, ◌==◌, Bool, true, false, not, if◌then◌else◌, nat_lt, List, [], ◌∷◌, length, filter, filter_map, fold, nat_le, Option, Some, None, is_none, Result, Ok, Err, IsTrue}
+use Rattle.std.specs.FinMap.Entries.{find, put}
+use Rattle.std.specs.Ordering.{is_eq}
 use Rattle.std.specs.List.{AllByRecursion, IsDistinct, list_any}
 use Rattle.std.specs.Option.{option_map_or}
-use Rattle.std.proofs.Common.{refl, sym, ap, subst, ◌∙◌, arith}
-use Rattle.std.proofs.lemmas.Bool.{and_parts, cond_both, ltb-true}
+use Rattle.std.proofs.Common.{refl, sym, ap, subst, ◌∙◌, inl, inr, arith}
+use Rattle.std.proofs.lemmas.Bool.{and_parts, cond_both, ltb-true, not-false}
 use Rattle.rsvp_contents.proofs.Fitted.{message_fits}
 use Rattle.rsvp_contents.specs.Fitting.{are_passed_by, fits_resv, has_adspec_last, have_short_records, written_len}
 use Rattle.rsvp_flows.specs.Flows.{fits_style}
@@ -22,9 +23,12 @@ use Rattle.rsvp_contents.specs.declared.messages.Resv.{Resv}
 use Rattle.rsvp_contents.specs.declared.messages.ResvErr.{ResvErr}
 use Rattle.rsvp_contents.specs.declared.messages.ResvTear.{ResvTear}
 use Rattle.rsvp_flows.specs.declared.descriptors.FlowDescriptor.{FlowDescriptor}
-use Rattle.sorted_rows.specs.ListLaws.{all-both, all-filter, all-filter_passes}
+use Rattle.sorted_rows.specs.RowsLaws.{all-put_row, find-all_row}
+use Rattle.sorted_rows.specs.ListLaws.{all-map, all-weaker, all-both, all-filter, all-filter_passes}
 use Rattle.lsr_facts.specs.Errors.{system_error}
+use Rattle.lsr_facts.specs.Lifetimes.{begins_here}
 use Rattle.lsr_facts.specs.Lifetimes as lifetimes
+use Rattle.lsr_facts.specs.OrderLaws.{key_exact}
 use Rattle.lsr_facts.specs.Orders.{key_cmp}
 use Rattle.lsr_facts.specs.Routers.{IsRouter, link_at}
 use Rattle.lsr_facts.specs.declared.choice.Choice.{Choice}
@@ -33,6 +37,8 @@ use Rattle.lsr_facts.specs.declared.facts.Facts.{Facts}
 use Rattle.lsr_facts.specs.declared.key.Key.{Key}
 use Rattle.lsr_facts.specs.declared.path_fact.Origin.{Origin}
 use Rattle.lsr_facts.specs.declared.path_fact.PathFact.{PathFact}
+use Rattle.lsr_facts.specs.declared.path_fact.Role.{Role}
+use Rattle.lsr_facts.specs.declared.path_fact.Role.TheVariants as roles
 use Rattle.std.specs.declared.net.ipv4_addr.Ipv4Addr.{Ipv4Addr}
 use Rattle.lsr_facts.specs.declared.refusal.Refusal.TheVariants.{LinkDown, NoMatch, UnknownLink}
 use Rattle.lsr_facts.specs.declared.router.Router.{Router}
@@ -42,11 +48,12 @@ use Rattle.router_events.specs.declared.events.Arrive.{Arrive}
 use Rattle.router_events.specs.declared.events.Event.TheVariants as events
 use Rattle.router_events.specs.declared.events.Event.{Event}
 use Rattle.router_events.specs.declared.events.Output.{Output}
+use Rattle.abstract_router.proofs.PathTable.{path_known}
 use Rattle.abstract_router.proofs.EventSoundness.{IsLeft, LeavesSound, outcome_sound}
 use Rattle.abstract_router.specs.Links.{link_change}
 use Rattle.abstract_router.specs.Outcomes as paths
 use Rattle.abstract_router.specs.Outcomes.{lsp}
-use Rattle.abstract_router.specs.Paths.{failed, taken, has_loop, key_of, path_arrival, path_on_its_way, way_for}
+use Rattle.abstract_router.specs.Paths.{failed, taken, has_loop, key_of, path_arrival, path_by, path_on_its_way, way_for}
 use Rattle.abstract_router.specs.Places.{is_up, place_of}
 use Rattle.abstract_router.specs.Soundness as standing
 use Rattle.abstract_router.specs.Steps as steps
@@ -54,6 +61,7 @@ use Rattle.abstract_router.specs.Steps.{IsEvent}
 use Rattle.abstract_router.specs.Tears.{is_torn_by, leaves_by, left_with, origins_without, passed_on, path_err_arrival, path_tear_arrival, torn}
 use Rattle.abstract_router.specs.Time.{tick}
 use Rattle.rsvp_traffic.specs.TokenBuckets.{token_rate}
+use Rattle.abstract_lsr.proofs.Choosing.{CanLabel, HasLabel, HasLabelOrIsNew, each_has}
 use Rattle.abstract_lsr.proofs.Granting.{IsGranted, granted_means, held_granted}
 use Rattle.abstract_lsr.proofs.Holding.{held_where, held_with_facts}
 use Rattle.abstract_lsr.proofs.Settling.{IsDrafted, Leaves, LeavesBy}
@@ -69,58 +77,78 @@ use Rattle.abstract_lsr.specs.Soundness.{AreHeld, IsResv, IsSound}
 use Rattle.abstract_lsr.specs.States.{State, with_facts, with_resvs_where}
 use Rattle.abstract_lsr.specs.Tearing.{is_torn_by as is_resv_torn_by, passed_on as err_passed_on, err_onward, resv_err_arrival, resv_tear_arrival}
 
--- A path event keeps what reservations look at: a silent one all, any other the moment.
-abbrev KeepsBy : Facts → Bool → Facts → Type 0
-KeepsBy s true after = after ≡ s
-KeepsBy s false after = after.moment ≡ s.moment
+-- A path event keeps what reservations look at, and leaves paths that can be labelled: a silent one keeps all, any other
+-- the moment.
+abbrev KeepsBy : Router → List (Key × ℕ) → Facts → Bool → Facts → Type 0
+KeepsBy r labels s true after = after ≡ s
+KeepsBy r labels s false after = (after.moment ≡ s.moment) × CanLabel r labels after.paths
 
-abbrev Keeps : Facts → paths.Outcome → Type 0
-Keeps s o = KeepsBy s o.is_silent o.after
+abbrev Keeps : Router → List (Key × ℕ) → Facts → paths.Outcome → Type 0
+Keeps r labels s o = KeepsBy r labels s o.is_silent o.after
 
-keeps_on_its_way : (r : Router) (s : Facts) (known : Option PathFact) (link : ℕ) (p : Path) (way : Result Choice RsvpError) → Keeps s (path_on_its_way r s known link p way)
+-- a Path is in error and leaves the paths, or is done and puts its own
+abbrev Puts : Facts → Path → paths.Outcome → Type 0
+Puts s p o = (o.is_silent ≡ false) × (o.after.moment ≡ s.moment) × ((o.after.paths ≡ s.paths) ⊎ ((fact : PathFact) × (is_done o.reply ≡ true) × (o.after.paths ≡ put key_cmp (key_of p) fact s.paths)))
+
+puts_on_its_way : (r : Router) (s : Facts) (known : Option PathFact) (link : ℕ) (p : Path) (way : Result Choice RsvpError) → Puts s p (path_on_its_way r s known link p way)
 unfolding path_on_its_way
-keeps_on_its_way r s known link p (Err e) = refl
-keeps_on_its_way r s known link p (Ok way) = cond_both (is_none known && nat_le 1024 (length s.paths)) (failed r s link p system_error) (taken r s known link p way) (Keeps s) (λ full. refl) (λ room. refl)
+puts_on_its_way r s known link p (Err e) = (refl, refl, inl refl)
+puts_on_its_way r s known link p (Ok way) =
+    cond_both (is_none known && nat_le 1024 (length s.paths)) (failed r s link p system_error) (taken r s known link p way) (Puts s p) (λ full. (refl, refl, inl refl)) (λ room. (refl, refl, inr (path_by s.moment known link p way, refl, refl)))
 
-keeps_path : (r : Router) (s : Facts) (link : ℕ) (p : Path) → Keeps s (path_arrival r s link p)
+puts_path : (r : Router) (s : Facts) (link : ℕ) (p : Path) → Puts s p (path_arrival r s link p)
 unfolding path_arrival
-keeps_path r s link p =
-    cond_both (not (p.label_request.l3pid == 0x0800)) _ _ (Keeps s) (λ a. refl)
-    (λ a. cond_both (is_none (token_rate 1 p.tspec)) _ _ (Keeps s) (λ b. refl)
-    (λ b. cond_both (has_loop r p.recorded) _ _ (Keeps s) (λ c. refl)
-    (λ c. keeps_on_its_way r s (find key_cmp (key_of p) s.paths) link p (way_for (place_of r s) (find key_cmp (key_of p) s.paths) p))))
+puts_path r s link p =
+    cond_both (not (p.label_request.l3pid == 0x0800)) _ _ (Puts s p) (λ a. (refl, refl, inl refl))
+    (λ a. cond_both (is_none (token_rate 1 p.tspec)) _ _ (Puts s p) (λ b. (refl, refl, inl refl))
+    (λ b. cond_both (has_loop r p.recorded) _ _ (Puts s p) (λ c. (refl, refl, inl refl))
+    (λ c. puts_on_its_way r s (find key_cmp (key_of p) s.paths) link p (way_for (place_of r s) (find key_cmp (key_of p) s.paths) p))))
 
-keeps_left : (s : Facts) (key : Key) (fact : PathFact) (origins : List (Ipv4Addr × Origin)) → (left_with key fact origins s).moment ≡ s.moment
-keeps_left s key fact [] = refl
-keeps_left s key fact (o ∷ os) = refl
+module _ (r : Router) (labels : List (Key × ℕ)) (s : Facts) (has : AllByRecursion (HasLabel labels) s.paths) where
+  -- a path that is put where one was known has its label too, as long as neither begins here
+  put_known : (key : Key) (old fact : PathFact) → find key_cmp key s.paths ≡ Some old → not (begins_here old.role) ≡ true → AllByRecursion (HasLabel labels) (put key_cmp key fact s.paths)
+  put_known key old fact found ours =
+      let had : HasLabel labels (key, old) = subst (λ o. IfSome o (λ v. HasLabel labels (key, v))) found (find-all_row key_cmp key_exact (HasLabel labels) key s.paths has) in
+      all-put_row key_cmp (HasLabel labels) key fact (λ k tied. λ so. subst (λ q. is_some (find key_cmp q labels) ≡ true) (key_exact key k tied) (had ours)) (λ so. had ours) s.paths has
 
-keeps_torn : (s : Facts) (link : ℕ) (t : PathTear) (known : Option PathFact) → Keeps s (torn s link t known)
-keeps_torn s link t None = refl
-keeps_torn s link t (Some fact) =
-    cond_both (is_torn_by link t fact) _ _ (Keeps s) (λ a. keeps_left s (lsp t.session t.sender) fact (origins_without t.sender.sender fact)) (λ a. refl)
+  keeps_left : (key : Key) (fact : PathFact) (origins : List (Ipv4Addr × Origin)) → find key_cmp key s.paths ≡ Some fact → ((left_with key fact origins s).moment ≡ s.moment) × CanLabel r labels (left_with key fact origins s).paths
+  keeps_left key fact [] found = (refl, inl (all-filter (HasLabel labels) (λ path. not (is_eq (key_cmp key path.0))) s.paths has))
+  keeps_left key fact (o ∷ os) found =
+      let had : HasLabel labels (key, fact) = subst (λ o. IfSome o (λ v. HasLabel labels (key, v))) found (find-all_row key_cmp key_exact (HasLabel labels) key s.paths has) in
+      (refl, inl (all-put_row key_cmp (HasLabel labels) key (record fact { origins = o ∷ os }) (λ k tied. λ so. subst (λ q. is_some (find key_cmp q labels) ≡ true) (key_exact key k tied) (had so)) had s.paths has))
 
-keeps_passed : (s : Facts) (link : ℕ) (e : PathErr) (known : Option PathFact) → Keeps s (passed_on s link e known)
-keeps_passed s link e None = refl
-keeps_passed s link e (Some fact) = cond_both (leaves_by link fact) _ _ (Keeps s) (λ a. refl) (λ a. refl)
+  keeps_torn : (link : ℕ) (t : PathTear) (known : Option PathFact) → find key_cmp (lsp t.session t.sender) s.paths ≡ known → Keeps r labels s (torn s link t known)
+  keeps_torn link t None found = refl
+  keeps_torn link t (Some fact) found =
+      cond_both (is_torn_by link t fact) _ _ (Keeps r labels s) (λ a. keeps_left (lsp t.session t.sender) fact (origins_without t.sender.sender fact) found) (λ a. refl)
 
-keeps_link : (r : Router) (s : Facts) (number : ℕ) (up : Bool) → Keeps s (link_change r s number up)
-unfolding link_change
-keeps_link r s number up = cond_both (is_none (link_at r number)) _ _ (Keeps s) (λ a. refl) (λ a. refl)
+  keeps_passed : (link : ℕ) (e : PathErr) (known : Option PathFact) → Keeps r labels s (passed_on s link e known)
+  keeps_passed link e None = refl
+  keeps_passed link e (Some fact) = cond_both (leaves_by link fact) _ _ (Keeps r labels s) (λ a. (refl, inl has)) (λ a. refl)
+
+  keeps_link : (number : ℕ) (up : Bool) → Keeps r labels s (link_change r s number up)
+  unfolding link_change
+  keeps_link number up = cond_both (is_none (link_at r number)) _ _ (Keeps r labels s) (λ a. refl) (λ a. (refl, inl has))
+
+-- in a sound state each path has its label
+labelled : (r : Router) (s : State) → IsSound r s → AllByRecursion (HasLabel s.labels) s.facts.paths
+labelled r s is = each_has r s is.labels is.paths.standing.paths.in_order
 
 -- a state is the same with its own facts
 rewrapped : (r : Router) (s : State) → IsSound r s → IsSound r (with_facts s.facts s)
 rewrapped r s is = is
 
 -- What a path event does leaves the state so that what follows makes it sound.
-of_paths-leaves : (r : Router) (s : State) (o : paths.Outcome) → IsSound r s → LeavesSound r o → Keeps s.facts o → Leaves r s (of_paths s o)
+of_paths-leaves : (r : Router) (s : State) (o : paths.Outcome) → IsSound r s → LeavesSound r o → Keeps r s.labels s.facts o → Leaves r s (of_paths s o)
 of_paths-leaves r s o is leaves keeps = by o.is_silent leaves keeps
   where
-    by : (silent : Bool) → IsLeft r silent o.after → KeepsBy s.facts silent o.after → LeavesBy r s silent (with_facts o.after s)
+    by : (silent : Bool) → IsLeft r silent o.after → KeepsBy r s.labels s.facts silent o.after → LeavesBy r s silent (with_facts o.after s)
     by true sound same = subst (λ facts. IsSound r (with_facts facts s)) (sym same) (rewrapped r s is)
     by false stands same = record {
       paths = stands;
-      held = held_with_facts r s o.after is.held (subst (λ m. AllByRecursion (IsResv m) s.resvs) (sym same) is.held.each);
+      held = held_with_facts r s o.after is.held (subst (λ m. AllByRecursion (IsResv m) s.resvs) (sym same.0) is.held.each);
       labels = refl;
+      choice = same.1;
     }
 
 -- What some descriptors of a Resv lead to is as it should be, and touches reservations alone.
@@ -178,10 +206,15 @@ module _ (r : Router) (s : State) (link : ℕ) (style : ResvStyle) (v : Resv) (f
 
 -- a state whose reservations changed as they should
 drafted : (r : Router) (s after : State) → IsSound r s → IsCarried r s after → IsDrafted r s after
-drafted r s after is carried = record { paths = subst (standing.IsStanding r) (sym carried.facts) is.paths.standing; held = carried.held; labels = carried.labels }
+drafted r s after is carried = record {
+  paths = subst (standing.IsStanding r) (sym carried.facts) is.paths.standing;
+  held = carried.held;
+  labels = carried.labels;
+  choice = inl (subst (λ facts. AllByRecursion (HasLabel s.labels) facts.paths) (sym carried.facts) (labelled r s is));
+}
 
 unchanged : (r : Router) (s : State) → IsSound r s → IsDrafted r s s
-unchanged r s is = record { paths = is.paths.standing; held = is.held; labels = refl }
+unchanged r s is = record { paths = is.paths.standing; held = is.held; labels = refl; choice = inl (labelled r s is) }
 
 -- a Resv
 resv-leaves : (r : Router) (s : State) (link : ℕ) (v : Resv) → IsSound r s → Fits v → Leaves r s (resv_arrival r s link v)
@@ -203,7 +236,7 @@ resv_tear-leaves : (r : Router) (s : State) (link : ℕ) (t : ResvTear) → IsSo
 unfolding resv_tear_arrival
 resv_tear-leaves r s link t is =
     cond_both (list_any (is_resv_torn_by link t) s.resvs) _ (refused s NoMatch) (Leaves r s)
-    (λ some. record { paths = is.paths.standing; held = held_where r s (λ resv. not (is_resv_torn_by link t resv)) is.held; labels = refl })
+    (λ some. record { paths = is.paths.standing; held = held_where r s (λ resv. not (is_resv_torn_by link t resv)) is.held; labels = refl; choice = inl (labelled r s is) })
     (λ none. is)
 
 -- a ResvErr
@@ -215,13 +248,42 @@ resv_err-leaves r s link e is = by (filter_map (err_onward r s link e) e.descrip
     by [] = is
     by (one ∷ more) = unchanged r s is
 
+-- a path that is known doesn't begin here
+not_head : (role : Role) → role ≢ roles.Head → not (begins_here role) ≡ true
+not_head roles.Tail other = refl
+not_head roles.Transit other = refl
+not_head roles.Head other = absurd (other refl)
+
+module _ (r : Router) (s : State) (p : Path) (is : IsSound r s) where
+  ours : (old : PathFact) → find key_cmp (key_of p) s.facts.paths ≡ Some old → not (begins_here old.role) ≡ true
+  ours old found =
+      not_head old.role (subst (λ o. IfSome o (λ f. standing.IsPath r s.facts.moment (key_of p, f))) found (path_known r s.facts.moment (key_of p) s.facts.paths is.paths.standing.paths)).from_elsewhere
+
+  -- the path that is put can be labelled
+  can : (fact : PathFact) (o : Option PathFact) → find key_cmp (key_of p) s.facts.paths ≡ o → (true && is_none o && not (has_free_label r s.labels)) ≡ false → CanLabel r s.labels (put key_cmp (key_of p) fact s.facts.paths)
+  can fact (Some old) found room = inl (put_known r s.labels s.facts (labelled r s is) (key_of p) old fact found (ours old found))
+  can fact None found room =
+      inr (
+        key_of p,
+        all-put_row key_cmp (HasLabelOrIsNew s.labels (key_of p)) (key_of p) fact (λ k tied. inl (sym (key_exact (key_of p) k tied))) (inl refl) s.facts.paths
+            (all-weaker (HasLabel s.labels) (HasLabelOrIsNew s.labels (key_of p)) (λ path h. inr h) s.facts.paths (labelled r s is)),
+        not-false _ room,
+      )
+
+  path-keeps : (o : paths.Outcome) → Puts s.facts p o → (is_done o.reply && is_none (find key_cmp (key_of p) s.facts.paths) && not (has_free_label r s.labels)) ≡ false → Keeps r s.labels s.facts o
+  path-keeps o puts room = subst (λ b. KeepsBy r s.labels s.facts b o.after) (sym puts.0) (puts.1, by puts.2)
+    where
+      by : ((o.after.paths ≡ s.facts.paths) ⊎ ((fact : PathFact) × (is_done o.reply ≡ true) × (o.after.paths ≡ put key_cmp (key_of p) fact s.facts.paths))) → CanLabel r s.labels o.after.paths
+      by (inl same) = inl (subst (λ ps. AllByRecursion (HasLabel s.labels) ps) (sym same) (labelled r s is))
+      by (inr made) = subst (CanLabel r s.labels) (sym made.2) (can made.0 (find key_cmp (key_of p) s.facts.paths) refl (subst (λ d. (d && is_none (find key_cmp (key_of p) s.facts.paths) && not (has_free_label r s.labels)) ≡ false) made.1 room))
+
 -- a Path
 path-leaves : (r : Router) (s : State) (link : ℕ) (p : Path) → IsSound r s → LeavesSound r (path_arrival r s.facts link p) → Leaves r s (labelled_path_arrival r s link p)
 unfolding labelled_path_arrival
 path-leaves r s link p is leaves =
     cond_both (is_done (path_arrival r s.facts link p).reply && is_none (find key_cmp (key_of p) s.facts.paths) && not (has_free_label r s.labels)) _ _ (Leaves r s)
     (λ full. unchanged r s is)
-    (λ room. of_paths-leaves r s (path_arrival r s.facts link p) is leaves (keeps_path r s.facts link p))
+    (λ room. of_paths-leaves r s (path_arrival r s.facts link p) is leaves (path-keeps r s p is (path_arrival r s.facts link p) (puts_path r s.facts link p) room))
 
 -- what the router of paths does with a message that comes over a link that is up
 pub came : (r : Router) (s : Facts) (a : Arrive) → is_none (link_at r a.link) ≡ false → not (is_up s.up a.link) ≡ false → steps.arrival r s a ≡ steps.reading_arrival r s a.link a.reading
@@ -235,9 +297,9 @@ message-leaves : (r : Router) (s : State) (link : ℕ) (content : Content) → I
 unfolding path_err_arrival path_tear_arrival
 message-leaves r s link (contents.Path p) is message leaves = path-leaves r s link p is leaves
 message-leaves r s link (contents.Resv v) is message leaves = resv-leaves r s link v is (resv_fits v message)
-message-leaves r s link (contents.PathErr e) is message leaves = of_paths-leaves r s (path_err_arrival s.facts link e) is leaves (keeps_passed s.facts link e (find key_cmp (lsp e.session e.sender) s.facts.paths))
+message-leaves r s link (contents.PathErr e) is message leaves = of_paths-leaves r s (path_err_arrival s.facts link e) is leaves (keeps_passed r s.labels s.facts (labelled r s is) link e (find key_cmp (lsp e.session e.sender) s.facts.paths))
 message-leaves r s link (contents.ResvErr e) is message leaves = resv_err-leaves r s link e is
-message-leaves r s link (contents.PathTear t) is message leaves = of_paths-leaves r s (path_tear_arrival s.facts link t) is leaves (keeps_torn s.facts link t (find key_cmp (lsp t.session t.sender) s.facts.paths))
+message-leaves r s link (contents.PathTear t) is message leaves = of_paths-leaves r s (path_tear_arrival s.facts link t) is leaves (keeps_torn r s.labels s.facts (labelled r s is) link t (find key_cmp (lsp t.session t.sender) s.facts.paths) refl)
 message-leaves r s link (contents.ResvTear t) is message leaves = resv_tear-leaves r s link t is
 
 -- or with an object that it doesn't know
@@ -261,7 +323,7 @@ arrival-leaves r s a is possible leaves =
 
 -- a moment that comes
 tick-leaves : (r : Router) (s : State) (n : ℕ) → IsSound r s → LeavesSound r (tick r s.facts n) → Leaves r s (moment_comes r s n)
-unfolding moment_comes tick expire
+unfolding moment_comes tick expire lifetimes.expire
 tick-leaves r s n is =
     cond_both (nat_lt (2 ^ 62) n) _ _ (λ o. LeavesSound r o → Leaves r s (for_reservations r s n (of_paths s o))) (λ above. λ leaves. is)
     (λ most. cond_both (nat_lt n s.facts.moment) _ _ (λ o. LeavesSound r o → Leaves r s (for_reservations r s n (of_paths s o))) (λ below. λ leaves. is)
@@ -271,6 +333,7 @@ tick-leaves r s n is =
           (all-both (IsResv s.facts.moment) (λ resv. lives_past n resv.1 ≡ true) (IsResv n) (λ resv was lives. record { has_rate = was.has_rate; label = was.label; live = omega (arith, ltb-true n resv.1.expiry lives); recorded = was.recorded; passing = was.passing; passed_on = was.passed_on; adspec_last = was.adspec_last }) (filter (λ resv. lives_past n resv.1) s.resvs)
           (all-filter (IsResv s.facts.moment) (λ resv. lives_past n resv.1) s.resvs is.held.each) (all-filter_passes (λ resv. lives_past n resv.1 ≡ true) (λ resv. lives_past n resv.1) (λ resv passes. passes) s.resvs));
       labels = refl;
+      choice = inl (all-map (HasLabel s.labels) (lifetimes.with_living n) (filter (lifetimes.lives_on n) s.facts.paths) (all-filter (HasLabel s.labels) (lifetimes.lives_on n) s.facts.paths (labelled r s is)));
     }))
 
 -- What is lost by a restart leaves nothing but what the router of paths keeps.
@@ -290,9 +353,9 @@ unfolding upstream_of
 outcome-leaves r s (events.Arrive a) router is possible awake = arrival-leaves r s a is possible (outcome_sound r s.facts (events.Arrive a) router is.paths possible awake)
 outcome-leaves r s (events.Tick n) router is possible awake = tick-leaves r s n is (outcome_sound r s.facts (events.Tick n) router is.paths possible awake)
 outcome-leaves r s (events.LinkUp number) router is possible awake =
-    of_paths-leaves r s (link_change r s.facts number true) is (outcome_sound r s.facts (events.LinkUp number) router is.paths possible awake) (keeps_link r s.facts number true)
+    of_paths-leaves r s (link_change r s.facts number true) is (outcome_sound r s.facts (events.LinkUp number) router is.paths possible awake) (keeps_link r s.labels s.facts (labelled r s is) number true)
 outcome-leaves r s (events.LinkDown number) router is possible awake =
-    of_paths-leaves r s (link_change r s.facts number false) is (outcome_sound r s.facts (events.LinkDown number) router is.paths possible awake) (keeps_link r s.facts number false)
+    of_paths-leaves r s (link_change r s.facts number false) is (outcome_sound r s.facts (events.LinkDown number) router is.paths possible awake) (keeps_link r s.labels s.facts (labelled r s is) number false)
 outcome-leaves r s events.Restart router is possible awake = lost-sound r s (outcome_sound r s.facts events.Restart router is.paths possible awake)
 outcome-leaves r s events.Start router is possible awake =
     let started = outcome_sound r s.facts events.Start router is.paths possible awake in

@@ -1,3 +1,4 @@
+mod Choosing
 mod Claiming
 mod Drafting
 mod Entries

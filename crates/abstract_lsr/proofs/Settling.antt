@@ -7,6 +7,7 @@ use Rattle.lsr_facts.specs.declared.router.Router.{Router}
 use Rattle.abstract_router.proofs.SoundRuns.{sound_with_stamps}
 use Rattle.abstract_router.specs.RowLaws.{keys-map}
 use Rattle.abstract_router.specs.Soundness as paths
+use Rattle.abstract_lsr.proofs.Choosing.{CanLabel}
 use Rattle.abstract_lsr.proofs.Holding.{held_where}
 use Rattle.abstract_lsr.proofs.Labelling.{labelled_after}
 use Rattle.abstract_lsr.specs.Upstreams.{upstream_of}
@@ -17,12 +18,13 @@ use Rattle.abstract_lsr.specs.Soundness.{AreHeld, AreLabelled, IsSound}
 use Rattle.abstract_lsr.specs.States.{State}
 use Rattle.abstract_lsr.specs.Steps.{settled, stands, with_moments, known_after, MayChoose, MayChooseBy}
 
--- What an event leaves that isn't silent: paths as they should be, reservations within the limits, and the labels of
--- before. What follows from it does the rest.
+-- What an event leaves that isn't silent: paths as they should be, reservations within the limits, the labels of before,
+-- and a free one for a path that is new. What follows from it does the rest.
 pub record IsDrafted (r : Router) (before : State) (s : State) : Type 0 where
   pub paths : paths.IsStanding r s.facts
   pub held : AreHeld r s
   pub labels : s.labels ≡ before.labels
+  pub choice : CanLabel r before.labels s.facts.paths
 
 -- an outcome leaves the state sound, or such that what follows makes it so
 abbrev pub LeavesBy : Router → State → Bool → State → Type 0

@@ -1,5 +1,5 @@
 -- What holds of one step: it is determined, and what is refused is silent.
-use Rattle.std.specs.Prelude.{◌≡◌, ◌&&◌, ℕ, not, true, false, if◌then◌else◌, List, [], ◌∷◌, filter_map, Option, Some, None, is_none}
+use Rattle.std.specs.Prelude.{Bool, ◌≡◌, ◌&&◌, ℕ, not, true, false, if◌then◌else◌, List, [], ◌∷◌, filter_map, Option, Some, None, is_none}
 use Rattle.std.specs.FinMap.Entries.{find}
 use Rattle.std.specs.List.{list_any}
 use Rattle.std.specs.Option.{option_map_or}
@@ -14,7 +14,8 @@ use Rattle.rsvp_contents.specs.declared.messages.Resv.{Resv}
 use Rattle.rsvp_contents.specs.declared.messages.ResvErr.{ResvErr}
 use Rattle.rsvp_contents.specs.declared.messages.ResvTear.{ResvTear}
 use Rattle.lsr_facts.specs.Orders.{key_cmp}
-use Rattle.lsr_facts.specs.Routers.{link_at}
+use Rattle.lsr_facts.specs.Routers.{IsRouter, link_at}
+use Rattle.lsr_facts.specs.declared.key.Key.{Key}
 use Rattle.lsr_facts.specs.declared.errors.RsvpError.{RsvpError}
 use Rattle.lsr_facts.specs.declared.refusal.Refusal.{Refusal}
 use Rattle.lsr_facts.specs.declared.refusal.Refusal.TheVariants.{LinkDown, NoMatch, UnknownLink}
@@ -32,16 +33,20 @@ use Rattle.abstract_router.specs.Outcomes as path_outcomes
 use Rattle.abstract_router.specs.Paths.{key_of, path_arrival}
 use Rattle.abstract_router.specs.Places.{is_up}
 use Rattle.abstract_router.specs.Steps as steps
+use Rattle.abstract_router.specs.Steps.{IsEvent}
 use Rattle.abstract_router.specs.Tears.{path_err_arrival, path_tear_arrival}
 use Rattle.abstract_router.specs.Time.{tick}
-use Rattle.abstract_lsr.proofs.Drafting.{came}
+use Rattle.abstract_lsr.proofs.Choosing.{labels_to_choose}
+use Rattle.abstract_lsr.proofs.Drafting.{came, outcome-leaves}
+use Rattle.abstract_lsr.proofs.Settling.{Leaves, LeavesBy}
+use Rattle.abstract_lsr.specs.Soundness.{IsSound}
 use Rattle.abstract_lsr.specs.Arrivals.{arrival, due_upstream, for_reservations, is_done, labelled_path_arrival, message_arrival, moment_comes, outcome, reading_arrival}
 use Rattle.abstract_lsr.specs.Errors.{unknown_style}
 use Rattle.abstract_lsr.specs.Labels.{has_free_label}
 use Rattle.abstract_lsr.specs.Outcomes.{Outcome, of_paths, refused}
 use Rattle.abstract_lsr.specs.Reserving.{Progress, all_descriptors, resv_arrival, resv_failed, resv_replied, unknown_resv}
 use Rattle.abstract_lsr.specs.States.{State, with_facts}
-use Rattle.abstract_lsr.specs.Steps.{Step, known_after, sent_in, settled, with_moments}
+use Rattle.abstract_lsr.specs.Steps.{MayChoose, MayChooseBy, Step, known_after, sent_in, settled, with_moments}
 use Rattle.abstract_lsr.specs.Tearing.{err_onward, is_torn_by, passed_on, resv_err_arrival, resv_tear_arrival}
 
 -- Two steps of one event from the same state, with the same labels, are one.
@@ -150,3 +155,28 @@ step_refused r before made after refusal x refused =
       x.sent ∙ ap (λ b. if b then [] else sent_in r before (record o { is_silent = false }) after) is.0,
       x.changed ∙ ap (λ b. if b then o.after else with_moments r before o (settled r made.labels o.after)) is.0 ∙ is.1,
     )
+
+-- The step of an event, for labels that may be chosen.
+pub step_of : (r : Router) (before : State) (event : Event) (labels : List (Key × ℕ)) → before.facts.cold ≡ false → IsEvent event → MayChoose r before (outcome r before event) labels
+    → (made : Made) × (made.event ≡ event) × (made.labels ≡ labels) × (after : State) × Step r before made after
+step_of r before event labels runs possible chosen =
+    let o = outcome r before event in
+    let after = known_after r before labels o in (
+      record { event = event; labels = labels; reply = o.reply; outputs = sent_in r before o after },
+      refl,
+      refl,
+      after,
+      record { possible = possible; awake = λ cold. absurd (let e = sym runs ∙ cold in cc); chosen = chosen; replied = refl; changed = refl; sent = refl },
+    )
+
+-- Labels may be chosen for each event that can be: a free one, where an LSP is new.
+pub some_labels : (r : Router) (before : State) (event : Event) → IsRouter r → IsSound r before → IsEvent event → (before.facts.cold ≡ true → event ≡ events.Start) → (labels : List (Key × ℕ)) × MayChoose r before (outcome r before event) labels
+some_labels r before event router is possible awake =
+    by (outcome r before event) (outcome-leaves r before event router is possible awake)
+  where
+    chosen_by : (o : Outcome) (silent : Bool) → LeavesBy r before silent o.after → (labels : List (Key × ℕ)) × MayChooseBy silent r before.labels o.after.facts.paths labels
+    chosen_by o true sound = ([], refl)
+    chosen_by o false drafted = labels_to_choose r before.labels o.after.facts.paths router.labels.some drafted.paths.paths.in_order drafted.choice
+
+    by : (o : Outcome) → Leaves r before o → (labels : List (Key × ℕ)) × MayChoose r before o labels
+    by o leaves = chosen_by o o.is_silent leaves

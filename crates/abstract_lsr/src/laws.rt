@@ -1,14 +1,20 @@
 //! What holds of each step of the abstract label switching router, and of its label table.
 
-ghost use Rattle.std.specs.Prelude.{◌≡◌, ℕ, List, [], Some};
+ghost use Rattle.std.specs.Prelude.{◌≡◌, ℕ, List, [], Some, false, true};
+ghost use Rattle.lsr_facts.specs.Routers.{IsRouter};
+ghost use Rattle.lsr_facts.specs.declared.key.Key.{Key};
 ghost use Rattle.lsr_facts.specs.declared.refusal.Refusal.{Refusal};
 ghost use Rattle.lsr_facts.specs.declared.reply.Reply.TheVariants as replies;
 ghost use Rattle.lsr_facts.specs.declared.router.Router.{Router};
 ghost use Rattle.forwarding_table.specs.declared.action.Action.{Action};
+ghost use Rattle.router_events.specs.declared.events.Event.{Event};
+ghost use Rattle.router_events.specs.declared.events.Event.TheVariants as events;
 ghost use Rattle.router_events.specs.declared.events.Made.{Made};
+ghost use Rattle.abstract_router.specs.Steps.{IsEvent};
+ghost use Rattle.abstract_lsr.specs.Arrivals.{outcome};
 ghost use Rattle.abstract_lsr.specs.Soundness.{IsSound};
 ghost use Rattle.abstract_lsr.specs.States.{State};
-ghost use Rattle.abstract_lsr.specs.Steps.{Step};
+ghost use Rattle.abstract_lsr.specs.Steps.{MayChoose, Step};
 ghost use Rattle.abstract_lsr.specs.Tables.{IsEntry, look};
 
 /// A step is determined by the state, the event and the labels that are chosen: its reply, what is sent, and what is
@@ -17,6 +23,21 @@ pub fn one_step()
     ensures { (r : Router) (before a b : State) (one other : Made) →
         one.event ≡ other.event → one.labels ≡ other.labels →
         Step r before one a → Step r before other b → (one ≡ other) × (a ≡ b) }
+{}
+
+/// A running router has a step for each event that can be, whichever labels are chosen for it that may be; and in a
+/// sound state some may: where a step makes an LSP that needs a label, one is free. A cold router has no step but its
+/// start.
+pub fn running_routers_take_every_event()
+    ensures any { (r : Router) (before : State) (event : Event) (labels : List (Key × ℕ)) →
+        before.facts.cold ≡ false → IsEvent event → MayChoose r before (outcome r before event) labels →
+        (made : Made) × (made.event ≡ event) × (made.labels ≡ labels)
+        × (after : State) × Step r before made after }
+    ensures some { (r : Router) (before : State) (event : Event) →
+        IsRouter r → IsSound r before → IsEvent event → (before.facts.cold ≡ true → event ≡ events.Start) →
+        (labels : List (Key × ℕ)) × MayChoose r before (outcome r before event) labels }
+    ensures cold { (r : Router) (before : State) (made : Made) (after : State) →
+        before.facts.cold ≡ true → Step r before made after → made.event ≡ events.Start }
 {}
 
 /// What is refused changes nothing, and nothing is sent for it.
