@@ -1,0 +1,5 @@
+pub mod Around
+pub mod Holdings
+pub mod Matching
+pub mod Summing
+pub mod Turns

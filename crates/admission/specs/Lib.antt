@@ -1,0 +1,2 @@
+pub mod Bandwidths
+pub mod Sums

@@ -1,0 +1,198 @@
+ghost use Rattle.std.specs.FinMap.Entries.{find, is_sorted, put};
+ghost use Rattle.std.specs.Option.{option_copied, option_map_or};
+ghost use Rattle.std.specs.Ordering.{nat_cmp};
+ghost use Rattle.std.specs.Prelude.{◌≡◌, ◌^◌, ◌≤◌, T, [], false, IfOk, IsOk, length};
+ghost use Rattle.rsvp_traffic.specs.Traffic.{flowspec_rate};
+ghost use Rattle.lsr_facts.specs.Orders.{key_cmp};
+ghost use Rattle.resv_facts.specs.Admission.{fits, victims_of};
+ghost use Rattle.resv_facts.specs.Claims.{claim_of, reserved_of};
+ghost use Rattle.admission.specs.Bandwidths.{AreMatched, left_at, with_holding, with_resv, without_resv};
+
+use crate::reserved::{reserved, reserved_with};
+use crate::victims::victims_of;
+use lsr_facts::Key;
+use lsr_facts::limits::MAX_LSPS;
+use resv_facts::{Claim, Request, ResvFact};
+use resv_state::ResvState;
+use sorted_rows::{ReservedTable, Sweep, Table};
+use std::alloc::{AllocError, Global};
+use std::marker::Model;
+
+/// The bandwidth of a router's links: the reservations (RFC 2205, 2.3), at most 1,024, beside each what it takes, and
+/// the limit of each link. Rates and limits are in bytes per second; priorities are 0 (best) to 7. Contracts see the
+/// three lists, in the order of their keys.
+#[derive(Debug, Drop)]
+pub struct Admission {
+    resvs: ResvState,
+    claims: ReservedTable<Key, Claim, MAX_LSPS>,
+    limits: Table<u16, u64>,
+}
+
+impl Model for Admission {
+    ghost use Rattle.admission.specs.Bandwidths.{AreMatched, Bandwidth};
+
+    ghost Value = { Bandwidth };
+
+    ghost view = { λ a. record { resvs = a.resvs; claims = a.claims; limits = a.limits } };
+
+    ghost invariant = { λ a. AreMatched a.resvs a.claims };
+}
+
+/// The claims of those LSPs that have a reservation.
+#[derive(Drop)]
+struct Reserving<'a> {
+    resvs: &'a ResvState,
+}
+
+impl Sweep<Key, Claim> for Reserving<'_> {
+    ghost use Rattle.std.specs.FinMap.Entries.{find};
+    ghost use Rattle.std.specs.Prelude.{is_some};
+    ghost use Rattle.lsr_facts.specs.Orders.{key_cmp};
+
+    ghost stays = { λ s row. is_some (find key_cmp row.0 s.resvs.now) };
+
+    ghost left = { λ s claim. claim };
+
+    fn stays(&self, row: &(Key, Claim)) -> bool {
+        self.resvs.get(&row.0).is_some()
+    }
+
+    fn leave(&self, _claim: &mut Claim) {}
+}
+
+/// What a reservation takes that is kept at a priority. It asks that its rate is defined.
+fn claim_of(fact: &ResvFact, holding: u8) -> Claim
+    requires { IsOk (flowspec_rate fact.now.flowspec) }
+    ensures claim { result ≡ claim_of fact.now holding }
+    ensures most { result.rate ≤ 2 ^ 50 }
+{
+    Claim {
+        link: fact.link,
+        style: fact.style,
+        rate: fact.flowspec.rate().unwrap(),
+        holding,
+    }
+}
+
+impl Admission {
+    /// No reservations on links with these limits. It reserves the memory of all reservations that it may ever hold;
+    /// the only error is that there is too little memory.
+    pub fn new(alloc: Global, limits: Table<u16, u64>) -> Result<Admission, AllocError>
+        ensures { IfOk result (λ admission. admission ≡ record { resvs = []; claims = []; limits = limits }) }
+    {
+        Ok(Admission {
+            resvs: ResvState::new(alloc)?,
+            claims: ReservedTable::new(alloc)?,
+            limits,
+        })
+    }
+
+    /// The reservations, in the order of their keys. Beside each stands what it takes.
+    pub fn as_slice(&self) -> &[(Key, ResvFact)]
+        ensures rows { result.now ≡ self.now.resvs }
+        ensures sorted { T (is_sorted key_cmp self.now.resvs) }
+        ensures few { length self.now.resvs ≤ 1024 }
+        ensures matched { AreMatched self.now.resvs self.now.claims }
+    {
+        self.resvs.as_slice()
+    }
+
+    /// What is known of an LSP's reservation, or `None` where the LSP has none.
+    pub fn get(&self, key: &Key) -> Option<&ResvFact>
+        ensures { option_copied result ≡ find key_cmp key.now self.now.resvs }
+    {
+        self.resvs.get(key)
+    }
+
+    /// An LSP has this reservation from now on, kept at this priority, in place of the one that it had. It asks that
+    /// at most 1,024 LSPs have one then, that its rate is defined, and for a priority of 0 to 7. It doesn't ask whether
+    /// it fits. Takes no memory.
+    pub fn put(&mut self, key: Key, fact: ResvFact, holding: u8)
+        requires room { length (put key_cmp key fact self.old.resvs) ≤ 1024 }
+        requires rate { IsOk (flowspec_rate fact.flowspec) }
+        requires holding { holding ≤ 7 }
+        ensures { self.new ≡ with_resv key fact holding self.old }
+    {
+        let claim = claim_of(&fact, holding);
+        self.resvs.put(key, fact);
+        self.claims.set(key, claim);
+    }
+
+    /// An LSP has no reservation any more. Where it has none, nothing changes. Takes no memory.
+    pub fn remove(&mut self, key: &Key)
+        ensures { self.new ≡ without_resv key.now self.old }
+    {
+        self.resvs.remove(key);
+        self.claims.remove(key);
+    }
+
+    /// No LSP has a reservation any more. Takes no memory.
+    pub fn clear(&mut self)
+        ensures { self.new ≡ record self.old { resvs = []; claims = [] } }
+    {
+        self.resvs.clear();
+        self.claims.clear();
+    }
+
+    /// A moment comes, in milliseconds: each reservation goes whose expiry isn't above it (RFC 2205, 2.3). Takes no
+    /// memory.
+    pub fn expire(&mut self, moment: u64)
+        ensures { self.new ≡ left_at moment self.old }
+    {
+        // That the reservations are in order: those claims are left that belong to what is left for this reason.
+        let _ = self.resvs.as_slice();
+        self.resvs.expire(moment);
+        self.claims.sweep(&Reserving { resvs: &self.resvs });
+    }
+
+    /// An LSP keeps what it has at this priority from now on. Where it has nothing, nothing changes. It asks for a
+    /// priority of 0 to 7. Takes no memory.
+    pub fn set_holding(&mut self, key: &Key, holding: u8)
+        requires { holding ≤ 7 }
+        ensures { self.new ≡ with_holding key.now holding self.old }
+    {
+        // That the reservations are in order: they stay matched for this reason.
+        let _ = self.resvs.as_slice();
+        if let Some(claim) = self.claims.get(key).copied() {
+            self.claims.set(*key, Claim { holding, ..claim });
+        }
+    }
+
+    /// The bandwidth that is reserved on a link at a priority, in bytes per second: the sum over sessions (RFC 2205,
+    /// 2.2). It goes over all reservations, and takes no memory.
+    pub fn reserved(&self, link: u16, priority: u8) -> u64
+        ensures { result ≡ reserved_of link priority self.now.claims }
+    {
+        reserved(self.claims.as_slice(), link, priority)
+    }
+
+    /// Whether a request fits its link's limit: what is reserved at its setup priority, itself with it, is within that
+    /// (RFC 3209, 4.7.3). On a link that has no limit nothing fits. It asks for a rate of at most 2^50 bytes per
+    /// second. It goes over all reservations, and takes no memory.
+    #[tactic(auto, unfolding(resv_facts::specs::Admission::fits))]
+    pub fn fits(&self, request: &Request) -> bool
+        requires { request.now.claim.rate ≤ 2 ^ 50 }
+        ensures { result ≡ option_map_or (λ limit. fits limit request.now self.now.claims)
+            (find nat_cmp request.now.claim.link self.now.limits) false }
+    {
+        match self.limits.get(&request.claim.link) {
+            Some(limit) => reserved_with(request, self.claims.as_slice(), request.setup) <= *limit,
+            None => false,
+        }
+    }
+
+    /// Those who give way to a request, in the order in which they are taken: the worst priority first, and of one
+    /// priority the greater key, until what is reserved then is within the link's limit. On a link that has no limit
+    /// nobody gives way. It asks for a rate of at most 2^50 bytes per second; the only error is out of memory. It goes
+    /// over all reservations once for each of them.
+    pub fn victims(&self, alloc: Global, request: &Request) -> Result<Vec<Key>, AllocError>
+        requires { request.now.claim.rate ≤ 2 ^ 50 }
+        ensures { IfOk result (λ keys. keys.items ≡ option_map_or (λ limit. victims_of limit request.now self.now.claims)
+            (find nat_cmp request.now.claim.link self.now.limits) []) }
+    {
+        match self.limits.get(&request.claim.link) {
+            Some(limit) => victims_of(alloc, *limit, request, self.claims.as_slice()),
+            None => Ok(Vec::new(alloc)),
+        }
+    }
+}

@@ -1,0 +1,73 @@
+-- The labels of places, numbered from the first label of a range on.
+use Rattle.std.proofs.Common.{◌≡◌, ℕ, zero, suc, ◌+◌, ◌-◌, ◌<◌, ◌≤◌, ◌==◌, nat_eq, true, false, cond, not, List, [], ◌∷◌, map, refl, sym, ap, ◌∙◌, inl, inr, arith}
+use Rattle.std.specs.List.{All, Contains, IsDistinct, range_with_len}
+use Rattle.std.proofs.lemmas.Bool.{cases_eq, eq-eqb, ne_eqb}
+use Rattle.std.proofs.lemmas.List.Elements.{All-map, All-weaker}
+use Rattle.std.proofs.lemmas.Map.Keys.{IsDistinct-cons, IsDistinct-head, IsDistinct-tail}
+use Rattle.sorted_rows.specs.ListLaws.{all-map, all-weaker}
+use Rattle.lsr_facts.specs.declared.router.LabelRange.{LabelRange}
+use Rattle.label_space.specs.Labels.{HasPlaces, IsLabelSpace, IsOf, labels_at}
+use Rattle.label_space.specs.LineLaws.{Contains-cons_cases, Contains-first, Contains-later, none_contained}
+use Rattle.label_space.specs.Lines.{without}
+
+module _ (first : ℕ) where
+  -- two labels differ where their places do
+  same_test : (place other : ℕ) → (first + place == first + other) ≡ (place == other)
+  same_test place other =
+      elim (cases_eq place other) [
+        | inl same ↦ eq-eqb (first + place) (first + other) (omega (arith, same)) ∙ sym (eq-eqb place other same)
+        | inr apart ↦ ne_eqb (first + place) (first + other) (λ same. apart (omega (arith, same))) ∙ sym (ne_eqb place other apart)
+      ]
+
+  -- a place leaves the line as its label does
+  pub map-without : (place : ℕ) (line : List ℕ) → map (λ p. first + p) (without place line) ≡ without (first + place) (map (λ p. first + p) line)
+  map-without place [] = refl
+  map-without place (y ∷ line) =
+      let rest = map-without place line in
+      let labels = map (λ p. first + p) line in
+      elim (place == y) as (λ b. map (λ p. first + p) (cond (not b) (y ∷ without place line) (without place line)) ≡ cond (not b) ((first + y) ∷ without (first + place) labels) (without (first + place) labels)) [
+        | true ↦ rest
+        | false ↦ ap (λ l. (first + y) ∷ l) rest
+      ]
+      ∙ ap (λ b. cond (not b) ((first + y) ∷ without (first + place) labels) (without (first + place) labels)) (sym (same_test place y))
+
+  -- a label is among those of the places where its place is among these
+  pub from_label : (line : List ℕ) (label : ℕ) → Contains (map (λ p. first + p) line) label → (first ≤ label) × Contains line (label - first)
+  from_label [] label among = absurd (none_contained label among)
+  from_label (y ∷ line) label among =
+      elim (Contains-cons_cases (first + y) (map (λ p. first + p) line) label among) [
+        | inl same ↦ (omega (arith, same), Contains-first y line (label - first) (omega (arith, same)))
+        | inr later ↦ let rest = from_label line label later in (rest.0, Contains-later y line (label - first) rest.1)
+      ]
+
+  -- and the other way round
+  pub to_label : (line : List ℕ) (label : ℕ) → first ≤ label → Contains line (label - first) → Contains (map (λ p. first + p) line) label
+  to_label [] label from among = absurd (none_contained (label - first) among)
+  to_label (y ∷ line) label from among =
+      elim (Contains-cons_cases y line (label - first) among) [
+        | inl same ↦ Contains-first (first + y) (map (λ p. first + p) line) label (omega (arith, same, from))
+        | inr later ↦ Contains-later (first + y) (map (λ p. first + p) line) label (to_label line label from later)
+      ]
+
+  -- no label is twice where no place is
+  pub IsDistinct-labels : (line : List ℕ) → IsDistinct nat_eq line → IsDistinct nat_eq (map (λ p. first + p) line)
+  IsDistinct-labels [] distinct = distinct
+  IsDistinct-labels (y ∷ line) distinct =
+      let labels = map (λ p. first + p) line in
+      let head = all-weaker (λ z. (y == z) ≡ false) (λ z. (first + y == first + z) ≡ false) (λ z apart. same_test y z ∙ apart) line (IsDistinct-head nat_eq y line distinct) in
+      IsDistinct-cons nat_eq (first + y) labels (all-map (λ label. (first + y == label) ≡ false) (λ p. first + p) line head) (IsDistinct-labels line (IsDistinct-tail nat_eq y line distinct))
+
+  -- the labels of all places
+  pub map-range_with_len : (from count : ℕ) → map (λ p. first + p) (range_with_len from count) ≡ range_with_len (first + from) count
+  map-range_with_len from zero = refl
+  map-range_with_len from (suc count) =
+      let next : first + (from + 1) ≡ first + from + 1 = omega arith in
+      ap (λ l. (first + from) ∷ l) (map-range_with_len (from + 1) count ∙ ap (λ start. range_with_len start count) next)
+
+-- labels of places in line, none of which is in it twice
+pub is_label_space : (range : LabelRange) (count : ℕ) (line : List ℕ) → HasPlaces range count → All (λ place. place < count) line → IsDistinct nat_eq line → IsLabelSpace record { range = range; free = labels_at range line }
+is_label_space range count line places within apart = record {
+  range = places.labels;
+  own = All-map (IsOf range) (λ place. range.first + place) line (All-weaker (λ place. place < count) (λ place. IsOf range (range.first + place)) (λ place below. record { from = omega arith; to = omega (arith, below, places.places) }) line within);
+  apart = IsDistinct-labels range.first line apart;
+}

@@ -1,0 +1,18 @@
+-- What becomes of labels, one change after the other.
+use Rattle.std.specs.Prelude.{ℕ, List, [], ◌∷◌, Contains}
+use Rattle.label_space.specs.Labels.{Labels, hold, release}
+
+-- an LSP takes a label, or gives it back
+pub data Change : Type 0 where
+  held : ℕ → Change
+  released : ℕ → Change
+
+-- the labels after some changes
+abbrev pub after : List Change → Labels → Labels
+after [] labels = labels
+after (held label ∷ later) labels = after later (hold labels label)
+after (released label ∷ later) labels = after later (release labels label)
+
+-- an LSP takes the label in one of the changes
+abbrev pub IsTaken : List Change → ℕ → Type 0
+IsTaken changes label = Contains changes (held label)

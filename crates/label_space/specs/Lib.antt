@@ -1,0 +1,5 @@
+pub mod Changes
+pub mod LabelLaws
+pub mod Labels
+pub mod LineLaws
+pub mod Lines
