@@ -7,4 +7,5 @@ mod Holding
 mod Labelling
 mod Running
 mod Settling
+mod Staying
 mod Stepping

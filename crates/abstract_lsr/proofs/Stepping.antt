@@ -1,5 +1,5 @@
 -- What holds of one step: it is determined, and what is refused is silent.
-use Rattle.std.specs.Prelude.{Bool, ◌≡◌, ◌&&◌, ℕ, not, true, false, if◌then◌else◌, List, [], ◌∷◌, filter_map, Option, Some, None, is_none}
+use Rattle.std.specs.Prelude.{◌≢◌, Bool, ◌≡◌, ◌&&◌, ℕ, not, true, false, if◌then◌else◌, List, [], ◌∷◌, filter_map, Option, Some, None, is_none}
 use Rattle.std.specs.FinMap.Entries.{find}
 use Rattle.std.specs.List.{list_any}
 use Rattle.std.specs.Option.{option_map_or}
@@ -13,6 +13,8 @@ use Rattle.rsvp_contents.specs.declared.messages.Path.{Path}
 use Rattle.rsvp_contents.specs.declared.messages.Resv.{Resv}
 use Rattle.rsvp_contents.specs.declared.messages.ResvErr.{ResvErr}
 use Rattle.rsvp_contents.specs.declared.messages.ResvTear.{ResvTear}
+use Rattle.rsvp_flows.specs.declared.descriptors.FlowDescriptor.{FlowDescriptor}
+use Rattle.resv_facts.specs.declared.resv_fact.ResvFact.{ResvFact}
 use Rattle.lsr_facts.specs.Orders.{key_cmp}
 use Rattle.lsr_facts.specs.Routers.{IsRouter, link_at}
 use Rattle.lsr_facts.specs.declared.key.Key.{Key}
@@ -44,7 +46,7 @@ use Rattle.abstract_lsr.specs.Arrivals.{arrival, due_upstream, for_reservations,
 use Rattle.abstract_lsr.specs.Errors.{unknown_style}
 use Rattle.abstract_lsr.specs.Labels.{has_free_label}
 use Rattle.abstract_lsr.specs.Outcomes.{Outcome, of_paths, refused}
-use Rattle.abstract_lsr.specs.Reserving.{Progress, all_descriptors, resv_arrival, resv_failed, resv_replied, unknown_resv}
+use Rattle.abstract_lsr.specs.Reserving.{Failed, Granted, PassedOver, Progress, Verdict, all_descriptors, carried_on, resv_arrival, resv_failed, resv_replied, unknown_resv}
 use Rattle.abstract_lsr.specs.States.{State, with_facts}
 use Rattle.abstract_lsr.specs.Steps.{MayChoose, MayChooseBy, Step, known_after, sent_in, settled, with_moments}
 use Rattle.abstract_lsr.specs.Tearing.{err_onward, is_torn_by, passed_on, resv_err_arrival, resv_tear_arrival}
@@ -180,3 +182,9 @@ some_labels r before event router is possible awake =
 
     by : (o : Outcome) → Leaves r before o → (labels : List (Key × ℕ)) × MayChoose r before o labels
     by o leaves = chosen_by o o.is_silent leaves
+
+-- A descriptor that isn't granted leaves the state.
+pub refused_carries_nothing : (r : Router) (link : ℕ) (v : Resv) (d : FlowDescriptor) (fact : ResvFact) (progress : Progress) (verdict : Verdict) → verdict ≢ Granted → (carried_on r link v d fact progress verdict).state ≡ progress.state
+refused_carries_nothing r link v d fact progress (Failed e) other = refl
+refused_carries_nothing r link v d fact progress PassedOver other = refl
+refused_carries_nothing r link v d fact progress Granted other = absurd (other refl)

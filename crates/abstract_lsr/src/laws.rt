@@ -1,7 +1,16 @@
 //! What holds of each step of the abstract label switching router, and of its label table.
 
-ghost use Rattle.std.specs.Prelude.{◌≡◌, ℕ, List, [], Some, false, true};
+ghost use Rattle.std.specs.FinMap.Entries.{find};
+ghost use Rattle.std.specs.Prelude.{◌≡◌, ◌≢◌, ℕ, List, [], Some, false, true};
+ghost use Rattle.rsvp_contents.specs.declared.messages.Resv.{Resv};
+ghost use Rattle.rsvp_flows.specs.declared.descriptors.FlowDescriptor.{FlowDescriptor};
+ghost use Rattle.lsr_facts.specs.Lifetimes.{lives_on};
+ghost use Rattle.lsr_facts.specs.Orders.{key_cmp};
 ghost use Rattle.lsr_facts.specs.Routers.{IsRouter};
+ghost use Rattle.lsr_facts.specs.declared.path_fact.PathFact.{PathFact};
+ghost use Rattle.resv_facts.specs.Reservations.{lives_past};
+ghost use Rattle.resv_facts.specs.declared.resv_fact.ResvFact.{ResvFact};
+ghost use Rattle.abstract_lsr.specs.Reserving.{Granted, Progress, Verdict, carried_on};
 ghost use Rattle.lsr_facts.specs.declared.key.Key.{Key};
 ghost use Rattle.lsr_facts.specs.declared.refusal.Refusal.{Refusal};
 ghost use Rattle.lsr_facts.specs.declared.reply.Reply.TheVariants as replies;
@@ -52,4 +61,21 @@ pub fn refusals_are_silent()
 pub fn entries_stand_on_live_state()
     ensures { (r : Router) (s : State) (label : ℕ) (action : Action) →
         IsSound r s → look s label ≡ Some action → IsEntry s label action }
+{}
+
+/// A moment takes no reservation that was refreshed in time: where its expiry is above the moment, and its path lives
+/// on, it stands as it was.
+pub fn refreshed_reservations_stay()
+    ensures { (r : Router) (before after : State) (made : Made) (n : ℕ) (key : Key) (resv : ResvFact) (path : PathFact) →
+        IsSound r before → Step r before made after → made.event ≡ events.Tick n → made.reply ≡ replies.Done →
+        find key_cmp key before.resvs ≡ Some resv → lives_past n resv ≡ true →
+        find key_cmp key before.facts.paths ≡ Some path → lives_on n (key, path) ≡ true →
+        find key_cmp key after.resvs ≡ Some resv }
+{}
+
+/// A descriptor that is in error, or passed over, changes nothing that is known: an old reservation of its LSP stays as
+/// it was, and so do all others.
+pub fn refused_descriptors_change_nothing()
+    ensures { (r : Router) (link : ℕ) (v : Resv) (d : FlowDescriptor) (fact : ResvFact) (progress : Progress) (verdict : Verdict) →
+        verdict ≢ Granted → (carried_on r link v d fact progress verdict).state ≡ progress.state }
 {}
