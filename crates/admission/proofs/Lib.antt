@@ -1,4 +1,5 @@
 pub mod Around
+pub mod Editing
 pub mod Holdings
 pub mod Matching
 pub mod Summing

@@ -1,9 +1,11 @@
 -- What is reserved of the links of a router, and by whom.
-use Rattle.std.specs.Prelude.{◌≡◌, ℕ, ◌^◌, ◌≤◌, not, List, is_some}
+use Rattle.std.specs.Prelude.{◌≡◌, ℕ, ◌^◌, ◌≤◌, not, List, map, Option, Some, None, is_some, IsOk}
 use Rattle.std.specs.FinMap.Entries.{find, put, where_key}
 use Rattle.std.specs.List.{AllByRecursion, AllZip}
-use Rattle.std.specs.Option.{option_map_or}
+use Rattle.std.specs.Option.{option_map, option_map_or}
 use Rattle.std.specs.Ordering.{is_eq}
+use Rattle.rsvp_traffic.specs.Traffic.{flowspec_rate}
+use Rattle.row_edits.specs.Edits.{edited}
 use Rattle.lsr_facts.specs.Orders.{key_cmp}
 use Rattle.lsr_facts.specs.declared.key.Key.{Key}
 use Rattle.resv_facts.specs.Claims.{claim_of}
@@ -56,6 +58,31 @@ abbrev pub with_holding : Key → ℕ → Bandwidth → Bandwidth
 with_holding key holding b = record b {
   claims = option_map_or (λ (claim : Claim). put key_cmp key (record claim { holding = holding }) b.claims) (find key_cmp key b.claims) b.claims;
 }
+
+-- an edit of what an LSP has: from now on this reservation, kept at this priority, or none
+abbrev pub Edit : Type 0
+Edit = Option (ResvFact × ℕ)
+
+-- the edit can be made: the rate of its reservation is defined, and its priority is 0 to 7
+abbrev pub IsEdit : Edit → Type 0
+IsEdit None = Unit {0}
+IsEdit (Some now) = IsOk (flowspec_rate now.0.flowspec) × (now.1 ≤ 7)
+
+-- each of the edits can be made
+abbrev pub AreEdits : List (Key × Edit) → Type 0
+AreEdits edits = AllByRecursion (λ edit. IsEdit edit.1) edits
+
+-- what edits make of the reservations
+abbrev pub resv_edits : List (Key × Edit) → List (Key × Option ResvFact)
+resv_edits edits = map (λ edit. (edit.0, option_map (λ now. now.0) edit.1)) edits
+
+-- and of what these take
+abbrev pub claim_edits : List (Key × Edit) → List (Key × Option Claim)
+claim_edits edits = map (λ edit. (edit.0, option_map (λ now. claim_of now.0 now.1) edit.1)) edits
+
+-- Each LSP that the edits name has from now on what they say.
+abbrev pub with_edits : List (Key × Edit) → Bandwidth → Bandwidth
+with_edits edits b = record b { resvs = edited key_cmp (resv_edits edits) b.resvs; claims = edited key_cmp (claim_edits edits) b.claims }
 
 -- of this LSP the same is known by both
 pub record IsSameOf (key : Key) (a b : Bandwidth) : Type 0 where

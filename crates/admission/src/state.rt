@@ -6,7 +6,9 @@ ghost use Rattle.rsvp_traffic.specs.Traffic.{flowspec_rate};
 ghost use Rattle.lsr_facts.specs.Orders.{key_cmp};
 ghost use Rattle.resv_facts.specs.Admission.{fits, victims_of};
 ghost use Rattle.resv_facts.specs.Claims.{claim_of, reserved_of};
-ghost use Rattle.admission.specs.Bandwidths.{AreMatched, left_at, with_holding, with_resv, without_resv};
+ghost use Rattle.row_edits.specs.Edits.{edited};
+ghost use Rattle.row_edits.specs.InTurn.{given, in_turn, taken};
+ghost use Rattle.admission.specs.Bandwidths.{AreEdits, AreMatched, claim_edits, left_at, resv_edits, with_edits, with_holding, with_resv, without_resv};
 
 use crate::reserved::{reserved, reserved_with};
 use crate::victims::victims_of;
@@ -158,6 +160,50 @@ impl Admission {
         }
     }
 
+    /// Makes those of the edits that take a reservation away.
+    fn take(&mut self, edits: &[(Key, Option<(ResvFact, u8)>)])
+        ensures resvs { self.new.resvs ≡ in_turn (taken key_cmp) (resv_edits edits.now) self.old.resvs }
+        ensures claims { self.new.claims ≡ in_turn (taken key_cmp) (claim_edits edits.now) self.old.claims }
+        ensures limits { self.new.limits ≡ self.old.limits }
+    {
+        for edit in edits {
+            if edit.1.is_none() {
+                self.remove(&edit.0);
+            }
+        }
+    }
+
+    /// Makes those of the edits that give a reservation. There is room for all at the end.
+    fn give(&mut self, mut edits: Vec<(Key, Option<(ResvFact, u8)>)>)
+        requires room { length (in_turn (given key_cmp) (resv_edits edits.items) self.old.resvs) ≤ 1024 }
+        requires edits { AreEdits edits.items }
+        ensures resvs { self.new.resvs ≡ in_turn (given key_cmp) (resv_edits edits.items) self.old.resvs }
+        ensures claims { self.new.claims ≡ in_turn (given key_cmp) (claim_edits edits.items) self.old.claims }
+        ensures limits { self.new.limits ≡ self.old.limits }
+    {
+        edits.reverse();
+        while let Some((key, now)) = edits.pop() {
+            if let Some((fact, holding)) = now {
+                self.put(key, fact, holding);
+            }
+        }
+    }
+
+    /// Makes edits: each LSP that they name has this reservation from now on, kept at this priority, or none. It asks
+    /// that at most 1,024 LSPs have one then, and of each edit what [`Admission::put`] asks. Takes no memory.
+    pub fn edit(&mut self, edits: Table<Key, Option<(ResvFact, u8)>>)
+        requires room { length (edited key_cmp (resv_edits edits) self.old.resvs) ≤ 1024 }
+        requires edits { AreEdits edits }
+        ensures { self.new ≡ with_edits edits self.old }
+    {
+        // That all rows are in order: the two passes make the edits for this reason.
+        let _ = self.resvs.as_slice();
+        let _ = self.claims.as_slice();
+        let edits = edits.into_rows();
+        self.take(&edits);
+        self.give(edits);
+    }
+
     /// The bandwidth that is reserved on a link at a priority, in bytes per second: the sum over sessions (RFC 2205,
     /// 2.2). It goes over all reservations, and takes no memory.
     pub fn reserved(&self, link: u16, priority: u8) -> u64
@@ -182,9 +228,10 @@ impl Admission {
     }
 
     /// Those who give way to a request, in the order in which they are taken: the worst priority first, and of one
-    /// priority the greater key, until what is reserved then is within the link's limit. On a link that has no limit
-    /// nobody gives way. It asks for a rate of at most 2^50 bytes per second; the only error is out of memory. It goes
-    /// over all reservations once for each of them.
+    /// priority the greater key, until what is reserved then is within the link's limit. Where that never is, all who
+    /// can: [`Admission::fits`] tells that before. On a link that has no limit nobody gives way. It asks for a rate of
+    /// at most 2^50 bytes per second; the only error is out of memory. It goes over all reservations once for each
+    /// victim, and copies them once.
     pub fn victims(&self, alloc: Global, request: &Request) -> Result<Vec<Key>, AllocError>
         requires { request.now.claim.rate ≤ 2 ^ 50 }
         ensures { IfOk result (λ keys. keys.items ≡ option_map_or (λ limit. victims_of limit request.now self.now.claims)
