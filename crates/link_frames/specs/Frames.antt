@@ -1,12 +1,12 @@
 -- Which bytes spell which frame, and which fault is the first of bytes that spell none.
 use Rattle.std.specs.Prelude.{◌≡◌, ◌≢◌, ◌==◌, ℕ, if◌then◌else◌, List, [], ◌∷◌, ◌++◌, Option, Some, Result, ◌⊎◌}
-use Rattle.rsvp_messages.specs.Dropped.{Dropped}
-use Rattle.rsvp_messages.specs.Dropped.TheVariants as dropped
-use Rattle.rsvp_messages.specs.Reading.{Reading}
-use Rattle.rsvp_messages.specs.Reading.TheVariants as readings
-use Rattle.rsvp_messages.specs.Spelling.{SpellsReading, IsFirstFault, header_fault}
-use Rattle.rsvp_messages.specs.Answers.{ReadsOrDrops}
-use Rattle.rsvp_messages.specs.Written.{message_bytes}
+use Rattle.rsvp_contents.specs.declared.dropped.Dropped.{Dropped}
+use Rattle.rsvp_contents.specs.declared.dropped.Dropped.TheVariants as dropped
+use Rattle.rsvp_contents.specs.declared.message.Reading.{Reading}
+use Rattle.rsvp_contents.specs.declared.message.Reading.TheVariants as readings
+use Rattle.rsvp_contents.specs.Spelling.{SpellsReading, IsFirstFault, header_fault}
+use Rattle.rsvp_contents.specs.Answers.{ReadsOrDrops}
+use Rattle.rsvp_contents.specs.Written.{message_bytes}
 use Rattle.link_frames.specs.declared.frame.Frame.{Frame}
 use Rattle.link_frames.specs.declared.frame.Frame.TheVariants as frames
 

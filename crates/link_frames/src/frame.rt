@@ -1,6 +1,6 @@
 ghost use Rattle.std.specs.Prelude.{◌≡◌};
 
-use rsvp_messages::Reading;
+use rsvp_contents::Reading;
 use std::alloc::AllocError;
 
 /// The kind of a Hop frame.

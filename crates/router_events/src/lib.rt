@@ -1,8 +1,7 @@
-//! What happens to a router, and what it sends: events and outputs. The frames of outputs are passed on with what
-//! reads and writes them.
+//! What happens to a router, and what it sends: events and outputs. The frames of outputs are passed on.
 #![tactic(auto)]
 
 mod events;
 
 pub use events::{Arrive, Event, Made, Output, Outputs};
-pub use link_frames::{Frame, KIND_HOP, read_frame, write_frame};
+pub use link_frames::{Frame, KIND_HOP};

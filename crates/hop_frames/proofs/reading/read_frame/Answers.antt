@@ -3,8 +3,8 @@ use Rattle.std.proofs.Common.{◌≡◌, ◌-◌, ℕ, List, length, take, drop,
 use Rattle.std.proofs.lemmas.List.{length-drop}
 use Rattle.std.proofs.Math.Seq.{take-length}
 use Rattle.rsvp_messages.specs.Spelling.{ReadsMessage, header_fault}
-use Rattle.link_frames.proofs.Hops.{hop_frame, hop_head}
-use Rattle.link_frames.proofs.reading.read_frame.Goals as goal
+use Rattle.hop_frames.proofs.Hops.{hop_frame, hop_head}
+use Rattle.hop_frames.proofs.reading.read_frame.Goals as goal
 
 -- what stands behind the kind, as the code cuts it
 behind : (bytes : List ℕ) → take (length bytes - 1) (drop 1 bytes) ≡ drop 1 bytes

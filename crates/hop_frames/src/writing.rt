@@ -1,7 +1,7 @@
 ghost use Rattle.std.specs.Prelude.{◌≡◌, ◌++◌, OnOk, OnErr};
 ghost use Rattle.link_frames.specs.Frames.{frame_bytes, IsWhole, SpellsFrame};
 
-use crate::frame::{Frame, KIND_HOP};
+use link_frames::{Frame, KIND_HOP};
 use rsvp_messages::{Reading, write_message};
 use std::alloc::AllocError;
 

@@ -1,7 +1,7 @@
 ghost use Rattle.std.specs.Prelude.{◌≡◌, Err, IfSome};
 ghost use Rattle.link_frames.specs.Frames.{ReadsFrame, head_fault};
 
-use crate::frame::{Frame, KIND_HOP};
+use link_frames::{Frame, KIND_HOP};
 use rsvp_messages::{Dropped, read_message};
 use std::alloc::Global;
 
