@@ -15,5 +15,6 @@ pub mod Steps
 pub mod Tears
 pub mod Time
 pub mod Touched
+pub mod TouchedLaws
 pub mod Wanted
 pub mod WantedLaws

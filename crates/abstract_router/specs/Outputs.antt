@@ -1,5 +1,5 @@
 -- What a step sends, in its order.
-use Rattle.std.specs.Prelude.{ℕ, ◌&&◌, ◌++◌, not, nat_eq, Bool, false, if◌then◌else◌, List, filter, filter_map, Option, Some, None, is_none}
+use Rattle.std.specs.Prelude.{ℕ, ◌&&◌, ◌++◌, ◌==◌, not, nat_eq, Bool, false, if◌then◌else◌, List, filter, filter_map, length, map, Option, Some, None, is_none}
 use Rattle.std.specs.Cmp.Lexicographic.{pointwise}
 use Rattle.std.specs.FinMap.Entries.{find}
 use Rattle.std.specs.List.{list_any}
@@ -21,9 +21,13 @@ use Rattle.abstract_router.specs.Outcomes.{sent_by}
 use Rattle.abstract_router.specs.Places.{is_up}
 use Rattle.abstract_router.specs.Wanted.{wanted_of}
 
--- the message that ends what a message set up: a PathTear for a Path (RFC 2205, 3.1.5)
+-- the message that ends what a message set up: a PathTear for a Path (RFC 2205, 3.1.5), and a ResvTear for a Resv that
+-- names an LSP (RFC 2205, 3.1.6)
 abbrev pub tear_of : Content → Option Content
 tear_of (contents.Path p) = Some (contents.PathTear (record { session = p.session; hop = p.hop; sender = p.sender }))
+tear_of (contents.Resv v) =
+    if length v.descriptors == 0 then None
+    else Some (contents.ResvTear (record { session = v.session; hop = v.hop; style = v.style; filters = map (λ d. d.filter) v.descriptors }))
 tear_of _ = None
 
 -- the tear of what was sent in a frame over a link: it goes the same way
@@ -36,21 +40,21 @@ abbrev pub is_same_frame : Frame → Frame → Bool
 is_same_frame a b = pointwise nat_eq (frame_bytes a) (frame_bytes b)
 
 -- The item was wanted, and is no more: it is torn down over the link that it went over, where that is up
--- (RFC 2205, 2.3).
-abbrev pub tear_for : List (ℕ × Bool) → Option Output → Item × Output → Option Output
+-- (RFC 2205, 2.3). Items are of any kind that has an order.
+abbrev pub tear_for : {I : Type 0} → List (ℕ × Bool) → Option Output → I × Output → Option Output
 tear_for up now was = if is_none now && is_up up was.1.link then tear_by was.1.link was.1.frame else None
 
 -- the item is one of those that are due
-abbrev pub is_due : List Item → Item → Bool
-is_due due item = list_any (eq_by_cmp item_cmp item) due
+abbrev pub is_due : {I : Type 0} → (I → I → Ordering) → List I → I → Bool
+is_due cmp due item = list_any (eq_by_cmp cmp item) due
 
 -- an item rests where it isn't due, and was wanted before with the same frame
-abbrev pub rests : List Item → Option Output → Item × Output → Bool
-rests due was wants = not (is_due due wants.0) && option_map_or (λ o. is_same_frame wants.1.frame o.frame) was false
+abbrev pub rests : {I : Type 0} → (I → I → Ordering) → List I → Option Output → I × Output → Bool
+rests cmp due was wants = not (is_due cmp due wants.0) && option_map_or (λ o. is_same_frame wants.1.frame o.frame) was false
 
 -- an item is sent at once where it is new or changed (RFC 2205, 2.3), and where it is due
-abbrev pub send_for : List Item → Option Output → Item × Output → Option Output
-send_for due was wants = if rests due was wants then None else Some wants.1
+abbrev pub send_for : {I : Type 0} → (I → I → Ordering) → List I → Option Output → I × Output → Option Output
+send_for cmp due was wants = if rests cmp due was wants then None else Some wants.1
 
 -- what comes of each row, by what the other rows have under its key
 abbrev pub between : {K C O : Type 0} → (K → K → Ordering) → (Option C → K × C → Option O) → List (K × C) → List (K × C) → List O
@@ -59,7 +63,7 @@ between cmp f rows others = filter_map (λ row. f (find cmp row.0 others) row) r
 -- What is sent between what was wanted and what is: tears for what is wanted no more, and then what is wanted and
 -- new, changed or due, each in the order of items.
 abbrev pub sent_between : List (ℕ × Bool) → List Item → List (Item × Output) → List (Item × Output) → List Output
-sent_between up due was is = between item_cmp (tear_for up) was is ++ between item_cmp (send_for due) is was
+sent_between up due was is = between item_cmp (tear_for up) was is ++ between item_cmp (send_for item_cmp due) is was
 
 -- the errors that go out: those whose link is up
 abbrev pub errors_out : List (ℕ × Bool) → List Output → List Output

@@ -1,12 +1,14 @@
 -- Laws of lists and of rows that the laws of the router stand on, beside those of `sorted_rows`.
-use Rattle.std.specs.Prelude.{◌≡◌, ℕ, suc, ◌≤◌, Bool, true, false, cond, List, [], ◌∷◌, map, drop, length, Option, Some, None, IfSome, IfOk}
+use Rattle.std.specs.Prelude.{◌≡◌, ℕ, suc, ◌+◌, ◌<◌, ◌≤◌, ◌++◌, Bool, true, false, cond, List, [], ◌∷◌, map, drop, take, length, Option, Some, None, IfSome, IfOk}
 use Rattle.std.specs.FinMap.Entries.{by_order, put}
-use Rattle.std.specs.List.{AllByRecursion, filter, find, fold, list_all, reduce, flat_map}
-use Rattle.std.specs.Option.{ok_or, option_map, option_or}
+use Rattle.std.specs.List.{AllByRecursion, cons_option, filter, filter_map, find, fold, list_all, reduce, flat_map}
+use Rattle.std.specs.Option.{ok_or, option_map, option_or, option_to_list}
 use Rattle.std.specs.declared.cmp.Ordering.{Ordering}
 use Rattle.std.specs.declared.cmp.Ordering.TheVariants.{Less, Equal, Greater}
-use Rattle.std.proofs.Common.{refl, ap, zero, arith, length-append}
+use Rattle.std.proofs.Common.{get_or, refl, sym, ap, ◌∙◌, zero, arith, length-append}
 use Rattle.std.proofs.lemmas.Bool.{and_parts}
+use Rattle.std.proofs.lemmas.List.{take_more}
+use Rattle.std.proofs.lemmas.List.Elements.{filter_map-append}
 use Rattle.sorted_rows.specs.Rows.{keys_of}
 
 -- what holds of each element holds of the one that is found
@@ -60,6 +62,20 @@ pub flat_map-drop_most : {A B : Type 0} (f : A → List B) (n : ℕ) (xs : List 
 flat_map-drop_most f zero xs = omega arith
 flat_map-drop_most f (suc n) [] = omega arith
 flat_map-drop_most f (suc n) (x ∷ xs) = omega (arith, flat_map-drop_most f n xs, length-append (f x) (flat_map f xs))
+
+-- what there may be, as a list
+listed : {Y : Type 0} (o : Option Y) → option_to_list o ≡ cons_option o []
+listed None = refl
+listed (Some y) = refl
+
+-- one more of the list is asked: what it gives is put behind
+pub one_more : {X Y : Type 0} (f : X → Option Y) (before after : List Y) (xs : List X) (i : ℕ) (x : X) (o : Option Y) → i < length xs → x ≡ get_or xs i x → before ≡ filter_map f (take i xs) → o ≡ f x → after ≡ before ++ option_to_list o → after ≡ filter_map f (take (i + 1) xs)
+one_more {X} {Y} f before after xs i x o within is e gives a =
+    let items : take (i + 1) xs ≡ take i xs ++ x ∷ [] = take_more xs i x within ∙ ap (λ (v : X). take i xs ++ v ∷ []) (sym is) in
+    a ∙ (λ k. e k ++ option_to_list (gives k))
+    ∙ ap (λ (ys : List Y). filter_map f (take i xs) ++ ys) (listed (f x))
+    ∙ sym (filter_map-append f (take i xs) (x ∷ []))
+    ∙ ap (λ (vs : List X). filter_map f vs) (sym items)
 
 -- rows whose values became others have their keys
 pub keys-map : {K X Y : Type 0} (f : K × X → Y) (es : List (K × X)) → keys_of (map (λ e. (e.0, f e)) es) ≡ keys_of es

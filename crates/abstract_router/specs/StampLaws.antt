@@ -1,6 +1,7 @@
 -- Laws of the moments at which wanted items were sent last: exactly what is wanted has one.
 use Rattle.std.specs.Prelude.{◌≡◌, ℕ, Bool, true, false, cond, T, List, [], ◌∷◌, map, filter, Option, Some, None, is_some}
 use Rattle.std.specs.Bool.{then_some}
+use Rattle.std.specs.Cmp.{IsTotalOrder}
 use Rattle.std.specs.FinMap.Entries.{find, is_sorted, is_some-find}
 use Rattle.std.specs.Option.{option_and_then, option_map, option_map_or}
 use Rattle.std.specs.Ordering.{eq_by_cmp, is_eq}
@@ -15,9 +16,10 @@ use Rattle.lsr_facts.specs.Orders.{key_cmp, item_cmp}
 use Rattle.lsr_facts.specs.declared.facts.Facts.{Facts}
 use Rattle.lsr_facts.specs.declared.key.Item.{Item}
 use Rattle.lsr_facts.specs.declared.router.Router.{Router}
+use Rattle.router_events.specs.declared.events.Output.{Output}
 use Rattle.abstract_router.specs.Outputs.{is_due}
 use Rattle.abstract_router.specs.RowLaws.{keys-map}
-use Rattle.abstract_router.specs.Stamps.{stamp, stamps_of}
+use Rattle.abstract_router.specs.Stamps.{due_among, stamp, stamps, stamps_of}
 use Rattle.abstract_router.specs.Wanted.{wanted_of}
 use Rattle.abstract_router.specs.WantedLaws.{is_sorted-wanted}
 
@@ -41,30 +43,47 @@ pub none-is : {A : Type 0} (o : Option A) → is_some o ≡ false → o ≡ None
 none-is None e = refl
 none-is (Some x) e = absurd (let f = e in cc)
 
--- Exactly what is wanted has a moment.
-pub keys-stamps_of : (r : Router) (before : Facts) (due : List Item) (after : Facts) → keys_of (stamps_of r before due after) ≡ keys_of (wanted_of r after)
-unfolding stamps_of
-keys-stamps_of r before due after = keys-map (stamp due (wanted_of r before) before.sent after.moment) (wanted_of r after)
-
--- so they stand in the order of items
-pub is_sorted-stamped : (r : Router) (s : Facts) (sent : List (Item × ℕ)) → T (is_sorted key_cmp s.paths) → keys_of sent ≡ keys_of (wanted_of r s) → T (is_sorted item_cmp sent)
-is_sorted-stamped r s sent h same = subst T (sym (is_sorted-both item_cmp sent (wanted_of r s) same)) (is_sorted-wanted r s h)
-
--- the moment that is found of an item
-pub find-stamps_of : (r : Router) (before : Facts) (due : List Item) (after : Facts) (item : Item) → find item_cmp item (stamps_of r before due after) ≡ option_map (λ o. stamp due (wanted_of r before) before.sent after.moment (item, o)) (find item_cmp item (wanted_of r after))
-unfolding stamps_of
-find-stamps_of r before due after item = find-map_row item_cmp item_exact (stamp due (wanted_of r before) before.sent after.moment) item (wanted_of r after)
-
 -- a value that may be kept is there where it is kept
 kept : {A : Type 0} (p : A → Bool) (o : Option A) → is_some (option_and_then (λ v. then_some (p v) v) o) ≡ option_map_or p o false
 kept p None = refl
 kept p (Some v) = elim (p v) as (λ b. is_some (then_some b v) ≡ b) [ true ↦ refl | false ↦ refl ]
 
--- An item is due where it was sent last a refresh period ago or longer.
-pub is_due-due_items : (refresh_ms : ℕ) (sent : List (Item × ℕ)) (moment : ℕ) (item : Item) → T (is_sorted item_cmp sent) → is_due (due_items refresh_ms sent moment) item ≡ option_map_or (λ at. has_waited refresh_ms at moment) (find item_cmp item sent) false
+module _ {I : Type 0} (cmp : I → I → Ordering) where
+  -- Exactly what is wanted has a moment.
+  pub keys-stamps : (due : List I) (was : List (I × Output)) (sent : List (I × ℕ)) (now : ℕ) (is : List (I × Output)) → keys_of (stamps cmp due was sent now is) ≡ keys_of is
+  keys-stamps due was sent now is = keys-map (stamp cmp due was sent now) is
+
+  -- the moment that is found of an item
+  pub find-stamps : ((x y : I) → cmp x y ≡ Equal → x ≡ y) → (due : List I) (was : List (I × Output)) (sent : List (I × ℕ)) (now : ℕ) (is : List (I × Output)) (item : I) → find cmp item (stamps cmp due was sent now is) ≡ option_map (λ o. stamp cmp due was sent now (item, o)) (find cmp item is)
+  find-stamps exact due was sent now is item = find-map_row cmp exact (stamp cmp due was sent now) item is
+
+  -- An item is due where it was sent last a refresh period ago or longer.
+  pub is_due-due_among : IsTotalOrder cmp → (refresh_ms : ℕ) (sent : List (I × ℕ)) (moment : ℕ) (item : I) → T (is_sorted cmp sent) → is_due cmp (due_among refresh_ms sent moment) item ≡ option_map_or (λ at. has_waited refresh_ms at moment) (find cmp item sent) false
+  is_due-due_among total refresh_ms sent moment item h =
+      let old = λ (row : I × ℕ). has_waited refresh_ms row.1 moment in
+      sym (is_some-find cmp item (filter old sent))
+      ∙ ap is_some (find-filter cmp total old item (λ x v tied. refl) sent h)
+      ∙ kept (λ at. has_waited refresh_ms at moment) (find cmp item sent)
+
+-- The Paths that are due, in the words of items of any kind.
+pub due_items-among : (refresh_ms : ℕ) (sent : List (Item × ℕ)) (moment : ℕ) → due_items refresh_ms sent moment ≡ due_among refresh_ms sent moment
 unfolding due_items
-is_due-due_items refresh_ms sent moment item h =
-    let old = λ (row : Item × ℕ). has_waited refresh_ms row.1 moment in
-    sym (is_some-find item_cmp item (filter old sent))
-    ∙ ap is_some (find-filter item_cmp item_total old item (λ x v tied. refl) sent h)
-    ∙ kept (λ at. has_waited refresh_ms at moment) (find item_cmp item sent)
+due_items-among refresh_ms sent moment = refl
+
+pub is_due-due_items : (refresh_ms : ℕ) (sent : List (Item × ℕ)) (moment : ℕ) (item : Item) → T (is_sorted item_cmp sent) → is_due item_cmp (due_items refresh_ms sent moment) item ≡ option_map_or (λ at. has_waited refresh_ms at moment) (find item_cmp item sent) false
+unfolding due_items
+is_due-due_items refresh_ms sent moment item h = is_due-due_among item_cmp item_total refresh_ms sent moment item h
+
+-- Exactly the Paths that are wanted have a moment after a step.
+pub keys-stamps_of : (r : Router) (before : Facts) (due : List Item) (after : Facts) → keys_of (stamps_of r before due after) ≡ keys_of (wanted_of r after)
+unfolding stamps_of
+keys-stamps_of r before due after = keys-stamps item_cmp due (wanted_of r before) before.sent after.moment (wanted_of r after)
+
+-- so they stand in the order of items
+pub is_sorted-stamped : (r : Router) (s : Facts) (sent : List (Item × ℕ)) → T (is_sorted key_cmp s.paths) → keys_of sent ≡ keys_of (wanted_of r s) → T (is_sorted item_cmp sent)
+is_sorted-stamped r s sent h same = subst T (sym (is_sorted-both item_cmp sent (wanted_of r s) same)) (is_sorted-wanted r s h)
+
+-- the moment that is found of a Path's item
+pub find-stamps_of : (r : Router) (before : Facts) (due : List Item) (after : Facts) (item : Item) → find item_cmp item (stamps_of r before due after) ≡ option_map (λ o. stamp item_cmp due (wanted_of r before) before.sent after.moment (item, o)) (find item_cmp item (wanted_of r after))
+unfolding stamps_of
+find-stamps_of r before due after item = find-stamps item_cmp item_exact due (wanted_of r before) before.sent after.moment (wanted_of r after) item

@@ -3,7 +3,7 @@ use Rattle.std.specs.Prelude.{◌≡◌, ◌++◌, ℕ, not, Bool, if◌then◌e
 use Rattle.std.specs.FinMap.Entries.{find, where_key}
 use Rattle.std.specs.Option.{option_map}
 use Rattle.std.specs.declared.cmp.Ordering.{Ordering}
-use Rattle.lsr_facts.specs.Orders.{item_cmp, key_cmp}
+use Rattle.lsr_facts.specs.Orders.{key_cmp}
 use Rattle.lsr_facts.specs.declared.facts.Facts.{Facts}
 use Rattle.lsr_facts.specs.declared.key.Item.{Item}
 use Rattle.lsr_facts.specs.declared.key.Item.TheVariants.{Down}
@@ -33,13 +33,13 @@ abbrev pub found_rows : {K E X : Type 0} → (K → K → Ordering) → List (K 
 found_rows cmp es rows = filter_map (λ e. option_map (λ x. (e.0, x)) (find cmp e.0 rows)) es
 
 -- the moment goes of an item that was wanted and is no more
-abbrev pub forgotten : Option Output → Item × Output → Option (Item × Option ℕ)
+abbrev pub forgotten : {I : Type 0} → Option Output → I × Output → Option (I × Option ℕ)
 forgotten now was = if is_none now then Some (was.0, None) else None
 
 -- an item that is sent has this moment from then on
-abbrev pub renewed : List Item → ℕ → Option Output → Item × Output → Option (Item × Option ℕ)
-renewed due moment was wants = if rests due was wants then None else Some (wants.0, Some moment)
+abbrev pub renewed : {I : Type 0} → (I → I → Ordering) → List I → ℕ → Option Output → I × Output → Option (I × Option ℕ)
+renewed cmp due moment was wants = if rests cmp due was wants then None else Some (wants.0, Some moment)
 
 -- what becomes of the moments between what was wanted and what is: no other moment changes
-abbrev pub moments_between : List Item → ℕ → List (Item × Output) → List (Item × Output) → List (Item × Option ℕ)
-moments_between due moment was is = between item_cmp (renewed due moment) is was ++ between item_cmp forgotten was is
+abbrev pub moments_between : {I : Type 0} → (I → I → Ordering) → List I → ℕ → List (I × Output) → List (I × Output) → List (I × Option ℕ)
+moments_between cmp due moment was is = between cmp (renewed cmp due moment) is was ++ between cmp forgotten was is

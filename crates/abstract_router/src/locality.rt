@@ -22,13 +22,13 @@ pub fn touched_lsps_decide()
         (errors : List Output) (due : List Item) →
         T (is_sorted key_cmp before.paths) → T (is_sorted key_cmp after.paths) →
         IsSameElsewhere touched before after →
-        ((item : Item) → touched (key_of_item item) ≡ false → is_due due item ≡ false) →
+        ((item : Item) → touched (key_of_item item) ≡ false → is_due item_cmp due item ≡ false) →
         outputs_of r before errors due after
         ≡ outputs_of r (at_keys touched before) errors due (at_keys touched after) }
     ensures elsewhere { (r : Router) (touched : Key → Bool) (before after : Facts) (due : List Item) →
         keys_of before.sent ≡ keys_of (wanted_of r before) →
         IsSameElsewhere touched before after →
-        ((item : Item) → touched (key_of_item item) ≡ false → is_due due item ≡ false) →
+        ((item : Item) → touched (key_of_item item) ≡ false → is_due item_cmp due item ≡ false) →
         (item : Item) → touched (key_of_item item) ≡ false →
         find item_cmp item (stamps_of r before due after) ≡ find item_cmp item before.sent }
     ensures touched { (r : Router) (touched : Key → Bool) (before after : Facts) (due : List Item) →

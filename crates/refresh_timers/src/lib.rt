@@ -4,4 +4,4 @@
 pub mod laws;
 mod timers;
 
-pub use timers::{MAX_ITEMS, RefreshTimers};
+pub use timers::RefreshTimers;

@@ -1,44 +1,36 @@
 ghost use Rattle.std.specs.FinMap.Entries.{find, is_sorted, put, where_key};
 ghost use Rattle.std.specs.Ordering.{is_eq};
+ghost use Rattle.std.specs.declared.cmp.Ordering.TheVariants.{Equal};
 ghost use Rattle.std.specs.Prelude.{◌≡◌, ◌≤◌, T, [], IfOk, length, not};
-ghost use Rattle.lsr_facts.specs.Lifetimes.{due_items};
-ghost use Rattle.lsr_facts.specs.Orders.{item_cmp};
 ghost use Rattle.row_edits.specs.Edits.{edited};
-ghost use Rattle.refresh_timers.specs.Timers.{is_due};
+ghost use Rattle.refresh_timers.specs.Timers.{due_then, is_due};
 
-use lsr_facts::limits::{MAX_LSPS, MAX_ORIGINS};
-use lsr_facts::{Item, has_waited};
+use lsr_facts::has_waited;
 use row_edits::make_edits;
 use sorted_rows::{ReservedTable, Table, TryCopy};
 use std::alloc::{AllocError, Global};
 use std::marker::Model;
 
-/// Messages that a router keeps alive at its neighbours: for each LSP one downstream, and one upstream to each of
-/// its origins, 5,120 in all.
-pub const MAX_ITEMS: usize = MAX_LSPS * (1 + MAX_ORIGINS);
-
-/// When each message that a router keeps alive was last sent (RFC 2205, 3.7): at most [`MAX_ITEMS`] messages, in
-/// the order of their items. Contracts see the refresh period, and the list of items and moments. Moments are in
-/// milliseconds.
+/// When each message that a router keeps alive was last sent (RFC 2205, 3.7): at most `MOST` messages, in the order of
+/// their items. Contracts see the refresh period, and the list of items and moments. Moments are in milliseconds.
 #[derive(Debug, Drop)]
-pub struct RefreshTimers {
+pub struct RefreshTimers<I: Ord, const MOST: usize> {
     refresh_ms: u32,
-    rows: ReservedTable<Item, u64, MAX_ITEMS>,
+    rows: ReservedTable<I, u64, MOST>,
 }
 
-impl Model for RefreshTimers {
-    ghost use Rattle.row_edits.specs.Edits.{edited};
+impl<I: Ord, const MOST: usize> Model for RefreshTimers<I, MOST> {
     ghost use Rattle.refresh_timers.specs.Timers.{Timers};
 
-    ghost Value = { Timers };
+    ghost Value = { Timers I };
 
     ghost view = { λ t. record { refresh_ms = t.refresh_ms; sent = t.rows } };
 }
 
-impl RefreshTimers {
+impl<I: Ord + Copy + Drop, const MOST: usize> RefreshTimers<I, MOST> {
     /// No messages, to be sent again every so many milliseconds. It reserves the memory of all messages that it may
     /// ever hold; the only error is that there is too little memory.
-    pub fn new(alloc: Global, refresh_ms: u32) -> Result<RefreshTimers, AllocError>
+    pub fn new(alloc: Global, refresh_ms: u32) -> Result<RefreshTimers<I, MOST>, AllocError>
         ensures { IfOk result (λ timers. timers ≡ record { refresh_ms = refresh_ms; sent = [] }) }
     {
         Ok(RefreshTimers {
@@ -48,61 +40,62 @@ impl RefreshTimers {
     }
 
     /// The messages and the moments at which they were last sent, in the order of the items.
-    pub fn as_slice(&self) -> &[(Item, u64)]
+    pub fn as_slice(&self) -> &[(I, u64)]
         ensures rows { result.now ≡ self.now.sent }
-        ensures sorted { T (is_sorted item_cmp self.now.sent) }
-        ensures few { length self.now.sent ≤ 5120 }
+        ensures sorted { T (is_sorted I.cmp self.now.sent) }
+        ensures few { length self.now.sent ≤ MOST }
     {
         self.rows.as_slice()
     }
 
     /// The moment at which a message was last sent, or `None` where it isn't kept.
-    pub fn sent_at(&self, item: &Item) -> Option<u64>
-        ensures { result ≡ find item_cmp item.now self.now.sent }
+    pub fn sent_at(&self, item: &I) -> Option<u64>
+        ensures { result ≡ find I.cmp item.now self.now.sent }
     {
         self.rows.get(item).copied()
     }
 
-    /// This message was sent at this moment, whenever it was sent before. It asks that at most [`MAX_ITEMS`]
+    /// This message was sent at this moment, whenever it was sent before. It asks that at most `MOST`
     /// messages are kept then. Takes no memory.
-    pub fn set(&mut self, item: Item, moment: u64)
-        requires { length (put item_cmp item moment self.old.sent) ≤ 5120 }
-        ensures { self.new ≡ record self.old { sent = put item_cmp item moment self.old.sent } }
+    pub fn set(&mut self, item: I, moment: u64)
+        requires { length (put I.cmp item moment self.old.sent) ≤ MOST }
+        ensures { self.new ≡ record self.old { sent = put I.cmp item moment self.old.sent } }
     {
         self.rows.set(item, moment);
     }
 
     /// This message is kept no more. Where it wasn't kept, nothing changes. Takes no memory.
-    pub fn clear(&mut self, item: &Item)
+    pub fn clear(&mut self, item: &I)
         ensures { self.new ≡ record self.old {
-          sent = where_key item_cmp (λ i. not (is_eq (item_cmp item.now i))) self.old.sent;
+          sent = where_key I.cmp (λ i. not (is_eq (I.cmp item.now i))) self.old.sent;
         } }
     {
         self.rows.remove(item);
     }
 
     /// Makes edits: each message that they name was sent last at this moment, or is kept no more. It asks that at most
-    /// [`MAX_ITEMS`] messages are kept then. Takes no memory.
-    pub fn edit(&mut self, edits: Table<Item, Option<u64>>)
-        requires { length (edited item_cmp edits self.old.sent) ≤ 5120 }
-        ensures { self.new ≡ record self.old { sent = edited item_cmp edits self.old.sent } }
+    /// `MOST` messages are kept then, and for an order that tells all items apart. Takes no memory.
+    pub fn edit(&mut self, edits: Table<I, Option<u64>>)
+        requires exact { (a b : I) → I.cmp a b ≡ Equal → a ≡ b }
+        requires room { length (edited I.cmp edits self.old.sent) ≤ MOST }
+        ensures { self.new ≡ record self.old { sent = edited I.cmp edits self.old.sent } }
     {
         make_edits(&mut self.rows, edits);
     }
 
-    /// These messages were sent last at these moments, and no others are kept. It asks for at most [`MAX_ITEMS`]
+    /// These messages were sent last at these moments, and no others are kept. It asks for at most `MOST`
     /// messages in the order of their items, none twice. Takes no memory.
-    pub fn set_all(&mut self, moments: &[(Item, u64)])
-        requires sorted { T (is_sorted item_cmp moments.now) }
-        requires few { length moments.now ≤ 5120 }
+    pub fn set_all(&mut self, moments: &[(I, u64)])
+        requires sorted { T (is_sorted I.cmp moments.now) }
+        requires few { length moments.now ≤ MOST }
         ensures { self.new ≡ record self.old { sent = moments.now } }
     {
         self.rows.set_all(moments);
     }
 
     /// Whether a message is due at this moment: it is kept, and was last sent a refresh period ago or longer.
-    pub fn is_due(&self, item: &Item, now: u64) -> bool
-        ensures { result ≡ is_due now self.now item.now }
+    pub fn is_due(&self, item: &I, now: u64) -> bool
+        ensures { result ≡ is_due I.cmp now self.now item.now }
     {
         match self.sent_at(item) {
             Some(at) => has_waited(self.refresh_ms, at, now),
@@ -112,9 +105,8 @@ impl RefreshTimers {
 
     /// The messages that were last sent a refresh period ago or longer, in the order of the items. The only error
     /// is being out of memory.
-    #[tactic(auto, unfolding(lsr_facts::specs::Lifetimes::due_items))]
-    pub fn due(&self, alloc: Global, now: u64) -> Result<Vec<Item>, AllocError>
-        ensures { IfOk result (λ items. items.items ≡ due_items self.now.refresh_ms self.now.sent now) }
+    pub fn due(&self, alloc: Global, now: u64) -> Result<Vec<I>, AllocError>
+        ensures { IfOk result (λ items. items.items ≡ due_then self.now.refresh_ms self.now.sent now) }
     {
         let refresh_ms = self.refresh_ms;
         self.rows
@@ -126,8 +118,8 @@ impl RefreshTimers {
     }
 }
 
-impl TryCopy for RefreshTimers {
-    fn try_copy(&self, alloc: Global) -> Result<RefreshTimers, AllocError> {
+impl<I: Ord + Copy + Drop, const MOST: usize> TryCopy for RefreshTimers<I, MOST> {
+    fn try_copy(&self, alloc: Global) -> Result<RefreshTimers<I, MOST>, AllocError> {
         Ok(RefreshTimers {
             refresh_ms: self.refresh_ms,
             rows: self.rows.try_copy(alloc)?,

@@ -1,5 +1,5 @@
 -- A draft, with what it sends, is the plan of a step.
-use Rattle.std.specs.Prelude.{◌≡◌, ℕ, true, false, cond, if◌then◌else◌, List, [], Option}
+use Rattle.std.specs.Prelude.{◌≡◌, ℕ, true, false, if◌then◌else◌, List, [], Option}
 use Rattle.std.proofs.Common.{refl, ap, sym, ◌∙◌}
 use Rattle.row_edits.specs.Edits as rows
 use Rattle.lsr_facts.specs.Orders.{item_cmp}
@@ -8,7 +8,6 @@ use Rattle.lsr_facts.specs.declared.key.Item.{Item}
 use Rattle.lsr_facts.specs.declared.router.Router.{Router}
 use Rattle.router_events.specs.declared.events.Event.{Event}
 use Rattle.router_events.specs.declared.events.Output.{Output}
-use Rattle.abstract_router.specs.Outcomes.{Outcome}
 use Rattle.abstract_router.specs.Outputs.{outputs_of}
 use Rattle.abstract_router.specs.Stamps.{stamps_of, with_stamps}
 use Rattle.abstract_router.specs.Steps.{IsEvent, Step, outcome, settled}

@@ -1,12 +1,12 @@
 -- A restart is a step, a start is one, and both leave tables of a sound router.
-use Rattle.std.specs.Prelude.{◌≡◌, Bool, true, false, []}
+use Rattle.std.specs.Prelude.{◌≡◌, true, false, []}
 use Rattle.std.proofs.Common.{ap, refl, subst, sym, ◌∙◌}
 use Rattle.lsr_facts.specs.Routers.{IsRouter}
 use Rattle.lsr_facts.specs.declared.facts.Facts.{Facts}
 use Rattle.lsr_facts.specs.declared.router.Router.{Router}
 use Rattle.router_events.specs.declared.events.Event.TheVariants as events
 use Rattle.abstract_router.proofs.Primitives.{sound_restarted}
-use Rattle.abstract_router.specs.Soundness.{IsSound, IsStanding}
+use Rattle.abstract_router.specs.Soundness.{IsSound}
 use Rattle.abstract_router.specs.Steps.{Step}
 use Rattle.abstract_router.specs.Wanted.{wanted_of}
 use Rattle.router_core.specs.Plans.{quiet}

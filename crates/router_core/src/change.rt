@@ -10,6 +10,7 @@ ghost use Rattle.router_steps.specs.Drafts.{edited};
 
 use crate::tables::Tables;
 use lsr_facts::Item;
+use lsr_facts::laws::items_are_in_order;
 use router_steps::Edits;
 use sorted_rows::Table;
 
@@ -39,6 +40,9 @@ pub(crate) fn apply(tables: &mut Tables, edits: Edits, moments: Table<Item, Opti
     ensures facts { facts_of tables.new ≡ applied edits moments (facts_of tables.old) }
 {
     edit_facts(tables, edits);
+
+    // That items are compared by the order that their rows stand in.
+    items_are_in_order();
     tables.timers.edit(moments);
 }
 

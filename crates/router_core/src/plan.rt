@@ -6,11 +6,10 @@ ghost use Rattle.abstract_router.specs.Steps.{IsEvent, Step, outcome};
 ghost use Rattle.router_core.specs.Plans.{IsPlanOf};
 ghost use Rattle.router_core.specs.States.{AreTables, facts_of, state_of};
 
-use crate::sending::sends_of;
+use crate::sending::{StepSends, sends_of};
 use crate::tables::Tables;
 use lsr_facts::{Item, Reply};
 use router_events::{Event, Outputs};
-use router_sends::Sends;
 use router_steps::{Draft, Edits, draft_of};
 use rsvp_contents::Reading;
 use sorted_rows::Table;
@@ -78,7 +77,7 @@ pub(crate) fn plan_of(alloc: Global, tables: &Tables, event: &Event) -> Result<P
             moments: Table::new(alloc),
         });
     }
-    let Sends { outputs, moments } = sends_of(alloc, tables, &edits, due, errors)?;
+    let StepSends { outputs, moments } = sends_of(alloc, tables, &edits, due, errors)?;
     Ok(Plan {
         reply,
         outputs,

@@ -13,6 +13,7 @@ use crate::change::{apply, forget};
 use crate::plan::{Plan, plan_of};
 use crate::tables::Tables;
 use lsr_config::Config;
+use lsr_facts::limits::MAX_LSPS;
 use lsr_facts::{Facts, Item, Link, Refusal};
 use path_state::PathState;
 use refresh_timers::RefreshTimers;
@@ -165,7 +166,10 @@ impl Running {
 }
 
 /// When each message was sent last, by the timers.
-fn moments_in(alloc: Global, timers: &RefreshTimers) -> Result<Table<Item, u64>, AllocError>
+fn moments_in(
+    alloc: Global,
+    timers: &RefreshTimers<Item, MAX_LSPS>,
+) -> Result<Table<Item, u64>, AllocError>
     ensures { IfOk result (λ moments. moments ≡ timers.now.sent) }
 {
     let rows = copy_plain_rows(alloc, timers.as_slice())?;

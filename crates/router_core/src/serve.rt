@@ -7,8 +7,9 @@ ghost use Rattle.router_core.specs.Plans.{IsOutFor};
 ghost use Rattle.router_core.specs.Serving.{IsDatagramAnswered, IsDropFor, IsEventOf};
 
 use crate::running::Running;
+use hop_frames::read_frame;
 use lsr_facts::Refusal;
-use router_events::{Arrive, Event, Frame, Made, read_frame};
+use router_events::{Arrive, Event, Frame, Made};
 use rsvp_contents::Dropped;
 use sorted_rows::Table;
 use std::alloc::Global;

@@ -3,6 +3,7 @@
 ghost use Rattle.std.specs.Prelude.{◌≡◌};
 ghost use Rattle.router_core.specs.States.{facts_of};
 
+use lsr_facts::limits::MAX_LSPS;
 use lsr_facts::{FactsView, Item, Key, Node, PathFact, Router};
 use path_state::PathState;
 use refresh_timers::RefreshTimers;
@@ -24,7 +25,7 @@ pub(crate) struct Tables {
     /// The paths.
     pub(crate) paths: PathState,
     /// When each wanted message was sent last, and how often that is done.
-    pub(crate) timers: RefreshTimers,
+    pub(crate) timers: RefreshTimers<Item, MAX_LSPS>,
 }
 
 impl FactsView for Tables {

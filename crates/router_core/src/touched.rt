@@ -4,8 +4,9 @@
 ghost use Rattle.std.specs.Prelude.{◌≡◌, ◌||◌, IfOk, map};
 ghost use Rattle.lsr_facts.specs.Orders.{key_cmp};
 ghost use Rattle.lsr_facts.specs.declared.key.Key.{Key};
+ghost use Rattle.abstract_router.specs.Stamps.{due_at};
 ghost use Rattle.abstract_router.specs.Touched.{is_among};
-ghost use Rattle.router_core.specs.Touching.{due_then, is_touched, keyed};
+ghost use Rattle.router_core.specs.Touching.{is_touched, keyed};
 
 use crate::tables::Tables;
 use lsr_facts::{Item, Key};
@@ -38,7 +39,7 @@ fn lsp_of(item: &Item) -> (Key, ())
 
 /// The LSPs of the items that are due at a moment, if one came.
 fn due_lsps(alloc: Global, tables: &Tables, due: Option<u64>) -> Result<Vec<(Key, ())>, AllocError>
-    ensures { IfOk result (λ lsps. lsps.items ≡ map keyed (due_then tables.now.timers.refresh_ms tables.now.timers.sent due)) }
+    ensures { IfOk result (λ lsps. lsps.items ≡ map keyed (due_at tables.now.timers.refresh_ms tables.now.timers.sent due)) }
 {
     let Some(moment) = due else {
         return Ok(Vec::new(alloc));

@@ -187,20 +187,20 @@ due_sent r before after made n at item output sound x is is_done wanted sent wai
     let due = due_items r.refresh_ms before.sent n in
     let came = after_tick r before after made n x is is_done in
     let then_facts : Facts = record before { moment = n; paths = expire n before.paths } in
-    let is_now : is_due due item ≡ true =
+    let is_now : is_due item_cmp due item ≡ true =
     is_due-due_items r.refresh_ms before.sent n item (is_sorted-stamped r before before.sent sound.standing.paths.in_order sound.sent)
     ∙ ap (λ o. option_map_or (λ last. nat_le (last + r.refresh_ms) n) o false) sent
     ∙ le-leb (at + r.refresh_ms) n waited
     in
-    let none_rests : (was : Option Output) → rests due was (item, output) ≡ false =
+    let none_rests : (was : Option Output) → rests item_cmp due was (item, output) ≡ false =
     λ was. ap (λ b. not b && option_map_or (λ o. is_same_frame output.frame o.frame) was false) is_now
     in
     let rows = wanted_of r after in
-    let among = found_among item_cmp item_exact (λ row. send_for due (find item_cmp row.0 (wanted_of r before)) row) item output output rows wanted (ap (λ b. if b then None else Some output) (none_rests (find item_cmp item (wanted_of r before)))) in
-    let whole = behind output (between item_cmp (tear_for after.up) (wanted_of r before) rows) (between item_cmp (send_for due) rows (wanted_of r before)) among in (
+    let among = found_among item_cmp item_exact (λ row. send_for item_cmp due (find item_cmp row.0 (wanted_of r before)) row) item output output rows wanted (ap (λ b. if b then None else Some output) (none_rests (find item_cmp item (wanted_of r before)))) in
+    let whole = behind output (between item_cmp (tear_for after.up) (wanted_of r before) rows) (between item_cmp (send_for item_cmp due) rows (wanted_of r before)) among in (
       subst (λ outputs. Contains outputs output) (sym (sends_then r before after made n x is is_done)) whole,
       ap (λ (s : Facts). find item_cmp item s.sent) came
           ∙ find-stamps_of r before due then_facts item
-          ∙ ap (option_map (λ o. stamp due (wanted_of r before) before.sent n (item, o))) (ap (find item_cmp item) (wanted-downstream r then_facts ∙ ap (downstream_rows r) (sym came) ∙ sym (wanted-downstream r after)) ∙ wanted)
+          ∙ ap (option_map (λ o. stamp item_cmp due (wanted_of r before) before.sent n (item, o))) (ap (find item_cmp item) (wanted-downstream r then_facts ∙ ap (downstream_rows r) (sym came) ∙ sym (wanted-downstream r after)) ∙ wanted)
           ∙ ap (λ b. Some (if b then unwrap_or (find item_cmp item before.sent) n else n)) (none_rests (find item_cmp item (wanted_of r before))),
     )

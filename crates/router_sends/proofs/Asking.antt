@@ -1,10 +1,12 @@
 -- What is asked one element more.
-use Rattle.std.specs.Prelude.{◌≡◌, ◌+◌, ◌<◌, ◌++◌, ℕ, List, [], ◌∷◌, Option, length, take, filter_map}
+use Rattle.std.specs.Prelude.{◌≡◌, ◌+◌, ◌<◌, ◌++◌, ℕ, List, Option, length, take, filter_map}
 use Rattle.std.specs.Option.{option_to_list}
+use Rattle.std.specs.declared.cmp.Ordering.{Ordering}
 use Rattle.std.proofs.Common.{append_assoc, get_or, refl, sym, ap, ◌∙◌}
-use Rattle.lsr_facts.specs.declared.key.Item.{Item}
-use Rattle.wanted_messages.specs.AskingLaws.{one_more}
-use Rattle.router_sends.specs.Due.{placed}
+use Rattle.std.proofs.lemmas.List.Sums.{fold-append}
+use Rattle.std.specs.FinMap.Entries.{put}
+use Rattle.abstract_router.specs.RowLaws.{one_more}
+use Rattle.router_sends.specs.Placing.{placed}
 
 module _ {X Y : Type 0} (f : X → Option Y) (xs : List X) (i : ℕ) (x : X) (within : i < length xs) (is : x ≡ get_or xs i x) where
   -- what f gives of one element more
@@ -16,12 +18,10 @@ module _ {X Y : Type 0} (f : X → Option Y) (xs : List X) (i : ℕ) (x : X) (wi
   one_behind there before after o was gives now =
       now ∙ (λ k. was k ++ option_to_list (gives k)) ∙ append_assoc there (filter_map f (take i xs)) (option_to_list (f x)) ∙ ap (λ ys. there ++ ys) more
 
--- rows that are put behind others
-placed_behind : (table es fs : List (Item × Option ℕ)) → placed table (es ++ fs) ≡ placed (placed table es) fs
-placed_behind table [] fs = refl
-placed_behind table (e ∷ es) fs = placed_behind (placed table (e ∷ [])) es fs
-
 -- or put one after the other
-pub one_placed : {X : Type 0} (f : X → Option (Item × Option ℕ)) (xs : List X) (i : ℕ) (x : X) → i < length xs → x ≡ get_or xs i x → (table before after : List (Item × Option ℕ)) (o : Option (Item × Option ℕ)) → before ≡ placed table (filter_map f (take i xs)) → o ≡ f x → after ≡ placed before (option_to_list o) → after ≡ placed table (filter_map f (take (i + 1) xs))
-one_placed f xs i x within is table before after o was gives now =
-    now ∙ (λ k. placed (was k) (option_to_list (gives k))) ∙ sym (placed_behind table (filter_map f (take i xs)) (option_to_list (f x))) ∙ ap (placed table) (more f xs i x within is)
+pub one_placed : {X K V : Type 0} (cmp : K → K → Ordering) (f : X → Option (K × V)) (xs : List X) (i : ℕ) (x : X) → i < length xs → x ≡ get_or xs i x → (table before after : List (K × V)) (o : Option (K × V)) → before ≡ placed cmp table (filter_map f (take i xs)) → o ≡ f x → after ≡ placed cmp before (option_to_list o) → after ≡ placed cmp table (filter_map f (take (i + 1) xs))
+one_placed {X} {K} {V} cmp f xs i x within is table before after o was gives now =
+    now
+    ∙ (λ k. placed cmp (was k) (option_to_list (gives k)))
+    ∙ sym (fold-append (λ t (row : K × V). put cmp row.0 row.1 t) table (filter_map f (take i xs)) (option_to_list (f x)))
+    ∙ ap (placed cmp table) (more f xs i x within is)

@@ -1,2 +1,3 @@
 pub mod Asking
-pub mod SendLaws
+pub mod Placing
+pub mod Tears

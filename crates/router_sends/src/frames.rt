@@ -1,41 +1,82 @@
 //! Frames that end what others set up, and whether frames are the same.
 
-ghost use Rattle.std.specs.Prelude.{◌≡◌, IfOk};
+ghost use Rattle.std.specs.Prelude.{◌≡◌, IfOk, Some, map};
+ghost use Rattle.rsvp_contents.specs.Spelling.{IsMessage};
+ghost use Rattle.rsvp_contents.specs.declared.messages.Content.TheVariants as contents;
 ghost use Rattle.router_events.specs.Frames.{frame_bytes};
 ghost use Rattle.abstract_router.specs.Outputs.{is_same_frame, tear_by, tear_of};
 
-use router_events::{Frame, Output, write_frame};
-use rsvp_contents::{Content, Message, PathTear, Reading};
+use hop_frames::write_frame;
+use path_rules::sent_by;
+use router_events::{Frame, Output};
+use rsvp_contents::{Content, Message, Path, PathTear, Reading, Resv, ResvTear};
+use rsvp_flows::{Filters, FlowDescriptor};
 use std::alloc::{AllocError, Global};
-use wanted_messages::sent_by;
+
+/// The LSPs that flow descriptors name.
+fn filters_of(alloc: Global, descriptors: &[FlowDescriptor]) -> Result<Filters, AllocError>
+    ensures { IfOk result (λ filters. filters ≡ map (λ d. d.filter) descriptors.now) }
+{
+    let mut filters = Filters::new(alloc);
+    for descriptor in descriptors {
+        filters.push(descriptor.filter)?;
+    }
+    Ok(filters)
+}
+
+/// The message that ends what a Path set up.
+fn path_tear_of(path: &Path) -> Message
+    ensures { Some result ≡ tear_of (contents.Path path.now) }
+{
+    let tear = Content::PathTear(PathTear {
+        session: path.session,
+        hop: path.hop,
+        sender: path.sender,
+    });
+    Message::checked(tear).unwrap()
+}
+
+/// The message that ends what a Resv set up; none, where it names no LSP. It asks that the Resv is a message: then the
+/// tear, which says less, fits one.
+fn resv_tear_of(alloc: Global, resv: &Resv) -> Result<Option<Message>, AllocError>
+    requires { IsMessage (contents.Resv resv.now) }
+    ensures { IfOk result (λ tear. tear ≡ tear_of (contents.Resv resv.now)) }
+{
+    let descriptors = resv.descriptors.as_slice();
+    if descriptors.is_empty() {
+        return Ok(None);
+    }
+    let filters = filters_of(alloc, descriptors)?;
+    let tear = Content::ResvTear(ResvTear {
+        session: resv.session,
+        hop: resv.hop,
+        style: resv.style,
+        filters,
+    });
+    Ok(Some(Message::checked(tear).unwrap()))
+}
 
 /// The message that ends what a message set up.
-fn tear_of(message: &Message) -> Option<Message>
-    ensures { result ≡ tear_of message.now }
+fn tear_of(alloc: Global, message: &Message) -> Result<Option<Message>, AllocError>
+    ensures { IfOk result (λ tear. tear ≡ tear_of message.now) }
 {
     match message.content() {
-        Content::Path(path) => {
-            let tear = Content::PathTear(PathTear {
-                session: path.session,
-                hop: path.hop,
-                sender: path.sender,
-            });
-            Some(Message::checked(tear).unwrap())
-        }
-        _ => None,
+        Content::Path(path) => Ok(Some(path_tear_of(path))),
+        Content::Resv(resv) => resv_tear_of(alloc, resv),
+        _ => Ok(None),
     }
 }
 
-/// The tear of what was sent: it goes the same way, over the same link.
-pub(crate) fn tear_by(was: &Output) -> Option<Output>
-    ensures { result ≡ tear_by was.now.link was.now.frame }
+/// The tear of what was sent: it goes the same way, over the same link. The only error is out of memory.
+pub(crate) fn tear_by(alloc: Global, was: &Output) -> Result<Option<Output>, AllocError>
+    ensures { IfOk result (λ tear. tear ≡ tear_by was.now.link was.now.frame) }
 {
     match &was.frame {
-        Frame::Hop(Reading::Whole(message)) => match tear_of(message) {
-            Some(tear) => Some(sent_by(was.link, tear)),
-            None => None,
+        Frame::Hop(Reading::Whole(message)) => match tear_of(alloc, message)? {
+            Some(tear) => Ok(Some(sent_by(was.link, tear))),
+            None => Ok(None),
         },
-        Frame::Hop(Reading::Unknown(..)) => None,
+        Frame::Hop(Reading::Unknown(..)) => Ok(None),
     }
 }
 

@@ -1,10 +1,10 @@
-//! What a step sends, and when each item was sent last: by what was wanted before it, and what is after.
+//! What is sent between what was wanted and what is, and when each item was sent last: for items of any kind.
 #![tactic(auto)]
 
 mod frames;
 mod rests;
 mod sends;
-mod steps;
+mod timing;
 
-pub use sends::Sends;
-pub use steps::{sends_at_keys, sends_of_all};
+pub use sends::{Sends, errors_out, sends_between};
+pub use timing::Timing;

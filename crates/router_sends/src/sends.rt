@@ -3,27 +3,28 @@
 ghost use Rattle.std.specs.FinMap.Entries.{find, is_sorted};
 ghost use Rattle.std.specs.Option.{option_copied, option_map, option_to_list};
 ghost use Rattle.std.specs.Prelude.{◌≡◌, ◌++◌, [], IfOk, None, Some, T, if◌then◌else◌, is_none};
-ghost use Rattle.lsr_facts.specs.Orders.{item_cmp};
 ghost use Rattle.abstract_router.specs.Outputs.{between, errors_out, send_for, tear_for};
-ghost use Rattle.abstract_router.specs.Touched.{forgotten, renewed};
-ghost use Rattle.router_sends.specs.Due.{due_of, placed};
+ghost use Rattle.abstract_router.specs.Stamps.{due_at};
+ghost use Rattle.abstract_router.specs.Touched.{forgotten, moments_between, renewed};
+ghost use Rattle.router_sends.specs.Placing.{placed};
 
 use crate::frames::tear_by;
-use crate::rests::{fresh, output_at};
-use lsr_facts::{FactsView, Item};
+use crate::rests::fresh;
+use crate::timing::Timing;
+use path_rules::is_up;
 use router_events::{Output, Outputs};
-use sorted_rows::Table;
+use sorted_rows::{Table, get_ref};
 use std::alloc::{AllocError, Global};
-use wanted_messages::{Wanted, is_up};
 
-/// What a step sends, and what becomes of the moments at which items were sent last: `None` for one that is
-/// wanted no more.
+/// What a comparison of what was wanted with what is leads to.
 #[derive(Debug, Drop)]
-pub struct Sends {
-    /// The frames, in their order.
-    pub outputs: Outputs,
-    /// The moments that change.
-    pub moments: Table<Item, Option<u64>>,
+pub struct Sends<I: Ord> {
+    /// The frames that end what is wanted no more, in the order of items.
+    pub tears: Outputs,
+    /// The frames of what is wanted and new, changed or due, in the order of items.
+    pub sends: Outputs,
+    /// What becomes of the moments at which items were sent last: `None` for one that is wanted no more.
+    pub moments: Table<I, Option<u64>>,
 }
 
 /// An output behind others, if there is one.
@@ -38,11 +39,11 @@ fn with_output(outputs: Outputs, output: Option<Output>) -> Result<Outputs, Allo
 }
 
 /// A moment among others, if there is one.
-fn with_moment(
-    moments: Table<Item, Option<u64>>,
-    row: Option<(Item, Option<u64>)>,
-) -> Result<Table<Item, Option<u64>>, AllocError>
-    ensures { IfOk result (λ table. table ≡ placed moments (option_to_list row)) }
+fn with_moment<I: Ord + Drop>(
+    moments: Table<I, Option<u64>>,
+    row: Option<(I, Option<u64>)>,
+) -> Result<Table<I, Option<u64>>, AllocError>
+    ensures { IfOk result (λ table. table ≡ placed I.cmp moments (option_to_list row)) }
 {
     let mut table = moments;
     if let Some((item, moment)) = row {
@@ -52,7 +53,7 @@ fn with_moment(
 }
 
 /// The errors whose link is up.
-pub(crate) fn errors_out(up: &Table<u16, bool>, errors: Outputs) -> Outputs
+pub fn errors_out(up: &Table<u16, bool>, errors: Outputs) -> Outputs
     ensures { result ≡ errors_out up.now errors }
 {
     let mut sent = errors.into_vec();
@@ -61,17 +62,22 @@ pub(crate) fn errors_out(up: &Table<u16, bool>, errors: Outputs) -> Outputs
 }
 
 /// The tear for what was wanted, where it is wanted no more and its link is up.
-fn tear_for(up: &Table<u16, bool>, found: Option<&Output>, was: &Wanted) -> Option<Output>
-    ensures { result ≡ tear_for up.now (option_copied found.entry) was.now }
+fn tear_for<I>(
+    alloc: Global,
+    up: &Table<u16, bool>,
+    found: Option<&Output>,
+    was: &(I, Output),
+) -> Result<Option<Output>, AllocError>
+    ensures { IfOk result (λ tear. tear ≡ tear_for up.now (option_copied found.entry) was.now) }
 {
     if found.is_some() || !is_up(up, was.1.link) {
-        return None;
+        return Ok(None);
     }
-    tear_by(&was.1)
+    tear_by(alloc, &was.1)
 }
 
 /// The moment goes of what was wanted and is no more.
-fn forgotten(found: Option<&Output>, was: &Wanted) -> Option<(Item, Option<u64>)>
+fn forgotten<I: Copy>(found: Option<&Output>, was: &(I, Output)) -> Option<(I, Option<u64>)>
     ensures { result ≡ forgotten (option_copied found.entry) was.now }
 {
     if found.is_some() {
@@ -80,31 +86,35 @@ fn forgotten(found: Option<&Output>, was: &Wanted) -> Option<(Item, Option<u64>)
     Some((was.0, None))
 }
 
-/// What is sent and forgotten for what was wanted and is no more, behind what is there.
-pub(crate) fn torn(
+/// What is sent and forgotten for what was wanted and is no more.
+fn torn<I: Ord + Copy + Drop>(
+    alloc: Global,
     up: &Table<u16, bool>,
-    was: &[Wanted],
-    is: &[Wanted],
-    sends: Sends,
-) -> Result<Sends, AllocError>
-    requires { T (is_sorted item_cmp is.now) }
-    ensures outputs { IfOk result (λ torn. torn.outputs ≡ sends.outputs ++ between item_cmp (tear_for up.now) was.now is.now) }
-    ensures moments { IfOk result (λ torn. torn.moments ≡ placed sends.moments (between item_cmp forgotten was.now is.now)) }
+    was: &[(I, Output)],
+    is: &[(I, Output)],
+) -> Result<Sends<I>, AllocError>
+    requires { T (is_sorted I.cmp is.now) }
+    ensures tears { IfOk result (λ torn. torn.tears ≡ between I.cmp (tear_for up.now) was.now is.now) }
+    ensures sends { IfOk result (λ torn. torn.sends ≡ []) }
+    ensures moments { IfOk result (λ torn. torn.moments ≡ placed I.cmp [] (between I.cmp forgotten was.now is.now)) }
 {
-    let Sends {
-        mut outputs,
-        mut moments,
-    } = sends;
+    let mut tears = Outputs::new(alloc);
+    let mut moments = Table::new(alloc);
     for row in was {
-        let found = output_at(is, &row.0);
-        outputs = with_output(outputs, tear_for(up, found, row))?;
+        let found = get_ref(is, &row.0);
+        let tear = tear_for(alloc, up, found, row)?;
+        tears = with_output(tears, tear)?;
         moments = with_moment(moments, forgotten(found, row))?;
     }
-    Ok(Sends { outputs, moments })
+    Ok(Sends {
+        tears,
+        sends: Outputs::new(alloc),
+        moments,
+    })
 }
 
 /// The moment of what is sent, if it is.
-fn renewed(moment: u64, sent: &Option<Wanted>) -> Option<(Item, Option<u64>)>
+fn renewed<I: Copy>(moment: u64, sent: &Option<(I, Output)>) -> Option<(I, Option<u64>)>
     ensures { result ≡ option_map (λ row. (row.0, Some moment)) sent.now }
 {
     match sent {
@@ -114,7 +124,7 @@ fn renewed(moment: u64, sent: &Option<Wanted>) -> Option<(Item, Option<u64>)>
 }
 
 /// The frame of what is sent, if it is.
-fn output_of(sent: Option<Wanted>) -> Option<Output>
+fn output_of<I: Drop>(sent: Option<(I, Output)>) -> Option<Output>
     ensures { result ≡ option_map (λ row. row.1) sent }
 {
     match sent {
@@ -123,31 +133,63 @@ fn output_of(sent: Option<Wanted>) -> Option<Output>
     }
 }
 
-/// What is sent and renewed of what is wanted at a moment, behind what is there.
-pub(crate) fn kept<V: FactsView>(
+/// What is sent and renewed of what is wanted, behind what is there.
+fn kept<I: Ord + Copy + Drop>(
     alloc: Global,
-    before: &V,
-    due_at: Option<u64>,
-    moment: u64,
-    was: &[Wanted],
-    is: &[Wanted],
-    sends: Sends,
-) -> Result<Sends, AllocError>
-    requires moments { T (is_sorted item_cmp (V.facts before.now).sent) }
-    requires order { T (is_sorted item_cmp was.now) }
-    ensures outputs { IfOk result (λ kept. kept.outputs ≡ sends.outputs
-        ++ between item_cmp (send_for (due_of (V.router before.now) (V.facts before.now) due_at)) is.now was.now) }
-    ensures moments { IfOk result (λ kept. kept.moments ≡ placed sends.moments
-        (between item_cmp (renewed (due_of (V.router before.now) (V.facts before.now) due_at) moment) is.now was.now)) }
+    timing: &Timing,
+    sent: &[(I, u64)],
+    was: &[(I, Output)],
+    is: &[(I, Output)],
+    torn: Sends<I>,
+) -> Result<Sends<I>, AllocError>
+    requires sent { T (is_sorted I.cmp sent.now) }
+    requires was { T (is_sorted I.cmp was.now) }
+    ensures tears { IfOk result (λ kept. kept.tears ≡ torn.tears) }
+    ensures sends { IfOk result (λ kept. kept.sends ≡ torn.sends
+        ++ between I.cmp (send_for I.cmp (due_at timing.now.refresh_ms sent.now timing.now.due_at)) is.now was.now) }
+    ensures moments { IfOk result (λ kept. kept.moments ≡ placed I.cmp torn.moments
+        (between I.cmp (renewed I.cmp (due_at timing.now.refresh_ms sent.now timing.now.due_at) timing.now.moment)
+        is.now was.now)) }
 {
     let Sends {
-        mut outputs,
+        tears,
+        mut sends,
         mut moments,
-    } = sends;
+    } = torn;
     for wants in is {
-        let sent = fresh(alloc, before, due_at, was, wants)?;
-        moments = with_moment(moments, renewed(moment, &sent))?;
-        outputs = with_output(outputs, output_of(sent))?;
+        let going = fresh(alloc, timing, sent, was, wants)?;
+        moments = with_moment(moments, renewed(timing.moment, &going))?;
+        sends = with_output(sends, output_of(going))?;
     }
-    Ok(Sends { outputs, moments })
+    Ok(Sends {
+        tears,
+        sends,
+        moments,
+    })
+}
+
+/// What is sent between what was wanted and what is, and what becomes of the moments at which items were sent last:
+/// what is wanted no more is torn down where its link is up (RFC 2205, 2.3), and what is new, changed or due is sent.
+/// All rows stand in the order of items. The only error is out of memory.
+pub fn sends_between<I: Ord + Copy + Drop>(
+    alloc: Global,
+    up: &Table<u16, bool>,
+    timing: &Timing,
+    sent: &[(I, u64)],
+    was: &[(I, Output)],
+    is: &[(I, Output)],
+) -> Result<Sends<I>, AllocError>
+    requires sent { T (is_sorted I.cmp sent.now) }
+    requires was { T (is_sorted I.cmp was.now) }
+    requires is { T (is_sorted I.cmp is.now) }
+    ensures tears { IfOk result (λ sends. sends.tears ≡ between I.cmp (tear_for up.now) was.now is.now) }
+    ensures sends { IfOk result (λ sends. sends.sends
+        ≡ between I.cmp (send_for I.cmp (due_at timing.now.refresh_ms sent.now timing.now.due_at)) is.now was.now) }
+    ensures moments { IfOk result (λ sends. (item : I) → find I.cmp item sends.moments ≡ find I.cmp item
+        (moments_between I.cmp (due_at timing.now.refresh_ms sent.now timing.now.due_at) timing.now.moment
+        was.now is.now)) }
+{
+    let told = torn(alloc, up, was, is)?;
+    let sends = kept(alloc, timing, sent, was, is, told)?;
+    Ok(sends)
 }

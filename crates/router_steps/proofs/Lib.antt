@@ -1,2 +1,1 @@
 pub mod Expiries
-pub mod Silence

@@ -1,3 +1,4 @@
 pub mod Drafts
 pub mod EditLaws
 pub mod Expiring
+pub mod SilenceLaws

@@ -24,7 +24,7 @@ use std::alloc::{AllocError, Global};
 const UNSERVED: Refusal = Refusal::Unread(Dropped::KindUnsupported);
 
 /// What a message does that is read whole.
-#[tactic(auto, using(crate::proofs::Silence::path_speaks))]
+#[tactic(auto, using(crate::specs::SilenceLaws::path_speaks))]
 fn message_arrival<V: WholeView>(
     alloc: Global,
     view: &V,

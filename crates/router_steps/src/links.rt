@@ -12,9 +12,9 @@ use router_events::Outputs;
 use sorted_rows::{Table, TryCopy};
 use std::alloc::{AllocError, Global};
 
-/// What it does that a link comes up or goes down.
+/// What it does that a link comes up or goes down. The only error is out of memory.
 #[tactic(auto, unfolding(abstract_router::specs::Links::link_change))]
-pub(crate) fn link_change<V: FactsView>(
+pub fn link_change<V: FactsView>(
     alloc: Global,
     view: &V,
     number: u16,

@@ -152,9 +152,9 @@ fn path_on_its_way<V: WholeView>(
     }
 }
 
-/// What a Path does that is read whole.
+/// What a Path does that is read whole. The only error is out of memory.
 #[tactic(auto, unfolding(abstract_router::specs::Paths::path_arrival))]
-pub(crate) fn path_arrival<V: WholeView>(
+pub fn path_arrival<V: WholeView>(
     alloc: Global,
     view: &V,
     link: u16,
@@ -178,8 +178,8 @@ pub(crate) fn path_arrival<V: WholeView>(
     path_on_its_way(alloc, view, known, link, path)
 }
 
-/// What a Path does with an object that it doesn't know.
-pub(crate) fn unknown_path_arrival<V: FactsView>(
+/// What a Path does with an object that it doesn't know. The only error is out of memory.
+pub fn unknown_path_arrival<V: FactsView>(
     alloc: Global,
     view: &V,
     link: u16,

@@ -39,9 +39,9 @@ fn left_with(
     Edits::of_path(alloc, *key, Some(left))
 }
 
-/// What a PathTear does.
+/// What a PathTear does. The only error is out of memory.
 #[tactic(auto, unfolding(abstract_router::specs::Tears::path_tear_arrival))]
-pub(crate) fn path_tear_arrival<V: FactsView>(
+pub fn path_tear_arrival<V: FactsView>(
     alloc: Global,
     view: &V,
     link: u16,
@@ -78,9 +78,9 @@ fn leaves_room(error: &PathErr)
     prove!(error.error.node.octets().len() == ADDRESS_LEN);
 }
 
-/// What a PathErr does.
+/// What a PathErr does. The only error is out of memory.
 #[tactic(auto, unfolding(abstract_router::specs::Tears::path_err_arrival))]
-pub(crate) fn path_err_arrival<V: FactsView>(
+pub fn path_err_arrival<V: FactsView>(
     alloc: Global,
     view: &V,
     link: u16,

@@ -87,9 +87,9 @@ fn expiry_edits(
     Ok(Table::from_rows(expiries_of(alloc, moment, paths)?))
 }
 
-/// What it does that a moment comes, in milliseconds.
+/// What it does that a moment comes, in milliseconds. The only error is out of memory.
 #[tactic(auto, unfolding(abstract_router::specs::Time::tick))]
-pub(crate) fn tick<V: WholeView>(alloc: Global, view: &V, moment: u64) -> Result<Draft, AllocError>
+pub fn tick<V: WholeView>(alloc: Global, view: &V, moment: u64) -> Result<Draft, AllocError>
     requires { T (is_sorted key_cmp (V.facts view.now).paths) }
     ensures draft { IfOk result (λ draft. IsDraft draft (tick (V.router view.now) (V.facts view.now) moment)
         (V.router view.now) (V.facts view.now)) }

@@ -111,8 +111,9 @@ fn answer<V: FactsView>(
     Ok(errors)
 }
 
-/// A Path that meets an error: it is told to the neighbour that sent it, and changes nothing.
-pub(crate) fn failed<V: FactsView>(
+/// A Path that meets an error: it is told to the neighbour that sent it, and changes nothing. The only error is out of
+/// memory.
+pub fn failed<V: FactsView>(
     alloc: Global,
     view: &V,
     link: u16,

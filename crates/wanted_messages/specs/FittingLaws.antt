@@ -9,7 +9,7 @@ use Rattle.lsr_facts.specs.declared.path_fact.PathFact.{PathFact}
 use Rattle.lsr_facts.specs.declared.router.Router.{Router}
 use Rattle.abstract_router.specs.MessageLaws.{onward_fits, onward_has_room}
 use Rattle.abstract_router.specs.Soundness.{ArePaths, IsPath}
-use Rattle.wanted_messages.specs.Fitting.{CanGoOn, MayGoOn}
+use Rattle.wanted_messages.specs.Fitting.{MayGoOn}
 
 -- what is known of a path, if it is, goes on as messages
 goes_on : (r : Router) (moment : ℕ) (key : Key) (known : Option PathFact) → IfSome known (λ fact. IsPath r moment (key, fact)) → MayGoOn r key known

@@ -1,4 +1,3 @@
-pub mod AskingLaws
 pub mod Fitting
 pub mod FittingLaws
 pub mod Rows

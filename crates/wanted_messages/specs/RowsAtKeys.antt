@@ -1,5 +1,5 @@
 -- What is wanted of some LSPs is what each of them wants, in their order.
-use Rattle.std.specs.Prelude.{◌≡◌, ℕ, Bool, T, List, [], ◌∷◌, filter_map, Option, Some, None}
+use Rattle.std.specs.Prelude.{◌≡◌, T, List, [], ◌∷◌, filter_map, Option, Some, None}
 use Rattle.std.specs.FinMap.Entries.{find, is_sorted}
 use Rattle.std.specs.List.{cons_option}
 use Rattle.std.specs.Option.{option_and_then, option_map}
@@ -8,7 +8,6 @@ use Rattle.lsr_facts.specs.OrderLaws.{key_exact, key_total}
 use Rattle.lsr_facts.specs.Orders.{key_cmp}
 use Rattle.lsr_facts.specs.declared.facts.Facts.{Facts}
 use Rattle.lsr_facts.specs.declared.key.Key.{Key}
-use Rattle.lsr_facts.specs.declared.path_fact.PathFact.{PathFact}
 use Rattle.lsr_facts.specs.declared.router.Router.{Router}
 use Rattle.abstract_router.specs.LocalityLaws.{where_key-among}
 use Rattle.abstract_router.specs.Touched.{at_keys, is_among}

@@ -2,32 +2,32 @@
 use Rattle.std.proofs.Common.{Option, None, Some, ap, cond, refl, true, false, Bool, ◌∙◌, ◌≡◌, ℕ}
 use Rattle.std.specs.FinMap.Entries.{find}
 use Rattle.std.specs.Option.{option_map}
-use Rattle.lsr_facts.specs.Orders.{item_cmp}
-use Rattle.lsr_facts.specs.declared.key.Item.{Item}
 use Rattle.router_events.specs.declared.events.Output.{Output}
 use Rattle.abstract_router.specs.Outputs.{rests, send_for}
+use Rattle.abstract_router.specs.Stamps.{due_at}
 use Rattle.abstract_router.specs.Touched.{renewed}
-use Rattle.router_sends.specs.Due.{due_of}
 use Rattle.router_sends.proofs.Asking.{one_behind, one_placed}
 use Rattle.router_sends.proofs.sends.kept.Goals as goal
 
 -- the frame of what is sent, and its moment
-output_then : (b : Bool) (wants : Item × Output) → option_map (λ row. row.1) (cond b None (Some wants)) ≡ cond b None (Some wants.1)
+output_then : {I : Type 0} (b : Bool) (wants : I × Output) → option_map (λ row. row.1) (cond b None (Some wants)) ≡ cond b None (Some wants.1)
 output_then true wants = refl
 output_then false wants = refl
 
-moment_then : (b : Bool) (moment : ℕ) (wants : Item × Output) → option_map {U = Item × Option ℕ} (λ row. (row.0, Some moment)) (cond b None (Some wants)) ≡ cond b None (Some (wants.0, Some moment))
+moment_then : {I : Type 0} (b : Bool) (moment : ℕ) (wants : I × Output) → option_map {U = I × Option ℕ} (λ row. (row.0, Some moment)) (cond b None (Some wants)) ≡ cond b None (Some (wants.0, Some moment))
 moment_then true moment wants = refl
 moment_then false moment wants = refl
 
 pub loop-wants-preserved : goal.loop-wants-preserved
 loop-wants-preserved g c =
-    let due = due_of (g.V.FactsView.router c.args.before.now) (g.V.FactsView.facts c.args.before.now) c.args.due_at in
+    let cmp = g.I.Ord.cmp in
+    let moment = c.args.timing.now.moment in
+    let due = due_at c.args.timing.now.refresh_ms c.args.sent.now c.args.timing.now.due_at in
     let was = c.args.was.now in
     let rows = c.args.is.now in
     let at = c.loop-wants.wants-index in
     let wants = c.wants-item.result in
-    let so = rests due (find item_cmp wants.0 was) wants in (
-      one_behind (λ row. send_for due (find item_cmp row.0 was) row) rows at wants c.loop-wants-test.true c.wants-item.is _ _ _ _ c.loop-wants.invariant.0 (c.output_of.ensures ∙ ap (option_map (λ row. row.1)) c.in_ok-sent.ensures.fresh ∙ output_then so wants) c.in_ok-outputs.ensures,
-      one_placed (λ row. renewed due c.args.moment (find item_cmp row.0 was) row) rows at wants c.loop-wants-test.true c.wants-item.is _ _ _ _ c.loop-wants.invariant.1 (c.renewed.ensures ∙ ap (option_map (λ row. (row.0, Some c.args.moment))) c.in_ok-sent.ensures.fresh ∙ moment_then so c.args.moment wants) c.in_ok-moments.ensures,
+    let so = rests cmp due (find cmp wants.0 was) wants in (
+      one_behind (λ row. send_for cmp due (find cmp row.0 was) row) rows at wants c.loop-wants-test.true c.wants-item.is _ _ _ _ c.loop-wants.invariant.0 (c.output_of.ensures ∙ ap (option_map (λ row. row.1)) c.in_ok-going.ensures.fresh ∙ output_then so wants) c.in_ok-sends.ensures,
+      one_placed cmp (λ row. renewed cmp due moment (find cmp row.0 was) row) rows at wants c.loop-wants-test.true c.wants-item.is _ _ _ _ c.loop-wants.invariant.1 (c.renewed.ensures ∙ ap (option_map (λ row. (row.0, Some moment))) c.in_ok-going.ensures.fresh ∙ moment_then so moment wants) c.in_ok-moments.ensures,
     )

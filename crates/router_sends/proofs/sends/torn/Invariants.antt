@@ -1,13 +1,12 @@
-use Rattle.std.proofs.Common.{◌≡◌, ◌++◌, filter_map, take}
+use Rattle.std.proofs.Common.{◌≡◌, [], filter_map, take}
 use Rattle.std.specs.FinMap.Entries.{find}
-use Rattle.lsr_facts.specs.Orders.{item_cmp}
 use Rattle.abstract_router.specs.Outputs.{tear_for}
 use Rattle.abstract_router.specs.Touched.{forgotten}
-use Rattle.router_sends.specs.Due.{placed}
+use Rattle.router_sends.specs.Placing.{placed}
 use Rattle.router_sends.proofs.sends.torn.Given as goal
 
 -- so many of what was wanted are torn down and forgotten, where they are wanted no more
 abbrev pub invariant-loop-row : goal.invariant-loop-row
-invariant-loop-row l =
-    (l.outputs ≡ l.fn.sends.outputs ++ filter_map (λ row. tear_for l.up (find item_cmp row.0 l.is) row) (take l.row-index l.was))
-    × (l.moments ≡ placed l.fn.sends.moments (filter_map (λ row. forgotten (find item_cmp row.0 l.is) row) (take l.row-index l.was)))
+invariant-loop-row g l =
+    (l.tears ≡ filter_map (λ row. tear_for l.up (find g.I.Ord.cmp row.0 l.is) row) (take l.row-index l.was))
+    × (l.moments ≡ placed g.I.Ord.cmp [] (filter_map (λ row. forgotten (find g.I.Ord.cmp row.0 l.is) row) (take l.row-index l.was)))

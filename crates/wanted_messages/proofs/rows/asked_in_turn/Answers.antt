@@ -1,6 +1,6 @@
 -- One LSP more is asked: what it wants is put behind.
 use Rattle.std.proofs.Common.{Some, None, append-nil, sym, ◌∙◌}
-use Rattle.wanted_messages.specs.AskingLaws.{one_more}
+use Rattle.abstract_router.specs.RowLaws.{one_more}
 use Rattle.wanted_messages.specs.Rows.{row_at}
 use Rattle.wanted_messages.proofs.rows.asked_in_turn.Goals as goal
 use Rattle.wanted_messages.proofs.rows.asked_in_turn.Goals.{in-Some+in_ok-push, in_default}

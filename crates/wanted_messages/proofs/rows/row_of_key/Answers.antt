@@ -1,5 +1,5 @@
 -- What is known under a key goes on as messages.
-use Rattle.std.proofs.Common.{IfOk, Option, subst, sym, ◌≡◌, ◌∙◌}
+use Rattle.std.proofs.Common.{IfOk, Option, subst, sym, ◌≡◌}
 use Rattle.std.specs.FinMap.Entries.{find}
 use Rattle.std.specs.Option.{option_and_then, option_copied}
 use Rattle.lsr_facts.specs.Orders.{key_cmp}

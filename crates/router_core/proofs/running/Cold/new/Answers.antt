@@ -4,6 +4,7 @@ use Rattle.sorted_rows.specs.RowsLaws.{is_sorted-both}
 use Rattle.abstract_router.proofs.SoundRuns.{sound_opening}
 use Rattle.abstract_router.specs.RowLaws.{keys-map}
 use Rattle.abstract_router.specs.Soundness.{IsSound}
+use Rattle.lsr_facts.specs.declared.key.Item.{Item}
 use Rattle.refresh_timers.specs.Timers.{Timers}
 use Rattle.router_core.proofs.running.Cold.new.Goals as goal
 
@@ -24,8 +25,8 @@ invariant_of-result c =
       tables = record {
         router = c.config.invariant.router;
         sound = subst (IsSound config.router) (sym (λ i. record { cold = false; moment = 0; up = up i; routes = config.routes; paths = paths i; sent = (timers i).sent })) (sound_opening config.router config.routes c.config.invariant.router c.config.invariant.routes);
-        period = ap (λ (t : Timers). t.refresh_ms) timers;
+        period = ap (λ (t : Timers Item). t.refresh_ms) timers;
       };
       no_paths = paths;
-      nothing_sent = ap (λ (t : Timers). t.sent) timers;
+      nothing_sent = ap (λ (t : Timers Item). t.sent) timers;
     }

@@ -1,6 +1,5 @@
 use Rattle.std.proofs.Common.{subst, sym}
 use Rattle.abstract_router.proofs.SoundRuns.{sound_step}
-use Rattle.abstract_router.specs.Steps.{Step}
 use Rattle.router_core.specs.Plans.{IsPlanOf, applied, made_by}
 use Rattle.router_core.specs.States.{State, facts_of}
 use Rattle.router_core.proofs.running.Running.commit.Goals as goal
