@@ -61,11 +61,12 @@ use Rattle.abstract_router.specs.Steps.{IsEvent}
 use Rattle.abstract_router.specs.Tears.{is_torn_by, leaves_by, left_with, origins_without, passed_on, path_err_arrival, path_tear_arrival, torn}
 use Rattle.abstract_router.specs.Time.{tick}
 use Rattle.rsvp_traffic.specs.TokenBuckets.{token_rate}
-use Rattle.abstract_lsr.proofs.Choosing.{CanLabel, HasLabel, HasLabelOrIsNew, each_has}
+use Rattle.abstract_lsr.proofs.Choosing.{each_has}
 use Rattle.abstract_lsr.proofs.Granting.{IsGranted, granted_means, held_granted}
 use Rattle.abstract_lsr.proofs.Holding.{held_where, held_with_facts}
 use Rattle.abstract_lsr.proofs.Settling.{IsDrafted, Leaves, LeavesBy}
 use Rattle.abstract_lsr.specs.Arrivals.{arrival, for_reservations, is_done, labelled_path_arrival, lost, message_arrival, moment_comes, outcome, reading_arrival}
+use Rattle.abstract_lsr.specs.Choosing.{CanLabel, HasLabel, HasLabelOrIsNew}
 use Rattle.abstract_lsr.specs.Errors.{unknown_style}
 use Rattle.abstract_lsr.specs.Labels.{has_free_label}
 use Rattle.abstract_lsr.specs.Preempting.{claims_of}
@@ -87,7 +88,7 @@ abbrev Keeps : Router → List (Key × ℕ) → Facts → paths.Outcome → Type
 Keeps r labels s o = KeepsBy r labels s o.is_silent o.after
 
 -- a Path is in error and leaves the paths, or is done and puts its own
-abbrev Puts : Facts → Path → paths.Outcome → Type 0
+abbrev pub Puts : Facts → Path → paths.Outcome → Type 0
 Puts s p o = (o.is_silent ≡ false) × (o.after.moment ≡ s.moment) × ((o.after.paths ≡ s.paths) ⊎ ((fact : PathFact) × (is_done o.reply ≡ true) × (o.after.paths ≡ put key_cmp (key_of p) fact s.paths)))
 
 puts_on_its_way : (r : Router) (s : Facts) (known : Option PathFact) (link : ℕ) (p : Path) (way : Result Choice RsvpError) → Puts s p (path_on_its_way r s known link p way)
@@ -96,7 +97,7 @@ puts_on_its_way r s known link p (Err e) = (refl, refl, inl refl)
 puts_on_its_way r s known link p (Ok way) =
     cond_both (is_none known && nat_le 1024 (length s.paths)) (failed r s link p system_error) (taken r s known link p way) (Puts s p) (λ full. (refl, refl, inl refl)) (λ room. (refl, refl, inr (path_by s.moment known link p way, refl, refl)))
 
-puts_path : (r : Router) (s : Facts) (link : ℕ) (p : Path) → Puts s p (path_arrival r s link p)
+pub puts_path : (r : Router) (s : Facts) (link : ℕ) (p : Path) → Puts s p (path_arrival r s link p)
 unfolding path_arrival
 puts_path r s link p =
     cond_both (not (p.label_request.l3pid == 0x0800)) _ _ (Puts s p) (λ a. (refl, refl, inl refl))

@@ -5,7 +5,9 @@ mod Entries
 mod Granting
 mod Holding
 mod Labelling
+mod Repeating
 mod Running
 mod Settling
+mod Silence
 mod Staying
 mod Stepping

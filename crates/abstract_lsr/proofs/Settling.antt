@@ -5,15 +5,16 @@ use Rattle.sorted_rows.specs.Rows.{keys_of}
 use Rattle.lsr_facts.specs.declared.key.Key.{Key}
 use Rattle.lsr_facts.specs.declared.router.Router.{Router}
 use Rattle.abstract_router.proofs.SoundRuns.{sound_with_stamps}
-use Rattle.abstract_router.specs.RowLaws.{keys-map}
 use Rattle.abstract_router.specs.Soundness as paths
-use Rattle.abstract_lsr.proofs.Choosing.{CanLabel}
+use Rattle.abstract_router.specs.StampLaws.{keys-stamps}
+use Rattle.resv_facts.specs.Upstreams.{upstream_cmp}
 use Rattle.abstract_lsr.proofs.Holding.{held_where}
 use Rattle.abstract_lsr.proofs.Labelling.{labelled_after}
 use Rattle.abstract_lsr.specs.Upstreams.{upstream_of}
 use Rattle.abstract_lsr.specs.Labels.{IsLabelling}
 use Rattle.abstract_lsr.specs.Outcomes.{Outcome}
-use Rattle.abstract_lsr.specs.Outputs.{upstream_stamp, upstream_stamps}
+use Rattle.abstract_lsr.specs.Choosing.{CanLabel}
+use Rattle.abstract_lsr.specs.Outputs.{upstream_stamps}
 use Rattle.abstract_lsr.specs.Soundness.{AreHeld, AreLabelled, IsSound}
 use Rattle.abstract_lsr.specs.States.{State}
 use Rattle.abstract_lsr.specs.Steps.{settled, stands, with_moments, known_after, MayChoose, MayChooseBy}
@@ -37,7 +38,7 @@ Leaves r before o = LeavesBy r before o.is_silent o.after
 -- exactly the Resvs that are wanted have a moment
 answered_keys : (r : Router) (before : State) (o : Outcome) (s : State) → keys_of (upstream_stamps r before o.upstream_due s) ≡ keys_of (upstream_of r (with_moments r before o s))
 unfolding upstream_stamps upstream_of
-answered_keys r before o s = keys-map (upstream_stamp o.upstream_due (upstream_of r before) before.sent_upstream s.facts.moment) (upstream_of r s)
+answered_keys r before o s = keys-stamps upstream_cmp o.upstream_due (upstream_of r before) before.sent_upstream s.facts.moment (upstream_of r s)
 
 -- The state is sound once all that follows has been done.
 pub sound_settled : (r : Router) (before : State) (o : Outcome) (chosen : List (Key × ℕ)) → AreLabelled r before → IsDrafted r before o.after → IsLabelling r before.labels o.after.facts.paths chosen

@@ -1,13 +1,11 @@
 -- What events do: messages that come, moments, links, a restart and a start.
-use Rattle.std.specs.Prelude.{ℕ, ◌&&◌, not, Bool, true, false, if◌then◌else◌, List, [], filter, is_none}
+use Rattle.std.specs.Prelude.{ℕ, ◌&&◌, not, Bool, true, false, if◌then◌else◌, List, [], is_none}
 use Rattle.std.specs.FinMap.Entries.{find}
 use Rattle.rsvp_contents.specs.declared.message.Reading.TheVariants as readings
 use Rattle.rsvp_contents.specs.declared.message.Reading.{Reading}
 use Rattle.rsvp_contents.specs.declared.messages.Content.TheVariants as contents
 use Rattle.rsvp_contents.specs.declared.messages.Content.{Content}
 use Rattle.rsvp_contents.specs.declared.messages.Path.{Path}
-use Rattle.sorted_rows.specs.Rows.{keys_of}
-use Rattle.lsr_facts.specs.Lifetimes.{has_waited}
 use Rattle.lsr_facts.specs.Orders.{key_cmp}
 use Rattle.lsr_facts.specs.Routers.{link_at}
 use Rattle.lsr_facts.specs.declared.refusal.Refusal.TheVariants.{LinkDown, UnknownLink}
@@ -21,6 +19,7 @@ use Rattle.router_events.specs.declared.events.Event.{Event}
 use Rattle.abstract_router.specs.Links.{link_change}
 use Rattle.abstract_router.specs.Paths.{failed, key_of, path_arrival, unknown_object}
 use Rattle.abstract_router.specs.Places.{is_up}
+use Rattle.abstract_router.specs.Stamps.{due_among}
 use Rattle.abstract_router.specs.Steps.{restarted, started}
 use Rattle.abstract_router.specs.Tears.{path_err_arrival, path_tear_arrival}
 use Rattle.abstract_router.specs.Time.{tick}
@@ -28,7 +27,8 @@ use Rattle.abstract_lsr.specs.Errors.{no_label}
 use Rattle.abstract_lsr.specs.Labels.{has_free_label}
 use Rattle.abstract_lsr.specs.Outcomes.{Outcome, of_paths, refused}
 use Rattle.abstract_lsr.specs.Reserving.{resv_arrival, unknown_resv}
-use Rattle.abstract_lsr.specs.States.{Upstream, State}
+use Rattle.resv_facts.specs.declared.upstream.Upstream.{Upstream}
+use Rattle.abstract_lsr.specs.States.{State}
 use Rattle.abstract_lsr.specs.Tearing.{resv_err_arrival, resv_tear_arrival}
 
 -- the reply is that it was done
@@ -74,7 +74,7 @@ arrival r s a =
 
 -- the Resvs that were sent last a refresh period ago or longer
 abbrev pub due_upstream : ℕ → List (Upstream × ℕ) → ℕ → List Upstream
-due_upstream refresh_ms sent_upstream moment = keys_of (filter (λ row. has_waited refresh_ms row.1 moment) sent_upstream)
+due_upstream refresh_ms sent_upstream moment = due_among refresh_ms sent_upstream moment
 
 -- where the moment may come, it comes for reservations too: those that have expired go (RFC 2205, 2.3), and Resvs are due
 abbrev pub for_reservations : Router → State → ℕ → Outcome → Outcome

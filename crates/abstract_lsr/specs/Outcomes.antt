@@ -16,7 +16,8 @@ use Rattle.lsr_facts.specs.declared.router.Router.{Router}
 use Rattle.router_events.specs.declared.events.Output.{Output}
 use Rattle.abstract_router.specs.Outcomes as paths
 use Rattle.abstract_router.specs.Outcomes.{sent_by}
-use Rattle.abstract_lsr.specs.States.{Upstream, State, with_facts}
+use Rattle.resv_facts.specs.declared.upstream.Upstream.{Upstream}
+use Rattle.abstract_lsr.specs.States.{State, with_facts}
 
 -- The reply, the errors in the order found, the Paths and the Resvs that are due again though nothing about them
 -- changed, what is known after, and whether the event is silent: then nothing is sent for it.

@@ -2,26 +2,12 @@
 use Rattle.std.specs.Prelude.{ℕ, not, Bool, List, filter, is_some}
 use Rattle.std.specs.FinMap.Entries.{find, put}
 use Rattle.std.specs.List.{list_any}
-use Rattle.std.specs.Ordering.{is_eq, nat_cmp, ordering_then}
-use Rattle.std.specs.declared.cmp.Ordering.{Ordering}
-use Rattle.std.specs.declared.net.ipv4_addr.Ipv4Addr.{Ipv4Addr}
-use Rattle.lsr_facts.specs.Orders.{address_cmp, key_cmp}
+use Rattle.std.specs.Ordering.{is_eq}
+use Rattle.lsr_facts.specs.Orders.{key_cmp}
 use Rattle.lsr_facts.specs.declared.facts.Facts.{Facts}
 use Rattle.lsr_facts.specs.declared.key.Key.{Key}
 use Rattle.resv_facts.specs.declared.resv_fact.ResvFact.{ResvFact}
-
--- A Resv that is kept alive at a neighbour upstream: by LSP, the sender that the neighbour's Path named, and the
--- neighbour, over this link.
-pub record Upstream : Type 0 where
-  pub key : Key
-  pub sender : Ipv4Addr
-  pub link : ℕ
-  pub hop : Ipv4Addr
-
--- by key, sender, link, neighbour
-abbrev pub upstream_cmp : Upstream → Upstream → Ordering
-upstream_cmp a b =
-    ordering_then (key_cmp a.key b.key) (ordering_then (address_cmp a.sender b.sender) (ordering_then (nat_cmp a.link b.link) (address_cmp a.hop b.hop)))
+use Rattle.resv_facts.specs.declared.upstream.Upstream.{Upstream}
 
 -- All that a label switching router knows and that events change: what the router of paths knows; its reservations;
 -- the label of each LSP that doesn't begin here; and when each Resv was sent last that is kept alive at a neighbour.

@@ -27,7 +27,8 @@ use Rattle.abstract_router.specs.Outcomes.{sent_by}
 use Rattle.abstract_router.specs.Paths.{goes_on}
 use Rattle.abstract_router.specs.Places.{is_up}
 use Rattle.abstract_lsr.specs.Errors.{style_word}
-use Rattle.abstract_lsr.specs.States.{Upstream, State}
+use Rattle.resv_facts.specs.declared.upstream.Upstream.{Upstream}
+use Rattle.abstract_lsr.specs.States.{State}
 
 -- the Path asks for its labels to be recorded (RFC 3209, 4.7.1: flag 0x02)
 abbrev pub records_labels : Option Attr → Bool

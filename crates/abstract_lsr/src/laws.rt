@@ -1,30 +1,38 @@
 //! What holds of each step of the abstract label switching router, and of its label table.
 
-ghost use Rattle.std.specs.FinMap.Entries.{find};
-ghost use Rattle.std.specs.Prelude.{◌≡◌, ◌≢◌, ℕ, List, [], Some, false, true};
+ghost use Rattle.std.specs.FinMap.Entries.{find, is_sorted, where_key};
+ghost use Rattle.std.specs.Prelude.{◌≡◌, ◌≢◌, ◌≤◌, ℕ, All, Bool, List, [], Some, T, false, length, not, true};
+ghost use Rattle.rsvp_contents.specs.declared.message.Reading.TheVariants as readings;
+ghost use Rattle.rsvp_contents.specs.declared.messages.Content.TheVariants as contents;
 ghost use Rattle.rsvp_contents.specs.declared.messages.Resv.{Resv};
 ghost use Rattle.rsvp_flows.specs.declared.descriptors.FlowDescriptor.{FlowDescriptor};
 ghost use Rattle.lsr_facts.specs.Lifetimes.{lives_on};
 ghost use Rattle.lsr_facts.specs.Orders.{key_cmp};
 ghost use Rattle.lsr_facts.specs.Routers.{IsRouter};
 ghost use Rattle.lsr_facts.specs.declared.path_fact.PathFact.{PathFact};
-ghost use Rattle.resv_facts.specs.Reservations.{lives_past};
+ghost use Rattle.resv_facts.specs.Reservations.{lives_past, style_of};
+ghost use Rattle.resv_facts.specs.Upstreams.{upstream_cmp};
 ghost use Rattle.resv_facts.specs.declared.resv_fact.ResvFact.{ResvFact};
-ghost use Rattle.abstract_lsr.specs.Reserving.{Granted, Progress, Verdict, carried_on};
+ghost use Rattle.resv_facts.specs.declared.resv_fact.ResvStyle.{ResvStyle};
+ghost use Rattle.abstract_lsr.specs.EventLaws.{touched_by};
+ghost use Rattle.abstract_lsr.specs.Reserving.{Granted, Progress, Verdict, carried_on, key_in, resv_by};
 ghost use Rattle.lsr_facts.specs.declared.key.Key.{Key};
 ghost use Rattle.lsr_facts.specs.declared.refusal.Refusal.{Refusal};
 ghost use Rattle.lsr_facts.specs.declared.reply.Reply.TheVariants as replies;
 ghost use Rattle.lsr_facts.specs.declared.router.Router.{Router};
 ghost use Rattle.forwarding_table.specs.declared.action.Action.{Action};
+ghost use Rattle.router_events.specs.declared.events.Arrive.{Arrive};
 ghost use Rattle.router_events.specs.declared.events.Event.{Event};
 ghost use Rattle.router_events.specs.declared.events.Event.TheVariants as events;
 ghost use Rattle.router_events.specs.declared.events.Made.{Made};
 ghost use Rattle.abstract_router.specs.Steps.{IsEvent};
 ghost use Rattle.abstract_lsr.specs.Arrivals.{outcome};
 ghost use Rattle.abstract_lsr.specs.Soundness.{IsSound};
-ghost use Rattle.abstract_lsr.specs.States.{State};
+ghost use Rattle.abstract_lsr.specs.States.{State, is_among};
 ghost use Rattle.abstract_lsr.specs.Steps.{MayChoose, Step};
 ghost use Rattle.abstract_lsr.specs.Tables.{IsEntry, look};
+ghost use Rattle.abstract_lsr.specs.Touched.{IsSameElsewhere, at_keys};
+ghost use Rattle.abstract_lsr.specs.Upstreams.{upstream_of};
 
 /// A step is determined by the state, the event and the labels that are chosen: its reply, what is sent, and what is
 /// known after it.
@@ -78,4 +86,50 @@ pub fn refreshed_reservations_stay()
 pub fn refused_descriptors_change_nothing()
     ensures { (r : Router) (link : ℕ) (v : Resv) (d : FlowDescriptor) (fact : ResvFact) (progress : Progress) (verdict : Verdict) →
         verdict ≢ Granted → (carried_on r link v d fact progress verdict).state ≡ progress.state }
+{}
+
+/// In a step of a message every LSP but those that the message touches has the path, the reservation and the label that
+/// it had; and the same links are up. A Path or a PathTear touches its own LSP; a Resv those of the descriptors that
+/// are granted, and those that give way to them; a ResvTear those of its filters; a PathErr or a ResvErr none.
+pub fn a_message_touches_its_own_lsps()
+    ensures others { (r : Router) (before after : State) (made : Made) (arrived : Arrive) (key : Key) →
+        IsSound r before → Step r before made after → made.event ≡ events.Arrive arrived →
+        is_among (touched_by r before arrived) key ≡ false →
+        (find key_cmp key after.facts.paths ≡ find key_cmp key before.facts.paths)
+        × (find key_cmp key after.resvs ≡ find key_cmp key before.resvs)
+        × (find key_cmp key after.labels ≡ find key_cmp key before.labels) }
+    ensures links { (r : Router) (before after : State) (made : Made) (arrived : Arrive) →
+        IsSound r before → Step r before made after → made.event ≡ events.Arrive arrived →
+        after.facts.up ≡ before.facts.up }
+{}
+
+/// A Resv that asks for just what is reserved changes nothing, and nothing is sent for it: so one that comes once more
+/// at the same moment, while each of its LSPs has the very reservation that it asks for.
+pub fn repeated_reservations_are_silent()
+    ensures { (r : Router) (before after : State) (made : Made) (link : ℕ) (v : Resv) (style : ResvStyle) →
+        IsSound r before → Step r before made after →
+        made.event ≡ events.Arrive (record { link = link; reading = readings.Whole (contents.Resv v) }) →
+        style_of v.style ≡ Some style →
+        All (λ d. find key_cmp (key_in v d) before.resvs ≡ Some (resv_by before.facts.moment link style v d))
+        v.descriptors →
+        (after ≡ before) × (made.outputs ≡ []) }
+{}
+
+/// The Resvs that a sound state wants at the neighbours upstream stand in order, and there are no more of them than
+/// paths.
+pub fn wanted_resvs_stand_in_order()
+    ensures in_order { (r : Router) (s : State) → IsSound r s → T (is_sorted upstream_cmp (upstream_of r s)) }
+    ensures few { (r : Router) (s : State) → IsSound r s → length (upstream_of r s) ≤ length s.facts.paths }
+{}
+
+/// The Resvs that are wanted of some LSPs come of the paths of these alone. And where all LSPs but those that are
+/// touched have the same path, reservation and label before and after, and the same links are up, the same Resvs are
+/// wanted of them.
+pub fn wanted_resvs_come_of_their_lsps()
+    ensures some { (r : Router) (touched : Key → Bool) (s : State) →
+        where_key upstream_cmp (λ u. touched u.key) (upstream_of r s) ≡ upstream_of r (at_keys touched s) }
+    ensures others { (r : Router) (touched : Key → Bool) (before after : State) →
+        IsSameElsewhere touched before after →
+        where_key upstream_cmp (λ u. not (touched u.key)) (upstream_of r before)
+        ≡ where_key upstream_cmp (λ u. not (touched u.key)) (upstream_of r after) }
 {}

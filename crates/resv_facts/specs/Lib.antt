@@ -8,3 +8,5 @@ pub mod RateLaws
 pub mod Reservations
 pub mod SumLaws
 pub mod TurnLaws
+pub mod UpstreamOrder
+pub mod Upstreams

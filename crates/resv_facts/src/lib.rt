@@ -5,7 +5,9 @@ mod claim;
 pub mod laws;
 mod priorities;
 mod resv_fact;
+mod upstream;
 
 pub use claim::{Claim, Request};
 pub use priorities::{WORST_PRIORITY, holding_of, setup_of};
 pub use resv_fact::{ResvFact, ResvStyle};
+pub use upstream::Upstream;
