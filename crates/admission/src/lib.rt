@@ -7,4 +7,6 @@ mod state;
 mod sum;
 mod victims;
 
+pub use reserved::reserved_with;
 pub use state::Admission;
+pub use victims::victims_of;

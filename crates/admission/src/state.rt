@@ -99,6 +99,13 @@ impl Admission {
         self.resvs.as_slice()
     }
 
+    /// What the reservations take, in the order of the keys.
+    pub fn claims(&self) -> &[(Key, Claim)]
+        ensures claims { result.now ≡ self.now.claims }
+    {
+        self.claims.as_slice()
+    }
+
     /// What is known of an LSP's reservation, or `None` where the LSP has none.
     pub fn get(&self, key: &Key) -> Option<&ResvFact>
         ensures { option_copied result ≡ find key_cmp key.now self.now.resvs }

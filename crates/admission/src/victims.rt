@@ -82,8 +82,9 @@ fn count_needed(
     Ok(keys.len())
 }
 
-/// Those who give way to a request on a link with this limit, in the order in which they are taken. The only error is
-/// out of memory. It goes over the claims once for each of them.
+/// Those who give way to a request on a link with this limit, in the order in which they are taken: nobody, where there
+/// is room as it is. It asks for a rate of at most 2^50 bytes per second; the only error is out of memory. It goes over
+/// the claims once for each of them.
 #[tactic(auto, unfolding(resv_facts::specs::Admission::victims_of))]
 pub fn victims_of(
     alloc: Global,
@@ -97,6 +98,9 @@ pub fn victims_of(
     requires most { request.now.claim.rate ≤ 2 ^ 50 }
     ensures { IfOk result (λ keys. keys.items ≡ victims_of limit request.now claims.now) }
 {
+    if reserved_with(request, claims, WORST_PRIORITY) <= limit {
+        return Ok(Vec::new(alloc));
+    }
     let mut keys = in_turn(alloc, request, claims)?;
     let count = count_needed(alloc, limit, request, claims, &keys)?;
     keys.truncate(count);

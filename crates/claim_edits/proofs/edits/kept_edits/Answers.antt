@@ -1,0 +1,13 @@
+use Rattle.std.proofs.Common.{List, Option, T, subst, sym}
+use Rattle.std.specs.FinMap.Entries.{is_sorted}
+use Rattle.lsr_facts.specs.Orders.{key_cmp}
+use Rattle.lsr_facts.specs.declared.key.Key.{Key}
+use Rattle.resv_facts.specs.declared.resv_fact.ResvFact.{ResvFact}
+use Rattle.admission.specs.Bandwidths.{Edit}
+use Rattle.claim_edits.proofs.Editing.{is_sorted-kept}
+use Rattle.claim_edits.proofs.edits.kept_edits.Goals as goal
+
+pub from_rows-requires : goal.from_rows-requires
+from_rows-requires g c =
+    subst (λ (rows : List (Key × Edit)). T (is_sorted key_cmp rows)) (sym c.in_ok-kept_rows.ensures)
+    (is_sorted-kept (g.V.FactsView.facts c.args.after.now).paths c.into_rows.result.items (subst (λ (rows : List (Key × Option ResvFact)). T (is_sorted key_cmp rows)) (sym c.into_rows.ensures.rows) c.into_rows.ensures.sorted))

@@ -1,0 +1,4 @@
+pub mod EditLaws
+pub mod RowLaws
+pub mod Rows
+pub mod Turns

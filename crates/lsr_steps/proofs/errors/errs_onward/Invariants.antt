@@ -1,0 +1,11 @@
+use Rattle.std.proofs.Common.{◌≡◌, filter_map, map, take}
+use Rattle.abstract_lsr.specs.Outcomes.{listed}
+use Rattle.abstract_lsr.specs.Tearing.{err_onward}
+use Rattle.state_views.specs.Views.{known}
+use Rattle.lsr_steps.proofs.errors.errs_onward.Given as goal
+
+-- so many descriptors are matched
+abbrev pub invariant-loop-descriptor : goal.invariant-loop-descriptor
+invariant-loop-descriptor g l =
+    map listed l.onward.items
+    ≡ filter_map (err_onward (g.V.FactsView.router l.fn.view) (known (g.V.FactsView.facts l.fn.view) (g.V.StateView.held l.fn.view)) l.link l.error) (take l.descriptor-index l.descriptor-items)

@@ -1,0 +1,181 @@
+//! What an event does: a message that comes, a moment, a link.
+
+ghost use Rattle.std.specs.Prelude.{◌≡◌, ◌≢◌, IfOk, OnErr, false};
+ghost use Rattle.rsvp_contents.specs.Spelling.{IsMessage};
+ghost use Rattle.abstract_lsr.specs.Arrivals.{arrival, message_arrival, outcome, reading_arrival, unknown_arrival};
+ghost use Rattle.abstract_lsr.specs.Outcomes.{of_paths};
+ghost use Rattle.abstract_lsr.specs.Soundness.{IsSound};
+ghost use Rattle.abstract_router.specs.Links.{link_change};
+ghost use Rattle.router_events.specs.declared.events.Event.TheVariants as events;
+ghost use Rattle.state_views.specs.StateDrafts.{IsStateDraft};
+ghost use Rattle.state_views.specs.Views.{known};
+
+use crate::errors::resv_err_arrival;
+use crate::moments::moment_comes;
+use crate::paths::labelled_path_arrival;
+use crate::tears::resv_tear_arrival;
+use lsr_facts::{Refusal, Reply};
+use path_rules::{is_up, link_at};
+use resv_arrivals::{resv_arrival, unknown_resv};
+use router_events::{Arrive, Event, Outputs};
+use router_steps::{
+    Edits, WholeView, link_change, path_err_arrival, path_tear_arrival, unknown_path_arrival,
+};
+use rsvp_contents::{Content, Reading};
+use state_views::{StateDraft, StateEdits, WholeState, of_paths, refused};
+use std::alloc::{AllocError, Global};
+
+/// What a message does that is read whole.
+fn message_arrival<V: WholeView + WholeState>(
+    alloc: Global,
+    view: &V,
+    link: u16,
+    content: &Content,
+) -> Result<StateDraft, AllocError>
+    requires sound { IsSound (V.router view.now) (known (V.facts view.now) (V.held view.now)) }
+    requires message { IsMessage content.now }
+    ensures draft { IfOk result (λ draft. IsStateDraft draft
+        (message_arrival (V.router view.now) (known (V.facts view.now) (V.held view.now)) link content.now)
+        (V.router view.now) (known (V.facts view.now) (V.held view.now))) }
+    ensures memory { OnErr result ((message_arrival (V.router view.now)
+        (known (V.facts view.now) (V.held view.now)) link content.now).is_silent ≡ false) }
+{
+    match content {
+        Content::Path(path) => labelled_path_arrival(alloc, view, link, path),
+        Content::Resv(resv) => resv_arrival(alloc, view, link, resv),
+        Content::PathErr(error) => {
+            let draft = path_err_arrival(alloc, view, link, error)?;
+            Ok(of_paths(alloc, view, draft))
+        }
+        Content::ResvErr(error) => resv_err_arrival(alloc, view, link, error),
+        Content::PathTear(tear) => {
+            let draft = path_tear_arrival(alloc, view, link, tear)?;
+            Ok(of_paths(alloc, view, draft))
+        }
+        Content::ResvTear(tear) => resv_tear_arrival(alloc, view, link, tear),
+    }
+}
+
+/// What a message does with an object that its type doesn't know.
+fn unknown_arrival<V: WholeView + WholeState>(
+    alloc: Global,
+    view: &V,
+    link: u16,
+    content: &Content,
+    class: u8,
+    ctype: u8,
+) -> Result<StateDraft, AllocError>
+    requires sound { IsSound (V.router view.now) (known (V.facts view.now) (V.held view.now)) }
+    requires message { IsMessage content.now }
+    ensures draft { IfOk result (λ draft. IsStateDraft draft
+        (unknown_arrival (V.router view.now) (known (V.facts view.now) (V.held view.now)) link content.now class ctype)
+        (V.router view.now) (known (V.facts view.now) (V.held view.now))) }
+    ensures memory { OnErr result ((unknown_arrival (V.router view.now)
+        (known (V.facts view.now) (V.held view.now)) link content.now class ctype).is_silent ≡ false) }
+{
+    match content {
+        Content::Path(path) => {
+            let draft = unknown_path_arrival(alloc, view, link, path, class, ctype)?;
+            Ok(of_paths(alloc, view, draft))
+        }
+        Content::Resv(resv) => unknown_resv(alloc, view, link, resv, class, ctype),
+        content => message_arrival(alloc, view, link, content),
+    }
+}
+
+/// What a message does.
+fn reading_arrival<V: WholeView + WholeState>(
+    alloc: Global,
+    view: &V,
+    link: u16,
+    reading: &Reading,
+) -> Result<StateDraft, AllocError>
+    requires { IsSound (V.router view.now) (known (V.facts view.now) (V.held view.now)) }
+    ensures draft { IfOk result (λ draft. IsStateDraft draft
+        (reading_arrival (V.router view.now) (known (V.facts view.now) (V.held view.now)) link reading.now)
+        (V.router view.now) (known (V.facts view.now) (V.held view.now))) }
+    ensures memory { OnErr result ((reading_arrival (V.router view.now)
+        (known (V.facts view.now) (V.held view.now)) link reading.now).is_silent ≡ false) }
+{
+    match reading {
+        Reading::Whole(message) => message_arrival(alloc, view, link, message.content()),
+        Reading::Unknown(message, class, ctype) => {
+            unknown_arrival(alloc, view, link, message.content(), *class, *ctype)
+        }
+    }
+}
+
+/// What a message does that comes over a link.
+#[tactic(auto, unfolding(abstract_lsr::specs::Arrivals::arrival))]
+fn arrival<V: WholeView + WholeState>(
+    alloc: Global,
+    view: &V,
+    arrive: &Arrive,
+) -> Result<StateDraft, AllocError>
+    requires { IsSound (V.router view.now) (known (V.facts view.now) (V.held view.now)) }
+    ensures draft { IfOk result (λ draft. IsStateDraft draft
+        (arrival (V.router view.now) (known (V.facts view.now) (V.held view.now)) arrive.now)
+        (V.router view.now) (known (V.facts view.now) (V.held view.now))) }
+    ensures memory { OnErr result ((arrival (V.router view.now)
+        (known (V.facts view.now) (V.held view.now)) arrive.now).is_silent ≡ false) }
+{
+    let node = view.node();
+    if link_at(node.router, arrive.link).is_none() {
+        return Ok(refused(alloc, view, Refusal::UnknownLink));
+    }
+    if !is_up(node.up, arrive.link) {
+        return Ok(refused(alloc, view, Refusal::LinkDown));
+    }
+    reading_arrival(alloc, view, arrive.link, &arrive.reading)
+}
+
+/// What it does that a link comes up or goes down: no reservation and no label changes.
+fn link_changes<V: WholeView + WholeState>(
+    alloc: Global,
+    view: &V,
+    number: u16,
+    is_up: bool,
+) -> Result<StateDraft, AllocError>
+    ensures draft { IfOk result (λ draft. IsStateDraft draft
+        (of_paths (known (V.facts view.now) (V.held view.now))
+        (link_change (V.router view.now) (V.facts view.now) number is_up))
+        (V.router view.now) (known (V.facts view.now) (V.held view.now))) }
+    ensures memory { OnErr result
+        ((link_change (V.router view.now) (V.facts view.now) number is_up).is_silent ≡ false) }
+{
+    let draft = link_change(alloc, view, number, is_up)?;
+    Ok(of_paths(alloc, view, draft))
+}
+
+/// What an event does of itself that a running router meets: it is started already, so a start changes nothing. What
+/// it knows is sound, and the event is no restart. The only error is out of memory: a start and an event that is
+/// refused take none.
+pub fn draft_of<V: WholeView + WholeState>(
+    alloc: Global,
+    view: &V,
+    event: &Event,
+) -> Result<StateDraft, AllocError>
+    requires sound { IsSound (V.router view.now) (known (V.facts view.now) (V.held view.now)) }
+    requires running { (V.facts view.now).cold ≡ false }
+    requires event { event.now ≢ events.Restart }
+    ensures draft { IfOk result (λ draft. IsStateDraft draft
+        (outcome (V.router view.now) (known (V.facts view.now) (V.held view.now)) event.now)
+        (V.router view.now) (known (V.facts view.now) (V.held view.now))) }
+    ensures memory { OnErr result ((outcome (V.router view.now)
+        (known (V.facts view.now) (V.held view.now)) event.now).is_silent ≡ false) }
+{
+    match event {
+        Event::Arrive(arrive) => arrival(alloc, view, arrive),
+        Event::Tick(moment) => moment_comes(alloc, view, *moment),
+        Event::LinkUp(number) => link_changes(alloc, view, *number, true),
+        Event::LinkDown(number) => link_changes(alloc, view, *number, false),
+        Event::Restart => unreachable!(),
+        Event::Start => Ok(StateDraft {
+            reply: Reply::Done,
+            errors: Outputs::new(alloc),
+            due: None,
+            is_silent: true,
+            edits: StateEdits::of_facts(alloc, Edits::none(alloc)),
+        }),
+    }
+}

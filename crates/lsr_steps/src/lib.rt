@@ -1,0 +1,12 @@
+//! What an event does of itself to what a label switching router knows, whoever keeps it: each decision of a step,
+//! once, as a draft that holds the answer, the errors, and the edits of paths and of reservations.
+#![tactic(auto)]
+
+mod arrivals;
+mod errors;
+mod leaving;
+mod moments;
+mod paths;
+mod tears;
+
+pub use arrivals::draft_of;

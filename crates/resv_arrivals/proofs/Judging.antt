@@ -1,0 +1,108 @@
+-- The verdicts on a flow descriptor, by what the code finds.
+use Rattle.std.specs.Prelude.{◌≡◌, ℕ, ◌||◌, not, Bool, true, false, cond, List, [], ◌∷◌, Option, Some, None, Result, Ok, Err, IsOk, is_some, find as find_first}
+use Rattle.std.specs.FinMap.Entries.{find}
+use Rattle.std.specs.List.{list_any}
+use Rattle.std.specs.Option.{option_and_then, option_map, option_map_or}
+use Rattle.std.specs.Ordering.{eq_by_cmp, is_eq}
+use Rattle.std.specs.Result.{result_unwrap_or}
+use Rattle.std.proofs.Common.{refl, sym, ap, subst, ◌∙◌}
+use Rattle.std.proofs.lemmas.Bool.{cond_both}
+use Rattle.std.proofs.lemmas.Cmp.{tied_itself}
+use Rattle.rsvp_traffic.specs.Traffic.{flowspec_rate}
+use Rattle.rsvp_traffic.specs.declared.fault.TrafficFault.{TrafficFault}
+use Rattle.session_attribute.specs.declared.attr.Attr.{Attr}
+use Rattle.sorted_rows.specs.RowsLaws.{ties}
+use Rattle.lsr_facts.specs.OrderLaws.{key_exact, session_total}
+use Rattle.lsr_facts.specs.Orders.{key_cmp}
+use Rattle.lsr_facts.specs.declared.key.Key.{Key}
+use Rattle.lsr_facts.specs.declared.path_fact.PathFact.{PathFact}
+use Rattle.lsr_facts.specs.declared.router.Router.{Router}
+use Rattle.resv_facts.specs.Claims.{is_same_session}
+use Rattle.resv_facts.specs.Priorities.{holding_of, setup_of}
+use Rattle.resv_facts.specs.declared.claim.Request.{Request}
+use Rattle.resv_facts.specs.declared.resv_fact.ResvFact.{ResvFact}
+use Rattle.resv_facts.specs.declared.resv_fact.ResvStyle.{ResvStyle}
+use Rattle.abstract_lsr.specs.Errors.{no_path, no_sender, style_conflict}
+use Rattle.abstract_lsr.specs.Preempting.{claims_of, request_of}
+use Rattle.abstract_router.specs.Tears.{leaves_by}
+use Rattle.abstract_lsr.specs.Reserving.{Verdict, Failed, PassedOver, Granted, conflicts, verdict_by_rate, verdict_of, verdict_on_path}
+use Rattle.abstract_lsr.specs.States.{State}
+use Rattle.resv_facts.specs.declared.claim.Claim.{Claim}
+use Rattle.resv_rules.specs.Conflicts.{conflicting_style, conflicts as claim_conflicts}
+
+-- what the code asks for is what the LSP does
+pub request_is : (paths : List (Key × PathFact)) (key : Key) (fact : ResvFact) (path : PathFact) (rate : ℕ) → find key_cmp key paths ≡ Some path → flowspec_rate fact.flowspec ≡ Ok rate
+    → request_of paths key fact ≡ record { key = key; claim = record { link = fact.link; style = fact.style; rate = rate; holding = holding_of path.attr }; setup = setup_of path.attr }
+request_is paths key fact path rate found rated =
+    let with = λ (attr : Option Attr) (n : ℕ). let request : Request = record { key = key; claim = record { link = fact.link; style = fact.style; rate = n; holding = holding_of attr }; setup = setup_of attr } in request in
+    ap (λ o. with (option_and_then (λ (p : PathFact). p.attr) o) (result_unwrap_or (flowspec_rate fact.flowspec) 0)) found ∙ ap (λ r. with path.attr (result_unwrap_or r 0)) rated
+
+-- a reservation that stands against it, by its style alone
+pub by_style : (o : Option (Key × ResvFact)) (otherwise : Verdict) → option_map_or (λ other. Failed (style_conflict other.1.style)) o otherwise ≡ option_map_or (λ style. Failed (style_conflict style)) (option_map (λ other. other.1.style) o) otherwise
+by_style None otherwise = refl
+by_style (Some other) otherwise = refl
+
+-- the session of an LSP that has a path has one
+pub has_own_path : (key : Key) (path : PathFact) (paths : List (Key × PathFact)) → find key_cmp key paths ≡ Some path → list_any (λ row. is_same_session key.session row.0.session) paths ≡ true
+has_own_path key path [] = λ none. absurd (let e = none in cc)
+has_own_path key path (row ∷ rows) =
+    elim (eq_by_cmp key_cmp key row.0) as (λ b. eq_by_cmp key_cmp key row.0 ≡ b → cond b (Some row.1) (find key_cmp key rows) ≡ Some path → list_any (λ row. is_same_session key.session row.0.session) (row ∷ rows) ≡ true) [
+      | true ↦ λ tie found. ap (λ b. b || list_any (λ (row : Key × PathFact). is_same_session key.session row.0.session) rows) (subst (λ k. is_same_session key.session k.session ≡ true) (key_exact key row.0 (ties _ tie)) (ap is_eq (tied_itself session_total key.session)))
+      | false ↦ λ apart found. either (is_same_session key.session row.0.session) _ (has_own_path key path rows found)
+    ] refl
+  where
+    either : (a b : Bool) → b ≡ true → (a || b) ≡ true
+    either true b h = refl
+    either false b h = h
+
+-- So the verdict on a path that leaves by the link is told by the first claim in the way.
+pub on_path_is : (r : Router) (s : State) (key own : Key) (fact : ResvFact) (path : PathFact) (claims : List (Key × Claim)) (found : Option ResvStyle) → leaves_by fact.link path ≡ true → own ≡ key → claims ≡ claims_of s.facts.paths s.resvs
+    → found ≡ option_map (λ claim. claim.1.style) (find_first (claim_conflicts fact.link fact.style own) claims)
+    → verdict_on_path r s key fact path ≡ option_map_or (λ style. Failed (style_conflict style)) found (verdict_by_rate r s key fact (flowspec_rate fact.flowspec))
+on_path_is r s key own fact path claims found leaves own_is claims_are found_is =
+    let rest = verdict_by_rate r s key fact (flowspec_rate fact.flowspec) in
+    let first = λ (k : Key) (cs : List (Key × Claim)). option_map (λ (claim : Key × Claim). claim.1.style) (find_first (claim_conflicts fact.link fact.style k) cs) in
+    let told : found ≡ option_map (λ (resv : Key × ResvFact). resv.1.style) (find_first (conflicts fact.link fact.style key) s.resvs) = found_is ∙ (λ i. first (own_is i) (claims_are i)) ∙ conflicting_style fact.link fact.style key s.facts.paths s.resvs in
+    ap (λ b. cond (not b) PassedOver (option_map_or (λ (other : Key × ResvFact). Failed (style_conflict other.1.style)) (find_first (conflicts fact.link fact.style key) s.resvs) rest)) leaves
+    ∙ by_style (find_first (conflicts fact.link fact.style key) s.resvs) rest
+    ∙ ap (λ (o : Option ResvStyle). option_map_or (λ style. Failed (style_conflict style)) o rest) (sym told)
+
+-- An LSP that has a path is judged by it.
+pub own_path_is : (r : Router) (s : State) (key : Key) (fact : ResvFact) (path : PathFact) → find key_cmp key s.facts.paths ≡ Some path → verdict_of r s key fact ≡ verdict_on_path r s key fact path
+unfolding verdict_of
+own_path_is r s key fact path found =
+    ap (λ b. cond (not b) (Failed no_path) (option_map_or (verdict_on_path r s key fact) (find key_cmp key s.facts.paths) (Failed no_sender))) (has_own_path key path s.facts.paths found)
+    ∙ ap (λ (o : Option PathFact). option_map_or (verdict_on_path r s key fact) o (Failed no_sender)) found
+
+-- What a flow descriptor has that is granted: a path, and a rate.
+pub record MayBePut (s : State) (key : Key) (fact : ResvFact) : Type 0 where
+  pub path : is_some (find key_cmp key s.facts.paths) ≡ true
+  pub rate : IsOk (flowspec_rate fact.flowspec)
+
+module _ (r : Router) (s : State) (key : Key) (fact : ResvFact) where
+  -- it has a rate, if it is to be granted
+  abbrev IsRated : Verdict → Type 0
+  IsRated verdict = verdict ≡ Granted → IsOk (flowspec_rate fact.flowspec)
+
+  rated_by_rate : (rate : Result ℕ TrafficFault) → flowspec_rate fact.flowspec ≡ rate → IsRated (verdict_by_rate r s key fact rate)
+  rated_by_rate (Err fault) is = λ e. absurd (let h = e in cc)
+  rated_by_rate (Ok rate) is = λ e. subst IsOk (sym is) refl
+
+  rated_on_path : (path : PathFact) → IsRated (verdict_on_path r s key fact path)
+  rated_on_path path =
+      cond_both (not (leaves_by fact.link path)) _ _ IsRated (λ other. λ e. absurd (let h = e in cc))
+      (λ leaves. by (find_first (conflicts fact.link fact.style key) s.resvs))
+    where
+      by : (o : Option (Key × ResvFact)) → IsRated (option_map_or (λ other. Failed (style_conflict other.1.style)) o (verdict_by_rate r s key fact (flowspec_rate fact.flowspec)))
+      by None = rated_by_rate (flowspec_rate fact.flowspec) refl
+      by (Some other) = λ e. absurd (let h = e in cc)
+
+  pub granted_may_be_put : verdict_of r s key fact ≡ Granted → MayBePut s key fact
+  unfolding verdict_of
+  granted_may_be_put =
+      cond_both (not (list_any (λ path. is_same_session key.session path.0.session) s.facts.paths)) _ _ (λ verdict. verdict ≡ Granted → MayBePut s key fact) (λ none. λ e. absurd (let h = e in cc))
+      (λ some. by (find key_cmp key s.facts.paths) refl)
+    where
+      by : (o : Option PathFact) → find key_cmp key s.facts.paths ≡ o → option_map_or (verdict_on_path r s key fact) o (Failed no_sender) ≡ Granted → MayBePut s key fact
+      by None is = λ e. absurd (let h = e in cc)
+      by (Some path) is = λ e. record { path = ap is_some is; rate = rated_on_path path e }

@@ -1,0 +1,6 @@
+pub mod Claiming
+pub mod Gone
+pub mod Hearing
+pub mod Judging
+pub mod Reaching
+pub mod Telling

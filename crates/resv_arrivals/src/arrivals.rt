@@ -1,0 +1,173 @@
+//! What a Resv does (RFC 2205, 3.1.4, 3.7 and 3.10; RFC 3209, 2.4, 4.1 and 4.6.3).
+
+ghost use Rattle.std.specs.List.{AllByRecursion};
+ghost use Rattle.std.specs.Prelude.{◌≡◌, ◌^◌, ◌≤◌, IfOk, OnErr, false, true};
+ghost use Rattle.rsvp_contents.specs.Spelling.{IsMessage};
+ghost use Rattle.rsvp_contents.specs.declared.messages.Content.TheVariants as contents;
+ghost use Rattle.abstract_router.specs.Soundness.{ArePaths};
+ghost use Rattle.abstract_lsr.specs.Reserving.{all_descriptors, resv_arrival, resv_failed, resv_replied, unknown_resv};
+ghost use Rattle.abstract_lsr.specs.Soundness.{AreHeld};
+ghost use Rattle.abstract_lsr.specs.Steps.{stands};
+ghost use Rattle.resv_rules.specs.Rooms.{HaveRoom, as_list};
+ghost use Rattle.state_views.specs.StateDrafts.{IsStateDraft};
+ghost use Rattle.state_views.specs.Views.{known};
+ghost use Rattle.resv_arrivals.specs.Progresses.{is_heard, reached};
+
+use crate::asked::Asked;
+use crate::granting::{next_descriptor, with_told};
+use crate::progress::Progress;
+use lsr_facts::{Refusal, Reply, RsvpError};
+use path_rules::unknown_object;
+use resv_facts::ResvStyle;
+use resv_rules::{UNKNOWN_STYLE, found_here, key_in, named, resv_leaves_room, told_downstream};
+use router_events::Outputs;
+use router_steps::Edits;
+use rsvp_contents::Resv;
+use rsvp_flows::ErrorDescriptor;
+use state_views::{StateDraft, StateEdits, StateView, WholeState, refused};
+use std::alloc::{AllocError, Global};
+
+/// A Resv that is in error as a whole: that is told back, and changes nothing.
+fn resv_failed<V: StateView>(
+    alloc: Global,
+    view: &V,
+    link: u16,
+    resv: &Resv,
+    is_reserved: bool,
+    descriptor: Option<ErrorDescriptor>,
+    error: RsvpError,
+) -> Result<StateDraft, AllocError>
+    requires { HaveRoom (as_list descriptor) }
+    ensures { IfOk result (λ draft. IsStateDraft draft
+        (resv_failed (V.router view.now) (known (V.facts view.now) (V.held view.now)) link resv.now is_reserved
+        (as_list descriptor) error) (V.router view.now) (known (V.facts view.now) (V.held view.now))) }
+{
+    let router = view.node().router;
+    let found = found_here(router, is_reserved, error);
+    let told = told_downstream(
+        alloc,
+        router,
+        link,
+        resv.session,
+        found,
+        resv.style,
+        descriptor,
+    )?;
+    Ok(StateDraft {
+        reply: Reply::Error(error),
+        errors: with_told(Outputs::new(alloc), told)?,
+        due: None,
+        is_silent: false,
+        edits: StateEdits::of_facts(alloc, Edits::none(alloc)),
+    })
+}
+
+/// What a Resv's flow descriptors lead to, taken in their order.
+fn all_descriptors<V: WholeState>(
+    alloc: Global,
+    view: &V,
+    link: u16,
+    style: ResvStyle,
+    resv: &Resv,
+) -> Result<Progress, AllocError>
+    requires moment { (V.facts view.now).moment ≤ 2 ^ 62 }
+    requires paths { ArePaths (V.router view.now) (V.facts view.now).moment (V.facts view.now).paths }
+    requires held { AreHeld (V.router view.now) (known (V.facts view.now) (V.held view.now)) }
+    requires standing { AllByRecursion (λ resv. stands (V.facts view.now) resv ≡ true) (V.held view.now).resvs }
+    requires message { IsMessage (contents.Resv resv.now) }
+    ensures reached { IfOk result (λ progress. reached (known (V.facts view.now) (V.held view.now)) progress
+        ≡ all_descriptors (V.router view.now) (known (V.facts view.now) (V.held view.now)) link style resv.now) }
+    ensures memory { OnErr result (is_heard (all_descriptors (V.router view.now)
+        (known (V.facts view.now) (V.held view.now)) link style resv.now) ≡ true) }
+{
+    resv_leaves_room(resv);
+    let mut progress = Progress::new(alloc);
+    for descriptor in resv.descriptors.as_slice() {
+        let asked = Asked {
+            link,
+            style,
+            resv,
+            descriptor,
+        };
+        progress = next_descriptor(alloc, view, progress, &asked)?;
+    }
+    Ok(progress)
+}
+
+/// The reply to a Resv: the first error found; with none, done where a flow descriptor was granted; else it matches
+/// nothing.
+fn replied<V: WholeState>(alloc: Global, view: &V, progress: Progress) -> StateDraft
+    ensures { IsStateDraft result (resv_replied (known (V.facts view.now) (V.held view.now))
+        (reached (known (V.facts view.now) (V.held view.now)) progress) progress.first)
+        (V.router view.now) (known (V.facts view.now) (V.held view.now)) }
+{
+    let reply = match progress.first {
+        Some(error) => Reply::Error(error),
+        None if progress.has_granted => Reply::Done,
+        None => return refused(alloc, view, Refusal::NoMatch),
+    };
+    StateDraft {
+        reply,
+        errors: progress.errors,
+        due: None,
+        is_silent: false,
+        edits: StateEdits::of_resvs(alloc, progress.edits),
+    }
+}
+
+/// What a Resv does that is read whole. It asks for what holds of each state that a router comes to. The only error is
+/// out of memory, and that never comes for a Resv that is refused.
+#[tactic(auto, using(crate::proofs::Hearing::heard_speaks), unfolding(abstract_lsr::specs::Reserving::resv_arrival))]
+pub fn resv_arrival<V: WholeState>(
+    alloc: Global,
+    view: &V,
+    link: u16,
+    resv: &Resv,
+) -> Result<StateDraft, AllocError>
+    requires moment { (V.facts view.now).moment ≤ 2 ^ 62 }
+    requires paths { ArePaths (V.router view.now) (V.facts view.now).moment (V.facts view.now).paths }
+    requires held { AreHeld (V.router view.now) (known (V.facts view.now) (V.held view.now)) }
+    requires standing { AllByRecursion (λ resv. stands (V.facts view.now) resv ≡ true) (V.held view.now).resvs }
+    requires message { IsMessage (contents.Resv resv.now) }
+    ensures draft { IfOk result (λ draft. IsStateDraft draft
+        (resv_arrival (V.router view.now) (known (V.facts view.now) (V.held view.now)) link resv.now)
+        (V.router view.now) (known (V.facts view.now) (V.held view.now))) }
+    ensures memory { OnErr result ((resv_arrival (V.router view.now) (known (V.facts view.now) (V.held view.now)) link
+        resv.now).is_silent ≡ false) }
+{
+    let Some(style) = ResvStyle::of(resv.style) else {
+        return resv_failed(alloc, view, link, resv, false, None, UNKNOWN_STYLE);
+    };
+    let progress = all_descriptors(alloc, view, link, style, resv)?;
+    Ok(replied(alloc, view, progress))
+}
+
+/// What a Resv does with an object that it doesn't know: it is in error, for its first flow descriptor (RFC 2205, 3.10
+/// and B, 13 and 14). The only error is out of memory.
+#[tactic(auto, unfolding(abstract_lsr::specs::Reserving::unknown_resv))]
+pub fn unknown_resv<V: WholeState>(
+    alloc: Global,
+    view: &V,
+    link: u16,
+    resv: &Resv,
+    class: u8,
+    ctype: u8,
+) -> Result<StateDraft, AllocError>
+    requires { IsMessage (contents.Resv resv.now) }
+    ensures draft { IfOk result (λ draft. IsStateDraft draft
+        (unknown_resv (V.router view.now) (known (V.facts view.now) (V.held view.now)) link resv.now class ctype)
+        (V.router view.now) (known (V.facts view.now) (V.held view.now))) }
+    ensures memory { OnErr result ((unknown_resv (V.router view.now) (known (V.facts view.now) (V.held view.now)) link
+        resv.now class ctype).is_silent ≡ false) }
+{
+    resv_leaves_room(resv);
+    let error = unknown_object(class, ctype);
+    match resv.descriptors.as_slice() {
+        [first, ..] => {
+            let is_reserved = view.resv(&key_in(resv, first)).is_some();
+            let first = Some(named(first)?);
+            resv_failed(alloc, view, link, resv, is_reserved, first, error)
+        }
+        [] => resv_failed(alloc, view, link, resv, false, None, error),
+    }
+}

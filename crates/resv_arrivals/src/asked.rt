@@ -1,0 +1,18 @@
+//! What is asked for.
+
+use resv_facts::ResvStyle;
+use rsvp_contents::Resv;
+use rsvp_flows::FlowDescriptor;
+
+/// One flow descriptor of a Resv.
+#[derive(Clone, Copy, Debug)]
+pub struct Asked<'a> {
+    /// The number of the link that the Resv came over.
+    pub link: u16,
+    /// Its style.
+    pub style: ResvStyle,
+    /// The Resv.
+    pub resv: &'a Resv,
+    /// The flow descriptor.
+    pub descriptor: &'a FlowDescriptor,
+}

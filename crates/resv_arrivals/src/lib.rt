@@ -1,0 +1,12 @@
+//! What a Resv does of itself to what a label switching router knows, whoever keeps it: descriptor by descriptor, as a
+//! draft that holds the answer, the errors and the reservations that change.
+#![tactic(auto)]
+
+mod arrivals;
+mod asked;
+mod claims;
+mod granting;
+mod progress;
+mod verdicts;
+
+pub use arrivals::{resv_arrival, unknown_resv};

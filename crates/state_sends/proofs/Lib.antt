@@ -1,0 +1,4 @@
+pub mod Elsewhere
+pub mod Lifting
+pub mod Sending
+pub mod Touching

@@ -1,0 +1,4 @@
+pub mod Falling
+pub mod FallingLaws
+pub mod Relabelling
+pub mod RelabellingLaws

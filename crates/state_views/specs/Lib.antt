@@ -1,0 +1,3 @@
+pub mod EditLaws
+pub mod StateDrafts
+pub mod Views
