@@ -138,11 +138,11 @@ fn message_text(alloc: Global, bytes: &[u8]) -> Result<String, Dropped>
     }
 }
 
-/// What the word is decoded as: the bytes of one message in hexadecimal digits of either case.
-pub fn decode_word(alloc: Global, word: &str) -> Decoded
-    ensures { Decodes word.now result }
+/// What the digits are decoded as: the bytes of one message in hexadecimal digits of either case.
+pub(crate) fn decode_digits(alloc: Global, digits: &[u8]) -> Decoded
+    ensures { Decodes digits.now result }
 {
-    match hex::decode(alloc, word) {
+    match hex::decode(alloc, digits) {
         Ok(bytes) => match message_text(alloc, bytes.as_slice()) {
             Ok(text) => Decoded::Shown(text),
             Err(fault) => Decoded::Refused(fault),
@@ -154,6 +154,13 @@ pub fn decode_word(alloc: Global, word: &str) -> Decoded
             Decoded::NoDigits
         }
     }
+}
+
+/// What the word is decoded as: the bytes of one message in hexadecimal digits of either case.
+pub fn decode_word(alloc: Global, word: &str) -> Decoded
+    ensures { Decodes word.now result }
+{
+    decode_digits(alloc, word.as_bytes())
 }
 
 /// Prints what a word was decoded as, and gives the status. The error is a stream's.

@@ -1,6 +1,9 @@
-//! `lsr decode`: one message as an operator reads it, its objects line by line.
+//! `lsr decode`: messages as an operator reads them, their objects line by line.
 #![tactic(auto)]
 
+mod capture;
 mod decoding;
+mod newline;
 
+pub use capture::{Ending, run_decode_lines, run_decode_of};
 pub use decoding::{Decoded, decode_word, run_decode};

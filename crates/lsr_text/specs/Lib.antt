@@ -1,3 +1,5 @@
 pub mod Names
 pub mod Answers
 pub mod Shown
+pub mod Rows
+pub mod FrameLines

@@ -1,10 +1,15 @@
-//! The text that an operator reads: names of refusals, the lines of answers, and those of paths.
+//! The text that an operator reads: names of refusals, the lines of answers and of frames, and those of what a router
+//! knows.
 #![tactic(auto)]
 
 mod answers;
+mod frames;
 mod names;
+mod rows;
 mod shown;
 
 pub use answers::{answer_text, push_refusal, push_replies};
+pub use frames::{push_delivery, push_sent};
 pub use names::{OUT_OF_MEMORY, refusal_name};
+pub use rows::{PRIORITIES, push_label, push_link, push_resv, push_tunnel, resvs_text};
 pub use shown::paths_text;

@@ -5,8 +5,10 @@ use Rattle.std.specs.Io.KnownBytes.{Appends}
 use Rattle.clap.specs.Words.{IsAmong, fault_of}
 use Rattle.clap.specs.declared.error.kind.ErrorKind.{ErrorKind}
 use Rattle.clap.specs.declared.error.kind.ErrorKind.TheVariants as kinds
-use Rattle.lsr_decode.specs.Decoding.{Decodes, decoded_status, shown_text, told_text}
-use Rattle.lsr_decode.specs.declared.decoding.Decoded.{Decoded}
+use Rattle.lsr_decode.specs.Captures.{DecodesWord}
+use Rattle.lsr_explain.specs.Answers.{answer_status, shown_text, told_text}
+use Rattle.lsr_explain.specs.Topics.{Explains}
+use Rattle.lsr_explain.specs.declared.explaining.Answer.{Answer}
 use Rattle.lsr_lines.specs.Texts.{Stream}
 use Rattle.lsr_lines.specs.declared.input.InputFault.{InputFault}
 use Rattle.lsr_words.specs.Words.{AsksFor, lsr_words}
@@ -17,15 +19,17 @@ use Rattle.lsr_tool.specs.Sessions.{StepsOnFile}
 use Rattle.lsr_tool.specs.declared.endings.RunEnding.{RunEnding}
 
 -- What was asked for is done, with this status: a run on the router of the file that is named, or without a name on
--- the built-in router; or a word is decoded. What is printed and told stands behind what the streams held.
+-- the built-in router; or a word or the lines of the input are decoded; or a word is explained. What is printed and told
+-- stands behind what the streams held.
 abbrev pub Does : {F : Type 0} → (List ℕ → F → Type 0) → (List ℕ → InputFault → Type 0) → (F → Stream) → Asked → Stream → Option (List ℕ) → Option (List ℕ) → Option (List ℕ) → Option (List ℕ) → ℕ → Type 0
 Does opens fails stream (asked.Step file) input output printed error told status =
     (ending : RunEnding) × (text : List ℕ) × (status ≡ status_of ending)
     × StepsOnFile opens fails stream (option_map (λ f. f.now) file) input text ending
     × Appends output printed text × Appends error told (ending_text ending)
-Does opens fails stream (asked.Decode word) input output printed error told status =
-    (decoded : Decoded) × Decodes word.now decoded × (status ≡ decoded_status decoded)
-    × Appends output printed (shown_text decoded) × Appends error told (told_text decoded)
+Does opens fails stream (asked.Decode word) input output printed error told status = DecodesWord word.now input output printed error told status
+Does opens fails stream (asked.Explain word) input output printed error told status =
+    (answer : Answer) × Explains word.now answer × (status ≡ answer_status answer)
+    × Appends output printed (shown_text answer) × Appends error told (told_text answer)
 
 -- The status of words that aren't taken: 0 for help, 1 where memory ran out, else 2.
 abbrev pub words_status : ErrorKind → ℕ

@@ -8,7 +8,8 @@ use crate::endings::FAILED;
 use crate::files::{FilesByName, SystemFiles};
 use crate::session::run_step_of;
 use clap::error::{Error, ErrorKind};
-use lsr_decode::run_decode;
+use lsr_decode::run_decode_of;
+use lsr_explain::run_explain;
 use lsr_lines::ByteStream;
 use lsr_text::OUT_OF_MEMORY;
 use lsr_words::{Asked, read_words};
@@ -66,7 +67,8 @@ pub fn run_asked<F: FilesByName, R: ByteStream, W: Write, E: Write>(
 {
     match asked {
         Asked::Step(file) => run_step_of(files, alloc, file, input, output, error),
-        Asked::Decode(word) => run_decode(alloc, word, output, error),
+        Asked::Decode(word) => run_decode_of(alloc, word, input, output, error),
+        Asked::Explain(word) => run_explain(word, output, error),
     }
 }
 

@@ -35,13 +35,26 @@ same_command name command given values e = ap (λ (o : Option (Text × List Row)
 same_values : (name command : Text) (given values : List Row) → pair name given ≡ pair command values → given ≡ values
 same_values name command given values e = ap (λ (o : Option (Text × List Row)). option_map_or (λ (p : Text × List Row). p.1) o []) e
 
--- `decode` without a word asks for nothing
+-- a command without its word asks for nothing
 pub no_word : (found : Option (Text × List Row)) (name : Text) (given : List Row) → found ≡ Some (name, given) → name ≡ codes "decode" → first_of (codes "HEX") given ≡ None → (other : Asked) → AsksIn found other → ⊥
 no_word found name given e d none (asked.Step file) (command, values, f, (is, text)) =
     let word : codes "decode" ≡ codes "step" = sym d ∙ same_command name command given values (sym e ∙ f) ∙ is in
     absurd (omega (arith, ap (λ (l : List ℕ). get_or l 0 0) word))
 no_word found name given e d none (asked.Decode word) (command, values, f, (is, text)) =
     let t = sym none ∙ ap (first_of (codes "HEX")) (same_values name command given values (sym e ∙ f)) ∙ text in cc
+no_word found name given e d none (asked.Explain word) (command, values, f, (is, text)) =
+    let word : codes "decode" ≡ codes "explain" = sym d ∙ same_command name command given values (sym e ∙ f) ∙ is in
+    absurd (omega (arith, ap (λ (l : List ℕ). get_or l 0 0) word))
+
+pub no_topic : (found : Option (Text × List Row)) (name : Text) (given : List Row) → found ≡ Some (name, given) → name ≡ codes "explain" → first_of (codes "WHAT") given ≡ None → (other : Asked) → AsksIn found other → ⊥
+no_topic found name given e d none (asked.Step file) (command, values, f, (is, text)) =
+    let word : codes "explain" ≡ codes "step" = sym d ∙ same_command name command given values (sym e ∙ f) ∙ is in
+    absurd (omega (arith, ap (λ (l : List ℕ). get_or l 0 0) word))
+no_topic found name given e d none (asked.Decode word) (command, values, f, (is, text)) =
+    let word : codes "explain" ≡ codes "decode" = sym d ∙ same_command name command given values (sym e ∙ f) ∙ is in
+    absurd (omega (arith, ap (λ (l : List ℕ). get_or l 0 0) word))
+no_topic found name given e d none (asked.Explain word) (command, values, f, (is, text)) =
+    let t = sym none ∙ ap (first_of (codes "WHAT")) (same_values name command given values (sym e ∙ f)) ∙ text in cc
 
 -- a command with one more argument
 pub adds_word : (old : Command) (a : Arg) (new : Command) (before : App) (rule : Rule) → AddsArg old a new → rule_of a ≡ rule → a.global ≡ false → app_of old ≡ before → app_of new ≡ with_rule before rule

@@ -21,18 +21,27 @@ step_words = with_rule (new_app (codes "step")) file_words
 abbrev pub decode_words : App
 decode_words = with_rule (new_app (codes "decode")) digits_word
 
+-- `WHAT`
+abbrev pub topic_word : Rule
+topic_word = record (new_rule (codes "WHAT")) { required = true }
+
+-- `explain WHAT`
+abbrev pub explain_words : App
+explain_words = with_rule (new_app (codes "explain")) topic_word
+
 -- the program's name; a command has to follow
 abbrev pub program_words : App
 program_words = on_top (λ top. record top { subcommand_required = true; arg_required_else_help = true }) (new_app (codes "lsr"))
 
--- the program's name, and one of the two
+-- the program's name, and one of the three
 abbrev pub lsr_words : App
-lsr_words = with_subcommand (with_subcommand program_words step_words.top) decode_words.top
+lsr_words = with_subcommand (with_subcommand (with_subcommand program_words step_words.top) decode_words.top) explain_words.top
 
 -- what a command asks for, with the values that it was given
 abbrev pub Asks : Text → List Row → Asked → Type 0
 Asks command given (asked.Step file) = (command ≡ codes "step") × (option_map (λ f. f.now) file ≡ first_of (codes "config") given)
 Asks command given (asked.Decode word) = (command ≡ codes "decode") × (first_of (codes "HEX") given ≡ Some word.now)
+Asks command given (asked.Explain word) = (command ≡ codes "explain") × (first_of (codes "WHAT") given ≡ Some word.now)
 
 -- what a command asks for that was found with its values
 abbrev pub AsksIn : Option (Text × List Row) → Asked → Type 0

@@ -1,7 +1,8 @@
 //! The words that `lsr` takes, and what its help says.
 ghost use Rattle.std.specs.Prelude.{◌≡◌, false, IfOk};
-ghost use Rattle.clap.specs.Words.{app_of, rule_of};
-ghost use Rattle.lsr_words.specs.Words.{digits_word, file_words, lsr_words};
+ghost use Rattle.clap.specs.Words.{app_of, rule_of, with_subcommand};
+ghost use Rattle.clap.specs.declared.builder.command.Command.{out-Command};
+ghost use Rattle.lsr_words.specs.Words.{decode_words, digits_word, explain_words, file_words, lsr_words, program_words, step_words, topic_word};
 
 use clap::{Arg, Command};
 use std::alloc::{AllocError, Global};
@@ -11,7 +12,8 @@ const ABOUT: &str = "The control plane of an MPLS label switching router, in an 
 const HELP: &str = "\
 Where to go on:
   lsr step --help     the lines that a router takes, and what it prints for them
-  lsr decode --help   what one message is made of
+  lsr decode --help   what messages are made of
+  lsr explain --help  what a refusal, an error or a fault means, and what to do about it
 
 Example: the router refuses to tear down a path that it doesn't know.
   echo rx 1 1005b988ff000030001001070a000004000000010a000001000c03010a00000100000001\
@@ -51,6 +53,7 @@ What to do next:
   refused 30 BadMoment     a moment above 4611686018427387904 (2^62)
   refused 42 IsCold        the router was restarted: `start` it first
   refused 1 to 9           the message can't be read: `lsr decode HEX` tells the same
+`lsr explain N`, `lsr explain NAME` and `lsr explain CODE/VALUE` say more of each.
 
 What is printed for `show recent`, the oldest reply first: `done`, `error CODE VALUE` or
 `refused N NAME`, without what was sent.
@@ -79,35 +82,72 @@ Example: a tear of a path that isn't there prints `refused 10 NoMatch`.
 000c0b070a00000100000001 | lsr step
 ";
 
-const DECODE_ABOUT: &str = "Prints the objects of one message";
+const DECODE_ABOUT: &str = "Prints the objects of one message, or of each message of a capture";
 
 const DECODE_HELP: &str = "\
 What is printed:
-  KIND LENGTH       the message's type (Path, PathErr or PathTear) and its bytes
+  KIND LENGTH       the message's type (Path, Resv, PathErr, ResvErr, PathTear or ResvTear)
+                    and its bytes
   CLASS CTYPE BODY  a line for each object, in the order of the bytes: its class and
                     C-Type in decimal, and its body in hexadecimal digits, if it has any
 
 A message that can't be read prints `refused N NAME` on standard error, status 1: what is
-wrong with it first. A router answers the same to `rx LINK HEX` (lsr step --help).
+wrong with it first. A router answers the same to `rx LINK HEX` (lsr step --help), and
+`lsr explain N` says what to do about it.
   1 Short              fewer than 8 bytes
   2 Version            its version isn't 1
   3 LengthField        its length field isn't the number of its bytes
   4 Checksum           its checksum field is neither 0 nor right
   5 ObjectLength       an object's length is wrong
-  6 MissingObject      an object that its type needs isn't there
-  7 KindUnsupported    its type isn't Path, PathErr or PathTear
+  6 MissingObject      an object that its type needs isn't there, or flow descriptors are
+                       out of order
+  7 KindUnsupported    its type is none of these six
   8 Integrity          it has an INTEGRITY object
   9 TooLong            it has more than 4096 bytes, or a route, a record or passing objects
                        above the limit
   40 NoMemory          there is no memory to read it
 
+With `-` for HEX the messages are the lines of standard input, each the digits of one; as
+many as come. Each line has its answer on standard output at once, and an empty line behind
+it: what is printed above, or for a line that is refused, which doesn't end the run:
+  line N: refused M NAME
+  line N: no hexadecimal digits
+The status is 1 if any line was refused, and 1 with `unreadable` or `memory` on standard
+error if the input breaks, a line has more than 16777216 bytes, or memory runs out.
+
 Example: this PathTear prints `PathTear 48`, `1 7 0a000004000000010a000001`,
 `3 1 0a00000100000001` and `11 7 0a00000100000001`.
   lsr decode 1005b988ff000030001001070a000004000000010a000001000c03010a0000010000000\
 1000c0b070a00000100000001
+
+Example: the messages that a router sent, decoded.
+  lsr step < lines | sed -n 's/^tx [0-9]* //p' | lsr decode -
 ";
 
-const HEX_HELP: &str = "The message's bytes: an even number of hexadecimal digits of either case";
+const EXPLAIN_ABOUT: &str = "\
+Says what a refusal, an error or a fault means, what to do about it, and where its rule stands";
+
+const EXPLAIN_HELP: &str = "\
+WHAT is one of these, as it was told:
+  N or NAME         a refusal: of `refused 24 UnknownLink` 24 or UnknownLink
+  CODE/VALUE        an error of RSVP: of `error 24 5` 24/5; these have names too, as NoRoute.
+                    The value of 13 and 14 may be any, or N: it tells an object
+  FAULT             a fault of a configuration: of `config BadValue limit` BadValue; or what
+                    else ends a run: bad (of `bad line N`), unreadable, memory, unwritable
+  list              all that can be asked
+
+Any other word prints that list on standard error, status 2.
+
+Example: what to do about `error 24 5`.
+  lsr explain 24/5
+";
+
+const HEX_HELP: &str = "\
+The message's bytes: an even number of hexadecimal digits of either case; or `-` for a message
+in each line of standard input";
+
+const WHAT_HELP: &str =
+    "A refusal's number or name, an error's code and value, a fault's name, or `list`";
 
 const CONFIG_HELP: &str =
     "The file of the router's configuration (TOML); without it the built-in router serves";
@@ -118,6 +158,10 @@ const PROGRAM: &str = "lsr";
 pub(crate) const STEP: &str = "step";
 /// The name of the command that decodes a message.
 pub(crate) const DECODE: &str = "decode";
+/// The name of the command that explains what is told.
+pub(crate) const EXPLAIN: &str = "explain";
+/// The name of the argument of `explain`.
+pub(crate) const WHAT: &str = "WHAT";
 /// The name of the argument of `decode`.
 pub(crate) const HEX: &str = "HEX";
 /// The name of the option of `step`.
@@ -142,23 +186,68 @@ fn hex_word<'a>(alloc: Global) -> Arg<'a>
     Arg::new(alloc, HEX).required(true).help(HEX_HELP)
 }
 
-/// The words that `lsr` takes: `step [--config FILE]` and `decode HEX`. The only error is that memory ran out.
-pub(crate) fn command<'a>(alloc: Global) -> Result<Command<'a>, AllocError>
-    ensures { IfOk result (λ command. app_of command ≡ lsr_words) }
+/// `WHAT`.
+fn topic_word<'a>(alloc: Global) -> Arg<'a>
+    ensures rule { rule_of result ≡ topic_word }
+    ensures local { result.global ≡ false }
 {
-    let step = Command::new(alloc, STEP)
+    Arg::new(alloc, WHAT).required(true).help(WHAT_HELP)
+}
+
+/// `step [--config FILE]`. The only error is that memory ran out.
+fn step_command<'a>(alloc: Global) -> Result<Command<'a>, AllocError>
+    ensures words { IfOk result (λ command. app_of command ≡ step_words) }
+    ensures local { IfOk result (λ command. (out-Command command).has_globals ≡ false) }
+{
+    Command::new(alloc, STEP)
         .about(STEP_ABOUT)
         .after_help(STEP_HELP)
-        .arg(config_option(alloc))?;
-    let decode = Command::new(alloc, DECODE)
+        .arg(config_option(alloc))
+}
+
+/// `decode HEX`. The only error is that memory ran out.
+fn decode_command<'a>(alloc: Global) -> Result<Command<'a>, AllocError>
+    ensures words { IfOk result (λ command. app_of command ≡ decode_words) }
+    ensures local { IfOk result (λ command. (out-Command command).has_globals ≡ false) }
+{
+    Command::new(alloc, DECODE)
         .about(DECODE_ABOUT)
         .after_help(DECODE_HELP)
-        .arg(hex_word(alloc))?;
-    let program = Command::new(alloc, PROGRAM)
+        .arg(hex_word(alloc))
+}
+
+/// `explain WHAT`. The only error is that memory ran out.
+fn explain_command<'a>(alloc: Global) -> Result<Command<'a>, AllocError>
+    ensures words { IfOk result (λ command. app_of command ≡ explain_words) }
+    ensures local { IfOk result (λ command. (out-Command command).has_globals ≡ false) }
+{
+    Command::new(alloc, EXPLAIN)
+        .about(EXPLAIN_ABOUT)
+        .after_help(EXPLAIN_HELP)
+        .arg(topic_word(alloc))
+}
+
+/// The program's name with `step` behind it. The only error is that memory ran out.
+fn program_with_step<'a>(alloc: Global) -> Result<Command<'a>, AllocError>
+    ensures { IfOk result (λ command. app_of command ≡ with_subcommand program_words step_words.top) }
+{
+    let step = step_command(alloc)?;
+    Command::new(alloc, PROGRAM)
         .about(ABOUT)
         .after_help(HELP)
         .subcommand_required(true)
         .arg_required_else_help(true)
-        .subcommand(step)?;
-    program.subcommand(decode)
+        .subcommand(step)
+}
+
+/// The words that `lsr` takes: `step [--config FILE]`, `decode HEX` and `explain WHAT`. The only error is that memory ran
+/// out.
+pub(crate) fn command<'a>(alloc: Global) -> Result<Command<'a>, AllocError>
+    ensures { IfOk result (λ command. app_of command ≡ lsr_words) }
+{
+    let decode = decode_command(alloc)?;
+    let explain = explain_command(alloc)?;
+    let with_step = program_with_step(alloc)?;
+    let with_decode = with_step.subcommand(decode)?;
+    with_decode.subcommand(explain)
 }

@@ -31,6 +31,11 @@ fn words_ask_for_a_command(rt: HostRuntime) -> Result<(), Fail> {
             Some(Asked::Decode("1005")),
         ),
         (["lsr", "decode", ""].as_slice(), Some(Asked::Decode(""))),
+        (["lsr", "decode", "-"].as_slice(), Some(Asked::Decode("-"))),
+        (
+            ["lsr", "explain", "24/5"].as_slice(),
+            Some(Asked::Explain("24/5")),
+        ),
         (["lsr", "decode", "é"].as_slice(), Some(Asked::Decode("é"))),
     ];
     for (words, asked) in taken {
@@ -51,6 +56,8 @@ fn other_words_are_told_on_the_error_stream(rt: HostRuntime) -> Result<(), Fail>
         ["lsr", "decode", "--config", "file", "10"].as_slice(),
         ["lsr", "decode"].as_slice(),
         ["lsr", "decode", "10", "10"].as_slice(),
+        ["lsr", "explain"].as_slice(),
+        ["lsr", "explain", "bad", "line"].as_slice(),
         ["lsr"].as_slice(),
     ];
     for words in others {
@@ -71,6 +78,7 @@ fn help_shows_lines_and_an_example(rt: HostRuntime) -> Result<(), Fail> {
         (["lsr", "step", "--help"].as_slice(), "show recent"),
         (["lsr", "help", "step"].as_slice(), "tx LINK HEX"),
         (["lsr", "decode", "--help"].as_slice(), TEAR),
+        (["lsr", "explain", "--help"].as_slice(), "CODE/VALUE"),
     ];
     for (words, text) in helps {
         let (is_error, help) = told(rt.alloc(), words)?;

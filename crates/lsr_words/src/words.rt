@@ -5,7 +5,7 @@ ghost use Rattle.clap.specs.Words.{FailsBy, fault_of, kind_of, subcommand_rows_o
 ghost use Rattle.lsr_words.specs.declared.words.Asked.{Asked};
 ghost use Rattle.lsr_words.specs.Words.{AsksFor, AsksIn, lsr_words};
 
-use crate::help::{CONFIG, DECODE, HEX, STEP, command};
+use crate::help::{CONFIG, DECODE, EXPLAIN, HEX, STEP, WHAT, command};
 use clap::ArgMatches;
 use clap::error::{Error, ErrorKind};
 use std::alloc::Global;
@@ -16,8 +16,10 @@ use std::convert::AsStr;
 pub enum Asked<'a> {
     /// `step`: lines are answered by the router of the file of this name, or without one by the built-in router.
     Step(Option<&'a str>),
-    /// `decode HEX`: the word is decoded.
+    /// `decode HEX`: the word is decoded; `-` stands for the lines of the input.
     Decode(&'a str),
+    /// `explain WHAT`: what this word names is explained.
+    Explain(&'a str),
 }
 
 /// What the matches of the program's words ask for; none where they name no command.
@@ -30,6 +32,10 @@ fn asked_in<'a>(matches: &ArgMatches<'a>) -> Option<Asked<'a>>
         Some((STEP, given)) => Some(Asked::Step(given.get_str(CONFIG))),
         Some((DECODE, given)) => match given.get_str(HEX) {
             Some(word) => Some(Asked::Decode(word)),
+            None => None,
+        },
+        Some((EXPLAIN, given)) => match given.get_str(WHAT) {
+            Some(topic) => Some(Asked::Explain(topic)),
             None => None,
         },
         _ => None,

@@ -1,0 +1,9 @@
+-- So far the stream was read, and the lines that are over were answered.
+use Rattle.std.proofs.Common.{◌≤◌, length}
+use Rattle.lsr_decode.specs.Captures.{IsReadTo}
+use Rattle.lsr_decode.proofs.capture.decode_lines.Given as goal
+
+abbrev pub invariant-reads : goal.invariant-reads
+invariant-reads g l =
+    IsReadTo (g.S.ByteStream.stream l.fn.input).bytes (g.S.ByteStream.stream l.input).bytes (g.W.Write.contents l.fn.output) (g.W.Write.contents l.output) l.line.items l.count l.refused
+    × (1 ≤ length l.room.items)

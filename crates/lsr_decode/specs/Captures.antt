@@ -1,0 +1,128 @@
+-- What `decode -` prints for a capture: a message in each line, and an answer to each.
+use Rattle.std.specs.Prelude.{◌≡◌, ◌≢◌, ◌<◌, ◌+◌, ◌||◌, ◌⊎◌, ℕ, List, [], ◌∷◌, ◌++◌, Option, length, slice_index, codes, Bool, true, false, string_bytes, IfSome}
+use Rattle.std.specs.Fmt.{decimal}
+use Rattle.std.specs.Io.KnownBytes.{Appends, Consumes}
+use Rattle.lsr_facts.specs.declared.refusal.Refusal.TheVariants.{Unread}
+use Rattle.lsr_text.specs.Answers.{refusal_line}
+use Rattle.lsr_lines.specs.Lines.{lines_of}
+use Rattle.lsr_lines.specs.Texts.{Stream}
+use Rattle.lsr_decode.specs.Decoding.{Decodes, decoded_status, shown_text, told_text}
+use Rattle.lsr_decode.specs.declared.decoding.Decoded.{Decoded}
+use Rattle.lsr_decode.specs.declared.decoding.Decoded.TheVariants as answers
+use Rattle.lsr_decode.specs.declared.capture.Ending.{Ending}
+use Rattle.lsr_decode.specs.declared.capture.Ending.TheVariants as endings
+use Rattle.lsr_decode.specs.declared.capture.Taken.{Taken}
+use Rattle.lsr_decode.specs.declared.capture.Taken.TheVariants as lots
+use Rattle.lsr_decode.specs.declared.capture.Turn.{Turn}
+use Rattle.lsr_decode.specs.declared.capture.Turn.TheVariants as turns
+
+-- no newline stands in the bytes
+abbrev pub IsOneLine : List ℕ → Type 0
+IsOneLine bytes = (k : ℕ) → k < length bytes → slice_index bytes k ≢ 10
+
+-- the answer to the line of this number, and an empty line behind it
+abbrev pub answer_text : ℕ → Decoded → List ℕ
+answer_text number (answers.Shown text) = string_bytes text ++ codes "\n"
+answer_text number (answers.Refused fault) = codes "line " ++ (decimal number ++ (codes ": " ++ (refusal_line (Unread fault) ++ codes "\n")))
+answer_text number answers.NoDigits = codes "line " ++ (decimal number ++ codes ": no hexadecimal digits\n\n")
+answer_text number answers.Memory = codes "line " ++ (decimal number ++ codes ": refused 40 NoMemory\n\n")
+
+-- all answers but a message's lines are refusals
+abbrev pub is_refused : Decoded → Bool
+is_refused (answers.Shown text) = false
+is_refused (answers.Refused fault) = true
+is_refused answers.NoDigits = true
+is_refused answers.Memory = true
+
+-- These lines, the newest first, were answered in their order, and so much was printed; whether any was refused.
+abbrev pub Answered : List (List ℕ) → List ℕ → Bool → Type 0
+Answered [] printed refused = (printed ≡ []) × (refused ≡ false)
+Answered (line ∷ earlier) printed refused =
+    (before : List ℕ) × (was : Bool) × (decoded : Decoded) × Answered earlier before was × Decodes line decoded
+    × (printed ≡ before ++ answer_text (length earlier + 1) decoded) × (refused ≡ (was || is_refused decoded))
+
+-- lines, the newest first, in their order, and these behind them
+abbrev pub onto : List (List ℕ) → List (List ℕ) → List (List ℕ)
+onto [] lines = lines
+onto (line ∷ earlier) lines = onto earlier (line ∷ lines)
+
+-- All lines of a text were answered.
+pub record AnswersAll (text printed : List ℕ) (refused : Bool) : Type 0 where
+  pub served : List (List ℕ)
+  pub lines : lines_of text ≡ onto served []
+  pub answered : Answered served printed refused
+
+-- The first lines of a text were answered, whatever stands behind the text.
+pub record AnswersSome (text printed : List ℕ) : Type 0 where
+  pub served : List (List ℕ)
+  pub refused : Bool
+  pub lines : (more : List ℕ) → (behind : List (List ℕ)) × (lines_of (text ++ more) ≡ onto served behind)
+  pub answered : Answered served printed refused
+
+-- So far was read: the lines that are over were answered, and this is the last one, as far as it goes.
+pub record IsCaptured (read printed line : List ℕ) (count : ℕ) (refused : Bool) : Type 0 where
+  pub served : List (List ℕ)
+  pub lines : (more : List ℕ) → lines_of (read ++ more) ≡ onto served (lines_of (line ++ more))
+  pub answered : Answered served printed refused
+  pub counted : count ≡ length served
+  pub one : IsOneLine line
+
+-- what becomes of bytes that are read next
+abbrev pub TakesBytes : List ℕ → List ℕ → List ℕ → Option (List ℕ) → Option (List ℕ) → List ℕ → Taken → Type 0
+TakesBytes read printed bytes old new line (lots.Whole count refused) =
+    (more : List ℕ) × Appends old new more × IsCaptured (read ++ bytes) (printed ++ more) line count refused
+TakesBytes read printed bytes old new line lots.TooLong = (more : List ℕ) × Appends old new more × AnswersSome (read ++ bytes) (printed ++ more)
+TakesBytes read printed bytes old new line lots.Memory = (more : List ℕ) × Appends old new more × AnswersSome (read ++ bytes) (printed ++ more)
+
+-- how a run ends once all was read
+abbrev pub Finishes : List ℕ → List ℕ → Option (List ℕ) → Option (List ℕ) → Ending → Type 0
+Finishes read printed old new (endings.Done refused) = (more : List ℕ) × Appends old new more × AnswersAll read (printed ++ more) refused
+Finishes read printed old new endings.Unreadable = (more : List ℕ) × Appends old new more × AnswersSome read (printed ++ more)
+Finishes read printed old new endings.Memory = (more : List ℕ) × Appends old new more × AnswersSome read (printed ++ more)
+
+-- So far was read of a stream that had these bytes first, if they are known, and has those now; so much was printed.
+pub record IsReadTo (first now before after : Option (List ℕ)) (line : List ℕ) (count : ℕ) (refused : Bool) : Type 0 where
+  pub read : List ℕ
+  pub printed : List ℕ
+  pub consumed : Consumes first now read
+  pub told : Appends before after printed
+  pub captured : IsCaptured read printed line count refused
+
+-- What is printed for the bytes of a stream: the answers to all of its lines; or to the first ones, where it broke, had a
+-- line of more bytes than are taken, or memory ran out.
+abbrev pub DecodesBytes : Option (List ℕ) → List ℕ → Ending → Type 0
+DecodesBytes known printed (endings.Done refused) =
+    (text : List ℕ) × IfSome known (λ bytes. bytes ≡ text) × AnswersAll text printed refused
+DecodesBytes known printed endings.Unreadable =
+    (text : List ℕ) × IfSome known (λ bytes. (more : List ℕ) × (bytes ≡ text ++ more)) × AnswersSome text printed
+DecodesBytes known printed endings.Memory =
+    (text : List ℕ) × IfSome known (λ bytes. (more : List ℕ) × (bytes ≡ text ++ more)) × AnswersSome text printed
+
+abbrev pub DecodesLines : Stream → List ℕ → Ending → Type 0
+DecodesLines stream printed ending = DecodesBytes stream.bytes printed ending
+
+-- what becomes of one more read
+abbrev pub TurnsTo : Option (List ℕ) → Option (List ℕ) → Option (List ℕ) → Option (List ℕ) → List ℕ → Turn → Type 0
+TurnsTo first now before after line (turns.More count refused) = IsReadTo first now before after line count refused
+TurnsTo first now before after line (turns.Over ending) = (printed : List ℕ) × Appends before after printed × DecodesBytes first printed ending
+
+-- what is told on the error stream
+abbrev pub ending_text : Ending → List ℕ
+ending_text (endings.Done refused) = []
+ending_text endings.Unreadable = codes "unreadable\n"
+ending_text endings.Memory = codes "memory\n"
+
+-- the status: 1 where a line was refused, or the run ended before the last line
+abbrev pub ending_status : Ending → ℕ
+ending_status (endings.Done false) = 0
+ending_status (endings.Done true) = 1
+ending_status endings.Unreadable = 1
+ending_status endings.Memory = 1
+
+-- What becomes of a word: `-` stands for the lines of the input, each of which is answered; any other word is decoded.
+abbrev pub DecodesWord : List ℕ → Stream → Option (List ℕ) → Option (List ℕ) → Option (List ℕ) → Option (List ℕ) → ℕ → Type 0
+DecodesWord word input output printed error told status =
+    ((word ≡ codes "-") × ((ending : Ending) × (text : List ℕ) × (status ≡ ending_status ending) × DecodesLines input text ending
+    × Appends output printed text × Appends error told (ending_text ending)))
+    ⊎ ((word ≢ codes "-") × ((decoded : Decoded) × Decodes word decoded × (status ≡ decoded_status decoded)
+    × Appends output printed (shown_text decoded) × Appends error told (told_text decoded)))

@@ -1,0 +1,306 @@
+//! `lsr decode -`: a capture, a message in each line, answered one after the other.
+ghost use Rattle.std.specs.Prelude.{◌≡◌, ◌≤◌, ◌++◌, ◌||◌, ℕ, List, Option, true, length, take, IfOk, IfSome, OnOk};
+ghost use Rattle.std.specs.Io.KnownBytes.{Appends, Consumes, IsAtEnd};
+ghost use Rattle.lsr_decode.specs.declared.decoding.Decoded.{Decoded};
+ghost use Rattle.lsr_decode.specs.declared.capture.Ending.{Ending};
+ghost use Rattle.lsr_decode.specs.Decoding.{Decodes};
+ghost use Rattle.lsr_decode.specs.Captures.{DecodesLines, DecodesWord, Finishes, IsCaptured, IsReadTo, TakesBytes, TurnsTo, answer_text, ending_status, ending_text, is_refused};
+
+use crate::decoding::{Decoded, decode_digits, run_decode};
+use crate::newline::split_line;
+use lsr_facts::Refusal;
+use lsr_lines::{ByteStream, MAX_INPUT_LEN};
+use lsr_text::{OUT_OF_MEMORY, refusal_name};
+use std::alloc::{AllocError, Global};
+use std::io;
+use std::io::Write;
+
+/// The word that stands for the lines of the input.
+const INPUT: &str = "-";
+/// How many bytes a read asks for.
+const CHUNK_LEN: usize = 65_536;
+/// What is told of an input that broke, or that has a line of too many bytes.
+const UNREADABLE: &str = "unreadable";
+
+/// How a run over a capture ends.
+#[derive(Clone, Copy, Debug, PartialEq, Eq)]
+pub enum Ending {
+    /// All lines were answered, and this says whether any was refused.
+    Done(bool),
+    /// The input broke, or a line has more bytes than are taken. Lines before that were answered.
+    Unreadable,
+    /// There is no memory for a line. Lines before it were answered.
+    Memory,
+}
+
+/// What became of bytes of a capture.
+#[derive(Clone, Copy, Debug, PartialEq, Eq)]
+enum Taken {
+    /// The lines that end in them were answered: how many there are so far, and whether any was refused.
+    Whole(u64, bool),
+    /// A line has more bytes than are taken, or can't be counted.
+    TooLong,
+    /// There is no memory for a line.
+    Memory,
+}
+
+/// What became of a read.
+#[derive(Clone, Copy, Debug, PartialEq, Eq)]
+enum Turn {
+    /// There may be more: how many lines were answered so far, and whether any was refused.
+    More(u64, bool),
+    /// The run is over.
+    Over(Ending),
+}
+
+/// Whether the answer is a refusal.
+fn is_refused(decoded: &Decoded) -> bool
+    ensures { result ≡ is_refused decoded.now }
+{
+    match decoded {
+        Decoded::Shown(_) => false,
+        Decoded::Refused(_) | Decoded::NoDigits | Decoded::Memory => true,
+    }
+}
+
+/// Prints the answer to the line of this number, and an empty line behind it. The error is the stream's.
+fn put_answer<W: Write>(output: &mut W, number: u64, decoded: &Decoded) -> io::Result<()>
+    ensures { OnOk result (Appends (W.contents output.old) (W.contents output.new) (answer_text number decoded.now)) }
+{
+    match decoded {
+        Decoded::Shown(text) => write!(output, "{text}\n"),
+        Decoded::Refused(fault) => {
+            let refusal = Refusal::Unread(*fault);
+            let kind = refusal.number();
+            let name = refusal_name(refusal);
+            write!(output, "line {number}: refused {kind} {name}\n\n")
+        }
+        Decoded::NoDigits => write!(output, "line {number}: no hexadecimal digits\n\n"),
+        Decoded::Memory => write!(output, "line {number}: refused 40 NoMemory\n\n"),
+    }
+}
+
+/// Answers the line of this number: whether it was refused. The error is the output's.
+fn answer_line<W: Write>(
+    alloc: Global,
+    number: u64,
+    line: &[u8],
+    output: &mut W,
+) -> io::Result<bool>
+    ensures { IfOk result (λ refused. (decoded : Decoded) × Decodes line.now decoded
+        × Appends (W.contents output.old) (W.contents output.new) (answer_text number decoded) × (refused ≡ is_refused decoded)) }
+{
+    let decoded = decode_digits(alloc, line);
+    put_answer(output, number, &decoded)?;
+    Ok(is_refused(&decoded))
+}
+
+/// Appends the bytes to the line. False where there is no memory for them.
+fn append(line: &mut Vec<u8>, bytes: &[u8]) -> bool
+    ensures { result ≡ true → line.new.items ≡ line.old.items ++ bytes.now }
+{
+    match line.extend_from_slice(bytes) {
+        Ok(()) => true,
+        Err(AllocError) => false,
+    }
+}
+
+/// Answers the lines that end in the bytes; `line` is the last line, as far as it was read. The error is the output's.
+fn answer_bytes<W: Write>(
+    alloc: Global,
+    line: &mut Vec<u8>,
+    count: u64,
+    refused: bool,
+    bytes: &[u8],
+    output: &mut W,
+) -> io::Result<Taken>
+    ensures { IfOk result (λ taken. (read printed : List ℕ) → IsCaptured read printed line.old.items count refused
+        → TakesBytes read printed bytes.now (W.contents output.old) (W.contents output.new) line.new.items taken) }
+{
+    let mut answered = count;
+    let mut any = refused;
+    let mut rest = bytes;
+    while let Some((front, behind)) = split_line(rest) {
+        if !append(line, front) {
+            return Ok(Taken::Memory);
+        }
+        let Some(number) = answered.checked_add(1) else {
+            return Ok(Taken::TooLong);
+        };
+        let is_bad = answer_line(alloc, number, line.as_slice(), output)?;
+        line.clear();
+        answered = number;
+        any = any | is_bad;
+        rest = behind;
+    }
+    if !append(line, rest) {
+        return Ok(Taken::Memory);
+    }
+    if line.len() > MAX_INPUT_LEN {
+        return Ok(Taken::TooLong);
+    }
+    Ok(Taken::Whole(answered, any))
+}
+
+/// Answers what stands behind the last newline, if that is anything. The error is the output's.
+fn finish<W: Write>(
+    alloc: Global,
+    line: &[u8],
+    count: u64,
+    refused: bool,
+    output: &mut W,
+) -> io::Result<Ending>
+    ensures { IfOk result (λ ending. (read printed : List ℕ) → IsCaptured read printed line.now count refused
+        → Finishes read printed (W.contents output.old) (W.contents output.new) ending) }
+{
+    if line.is_empty() {
+        return Ok(Ending::Done(refused));
+    }
+    let Some(number) = count.checked_add(1) else {
+        return Ok(Ending::Unreadable);
+    };
+    let is_bad = answer_line(alloc, number, line, output)?;
+    Ok(Ending::Done(refused | is_bad))
+}
+
+/// Reads once: how many bytes came, 0 at the end. None where the input broke.
+fn read_some<S: ByteStream>(input: &mut S, room: &mut [u8]) -> Option<usize>
+    requires { 1 ≤ length room.old }
+    ensures bound { IfSome result (λ len. len ≤ length room.new) }
+    ensures bytes { IfSome result (λ len. Consumes (S.stream input.old).bytes (S.stream input.new).bytes (take len room.new)) }
+    ensures end { IfSome result (λ len. len ≡ 0 → IsAtEnd (S.stream input.new).bytes) }
+{
+    match input.read_next(room) {
+        Ok(len) => Some(len),
+        Err(_) => None,
+    }
+}
+
+/// Room for so many bytes.
+fn room_for(alloc: Global, len: usize) -> Result<Vec<u8>, AllocError>
+    ensures { IfOk result (λ room. length room.items ≡ len) }
+{
+    vec![in alloc; 0u8; len]
+}
+
+/// Reads once and answers the lines that end in what came. The error is the output's.
+fn take_turn<S: ByteStream, W: Write>(
+    alloc: Global,
+    input: &mut S,
+    room: &mut [u8],
+    line: &mut Vec<u8>,
+    count: u64,
+    refused: bool,
+    output: &mut W,
+) -> io::Result<Turn>
+    requires { 1 ≤ length room.old }
+    ensures { IfOk result (λ turn. (first before : Option (List ℕ))
+        → IsReadTo first (S.stream input.old).bytes before (W.contents output.old) line.old.items count refused
+        → TurnsTo first (S.stream input.new).bytes before (W.contents output.new) line.new.items turn) }
+{
+    let Some(len) = read_some(input, room) else {
+        return Ok(Turn::Over(Ending::Unreadable));
+    };
+    if len == 0 {
+        return match finish(alloc, line.as_slice(), count, refused, output) {
+            Ok(ending) => Ok(Turn::Over(ending)),
+            Err(error) => Err(error),
+        };
+    }
+    let (bytes, _) = room.split_at(len);
+    match answer_bytes(alloc, line, count, refused, bytes, output)? {
+        Taken::Whole(answered, any) => Ok(Turn::More(answered, any)),
+        Taken::TooLong => Ok(Turn::Over(Ending::Unreadable)),
+        Taken::Memory => Ok(Turn::Over(Ending::Memory)),
+    }
+}
+
+/// Answers the lines of the input, one after the other. The error is the output's.
+fn decode_lines<S: ByteStream, W: Write>(
+    alloc: Global,
+    input: &mut S,
+    output: &mut W,
+) -> io::Result<Ending>
+    ensures { IfOk result (λ ending. (printed : List ℕ) × Appends (W.contents output.old) (W.contents output.new) printed
+        × DecodesLines (S.stream input.old) printed ending) }
+{
+    let Ok(mut room) = room_for(alloc, CHUNK_LEN) else {
+        return Ok(Ending::Memory);
+    };
+    let mut line = Vec::new(alloc);
+    let mut count = 0u64;
+    let mut refused = false;
+    'reads: for _ in 0..u64::MAX {
+        match take_turn(
+            alloc,
+            input,
+            room.as_mut_slice(),
+            &mut line,
+            count,
+            refused,
+            output,
+        )? {
+            Turn::More(answered, any) => {
+                count = answered;
+                refused = any;
+            }
+            Turn::Over(ending) => return Ok(ending),
+        }
+    }
+    Ok(Ending::Unreadable)
+}
+
+/// Tells why lines weren't all answered, and gives the status. The error is the stream's.
+fn tell_ending<E: Write>(ending: Ending, error: &mut E) -> io::Result<u8>
+    ensures status { IfOk result (λ status. status ≡ ending_status ending) }
+    ensures told { OnOk result (Appends (E.contents error.old) (E.contents error.new) (ending_text ending)) }
+{
+    match ending {
+        Ending::Done(false) => Ok(0),
+        Ending::Done(true) => Ok(1),
+        Ending::Unreadable => {
+            write!(error, "{UNREADABLE}\n")?;
+            Ok(1)
+        }
+        Ending::Memory => {
+            write!(error, "{OUT_OF_MEMORY}\n")?;
+            Ok(1)
+        }
+    }
+}
+
+/// `lsr decode -`: answers each line of the input, the hexadecimal digits of one message, with the message's lines or with
+/// why it is refused and its number, and an empty line behind that. Gives the status: 0, or 1 where a line was refused or
+/// the input could not be read to its end. The error is that a stream could not be written.
+pub fn run_decode_lines<S: ByteStream, W: Write, E: Write>(
+    alloc: Global,
+    input: &mut S,
+    output: &mut W,
+    error: &mut E,
+) -> io::Result<u8>
+    ensures { IfOk result (λ status. (ending : Ending) × (printed : List ℕ) × (status ≡ ending_status ending)
+        × DecodesLines (S.stream input.old) printed ending
+        × Appends (W.contents output.old) (W.contents output.new) printed
+        × Appends (E.contents error.old) (E.contents error.new) (ending_text ending)) }
+{
+    let ending = decode_lines(alloc, input, output)?;
+    tell_ending(ending, error)
+}
+
+/// `lsr decode HEX`: as [`run_decode`], or as [`run_decode_lines`] where the word is `-`. The error is that a stream could
+/// not be written.
+pub fn run_decode_of<S: ByteStream, W: Write, E: Write>(
+    alloc: Global,
+    word: &str,
+    input: &mut S,
+    output: &mut W,
+    error: &mut E,
+) -> io::Result<u8>
+    ensures { IfOk result (DecodesWord word.now (S.stream input.old)
+        (W.contents output.old) (W.contents output.new) (E.contents error.old) (E.contents error.new)) }
+{
+    if word == INPUT {
+        return run_decode_lines(alloc, input, output, error);
+    }
+    run_decode(alloc, word, output, error)
+}

@@ -1,0 +1,77 @@
+-- What is printed for what a word asks for.
+use Rattle.std.specs.Prelude.{ℕ, ◌/◌, ◌%◌, if◌then◌else◌, List, [], ◌∷◌, ◌++◌, codes, flat_map}
+use Rattle.std.specs.Fmt.{decimal}
+use Rattle.lsr_lines.specs.Lines.{lines_of}
+use Rattle.lsr_explain.specs.Topics.{is_indented, text_of}
+use Rattle.lsr_explain.specs.declared.topics.Kind.{Kind}
+use Rattle.lsr_explain.specs.declared.topics.Kind.TheVariants as kinds
+use Rattle.lsr_explain.specs.declared.topics.Topic.{Topic}
+use Rattle.lsr_explain.specs.declared.explaining.Answer.{Answer}
+use Rattle.lsr_explain.specs.declared.explaining.Answer.TheVariants as answers
+
+-- the word that a router or the program tells such a topic with
+abbrev pub told_word : Kind → List ℕ
+told_word kinds.Refusal = codes "refused "
+told_word kinds.RsvpError = codes "error "
+told_word kinds.Fault = []
+
+-- the lines up to the first that doesn't begin with a space
+unfoldable pub explained : List (List ℕ) → List ℕ
+explained [] = []
+explained (line ∷ lines) = if is_indented line then line ++ (codes "\n" ++ explained lines) else []
+
+-- the heading of a topic behind the word that it is told with, and its explanation
+abbrev pub topic_text : Topic → List ℕ
+topic_text topic = (told_word topic.kind ++ (topic.heading.now ++ codes "\n")) ++ explained (lines_of topic.behind.now)
+
+-- which object an error's value tells: its class and its C-Type (RFC 2205, B)
+abbrev pub object_line : ℕ → List ℕ
+object_line value =
+    codes "  Here N is " ++ (decimal value ++ (codes ": class " ++ (decimal (value / 256) ++ (codes ", C-Type " ++ (decimal (value % 256) ++ codes ".\n")))))
+
+-- a line that is a heading, behind two spaces; of others nothing
+abbrev pub heading_line : List ℕ → List ℕ
+heading_line line = if is_indented line then [] else codes "  " ++ (line ++ codes "\n")
+
+-- the headings
+abbrev pub headings_text : List (List ℕ) → List ℕ
+headings_text lines = flat_map heading_line lines
+
+-- the headings of the topics of a kind, with a line over them
+abbrev pub section_text : List ℕ → Kind → List ℕ
+section_text title kind = title ++ headings_text (lines_of (text_of kind))
+
+-- what can be asked besides refusals
+abbrev pub other_topics_text : List ℕ
+other_topics_text =
+    section_text (codes "Errors of RSVP, by code and value or by name; N stands for any value:\n") kinds.RsvpError
+    ++ section_text (codes "Faults of a configuration, and what ends a run, by name:\n") kinds.Fault
+
+-- all that can be asked
+abbrev pub topics_text : List ℕ
+topics_text = section_text (codes "Refusals, by number or name:\n") kinds.Refusal ++ other_topics_text
+
+-- what is told of a word that asks for nothing
+abbrev pub unknown_text : List ℕ
+unknown_text = codes "error: no refusal, error or fault has this number or name\n" ++ topics_text
+
+-- what is printed on the output
+abbrev pub shown_text : Answer → List ℕ
+shown_text (answers.Topic topic) = topic_text topic
+shown_text (answers.Object topic value) = topic_text topic ++ object_line value
+shown_text answers.List = topics_text
+shown_text answers.Unknown = []
+
+-- what is told on the error stream
+abbrev pub told_text : Answer → List ℕ
+told_text (answers.Topic topic) = []
+told_text (answers.Object topic value) = []
+told_text answers.List = []
+told_text answers.Unknown = unknown_text
+
+-- the status: 2 where the word asks for nothing
+abbrev pub answer_status : Answer → ℕ
+answer_status (answers.Topic topic) = 0
+answer_status (answers.Object topic value) = 0
+answer_status answers.List = 0
+answer_status answers.Unknown = 2

@@ -1,0 +1,182 @@
+//! What is printed for what a word asks for.
+ghost use Rattle.std.specs.Prelude.{◌≡◌, ◌++◌, codes, IfOk, OnOk};
+ghost use Rattle.std.specs.Io.KnownBytes.{Appends};
+ghost use Rattle.lsr_lines.specs.Lines.{lines_of};
+ghost use Rattle.lsr_explain.specs.declared.explaining.Answer.{Answer};
+ghost use Rattle.lsr_explain.specs.Topics.{Explains};
+ghost use Rattle.lsr_explain.specs.Answers.{answer_status, explained, heading_line, headings_text, object_line, other_topics_text, section_text, shown_text, told_text, told_word, topic_text, topics_text, unknown_text};
+
+use crate::explaining::{Answer, explain};
+use crate::topics::{Kind, Topic, is_indented};
+use lsr_lines::next_line;
+use std::io;
+use std::io::Write;
+
+/// The status of a word that asks for nothing.
+const BAD_WORDS: u8 = 2;
+/// The value of an error about an object is so many times the object's class, and its C-Type (RFC 2205, B).
+const CLASS_UNIT: u16 = 256;
+/// What is told of a word that asks for nothing.
+const UNKNOWN: &str = "error: no refusal, error or fault has this number or name\n";
+/// What stands over the topics.
+const OF_REFUSALS: &str = "Refusals, by number or name:\n";
+
+const OF_ERRORS: &str = "Errors of RSVP, by code and value or by name; N stands for any value:\n";
+
+const OF_FAULTS: &str = "Faults of a configuration, and what ends a run, by name:\n";
+
+/// The word that a router or the program tells such a topic with.
+fn told_word(kind: Kind) -> &'static str
+    ensures { result.now ≡ told_word kind }
+{
+    match kind {
+        Kind::Refusal => "refused ",
+        Kind::RsvpError => "error ",
+        Kind::Fault => "",
+    }
+}
+
+/// Prints the line. The error is the stream's.
+fn put_line<W: Write>(output: &mut W, line: &str) -> io::Result<()>
+    ensures { OnOk result (Appends (W.contents output.old) (W.contents output.new) (line.now ++ codes "\n")) }
+{
+    write!(output, "{line}\n")
+}
+
+/// Prints the lines of the text up to the first that doesn't begin with a space. The error is the stream's.
+fn put_explained<W: Write>(output: &mut W, text: &str) -> io::Result<()>
+    ensures { OnOk result (Appends (W.contents output.old) (W.contents output.new) (explained (lines_of text.now))) }
+{
+    let mut rest = text;
+    while let Some((line, behind)) = next_line(rest) {
+        if is_indented(line) {
+            put_line(output, line)?;
+        } else {
+            return Ok(());
+        }
+        rest = behind;
+    }
+    Ok(())
+}
+
+/// Prints the topic. The error is the stream's.
+fn put_topic<W: Write>(output: &mut W, topic: &Topic) -> io::Result<()>
+    ensures { OnOk result (Appends (W.contents output.old) (W.contents output.new) (topic_text topic.now)) }
+{
+    let word = told_word(topic.kind);
+    let heading = topic.heading;
+    write!(output, "{word}{heading}\n")?;
+    put_explained(output, topic.behind)
+}
+
+/// Prints which object an error's value tells. The error is the stream's.
+fn put_object<W: Write>(output: &mut W, value: u16) -> io::Result<()>
+    ensures { OnOk result (Appends (W.contents output.old) (W.contents output.new) (object_line value)) }
+{
+    let class = value / CLASS_UNIT;
+    let ctype = value % CLASS_UNIT;
+    write!(
+        output,
+        "  Here N is {value}: class {class}, C-Type {ctype}.\n"
+    )
+}
+
+/// Prints the line if it is a heading. The error is the stream's.
+fn put_heading<W: Write>(output: &mut W, line: &str) -> io::Result<()>
+    ensures { OnOk result (Appends (W.contents output.old) (W.contents output.new) (heading_line line.now)) }
+{
+    if is_indented(line) {
+        return Ok(());
+    }
+    write!(output, "  {line}\n")
+}
+
+/// Prints the headings of the text, and leaves out the lines that begin with spaces. The error is the stream's.
+fn put_headings<W: Write>(output: &mut W, text: &str) -> io::Result<()>
+    ensures { OnOk result (Appends (W.contents output.old) (W.contents output.new) (headings_text (lines_of text.now))) }
+{
+    let mut rest = text;
+    while let Some((line, behind)) = next_line(rest) {
+        put_heading(output, line)?;
+        rest = behind;
+    }
+    Ok(())
+}
+
+/// Prints the headings of the topics of this kind, with a line over them. The error is the stream's.
+fn put_section<W: Write>(output: &mut W, title: &str, kind: Kind) -> io::Result<()>
+    ensures { OnOk result (Appends (W.contents output.old) (W.contents output.new) (section_text title.now kind)) }
+{
+    output.write_all(title.as_bytes())?;
+    put_headings(output, kind.text())
+}
+
+/// Prints what can be asked besides refusals. The error is the stream's.
+fn put_other_topics<W: Write>(output: &mut W) -> io::Result<()>
+    ensures { OnOk result (Appends (W.contents output.old) (W.contents output.new) other_topics_text) }
+{
+    put_section(output, OF_ERRORS, Kind::RsvpError)?;
+    put_section(output, OF_FAULTS, Kind::Fault)
+}
+
+/// Prints all that can be asked. The error is the stream's.
+fn put_topics<W: Write>(output: &mut W) -> io::Result<()>
+    ensures { OnOk result (Appends (W.contents output.old) (W.contents output.new) topics_text) }
+{
+    put_section(output, OF_REFUSALS, Kind::Refusal)?;
+    put_other_topics(output)
+}
+
+/// Prints the topic of an error about an object, and which object its value tells. The error is the stream's.
+fn put_object_topic<W: Write>(output: &mut W, topic: &Topic, value: u16) -> io::Result<()>
+    ensures { OnOk result (Appends (W.contents output.old) (W.contents output.new) (topic_text topic.now ++ object_line value)) }
+{
+    put_topic(output, topic)?;
+    put_object(output, value)
+}
+
+/// Tells that the word asks for nothing, and what can be asked. The error is the stream's.
+fn put_unknown<E: Write>(error: &mut E) -> io::Result<()>
+    ensures { OnOk result (Appends (E.contents error.old) (E.contents error.new) unknown_text) }
+{
+    error.write_all(UNKNOWN.as_bytes())?;
+    put_topics(error)
+}
+
+/// Prints what a word is answered, and gives the status. The error is a stream's.
+fn tell_answer<W: Write, E: Write>(answer: &Answer, output: &mut W, error: &mut E) -> io::Result<u8>
+    ensures status { IfOk result (λ status. status ≡ answer_status answer.now) }
+    ensures shown { OnOk result (Appends (W.contents output.old) (W.contents output.new) (shown_text answer.now)) }
+    ensures told { OnOk result (Appends (E.contents error.old) (E.contents error.new) (told_text answer.now)) }
+{
+    match answer {
+        Answer::Topic(topic) => {
+            put_topic(output, topic)?;
+            Ok(0)
+        }
+        Answer::Object(topic, value) => {
+            put_object_topic(output, topic, *value)?;
+            Ok(0)
+        }
+        Answer::List => {
+            put_topics(output)?;
+            Ok(0)
+        }
+        Answer::Unknown => {
+            put_unknown(error)?;
+            Ok(BAD_WORDS)
+        }
+    }
+}
+
+/// `lsr explain WHAT`: prints what the refusal, the error or the fault means that the word asks for, or tells on the error
+/// stream what can be asked, and gives the status: 0, or 2 for a word that asks for nothing. The error is that a stream
+/// could not be written.
+pub fn run_explain<W: Write, E: Write>(word: &str, output: &mut W, error: &mut E) -> io::Result<u8>
+    ensures { IfOk result (λ status. (answer : Answer) × Explains word.now answer × (status ≡ answer_status answer)
+        × Appends (W.contents output.old) (W.contents output.new) (shown_text answer)
+        × Appends (E.contents error.old) (E.contents error.new) (told_text answer)) }
+{
+    let answer = explain(word);
+    tell_answer(&answer, output, error)
+}

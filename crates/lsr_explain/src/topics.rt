@@ -1,0 +1,101 @@
+//! Topics: what is explained, and which words ask for it.
+ghost use Rattle.std.specs.Prelude.{◌≡◌, option_map};
+ghost use Rattle.lsr_explain.specs.Topics.{found_in, is_asked_by, is_indented, is_sought, seen, text_of, topic_of};
+
+use crate::errors::ERRORS;
+use crate::faults::FAULTS;
+use crate::refusals::REFUSALS;
+use lsr_lines::next_line;
+
+/// What is explained.
+#[derive(Clone, Copy, Debug, PartialEq, Eq)]
+pub enum Kind {
+    /// A refusal.
+    Refusal,
+    /// An error of RSVP.
+    RsvpError,
+    /// A fault of a configuration, or what else is told on the error stream.
+    Fault,
+}
+
+impl Kind {
+    /// The topics of this kind: a heading for each, a line of two words, and behind it lines that begin with spaces.
+    pub(crate) fn text(self) -> &'static str
+        ensures { result.now ≡ text_of self }
+    {
+        match self {
+            Kind::Refusal => REFUSALS,
+            Kind::RsvpError => ERRORS,
+            Kind::Fault => FAULTS,
+        }
+    }
+}
+
+/// Something that an operator sees, and its explanation.
+#[derive(Clone, Copy, Debug)]
+pub struct Topic {
+    /// What it is.
+    pub kind: Kind,
+    /// Its number, code and value or name, and its name or how it is told.
+    pub heading: &'static str,
+    /// What stands behind that: the explanation is the lines up to the first that doesn't begin with a space.
+    pub behind: &'static str,
+}
+
+/// Whether the line begins with a space: it is no heading.
+pub(crate) fn is_indented(line: &str) -> bool
+    ensures { result ≡ is_indented line.now }
+{
+    matches!(line.as_bytes(), [b' ', ..])
+}
+
+/// Whether the word asks for what this heading stands over: it is what stands before its first space or behind it.
+fn is_asked_by(word: &str, heading: &str) -> bool
+    ensures { result ≡ is_asked_by word.now heading.now }
+{
+    match heading.split_once(' ') {
+        Some((first, second)) => first == word || second == word,
+        None => false,
+    }
+}
+
+/// Whether the line is a heading that the word asks for.
+fn is_sought(word: &str, line: &str) -> bool
+    ensures { result ≡ is_sought word.now line.now }
+{
+    if is_indented(line) {
+        return false;
+    }
+    is_asked_by(word, line)
+}
+
+/// The first topic of this kind that the word asks for.
+fn find_in(kind: Kind, word: &str) -> Option<Topic>
+    ensures { option_map seen result ≡ found_in kind word.now }
+{
+    let mut rest = kind.text();
+    while let Some((line, behind)) = next_line(rest) {
+        if is_sought(word, line) {
+            return Some(Topic {
+                kind,
+                heading: line,
+                behind,
+            });
+        }
+        rest = behind;
+    }
+    None
+}
+
+/// The topic that the word asks for by number or name.
+pub fn find_topic(word: &str) -> Option<Topic>
+    ensures { option_map seen result ≡ topic_of word.now }
+{
+    if let Some(topic) = find_in(Kind::Refusal, word) {
+        return Some(topic);
+    }
+    if let Some(topic) = find_in(Kind::RsvpError, word) {
+        return Some(topic);
+    }
+    find_in(Kind::Fault, word)
+}

@@ -1,0 +1,69 @@
+-- What `show` prints of reservations, of the label table and of links: a line for each row.
+use Rattle.std.specs.Prelude.{ℕ, List, [], ◌++◌, codes, take, drop, flat_map, Option, Some, None, Bool, true, false}
+use Rattle.std.specs.Fmt.{decimal}
+use Rattle.hex.specs.Hex.{encode_lower}
+use Rattle.lsr_facts.specs.declared.key.Key.{Key}
+use Rattle.resv_facts.specs.declared.resv_fact.ResvFact.{ResvFact}
+use Rattle.resv_facts.specs.declared.resv_fact.ResvStyle.{ResvStyle}
+use Rattle.resv_facts.specs.declared.resv_fact.ResvStyle.TheVariants as styles
+use Rattle.forwarding_table.specs.declared.action.Action.{Action}
+use Rattle.forwarding_table.specs.declared.action.Action.TheVariants as actions
+use Rattle.lsr_text.specs.Shown.{key_text}
+
+-- a number behind a space
+abbrev pub next_number : ℕ → List ℕ
+next_number n = codes " " ++ decimal n
+
+-- how the LSPs of a session reserve
+abbrev pub style_word : ResvStyle → List ℕ
+style_word styles.FixedFilter = codes "ff"
+style_word styles.SharedExplicit = codes "se"
+
+-- the token bucket rate of a FLOWSPEC: the fourth word of its body (RFC 2210, 3.2)
+abbrev pub rate_bytes : List ℕ → List ℕ
+rate_bytes flowspec = take 4 (drop 12 flowspec)
+
+-- `resv KEY LINK ff|se RATE LABEL`: the link that it is on, its style, the rate that it asks for as the hexadecimal
+-- digits of the rate's word, and the label that the next hop gave
+abbrev pub resv_line : Key × ResvFact → List ℕ
+resv_line row =
+    codes "resv " ++ (key_text row.0 ++ (next_number row.1.link ++ (codes " " ++ (style_word row.1.style ++ (codes " "
+    ++ (encode_lower (rate_bytes row.1.flowspec) ++ (next_number row.1.label ++ codes "\n")))))))
+
+-- a line for each reservation, in their order
+abbrev pub resvs_text : List (Key × ResvFact) → List ℕ
+resvs_text resvs = flat_map resv_line resvs
+
+-- the label below the one on top, where there is one
+abbrev pub pushed_below : Option ℕ → List ℕ
+pushed_below None = []
+pushed_below (Some inner) = next_number inner
+
+-- what is done with a label, or with a payload at the head of a tunnel; the label on top stands behind the one below it
+abbrev pub action_words : Action → List ℕ
+action_words (actions.Swap label link) = codes "swap" ++ (next_number label ++ next_number link)
+action_words (actions.SwapPush inner outer link) = codes "swappush" ++ (next_number inner ++ (next_number outer ++ next_number link))
+action_words actions.Pop = codes "pop"
+action_words (actions.PushHead inner label link) = codes "push" ++ (pushed_below inner ++ (next_number label ++ next_number link))
+
+-- `LABEL swap L LINK`, `LABEL swappush INNER OUTER LINK` or `LABEL pop`
+abbrev pub label_line : ℕ → Action → List ℕ
+label_line label action = decimal label ++ (codes " " ++ (action_words action ++ codes "\n"))
+
+-- `tunnel N push L LINK`, or `tunnel N push INNER OUTER LINK` while a repair is in use
+abbrev pub tunnel_line : ℕ → Action → List ℕ
+tunnel_line tunnel action = codes "tunnel" ++ (next_number tunnel ++ (codes " " ++ (action_words action ++ codes "\n")))
+
+-- whether a link is up
+abbrev pub state_word : Bool → List ℕ
+state_word true = codes "up"
+state_word false = codes "down"
+
+-- numbers, each behind a space
+abbrev pub sum_words : List ℕ → List ℕ
+sum_words sums = flat_map next_number sums
+
+-- `link N up|down LIMIT R0 .. R7`: the link's limit, and what is reserved on it at each priority, in bytes per second
+abbrev pub link_line : ℕ → Bool → ℕ → List ℕ → List ℕ
+link_line number is_up limit sums =
+    codes "link" ++ (next_number number ++ (codes " " ++ (state_word is_up ++ (next_number limit ++ (sum_words sums ++ codes "\n")))))

@@ -1,0 +1,133 @@
+//! What `show` prints of reservations, of the label table and of links: a line for each row.
+ghost use Rattle.std.specs.Prelude.{◌≡◌, ◌++◌, IfOk, OnOk, string_bytes};
+ghost use Rattle.lsr_text.specs.Rows.{action_words, label_line, link_line, rate_bytes, resv_line, resvs_text, state_word, style_word, sum_words, tunnel_line};
+
+use crate::shown::push_key;
+use forwarding_table::Action;
+use lsr_facts::Key;
+use resv_facts::{ResvFact, ResvStyle};
+use rsvp_traffic::Flowspec;
+use std::alloc::{AllocError, Global};
+use std::fmt::Write;
+
+/// Where the token bucket rate stands in the body of a FLOWSPEC, in bytes (RFC 2210, 3.2).
+const RATE_AT: usize = 12;
+/// The bytes of a rate.
+const RATE_LEN: usize = 4;
+/// How many setup priorities there are (RFC 3209, 4.7.3).
+pub const PRIORITIES: usize = 8;
+
+/// How the LSPs of a session reserve, as a word.
+fn style_word(style: ResvStyle) -> &'static str
+    ensures { result.now ≡ style_word style }
+{
+    match style {
+        ResvStyle::FixedFilter => "ff",
+        ResvStyle::SharedExplicit => "se",
+    }
+}
+
+/// The bytes of the FLOWSPEC's token bucket rate; fewer where its body ends before.
+fn rate_bytes(flowspec: &Flowspec) -> &[u8]
+    ensures { result.now ≡ rate_bytes flowspec.now }
+{
+    let body = flowspec.as_slice();
+    let start = body.len().min(RATE_AT);
+    let end = body.len().min(RATE_AT + RATE_LEN);
+    &body[start..end]
+}
+
+/// Appends the line of a reservation: `resv KEY LINK ff|se RATE LABEL`, RATE being the digits of the FLOWSPEC's token
+/// bucket rate. The only error is that memory ran out.
+pub fn push_resv(alloc: Global, text: &mut String, resv: &(Key, ResvFact)) -> Result<(), AllocError>
+    ensures { OnOk result (string_bytes text.new ≡ string_bytes text.old ++ resv_line resv.now) }
+{
+    let (key, fact) = resv;
+    text.push_str("resv ")?;
+    push_key(text, key)?;
+    let link = fact.link;
+    let style = style_word(fact.style);
+    let rate = hex::encode(alloc, rate_bytes(&fact.flowspec))?;
+    let label = fact.label;
+    write!(text, " {link} {style} {rate} {label}\n")
+}
+
+/// The lines of the reservations, one for each in their order. The only error is that memory ran out.
+pub fn resvs_text(alloc: Global, resvs: &[(Key, ResvFact)]) -> Result<String, AllocError>
+    ensures { IfOk result (λ text. string_bytes text ≡ resvs_text resvs.now) }
+{
+    let mut text = String::new(alloc);
+    for resv in resvs {
+        push_resv(alloc, &mut text, resv)?;
+    }
+    Ok(text)
+}
+
+/// Appends what is done with a label, or at the head of a tunnel, in words.
+fn push_action(text: &mut String, action: &Action) -> Result<(), AllocError>
+    ensures { OnOk result (string_bytes text.new ≡ string_bytes text.old ++ action_words action.now) }
+{
+    match *action {
+        Action::Swap { label, link } => write!(text, "swap {label} {link}"),
+        Action::SwapPush { inner, outer, link } => write!(text, "swappush {inner} {outer} {link}"),
+        Action::Pop => text.push_str("pop"),
+        Action::PushHead { inner, label, link } => match inner {
+            Some(inner) => write!(text, "push {inner} {label} {link}"),
+            None => write!(text, "push {label} {link}"),
+        },
+    }
+}
+
+/// Appends the line of a label's action: `LABEL swap L LINK`, `LABEL swappush INNER OUTER LINK` or `LABEL pop`. The only
+/// error is that memory ran out.
+pub fn push_label(text: &mut String, label: u32, action: &Action) -> Result<(), AllocError>
+    ensures { OnOk result (string_bytes text.new ≡ string_bytes text.old ++ label_line label action.now) }
+{
+    write!(text, "{label} ")?;
+    push_action(text, action)?;
+    text.push_str("\n")
+}
+
+/// Appends the line of a tunnel's action at its head: `tunnel N push L LINK`, or `tunnel N push INNER OUTER LINK` while
+/// a repair is in use. The only error is that memory ran out.
+pub fn push_tunnel(text: &mut String, tunnel: u16, action: &Action) -> Result<(), AllocError>
+    ensures { OnOk result (string_bytes text.new ≡ string_bytes text.old ++ tunnel_line tunnel action.now) }
+{
+    write!(text, "tunnel {tunnel} ")?;
+    push_action(text, action)?;
+    text.push_str("\n")
+}
+
+/// Whether a link is up, as a word.
+fn state_word(is_up: bool) -> &'static str
+    ensures { result.now ≡ state_word is_up }
+{
+    if is_up { "up" } else { "down" }
+}
+
+/// Appends the numbers, each behind a space.
+fn push_sums(text: &mut String, sums: &[u64]) -> Result<(), AllocError>
+    ensures { OnOk result (string_bytes text.new ≡ string_bytes text.old ++ sum_words sums.now) }
+{
+    for sum in sums {
+        write!(text, " {sum}")?;
+    }
+    Ok(())
+}
+
+/// Appends the line of a link: `link N up|down LIMIT R0 .. R7`, its limit and what is reserved on it at each priority, 0
+/// (best) to 7, all in bytes per second. The only error is that memory ran out.
+pub fn push_link(
+    text: &mut String,
+    number: u16,
+    is_up: bool,
+    limit: u64,
+    sums: &[u64; PRIORITIES],
+) -> Result<(), AllocError>
+    ensures { OnOk result (string_bytes text.new ≡ string_bytes text.old ++ link_line number is_up limit sums.now) }
+{
+    let state = state_word(is_up);
+    write!(text, "link {number} {state} {limit}")?;
+    push_sums(text, sums)?;
+    text.push_str("\n")
+}
