@@ -1,13 +1,13 @@
-mod Choosing
-mod Claiming
-mod Drafting
-mod Entries
-mod Granting
-mod Holding
-mod Labelling
-mod Repeating
-mod Running
-mod Settling
-mod Silence
-mod Staying
-mod Stepping
+pub mod Choosing
+pub mod Claiming
+pub mod Drafting
+pub mod Entries
+pub mod Granting
+pub mod Holding
+pub mod Labelling
+pub mod Repeating
+pub mod Running
+pub mod Settling
+pub mod Silence
+pub mod Staying
+pub mod Stepping

@@ -1,5 +1,5 @@
 -- What cuts a text at its first newline, what reads a link or a moment, and what a line asks for.
-use Rattle.std.proofs.Common.{◌≡◌, ◌≢◌, ◌<◌, ◌≤◌, ◌^◌, ℕ, suc, List, [], ◌∷◌, ◌++◌, Result, Ok, Err, true, refl, sym, ap, subst, ◌∙◌, arith, codes, get_or, length, ne_eqb, Bor, Bool, false, ap₂, ◌&&◌, ◌||◌, ◌-◌, ◌%◌, nat_le, is_some, if◌then◌else◌}
+use Rattle.std.proofs.Common.{◌≡◌, ◌≢◌, ◌<◌, ◌≤◌, ◌^◌, ℕ, suc, List, [], ◌∷◌, ◌++◌, Result, Ok, Err, true, refl, sym, ap, subst, ◌∙◌, arith, get_or, length, ne_eqb, Bor, Bool, false, ap₂, ◌&&◌, ◌||◌, ◌-◌, ◌%◌, nat_le, is_some, if◌then◌else◌}
 use Rattle.std.proofs.lemmas.List.{append_cancel_left}
 use Rattle.std.specs.Prelude.{Option, Some, None}
 use Rattle.std.specs.Option.{MatchOption}
@@ -15,9 +15,7 @@ use Rattle.std.specs.List.{list_all}
 use Rattle.std.proofs.lemmas.List.Sums.{AllPass-from_list_all, list_all-from_AllPass}
 use Rattle.hex.specs.Hex.{decode_of, decode_pairs, is_hex_digit}
 use Rattle.hex.proofs.HexLemmas.{decode_of-digits, decode_of-ok}
-use Rattle.lsr_lines.specs.declared.lines.Request.{Request}
-use Rattle.lsr_lines.specs.declared.lines.Request.TheVariants as requests
-use Rattle.lsr_lines.specs.Lines.{lines_of, NamesLink, NamesMoment, AsksFor, AsksOf, AsksToReceive, BringsBytes}
+use Rattle.lsr_lines.specs.Lines.{lines_of, NamesLink, NamesMoment, AsksOf, AsksToTake, BringsBehind}
 
 pub own : IsNumeralModel (λ ds. all_ascii_digits ds ≡ true) (digits_value 10)
 own = numerals_by_value _ tells_all_ascii_digits
@@ -62,21 +60,21 @@ no_link digits e link plain h n = digits_parsed 16 digits (Err e) plain h (n.dec
 pub no_moment : {E : Type 0} (digits : List ℕ) (e : E) (moment : ℕ) → get_or digits 0 0 ≢ 43 → ParsesUnsigned 64 10 digits (Err e) → NamesMoment digits moment → ⊥
 no_moment digits e moment plain h n = digits_parsed 64 digits (Err e) plain h (n.decimal, omega (arith, n.some), omega (arith, n.value, n.high))
 
--- the words behind `rx ` are those of the line
-pub words_of : (line words : List ℕ) (link : ℕ) (message : List ℕ) → line ≡ codes "rx " ++ words → (a : AsksToReceive line link message) → words ≡ a.link_digits ++ (32 ∷ a.hex_digits)
-words_of line words link message e a = append_cancel_left (codes "rx ") words _ (sym e ∙ a.parts)
+-- what is behind the word is that of the line
+pub words_of : (word line words : List ℕ) (link : ℕ) (bytes : List ℕ) → line ≡ word ++ words → (a : AsksToTake word line link bytes) → words ≡ a.link_digits ++ (32 ∷ a.hex_digits)
+words_of word line words link bytes e a = append_cancel_left word words _ (sym e ∙ a.parts)
 
 no_space : (digits : List ℕ) → all_ascii_digits digits ≡ true → (i : ℕ) → i < length digits → get_or digits i 0 ≢ 32
 no_space digits h = not_in_digits own digits 32 h (λ r. absurd (omega (arith, r.0)))
 
 -- so the first space parts them
-pub parts_of : (words : List ℕ) (line : List ℕ) (link : ℕ) (message : List ℕ) (r : Option (Bor (List ℕ) × Bor (List ℕ))) → line ≡ codes "rx " ++ words → IsSplitOnceResult 32 words r → (a : AsksToReceive line link message) → MatchOption r ⊥ (λ x. (x.0.now ≡ a.link_digits) × (x.1.now ≡ a.hex_digits))
-parts_of words line link message r e h a = split_after 32 words a.link_digits a.hex_digits r h (omega arith) (words_of line words link message e a) (no_space a.link_digits a.names.decimal)
+pub parts_of : (word words : List ℕ) (line : List ℕ) (link : ℕ) (bytes : List ℕ) (r : Option (Bor (List ℕ) × Bor (List ℕ))) → line ≡ word ++ words → IsSplitOnceResult 32 words r → (a : AsksToTake word line link bytes) → MatchOption r ⊥ (λ x. (x.0.now ≡ a.link_digits) × (x.1.now ≡ a.hex_digits))
+parts_of word words line link bytes r e h a = split_after 32 words a.link_digits a.hex_digits r h (omega arith) (words_of word line words link bytes e a) (no_space a.link_digits a.names.decimal)
 
 -- so there is a space
-pub no_parts : (line words : List ℕ) (link : ℕ) (message : List ℕ) (r : Option (Bor (List ℕ) × Bor (List ℕ))) → ((x : Bor (List ℕ) × Bor (List ℕ)) → r ≡ Some x → ⊥) → line ≡ codes "rx " ++ words → IsSplitOnceResult 32 words r → AsksToReceive line link message → ⊥
-no_parts line words link message None none e h a = parts_of words line link message None e h a
-no_parts line words link message (Some x) none e h a = none x refl
+pub no_parts : (word line words : List ℕ) (link : ℕ) (bytes : List ℕ) (r : Option (Bor (List ℕ) × Bor (List ℕ))) → ((x : Bor (List ℕ) × Bor (List ℕ)) → r ≡ Some x → ⊥) → line ≡ word ++ words → IsSplitOnceResult 32 words r → AsksToTake word line link bytes → ⊥
+no_parts word line words link bytes None none e h a = parts_of word words line link bytes None e h a
+no_parts word line words link bytes (Some x) none e h a = none x refl
 
 -- and what stands before it is the link
 pub same_names : (digits others : List ℕ) (link : ℕ) → digits ≡ others → NamesLink others link → NamesLink digits link
@@ -87,10 +85,10 @@ no_name digits others link None none h e n = h link (same_names digits others li
 no_name digits others link (Some x) none h e n = none x refl
 
 -- where there is no memory for the bytes, the line brings some
-pub brings : (line words link_digits hex_digits : List ℕ) (link : ℕ) → line ≡ codes "rx " ++ words → words ≡ link_digits ++ (32 ∷ hex_digits) → NamesLink link_digits link
-    → (bytes : List ℕ) × (decode_of hex_digits ≡ Ok bytes) × (1 ≤ length bytes) → BringsBytes line
-brings line words link_digits hex_digits link e f names h =
-    record { link = link; message = h.0; asks = record { link_digits = link_digits; hex_digits = hex_digits; parts = e ∙ ap (λ w. codes "rx " ++ w) f; names = names; bytes = h.1 }; some = h.2 }
+pub brings : (word line words link_digits hex_digits : List ℕ) (link : ℕ) → line ≡ word ++ words → words ≡ link_digits ++ (32 ∷ hex_digits) → NamesLink link_digits link
+    → (bytes : List ℕ) × (decode_of hex_digits ≡ Ok bytes) × (1 ≤ length bytes) → BringsBehind word line
+brings word line words link_digits hex_digits link e f names h =
+    record { link = link; bytes = h.0; asks = record { link_digits = link_digits; hex_digits = hex_digits; parts = e ∙ ap (λ w. word ++ w) f; names = names; spelled = h.1 }; some = h.2 }
 
 pub for_error : {T E P : Type 0} (r : Result T E) → P → OnErr r P
 for_error (Ok x) p = tt
@@ -143,16 +141,3 @@ spelled_some digits bytes h low = let ok = decode_of-ok digits bytes h in omega 
 pub number_behind : (Names : List ℕ → ℕ → Type 0) (word line digits : List ℕ) (r : Option ℕ) → line ≡ word ++ digits → MatchOption r ((n : ℕ) → Names digits n → ⊥) (Names digits) → MatchOption r ((n : ℕ) → AsksOf Names word line n → ⊥) (AsksOf Names word line)
 number_behind Names word line digits None e h = λ n a. h n (subst (λ d. Names d n) (append_cancel_left word a.digits digits (sym a.parts ∙ e)) a.names)
 number_behind Names word line digits (Some n) e h = record { digits = digits; parts = e; names = h }
-
--- a line that is none of these asks for nothing
-pub asks_nothing : (line : List ℕ) → (line ≢ codes "restart") × (line ≢ codes "start") × (line ≢ codes "show paths") × (line ≢ codes "show recent")
-    → ((moment : ℕ) → AsksOf NamesMoment (codes "tick ") line moment → ⊥) → ((link : ℕ) → AsksOf NamesLink (codes "up ") line link → ⊥) → ((link : ℕ) → AsksOf NamesLink (codes "down ") line link → ⊥)
-    → ((link : ℕ) (message : List ℕ) → AsksToReceive line link message → ⊥) → (request : Request) → AsksFor line request → ⊥
-asks_nothing line words tick up down receive (requests.Receive arrival) a = receive arrival.link arrival.message.items a
-asks_nothing line words tick up down receive (requests.Tick moment) a = tick moment a
-asks_nothing line words tick up down receive (requests.LinkUp link) a = up link a
-asks_nothing line words tick up down receive (requests.LinkDown link) a = down link a
-asks_nothing line words tick up down receive requests.Restart a = words.0 a
-asks_nothing line words tick up down receive requests.Start a = words.1 a
-asks_nothing line words tick up down receive requests.ShowPaths a = words.2 a
-asks_nothing line words tick up down receive requests.ShowRecent a = words.3 a

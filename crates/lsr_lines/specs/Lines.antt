@@ -1,5 +1,5 @@
 -- How a text is cut into lines, and which line asks for what.
-use Rattle.std.specs.Prelude.{◌≡◌, ◌≤◌, ◌<◌, ◌^◌, ◌==◌, ℕ, length, List, [], ◌∷◌, ◌++◌, Ok, true, codes, if◌then◌else◌}
+use Rattle.std.specs.Prelude.{◌≡◌, ◌≤◌, ◌<◌, ◌^◌, ◌==◌, ◌⊎◌, ℕ, length, List, [], ◌∷◌, ◌++◌, Ok, true, codes, if◌then◌else◌}
 use Rattle.std.specs.List.{onto_first}
 use Rattle.std.specs.Str.{all_ascii_digits}
 use Rattle.std.specs.Str.Parse.{digits_value}
@@ -19,21 +19,25 @@ pub record NamesLink (digits : List ℕ) (link : ℕ) : Type 0 where
   pub low : 1 ≤ link
   pub high : link ≤ 65535
 
--- `rx LINK HEX`: a link, and the bytes of a message in hexadecimal digits of either case, perhaps none; the
+-- A word with one space behind it, then a link, then bytes in hexadecimal digits of either case, perhaps none; the
 -- words are parted by one space.
-pub record AsksToReceive (line : List ℕ) (link : ℕ) (message : List ℕ) : Type 0 where
+pub record AsksToTake (word line : List ℕ) (link : ℕ) (bytes : List ℕ) : Type 0 where
   pub link_digits : List ℕ
   pub hex_digits : List ℕ
-  pub parts : line ≡ codes "rx " ++ (link_digits ++ (32 ∷ hex_digits))
+  pub parts : line ≡ word ++ (link_digits ++ (32 ∷ hex_digits))
   pub names : NamesLink link_digits link
-  pub bytes : decode_of hex_digits ≡ Ok message
+  pub spelled : decode_of hex_digits ≡ Ok bytes
 
--- A line that brings bytes: `rx LINK HEX` with a message that isn't empty.
-pub record BringsBytes (line : List ℕ) : Type 0 where
+-- a line that brings a byte or more behind the word
+pub record BringsBehind (word line : List ℕ) : Type 0 where
   pub link : ℕ
-  pub message : List ℕ
-  pub asks : AsksToReceive line link message
-  pub some : 1 ≤ length message
+  pub bytes : List ℕ
+  pub asks : AsksToTake word line link bytes
+  pub some : 1 ≤ length bytes
+
+-- A line that brings bytes: `rx LINK HEX` with a message, or `frame LINK HEX` with a frame, that isn't empty.
+abbrev pub BringsBytes : List ℕ → Type 0
+BringsBytes line = BringsBehind (codes "rx ") line ⊎ BringsBehind (codes "frame ") line
 
 -- A moment: decimal digits, leading zeros taken, that fit 64 bits.
 pub record NamesMoment (digits : List ℕ) (moment : ℕ) : Type 0 where
@@ -48,14 +52,18 @@ pub record AsksOf (Names : List ℕ → ℕ → Type 0) (word line : List ℕ) (
   pub parts : line ≡ word ++ digits
   pub names : Names digits number
 
--- What a line asks for: `rx LINK HEX`, `tick N`, `up LINK`, `down LINK`, `restart`, `start`, `show paths` or `show
--- recent`.
+-- What a line asks for: `rx LINK HEX`, `frame LINK HEX`, `tick N`, `up LINK`, `down LINK`, `restart`, `start`, or `show`
+-- with what is shown.
 abbrev pub AsksFor : List ℕ → Request → Type 0
-AsksFor line (requests.Receive arrival) = AsksToReceive line arrival.link arrival.message.items
+AsksFor line (requests.Receive arrival) = AsksToTake (codes "rx ") line arrival.link arrival.bytes.items
+AsksFor line (requests.Frame arrival) = AsksToTake (codes "frame ") line arrival.link arrival.bytes.items
 AsksFor line (requests.Tick moment) = AsksOf NamesMoment (codes "tick ") line moment
 AsksFor line (requests.LinkUp link) = AsksOf NamesLink (codes "up ") line link
 AsksFor line (requests.LinkDown link) = AsksOf NamesLink (codes "down ") line link
 AsksFor line requests.Restart = line ≡ codes "restart"
 AsksFor line requests.Start = line ≡ codes "start"
 AsksFor line requests.ShowPaths = line ≡ codes "show paths"
+AsksFor line requests.ShowResvs = line ≡ codes "show resvs"
+AsksFor line requests.ShowTable = line ≡ codes "show table"
+AsksFor line requests.ShowLinks = line ≡ codes "show links"
 AsksFor line requests.ShowRecent = line ≡ codes "show recent"

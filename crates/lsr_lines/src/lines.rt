@@ -6,24 +6,26 @@ ghost use Rattle.std.specs.List.{list_all};
 ghost use Rattle.std.specs.Option.{MatchOption};
 ghost use Rattle.hex.specs.Hex.{decode_of};
 ghost use Rattle.lsr_lines.specs.declared.lines.Request.{Request};
-ghost use Rattle.lsr_lines.specs.Lines.{lines_of, AsksFor, AsksOf, AsksToReceive, BringsBytes, NamesLink, NamesMoment};
+ghost use Rattle.lsr_lines.specs.Lines.{lines_of, AsksFor, AsksOf, AsksToTake, BringsBehind, BringsBytes, NamesLink, NamesMoment};
 
 use std::alloc::{AllocError, Global};
 
-/// A message that came over a link.
+/// What came over a link.
 #[derive(Debug, Drop)]
 pub struct Arrival {
     /// The link's number, at least 1.
     pub link: u16,
-    /// The message's bytes.
-    pub message: Vec<u8>,
+    /// Its bytes: those of a message, or of a whole frame.
+    pub bytes: Vec<u8>,
 }
 
 /// What a line of standard input asks for.
 #[derive(Debug, Drop)]
 pub enum Request {
-    /// `rx LINK HEX`: the message came.
+    /// `rx LINK HEX`: the message came, in a Hop frame.
     Receive(Arrival),
+    /// `frame LINK HEX`: the datagram came, which is a frame of any kind.
+    Frame(Arrival),
     /// `tick N`: this moment came, in milliseconds.
     Tick(u64),
     /// `up LINK`: the link of this number, at least 1, came up.
@@ -36,12 +38,20 @@ pub enum Request {
     Start,
     /// `show paths`: the paths that the router knows are printed.
     ShowPaths,
+    /// `show resvs`: the reservations that stand are printed.
+    ShowResvs,
+    /// `show table`: the label table is printed.
+    ShowTable,
+    /// `show links`: the links are printed, with what is reserved on them.
+    ShowLinks,
     /// `show recent`: the last replies are printed.
     ShowRecent,
 }
 
 // The words of lines, up to the first number.
 const RECEIVE: &str = "rx ";
+
+const FRAME: &str = "frame ";
 
 const TICK: &str = "tick ";
 
@@ -54,6 +64,12 @@ const RESTART: &str = "restart";
 const START: &str = "start";
 
 const SHOW_PATHS: &str = "show paths";
+
+const SHOW_RESVS: &str = "show resvs";
+
+const SHOW_TABLE: &str = "show table";
+
+const SHOW_LINKS: &str = "show links";
 
 const SHOW_RECENT: &str = "show recent";
 
@@ -117,10 +133,10 @@ fn read_moment_behind(word: &str, line: &str) -> Option<u64>
     read_moment(digits)
 }
 
-/// What a line of fixed words asks for; none where it is no such line.
-fn read_words(line: &str) -> Option<Request>
+/// What a line of one word asks for, `restart` or `start`; none where it is no such line.
+fn read_word(line: &str) -> Option<Request>
     ensures { MatchOption result
-        ((line.now ≢ codes "restart") × (line.now ≢ codes "start") × (line.now ≢ codes "show paths") × (line.now ≢ codes "show recent"))
+        ((line.now ≢ codes "restart") × (line.now ≢ codes "start"))
         (AsksFor line.now) }
 {
     if line == RESTART {
@@ -129,11 +145,50 @@ fn read_words(line: &str) -> Option<Request>
     if line == START {
         return Some(Request::Start);
     }
+    None
+}
+
+/// What a line asks to be shown: `show paths|resvs|table|links|recent`; none where it is no such line.
+fn read_show(line: &str) -> Option<Request>
+    ensures { MatchOption result
+        ((line.now ≢ codes "show paths") × (line.now ≢ codes "show resvs") × (line.now ≢ codes "show table")
+        × (line.now ≢ codes "show links") × (line.now ≢ codes "show recent"))
+        (AsksFor line.now) }
+{
     if line == SHOW_PATHS {
         return Some(Request::ShowPaths);
     }
+    if line == SHOW_RESVS {
+        return Some(Request::ShowResvs);
+    }
+    if line == SHOW_TABLE {
+        return Some(Request::ShowTable);
+    }
+    if line == SHOW_LINKS {
+        return Some(Request::ShowLinks);
+    }
     if line == SHOW_RECENT {
         return Some(Request::ShowRecent);
+    }
+    None
+}
+
+/// What a line that names a link or a moment asks for: `tick N`, `up LINK` or `down LINK`; none where it is no such
+/// line.
+fn read_number(line: &str) -> Option<Request>
+    ensures { MatchOption result
+        (((moment : ℕ) → ¬ AsksOf NamesMoment (codes "tick ") line.now moment)
+        × ((link : ℕ) → ¬ AsksOf NamesLink (codes "up ") line.now link) × ((link : ℕ) → ¬ AsksOf NamesLink (codes "down ") line.now link))
+        (AsksFor line.now) }
+{
+    if let Some(moment) = read_moment_behind(TICK, line) {
+        return Some(Request::Tick(moment));
+    }
+    if let Some(link) = read_link_behind(LINK_UP, line) {
+        return Some(Request::LinkUp(link));
+    }
+    if let Some(link) = read_link_behind(LINK_DOWN, line) {
+        return Some(Request::LinkDown(link));
     }
     None
 }
@@ -174,15 +229,15 @@ fn read_bytes(alloc: Global, digits: &str) -> Result<Option<Vec<u8>>, AllocError
     }
 }
 
-/// The arrival that the line asks for, `rx LINK HEX`; none where it is no such line. The only error is that there is no
-/// memory for the message's bytes.
-fn read_arrival(alloc: Global, line: &str) -> Result<Option<Arrival>, AllocError>
+/// What the line brings over a link behind the word, which ends with a space, as `rx LINK HEX` does; none where it is no
+/// such line. The only error is that there is no memory for the bytes.
+fn read_arrival(alloc: Global, word: &str, line: &str) -> Result<Option<Arrival>, AllocError>
     ensures arrival { IfOk result (λ arrival. MatchOption arrival
-        ((link : ℕ) (message : List ℕ) → ¬ AsksToReceive line.now link message)
-        (λ a. AsksToReceive line.now a.link a.message.items)) }
-    ensures memory { OnErr result (BringsBytes line.now) }
+        ((link : ℕ) (bytes : List ℕ) → ¬ AsksToTake word.now line.now link bytes)
+        (λ a. AsksToTake word.now line.now a.link a.bytes.items)) }
+    ensures memory { OnErr result (BringsBehind word.now line.now) }
 {
-    let Some(words) = line.strip_prefix(RECEIVE) else {
+    let Some(words) = line.strip_prefix(word) else {
         return Ok(None);
     };
     let Some((link_digits, hex_digits)) = words.split_once(' ') else {
@@ -192,34 +247,34 @@ fn read_arrival(alloc: Global, line: &str) -> Result<Option<Arrival>, AllocError
         return Ok(None);
     };
     match read_bytes(alloc, hex_digits)? {
-        Some(message) => Ok(Some(Arrival { link, message })),
+        Some(bytes) => Ok(Some(Arrival { link, bytes })),
         None => Ok(None),
     }
 }
 
-/// What the line asks for: `rx LINK HEX`, `tick N`, `up LINK`, `down LINK`, `restart`, `start`, `show paths` or `show
-/// recent`; none where it is no such line. Words are parted by one space. The only error is that there is no memory for
-/// the bytes of a message, so it never comes in place of none.
+/// What the line asks for: `rx LINK HEX`, `frame LINK HEX`, `tick N`, `up LINK`, `down LINK`, `restart`, `start`, or
+/// `show paths|resvs|table|links|recent`; none where it is no such line. Words are parted by one space. The only error is
+/// that there is no memory for bytes that the line brings, so it never comes in place of none.
 pub fn read_request(alloc: Global, line: &str) -> Result<Option<Request>, AllocError>
     ensures request { IfOk result (λ request. MatchOption request
         ((asked : Request) → ¬ AsksFor line.now asked)
         (AsksFor line.now)) }
     ensures memory { OnErr result (BringsBytes line.now) }
 {
-    if let Some(request) = read_words(line) {
+    if let Some(request) = read_word(line) {
         return Ok(Some(request));
     }
-    if let Some(moment) = read_moment_behind(TICK, line) {
-        return Ok(Some(Request::Tick(moment)));
+    if let Some(request) = read_show(line) {
+        return Ok(Some(request));
     }
-    if let Some(link) = read_link_behind(LINK_UP, line) {
-        return Ok(Some(Request::LinkUp(link)));
+    if let Some(request) = read_number(line) {
+        return Ok(Some(request));
     }
-    if let Some(link) = read_link_behind(LINK_DOWN, line) {
-        return Ok(Some(Request::LinkDown(link)));
+    if let Some(arrival) = read_arrival(alloc, RECEIVE, line)? {
+        return Ok(Some(Request::Receive(arrival)));
     }
-    match read_arrival(alloc, line)? {
-        Some(arrival) => Ok(Some(Request::Receive(arrival))),
+    match read_arrival(alloc, FRAME, line)? {
+        Some(arrival) => Ok(Some(Request::Frame(arrival))),
         None => Ok(None),
     }
 }

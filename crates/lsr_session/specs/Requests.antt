@@ -1,23 +1,39 @@
 -- What a session answers to a request.
-use Rattle.std.specs.Prelude.{◌≡◌, ◌-◌, ℕ, List, ◌∷◌, ◌++◌, [], length, drop, None, Result, Ok, Err}
+use Rattle.std.specs.Prelude.{◌≡◌, ◌==◌, ◌-◌, ℕ, List, ◌∷◌, ◌++◌, [], length, drop, map, flat_map, T, Bool, false, None, Result, Ok, Err}
+use Rattle.std.specs.Bool.{MatchBool}
+use Rattle.std.specs.FinMap.Entries.{is_sorted}
+use Rattle.std.specs.Ordering.{nat_cmp}
+use Rattle.forwarding_table.specs.declared.action.Action.{Action}
 use Rattle.router_events.specs.declared.events.Made.{Made}
 use Rattle.router_events.specs.declared.events.Event.{Event}
 use Rattle.router_events.specs.declared.events.Event.TheVariants as events
 use Rattle.lsr_facts.specs.declared.refusal.Refusal.{Refusal}
 use Rattle.lsr_facts.specs.declared.reply.Reply.{Reply}
 use Rattle.lsr_facts.specs.declared.reply.Reply.TheVariants as replies
+use Rattle.lsr_facts.specs.declared.router.Link.{Link}
+use Rattle.resv_facts.specs.Claims.{reserved_of}
+use Rattle.abstract_router.specs.Places.{is_up}
+use Rattle.abstract_lsr.specs.Preempting.{claims_of}
+use Rattle.abstract_lsr.specs.States.{State}
 use Rattle.router_events.specs.Frames.{head_fault}
-use Rattle.router_machine.specs.States.{State}
+use Rattle.label_table.specs.Rows.{IsTableOf}
+use Rattle.router_machine.specs.States.{RouterState}
 use Rattle.router_machine.specs.Serving.{IsEventOf}
 use Rattle.router_machine.specs.Machines.{IsDatagramLeft, IsEventLeft, IsTaken, MayRunOut}
-use Rattle.lsr_text.specs.Answers.{answer_text, replies_text}
+use Rattle.router_machine.specs.Passing.{IsPassed}
+use Rattle.router_machine.specs.declared.passing.Passed.{Passed}
+use Rattle.router_machine.specs.declared.passing.Passed.TheVariants as passes
+use Rattle.wire_frames.specs.Frames.{IsWhole}
+use Rattle.lsr_text.specs.Answers.{answer_text, refusal_line, replies_text}
+use Rattle.lsr_text.specs.FrameLines.{delivery_line, sent_line}
+use Rattle.lsr_text.specs.Rows.{link_line, resvs_text, table_text}
 use Rattle.lsr_text.specs.Shown.{paths_text}
 use Rattle.lsr_lines.specs.declared.lines.Request.{Request}
 use Rattle.lsr_lines.specs.declared.lines.Request.TheVariants as requests
 
 -- a session: what its router is and knows, and the last replies, the newest at the end
 pub record SessionState : Type 0 where
-  pub router : State
+  pub router : RouterState
   pub recent : List Reply
 
 -- the last 32 replies
@@ -26,14 +42,14 @@ latest replies = drop (length replies - 32) replies
 
 -- An event: it makes its step; or it is left out, and leaves the router as it was. Memory may run out only for one that
 -- isn't silent, while the router runs.
-pub record TakesEvent (before : State) (event : Event) (answer : Result Made Refusal) (after : State) : Type 0 where
-  pub taken : IsTaken before.router before.facts (λ e. e ≡ event) (IsEventLeft before.facts event) (MayRunOut before.router before.facts event) after.facts answer
+pub record TakesEvent (before : RouterState) (event : Event) (answer : Result Made Refusal) (after : RouterState) : Type 0 where
+  pub taken : IsTaken before.router before.state (λ e. e ≡ event) (IsEventLeft before.state event) (MayRunOut before.router before.state event) after.state answer
   pub router : after.router ≡ before.router
 
 -- A datagram that came over a link: the event that it is makes its step; or it is left out, and leaves the router as
 -- it was. Memory may run out only where its head has no fault.
-pub record TakesDatagram (before : State) (link : ℕ) (datagram : List ℕ) (answer : Result Made Refusal) (after : State) : Type 0 where
-  pub taken : IsTaken before.router before.facts (IsEventOf link datagram) (IsDatagramLeft before.facts datagram) (head_fault datagram ≡ None) after.facts answer
+pub record TakesDatagram (before : RouterState) (link : ℕ) (datagram : List ℕ) (answer : Result Made Refusal) (after : RouterState) : Type 0 where
+  pub taken : IsTaken before.router before.state (IsEventOf link datagram) (IsDatagramLeft before.state datagram) (head_fault datagram ≡ None) after.state answer
   pub router : after.router ≡ before.router
 
 -- what is answered, without what is sent
@@ -46,24 +62,89 @@ pub record Tells (before : SessionState) (answer : Result Made Refusal) (printed
   pub shown : printed ≡ answer_text answer
   pub recent : after.recent ≡ latest (before.recent ++ reply_of answer ∷ [])
 
+-- what is printed for a datagram that is taken as an event
+abbrev pub PrintsDatagram : SessionState → ℕ → List ℕ → List ℕ → SessionState → Type 0
+PrintsDatagram before link datagram printed after =
+    (answer : Result Made Refusal) × TakesDatagram before.router link datagram answer after.router × Tells before answer printed after
+
 -- what is printed for a message that came: the answer to the Hop frame that holds it, whose first byte is 1
 abbrev pub PrintsArrival : SessionState → ℕ → List ℕ → List ℕ → SessionState → Type 0
-PrintsArrival before link message printed after =
-    (answer : Result Made Refusal) × TakesDatagram before.router link (1 ∷ message) answer after.router × Tells before answer printed after
+PrintsArrival before link message printed after = PrintsDatagram before link (1 ∷ message) printed after
+
+-- a datagram that begins as a Labelled frame does, whose kind is 2
+abbrev pub is_labelled : List ℕ → Bool
+is_labelled [] = false
+is_labelled (kind ∷ rest) = kind == 2
+
+-- what is printed for what becomes of a labelled frame: `frame LINK HEX` where it is sent on, `deliver HEX` where its
+-- payload is for this router, or its refusal
+abbrev pub passed_text : Result Passed Refusal → List ℕ
+passed_text (Ok (passes.Sent link frame)) = sent_line link frame
+passed_text (Ok (passes.Delivered payload)) = delivery_line payload
+passed_text (Err refusal) = refusal_line refusal
+
+-- a frame that is sent on can be written
+abbrev pub IsWholePassed : Result Passed Refusal → Type 0
+IsWholePassed (Ok (passes.Sent link frame)) = IsWhole frame
+IsWholePassed answer = Unit {0}
+
+-- the last replies then: a refusal is one, and a frame that is sent on or delivered has none
+abbrev pub remembered : List Reply → Result Passed Refusal → List Reply
+remembered recent (Ok passed) = recent
+remembered recent (Err refusal) = latest (recent ++ replies.Refused refusal ∷ [])
+
+-- What becomes of a labelled frame by the router's label table is printed. The router stays as it was, cold or running.
+pub record TellsPassed (before : SessionState) (datagram : List ℕ) (answer : Result Passed Refusal) (printed : List ℕ) (after : SessionState) : Type 0 where
+  pub passed : IsPassed before.router.state datagram answer
+  pub shown : printed ≡ passed_text answer
+  pub router : after.router ≡ before.router
+  pub recent : after.recent ≡ remembered before.recent answer
+
+-- what is printed for a labelled frame
+abbrev pub PrintsPassed : SessionState → List ℕ → List ℕ → SessionState → Type 0
+PrintsPassed before datagram printed after = (answer : Result Passed Refusal) × TellsPassed before datagram answer printed after
+
+-- what is printed for a frame that came: a labelled one is passed on, and any other is taken as an event
+abbrev pub PrintsFrame : SessionState → ℕ → List ℕ → List ℕ → SessionState → Type 0
+PrintsFrame before link datagram printed after =
+    MatchBool (is_labelled datagram) (PrintsPassed before datagram printed after) (PrintsDatagram before link datagram printed after)
 
 -- what is printed for an event
 abbrev pub PrintsEvent : SessionState → Event → List ℕ → SessionState → Type 0
 PrintsEvent before event printed after =
     (answer : Result Made Refusal) × TakesEvent before.router event answer after.router × Tells before answer printed after
 
+-- The label table is printed: a line for each label that has an action, in the order of the labels.
+pub record PrintsTable (state : State) (printed : List ℕ) : Type 0 where
+  pub rows : List (ℕ × Action)
+  pub table : IsTableOf state rows
+  pub sorted : T (is_sorted nat_cmp rows)
+  pub shown : printed ≡ table_text rows
+
+-- what is reserved of a link at each priority, 0 (best) to 7
+abbrev pub sums_of : State → ℕ → List ℕ
+sums_of s link = map (λ priority. reserved_of link priority (claims_of s.facts.paths s.resvs)) (0 ∷ 1 ∷ 2 ∷ 3 ∷ 4 ∷ 5 ∷ 6 ∷ 7 ∷ [])
+
+-- the line of a link: whether it is up, its limit, and what is reserved of it
+abbrev pub link_text : State → ℕ × Link → List ℕ
+link_text s link = link_line link.0 (is_up s.facts.up link.0) link.1.limit (sums_of s link.0)
+
+-- a line for each link of the router, in the order of their numbers
+abbrev pub links_text : RouterState → List ℕ
+links_text r = flat_map (link_text r.state) r.router.links
+
 -- What is printed for a request, and what the session is then: the answer to an event, whose reply is the newest of
--- the last ones; or what the session shows of itself as it stands.
+-- the last ones; what becomes of a labelled frame; or what the session shows of itself as it stands.
 abbrev pub PrintsAnswer : SessionState → Request → List ℕ → SessionState → Type 0
-PrintsAnswer before (requests.Receive arrival) printed after = PrintsArrival before arrival.link arrival.message.items printed after
+PrintsAnswer before (requests.Receive arrival) printed after = PrintsArrival before arrival.link arrival.bytes.items printed after
+PrintsAnswer before (requests.Frame arrival) printed after = PrintsFrame before arrival.link arrival.bytes.items printed after
 PrintsAnswer before (requests.Tick moment) printed after = PrintsEvent before (events.Tick moment) printed after
 PrintsAnswer before (requests.LinkUp link) printed after = PrintsEvent before (events.LinkUp link) printed after
 PrintsAnswer before (requests.LinkDown link) printed after = PrintsEvent before (events.LinkDown link) printed after
 PrintsAnswer before requests.Restart printed after = PrintsEvent before events.Restart printed after
 PrintsAnswer before requests.Start printed after = PrintsEvent before events.Start printed after
-PrintsAnswer before requests.ShowPaths printed after = (printed ≡ paths_text before.router.facts.paths) × (after ≡ before)
+PrintsAnswer before requests.ShowPaths printed after = (printed ≡ paths_text before.router.state.facts.paths) × (after ≡ before)
+PrintsAnswer before requests.ShowResvs printed after = (printed ≡ resvs_text before.router.state.resvs) × (after ≡ before)
+PrintsAnswer before requests.ShowTable printed after = PrintsTable before.router.state printed × (after ≡ before)
+PrintsAnswer before requests.ShowLinks printed after = (printed ≡ links_text before.router) × (after ≡ before)
 PrintsAnswer before requests.ShowRecent printed after = (printed ≡ replies_text before.recent) × (after ≡ before)

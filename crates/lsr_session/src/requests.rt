@@ -1,23 +1,24 @@
 //! What a session answers to a request.
 ghost use Rattle.std.specs.Prelude.{◌≡◌, ◌∷◌, ◌++◌, [], IfOk, string_bytes};
 ghost use Rattle.lsr_text.specs.Answers.{answer_text, replies_text};
-ghost use Rattle.lsr_session.specs.Requests.{PrintsAnswer, PrintsArrival, PrintsEvent, TakesDatagram, TakesEvent, latest, reply_of};
-ghost use Rattle.lsr_text.specs.Shown.{paths_text};
+ghost use Rattle.lsr_session.specs.Requests.{IsWholePassed, PrintsAnswer, PrintsArrival, PrintsDatagram, PrintsEvent, PrintsFrame, PrintsPassed, TakesDatagram, TakesEvent, latest, passed_text, remembered, reply_of};
 
+use crate::passing::{is_labelled, pass, passed_text, remember};
+use crate::shown::{show_links, show_paths, show_resvs, show_table};
 use circular_buffer::HeapCircularBuffer;
 use lsr_facts::{Refusal, Reply};
 use lsr_lines::{Answers, Arrival, Request};
-use lsr_text::{answer_text, paths_text, push_replies};
+use lsr_text::{answer_text, push_replies};
 use router_events::{Event, KIND_HOP, Made};
-use router_machine::Machine;
+use router_machine::{Machine, Passed};
 use std::alloc::{AllocError, Global};
 use std::marker::Model;
 
 /// How many replies are remembered.
 const RECENT_REPLIES: usize = 32;
 
-/// A session of `lsr step`: its router, and the last replies. Contracts see what the router knows, and the list of
-/// these replies.
+/// A session of `lsr step`: its router, and the last replies. Contracts see what the router is and knows, and the list
+/// of these replies.
 #[derive(Drop)]
 pub struct Session {
     router: Machine,
@@ -53,13 +54,26 @@ impl Answers for Session {
     fn answer(self, alloc: Global, request: &Request) -> (Session, Result<String, AllocError>) {
         match request {
             Request::Receive(arrival) => answer_arrival(alloc, self, arrival),
+            Request::Frame(arrival) => answer_frame(alloc, self, arrival),
             Request::Tick(moment) => answer_event(alloc, self, Event::Tick(*moment)),
             Request::LinkUp(link) => answer_event(alloc, self, Event::LinkUp(*link)),
             Request::LinkDown(link) => answer_event(alloc, self, Event::LinkDown(*link)),
             Request::Restart => answer_event(alloc, self, Event::Restart),
             Request::Start => answer_event(alloc, self, Event::Start),
             Request::ShowPaths => {
-                let text = show_paths(alloc, &self);
+                let text = show_paths(alloc, &self.router);
+                (self, text)
+            }
+            Request::ShowResvs => {
+                let text = show_resvs(alloc, &self.router);
+                (self, text)
+            }
+            Request::ShowTable => {
+                let text = show_table(alloc, &self.router);
+                (self, text)
+            }
+            Request::ShowLinks => {
+                let text = show_links(alloc, &self.router);
                 (self, text)
             }
             Request::ShowRecent => {
@@ -123,21 +137,78 @@ fn take_event(alloc: Global, router: Machine, event: Event) -> (Machine, Result<
     router.serve_event(alloc, event)
 }
 
+/// Serves a datagram that came, and prints its answer.
+fn answer_datagram(
+    alloc: Global,
+    session: Session,
+    link: u16,
+    datagram: &[u8],
+) -> (Session, Result<String, AllocError>)
+    ensures { IfOk result.1 (λ text. PrintsDatagram session link datagram.now (string_bytes text) result.0) }
+{
+    let Session { router, recent } = session;
+    let (router, answer) = take_datagram(alloc, router, link, datagram);
+    tell(alloc, router, recent, &answer)
+}
+
 /// Serves the message that came, in its frame.
 fn answer_arrival(
     alloc: Global,
     session: Session,
     arrival: &Arrival,
 ) -> (Session, Result<String, AllocError>)
-    ensures { IfOk result.1 (λ text. PrintsArrival session arrival.now.link arrival.now.message.items (string_bytes text) result.0) }
+    ensures { IfOk result.1 (λ text. PrintsArrival session arrival.now.link arrival.now.bytes.items (string_bytes text) result.0) }
 {
-    let frame = match hop_frame(alloc, arrival.message.as_slice()) {
+    let frame = match hop_frame(alloc, arrival.bytes.as_slice()) {
         Ok(frame) => frame,
         Err(error) => return (session, Err(error)),
     };
+    answer_datagram(alloc, session, arrival.link, frame.as_slice())
+}
+
+/// The session of the router when that became of a labelled frame, and its line.
+fn tell_passed(
+    alloc: Global,
+    router: Machine,
+    recent: HeapCircularBuffer<Reply>,
+    answer: &Result<Passed, Refusal>,
+) -> (Session, Result<String, AllocError>)
+    requires room { recent.capacity ≡ 32 }
+    requires whole { IsWholePassed answer.now }
+    ensures session { result.0 ≡ record { router = router; recent = remembered recent.items answer.now } }
+    ensures text { IfOk result.1 (λ text. string_bytes text ≡ passed_text answer.now) }
+{
+    let recent = remember(recent, answer);
+    (Session { router, recent }, passed_text(alloc, answer))
+}
+
+/// Tells what becomes of a labelled frame.
+fn answer_labelled(
+    alloc: Global,
+    session: Session,
+    datagram: &[u8],
+) -> (Session, Result<String, AllocError>)
+    ensures { IfOk result.1 (λ text. PrintsPassed session datagram.now (string_bytes text) result.0) }
+{
     let Session { router, recent } = session;
-    let (router, answer) = take_datagram(alloc, router, arrival.link, frame.as_slice());
-    tell(alloc, router, recent, &answer)
+    let answer = pass(alloc, &router, datagram);
+    tell_passed(alloc, router, recent, &answer)
+}
+
+/// Passes a labelled frame on, and serves any other.
+fn answer_frame(
+    alloc: Global,
+    session: Session,
+    arrival: &Arrival,
+) -> (Session, Result<String, AllocError>)
+    ensures { IfOk result.1 (λ text. PrintsFrame session arrival.now.link arrival.now.bytes.items (string_bytes text) result.0) }
+{
+    let datagram = arrival.bytes.as_slice();
+    if is_labelled(datagram) {
+        answer_labelled(alloc, session, datagram)
+    } else {
+        answer_datagram(alloc, session, arrival.link, datagram)
+    }
 }
 
 /// Makes the step of an event.
@@ -151,14 +222,6 @@ fn answer_event(
     let Session { router, recent } = session;
     let (router, answer) = take_event(alloc, router, event);
     tell(alloc, router, recent, &answer)
-}
-
-/// The lines of the paths that the router knows.
-fn show_paths(alloc: Global, session: &Session) -> Result<String, AllocError>
-    ensures { IfOk result (λ text. string_bytes text ≡ paths_text session.now.router.facts.paths) }
-{
-    let facts = session.router.export(alloc)?;
-    paths_text(alloc, facts.paths.as_slice())
 }
 
 /// The lines of the last replies, the oldest first.

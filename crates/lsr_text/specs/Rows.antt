@@ -50,6 +50,10 @@ action_words (actions.PushHead inner label link) = codes "push" ++ (pushed_below
 abbrev pub label_line : ℕ → Action → List ℕ
 label_line label action = decimal label ++ (codes " " ++ (action_words action ++ codes "\n"))
 
+-- a line for each label and its action, in their order
+abbrev pub table_text : List (ℕ × Action) → List ℕ
+table_text rows = flat_map (λ row. label_line row.0 row.1) rows
+
 -- `tunnel N push L LINK`, or `tunnel N push INNER OUTER LINK` while a repair is in use
 abbrev pub tunnel_line : ℕ → Action → List ℕ
 tunnel_line tunnel action = codes "tunnel" ++ (next_number tunnel ++ (codes " " ++ (action_words action ++ codes "\n")))

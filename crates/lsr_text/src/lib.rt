@@ -11,5 +11,5 @@ mod shown;
 pub use answers::{answer_text, push_refusal, push_replies};
 pub use frames::{push_delivery, push_sent};
 pub use names::{OUT_OF_MEMORY, refusal_name};
-pub use rows::{PRIORITIES, push_label, push_link, push_resv, push_tunnel, resvs_text};
+pub use rows::{PRIORITIES, push_label, push_link, push_resv, push_tunnel, resvs_text, table_text};
 pub use shown::paths_text;

@@ -1,6 +1,6 @@
 //! What `show` prints of reservations, of the label table and of links: a line for each row.
 ghost use Rattle.std.specs.Prelude.{◌≡◌, ◌++◌, IfOk, OnOk, string_bytes};
-ghost use Rattle.lsr_text.specs.Rows.{action_words, label_line, link_line, rate_bytes, resv_line, resvs_text, state_word, style_word, sum_words, tunnel_line};
+ghost use Rattle.lsr_text.specs.Rows.{action_words, label_line, link_line, rate_bytes, resv_line, resvs_text, state_word, style_word, sum_words, table_text, tunnel_line};
 
 use crate::shown::push_key;
 use forwarding_table::Action;
@@ -86,6 +86,17 @@ pub fn push_label(text: &mut String, label: u32, action: &Action) -> Result<(), 
     write!(text, "{label} ")?;
     push_action(text, action)?;
     text.push_str("\n")
+}
+
+/// The lines of labels and their actions, one for each in their order. The only error is that memory ran out.
+pub fn table_text(alloc: Global, rows: &[(u32, Action)]) -> Result<String, AllocError>
+    ensures { IfOk result (λ text. string_bytes text ≡ table_text rows.now) }
+{
+    let mut text = String::new(alloc);
+    for (label, action) in rows {
+        push_label(&mut text, *label, action)?;
+    }
+    Ok(text)
 }
 
 /// Appends the line of a tunnel's action at its head: `tunnel N push L LINK`, or `tunnel N push INNER OUTER LINK` while

@@ -24,27 +24,37 @@ written or memory runs out; 2 for words that aren't taken. Why is said on standa
 ";
 
 const STEP_ABOUT: &str = "\
-Serves messages, moments, links that come up and go down, and restarts, a line each from
-standard input, and prints what the router answers and sends";
+Serves messages, frames, moments, links that come up and go down, and restarts, a line each
+from standard input, and prints what the router answers and sends";
 
 const STEP_HELP: &str = "\
 A line of standard input, its words parted by one space:
   rx LINK HEX       a message came over link LINK, 1 to 65535; HEX is its bytes in
                     hexadecimal digits of either case, and may be empty
+  frame LINK HEX    a whole frame came over link LINK: its first byte is 1 before a message,
+                    2 before a payload under labels
   tick N            moment N came, in milliseconds; the router is opened at moment 0
   up LINK           link LINK came up
   down LINK         link LINK went down
   restart           the router lost what messages had set up in it, and is cold
   start             a cold router is started; a running one goes on as it is
   show paths        asks for the paths that the router knows
+  show resvs        asks for the reservations that stand
+  show table        asks for the label table
+  show links        asks for the links, and for what is reserved on them
   show recent       asks for the last 32 replies
 
-What is printed for each of them but `show paths` and `show recent`:
+What is printed for each of them but `show`:
   done              it was done
   error CODE VALUE  it is an error of RSVP, which its sender is told
   refused N NAME    it was refused for the reason of this number and name, and nothing
                     changed: the run goes on with the next line
   tx LINK HEX       behind that, each message that the router sends
+
+What is printed for a frame under labels, in place of these:
+  frame LINK HEX    it goes on over link LINK, as this frame
+  deliver HEX       its labels end here; HEX is its payload
+  refused N NAME    it was dropped
 
 What to do next:
   refused 24 UnknownLink   name a link of the configuration
@@ -53,15 +63,26 @@ What to do next:
   refused 30 BadMoment     a moment above 4611686018427387904 (2^62)
   refused 42 IsCold        the router was restarted: `start` it first
   refused 1 to 9           the message can't be read: `lsr decode HEX` tells the same
+  refused 14 NoLabel       `show table` has the labels that frames may come under
 `lsr explain N`, `lsr explain NAME` and `lsr explain CODE/VALUE` say more of each.
 
 What is printed for `show recent`, the oldest reply first: `done`, `error CODE VALUE` or
-`refused N NAME`, without what was sent.
+`refused N NAME`, without what was sent. A frame that went on or was delivered has no reply.
 
-What is printed for `show paths`, a line for each path, in order:
-  path ENDPOINT/TUNNEL/EXTENDED SENDER/LSP transit|tail|head OUT ORIGINS
-                    its session, sender and LSP ID; what the router is on its way; the
-                    link that it leaves by, 0 for a tail; how many origins it has
+What is printed for the others, a line for each row, in order; KEY is
+ENDPOINT/TUNNEL/EXTENDED SENDER/LSP, the session, sender and LSP ID of an LSP:
+  path KEY transit|tail|head OUT ORIGINS
+                    what the router is on its way; the link that it leaves by, 0 for a tail;
+                    how many origins it has
+  resv KEY LINK ff|se RATE LABEL
+                    the link that it is on; whether it is fixed or shared; its rate, as the
+                    hexadecimal digits of its word; the label that the next hop gave
+  LABEL swap L LINK
+  LABEL pop         what is done with a frame that comes under LABEL: it goes on over LINK
+                    under L; or the label is taken away, and its LSP ends here
+  link N up|down LIMIT R0 .. R7
+                    how much of it may be reserved, and what is reserved at each priority, 0
+                    (best) to 7, in bytes per second
 
 The router is the one that FILE says (docs/CONFIGURATION.md has the keys; begin with a copy
 of examples/middle.toml), or without it the built-in one: 10.0.0.2, link 1 to 10.0.0.1, link

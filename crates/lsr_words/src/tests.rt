@@ -76,6 +76,8 @@ fn help_shows_lines_and_an_example(rt: HostRuntime) -> Result<(), Fail> {
         (["lsr", "step", "--help"].as_slice(), TEAR),
         (["lsr", "step", "--help"].as_slice(), "--config <FILE>"),
         (["lsr", "step", "--help"].as_slice(), "show recent"),
+        (["lsr", "step", "--help"].as_slice(), "frame LINK HEX"),
+        (["lsr", "step", "--help"].as_slice(), "show links"),
         (["lsr", "help", "step"].as_slice(), "tx LINK HEX"),
         (["lsr", "decode", "--help"].as_slice(), TEAR),
         (["lsr", "explain", "--help"].as_slice(), "CODE/VALUE"),

@@ -1,61 +1,173 @@
--- A draft, with what it sends, is the plan of a step.
-use Rattle.std.specs.Prelude.{◌≡◌, ℕ, true, false, if◌then◌else◌, List, [], Option}
-use Rattle.std.proofs.Common.{refl, ap, sym, ◌∙◌}
+-- A draft, with what follows from it and what it sends, is the plan of a step.
+use Rattle.std.specs.Prelude.{◌≡◌, ◌≢◌, ℕ, Bool, true, false, if◌then◌else◌, List, [], Option, Some, None, Result, Ok, Err, IfOk}
+use Rattle.std.specs.List.{AllByRecursion}
+use Rattle.std.specs.Ordering.{nat_cmp}
+use Rattle.std.proofs.Common.{refl, ap, sym, subst, ◌∙◌}
 use Rattle.row_edits.specs.Edits as rows
-use Rattle.lsr_facts.specs.Orders.{item_cmp}
-use Rattle.lsr_facts.specs.declared.facts.Facts.{Facts}
+use Rattle.admission.specs.Bandwidths.{AreEdits, Edit, claim_edits, resv_edits}
+use Rattle.forwarding_table.specs.declared.action.Action.{Action}
+use Rattle.lsr_facts.specs.Orders.{item_cmp, key_cmp}
+use Rattle.lsr_facts.specs.Routers.{IsRouter}
 use Rattle.lsr_facts.specs.declared.key.Item.{Item}
+use Rattle.lsr_facts.specs.declared.key.Key.{Key}
 use Rattle.lsr_facts.specs.declared.router.Router.{Router}
+use Rattle.label_table.specs.RowLaws.{table-alike}
+use Rattle.label_table.specs.Rows.{AreTableEdits}
+use Rattle.resv_facts.specs.Upstreams.{upstream_cmp}
+use Rattle.resv_facts.specs.declared.resv_fact.ResvFact.{ResvFact}
+use Rattle.resv_facts.specs.declared.upstream.Upstream.{Upstream}
 use Rattle.router_events.specs.declared.events.Event.{Event}
+use Rattle.router_events.specs.declared.events.Event.TheVariants as events
 use Rattle.router_events.specs.declared.events.Output.{Output}
-use Rattle.abstract_router.specs.Outputs.{outputs_of}
-use Rattle.abstract_router.specs.Stamps.{stamps_of, with_stamps}
-use Rattle.abstract_router.specs.Steps.{IsEvent, Step, outcome, settled}
+use Rattle.abstract_router.specs.Soundness.{ArePaths}
+use Rattle.abstract_router.specs.Stamps.{stamps_of}
+use Rattle.abstract_router.specs.Steps.{IsEvent}
 use Rattle.abstract_router.specs.Wanted.{wanted_of}
-use Rattle.router_core.specs.Plans.{applied}
-use Rattle.router_steps.specs.Drafts.{IsDraft, due_by, edited}
-use Rattle.router_steps.specs.declared.draft.Draft.{Draft}
+use Rattle.abstract_lsr.proofs.Drafting.{outcome-leaves}
+use Rattle.abstract_lsr.proofs.Settling.{IsDrafted, LeavesBy, sound_settled}
+use Rattle.abstract_lsr.proofs.Silence.{silent_keeps}
+use Rattle.abstract_lsr.specs.Arrivals.{outcome}
+use Rattle.abstract_lsr.specs.Labels.{IsLabelling}
+use Rattle.abstract_lsr.specs.Outcomes.{Outcome}
+use Rattle.abstract_lsr.specs.Outputs.{outputs_of, upstream_stamps}
+use Rattle.abstract_lsr.specs.Preempting.{claims_of}
+use Rattle.abstract_lsr.specs.Soundness.{AreLabelled, IsResv, IsSound}
+use Rattle.abstract_lsr.specs.States.{State}
+use Rattle.abstract_lsr.specs.Steps.{MayChooseBy, Step, settled, with_moments}
+use Rattle.abstract_lsr.specs.Upstreams.{upstream_of}
+use Rattle.router_core.specs.Plans.{IsPlanOf, IsSendingPlan, after_plan, drafted}
+use Rattle.router_core.specs.declared.plan.Plan.{Plan}
+use Rattle.router_steps.specs.Drafts as paths
+use Rattle.router_tables.specs.Changes.{IsChange, changed}
+use Rattle.router_tables.specs.States.{RouterState}
+use Rattle.router_tables.specs.declared.change.Change.{Change}
+use Rattle.state_views.specs.StateDrafts.{IsStateDraft}
+use Rattle.state_views.specs.Views.{edited}
+use Rattle.state_views.specs.declared.draft.StateDraft.{StateDraft}
+use Rattle.state_views.specs.declared.edits.StateEdits.{StateEdits}
 
--- what is sent doesn't depend on when items were sent
-sent_alike : (r : Router) (before : Facts) (errors : List Output) (due : List Item) (after : Facts) (sent : List (Item × ℕ)) → outputs_of r before errors due after ≡ outputs_of r before errors due (record after { sent = sent })
-unfolding outputs_of wanted_of
-sent_alike r before errors due after sent = refl
+-- what is sent doesn't depend on when messages were sent
+sent_alike : (r : Router) (s : State) (o : Outcome) (t : State) → outputs_of r s o.errors o.due o.upstream_due t ≡ outputs_of r s o.errors o.due o.upstream_due (with_moments r s o t)
+unfolding outputs_of wanted_of upstream_of
+sent_alike r s o t = refl
 
-module _ (r : Router) (before : Facts) (event : Event) (draft : Draft) (runs : before.cold ≡ false) (possible : IsEvent event) (is : IsDraft draft (outcome r before event) r before) where
-  -- The step of a silent draft.
-  pub silent_step : draft.is_silent ≡ true → Step r before (record { event = event; labels = []; reply = draft.reply; outputs = [] }) (applied draft.edits [] before)
-  silent_step silent =
-      let o = outcome r before event in
-      let after = applied draft.edits [] before in
+-- the edits of a draft, but for those of labels, which say nothing new
+abbrev pub stripped : StateEdits → List (Key × Option ℕ) → StateEdits
+stripped e labels = record { facts = e.facts; resvs = e.resvs; labels = labels }
+
+stripped_is : (s : State) (e : StateEdits) (labels : List (Key × Option ℕ)) → labels ≡ [] → (edited e s).labels ≡ s.labels → edited (stripped e labels) s ≡ edited e s
+stripped_is s e labels none same = λ i. record (edited e s) { labels = (ap (λ (edits : List (Key × Option ℕ)). rows.edited key_cmp edits s.labels) none ∙ sym same) i }
+
+module _ (r : Router) (s : State) (is : IsSound r s) (draft : StateDraft) (may : IsDrafted r s (edited draft.edits s)) (labels : List (Key × Option ℕ)) (none : labels ≡ []) (x : StateEdits) (chosen : List (Key × ℕ))
+    (after : edited x s ≡ settled r chosen (edited (stripped draft.edits labels) s)) (labelling : IsLabelling r s.labels (edited draft.edits s).facts.paths chosen) where
+  abbrev o : Outcome
+  o = drafted draft r s
+
+  settles : edited x s ≡ settled r chosen o.after
+  settles = after ∙ ap (λ t. settled r chosen t) (stripped_is s draft.edits labels none may.labels)
+
+  next_sound : IsSound r (with_moments r s o (edited x s))
+  next_sound = subst (λ t. IsSound r (with_moments r s o t)) (sym settles) (sound_settled r s o chosen is.labels may labelling)
+
+  pub next_paths : ArePaths r (edited x s).facts.moment (edited x s).facts.paths
+  next_paths = next_sound.paths.standing.paths
+
+  pub next_resvs : AllByRecursion (IsResv (edited x s).facts.moment) (edited x s).resvs
+  next_resvs = next_sound.held.each
+
+  pub next_labels : AreLabelled r (edited x s)
+  next_labels = let l = next_sound.labels in record { of_lsps = l.of_lsps; from_first = l.from_first; to_last = l.to_last; apart = l.apart }
+
+  module _ (bandwidth : List (Key × Edit)) (moments : List (Item × Option ℕ)) (upstream : List (Upstream × Option ℕ)) (table : List (ℕ × Option Action))
+      (stamps : rows.edited item_cmp moments s.facts.sent ≡ stamps_of r s.facts o.due (edited x s).facts)
+      (upstamps : rows.edited upstream_cmp upstream s.sent_upstream ≡ upstream_stamps r s o.upstream_due (edited x s))
+      (resvs : rows.edited key_cmp (resv_edits bandwidth) s.resvs ≡ rows.edited key_cmp x.resvs s.resvs) where
+    abbrev change : Change
+    change = record { facts = x.facts; bandwidth = bandwidth; labels = x.labels; moments = moments; upstream = upstream; table = table }
+
+    -- what is known after the change is what is known after the step
+    changed_is : changed change s ≡ with_moments r s o (edited x s)
+    changed_is = λ i. record {
+      facts = record (paths.edited x.facts s.facts) { sent = stamps i };
+      resvs = resvs i;
+      labels = rows.edited key_cmp x.labels s.labels;
+      sent_upstream = upstamps i;
+    }
+
+    change_is : AreEdits bandwidth → rows.edited key_cmp (claim_edits bandwidth) (claims_of s.facts.paths s.resvs) ≡ claims_of (edited x s).facts.paths (edited x s).resvs → AreTableEdits s (edited x s) table → IsChange r s change
+    change_is edits claims are = record {
+      sound = subst (IsSound r) (sym changed_is) next_sound;
+      edits = edits;
+      claims = claims ∙ ap (λ held. claims_of (edited x s).facts.paths held) (sym resvs);
+      table = record {
+        table = λ was of_before. table-alike (edited x s) (changed change s) (rows.edited nat_cmp table was) refl (sym resvs) refl (are.table was of_before);
+        room = are.room;
+        labels = are.labels;
+      };
+    }
+
+    -- The plan of a draft that isn't silent.
+    pub sending : (outputs : List Output) → outputs ≡ outputs_of r s o.errors o.due o.upstream_due (edited x s) → AreEdits bandwidth → rows.edited key_cmp (claim_edits bandwidth) (claims_of s.facts.paths s.resvs) ≡ claims_of (edited x s).facts.paths (edited x s).resvs → AreTableEdits s (edited x s) table
+        → IsSendingPlan r s o (record { reply = o.reply; outputs = outputs; chosen = chosen; change = Some change })
+    sending outputs sends edits claims are = record {
+      chosen = labelling;
+      replied = refl;
+      changed = changed_is ∙ ap (λ t. with_moments r s o t) settles;
+      sent = sends ∙ sent_alike r s o (edited x s) ∙ ap (λ t. outputs_of r s o.errors o.due o.upstream_due t) (sym changed_is);
+      change = change_is edits claims are;
+    }
+
+module _ (r : Router) (s : State) (event : Event) (draft : StateDraft) (runs : s.facts.cold ≡ false) (possible : IsEvent event) (is : IsStateDraft draft (outcome r s event) r s) where
+  -- The plan of a silent event: nothing changes, and nothing is sent.
+  silence : event ≢ events.Restart → draft.is_silent ≡ true → IsPlanOf (record { router = r; state = s }) event (record { reply = draft.reply; outputs = []; chosen = []; change = None })
+  silence other silent =
+      let o = outcome r s event in
       let so : o.is_silent ≡ true = sym is.is_silent ∙ silent in
       record {
-        possible = possible;
-        awake = λ cold. absurd (let e = sym runs ∙ cold in cc);
-        chosen = refl;
-        replied = is.reply;
-        changed = is.after ∙ sym (ap (λ b. if b then o.after else with_stamps r before o.due (settled r [] o.after)) so);
-        sent = sym (ap (λ b. if b then [] else outputs_of r before o.errors o.due after) so);
+        step = record {
+          possible = possible;
+          awake = λ cold. absurd (let e = sym runs ∙ cold in cc);
+          chosen = subst (λ b. MayChooseBy b r s.labels o.after.facts.paths []) (sym so) refl;
+          replied = is.reply;
+          changed = sym (silent_keeps r s event runs other so) ∙ sym (ap (λ b. if b then o.after else with_moments r s o (settled r [] o.after)) so);
+          sent = sym (ap (λ b. if b then [] else outputs_of r s o.errors o.due o.upstream_due s) so);
+        };
+        change = tt;
       }
 
-  -- The step of another, with what it sends and what becomes of the moments.
-  pub sending_step : (outputs : List Output) (moments : List (Item × Option ℕ)) → draft.is_silent ≡ false → outputs ≡ outputs_of r before draft.errors (due_by draft.due r before) (edited draft.edits before) → rows.edited item_cmp moments before.sent ≡ stamps_of r before (due_by draft.due r before) (edited draft.edits before) → Step r before (record { event = event; labels = []; reply = draft.reply; outputs = outputs }) (applied draft.edits moments before)
-  sending_step outputs moments loud sends stamps =
-      let o = outcome r before event in
-      let after = applied draft.edits moments before in
+  pub silent_plan : event ≢ events.Restart → draft.is_silent ≡ true → (outputs : List Output) (chosen : List (Key × ℕ)) → outputs ≡ [] → chosen ≡ [] → IsPlanOf (record { router = r; state = s }) event (record { reply = draft.reply; outputs = outputs; chosen = chosen; change = None })
+  silent_plan other silent outputs chosen no_outputs none =
+      subst (λ (p : List Output × List (Key × ℕ)). IsPlanOf (record { router = r; state = s }) event (record { reply = draft.reply; outputs = p.0; chosen = p.1; change = None })) (λ i. (sym no_outputs i, sym none i)) (silence other silent)
+
+  -- what a draft says is the event's outcome
+  outcome_is : drafted draft r s ≡ outcome r s event
+  outcome_is = λ i. record { reply = is.reply i; errors = is.errors i; due = is.due i; upstream_due = is.upstream_due i; after = is.after i; is_silent = is.is_silent i }
+
+  -- an event that isn't silent leaves what follows can make sound
+  pub draft_leaves : IsRouter r → IsSound r s → draft.is_silent ≡ false → IsDrafted r s (edited draft.edits s)
+  draft_leaves router sound loud =
+      subst (IsDrafted r s) (sym is.after)
+      (subst (λ b. LeavesBy r s b (outcome r s event).after) (sym is.is_silent ∙ loud) (outcome-leaves r s event router sound possible (λ cold. absurd (let e = sym runs ∙ cold in cc))))
+
+  -- The plan of another is that of the event's step.
+  loud_plan : (plan : Plan) → draft.is_silent ≡ false → IsSendingPlan r s (drafted draft r s) plan → IsPlanOf (record { router = r; state = s }) event plan
+  loud_plan plan loud sending_draft =
+      let o = outcome r s event in
       let so : o.is_silent ≡ false = sym is.is_silent ∙ loud in
+      let sent = subst (λ o. IsSendingPlan r s o plan) outcome_is sending_draft in
       record {
-        possible = possible;
-        awake = λ cold. absurd (let e = sym runs ∙ cold in cc);
-        chosen = refl;
-        replied = is.reply;
-        changed =
-            ap (λ (sent : List (Item × ℕ)). record (edited draft.edits before) { sent = sent }) stamps
-            ∙ (λ i. record (is.after i) { sent = stamps_of r before (is.due i) (is.after i) })
-            ∙ sym (ap (λ b. if b then o.after else with_stamps r before o.due (settled r [] o.after)) so);
-        sent =
-            sends
-            ∙ (λ i. outputs_of r before (is.errors i) (is.due i) (is.after i))
-            ∙ sent_alike r before o.errors o.due o.after after.sent
-            ∙ (λ i. outputs_of r before o.errors o.due (record (sym is.after i) { sent = after.sent }))
-            ∙ sym (ap (λ b. if b then [] else outputs_of r before o.errors o.due after) so);
+        step = record {
+          possible = possible;
+          awake = λ cold. absurd (let e = sym runs ∙ cold in cc);
+          chosen = subst (λ b. MayChooseBy b r s.labels o.after.facts.paths plan.chosen) (sym so) sent.chosen;
+          replied = sent.replied;
+          changed = sent.changed ∙ sym (ap (λ b. if b then o.after else with_moments r s o (settled r plan.chosen o.after)) so);
+          sent = sent.sent ∙ sym (ap (λ b. if b then [] else outputs_of r s o.errors o.due o.upstream_due (after_plan plan s)) so);
+        };
+        change = sent.change;
       }
+
+  -- So it is where there is memory for one.
+  pub loud_plans : {E : Type 0} (result : Result Plan E) → draft.is_silent ≡ false → IfOk result (IsSendingPlan r s (drafted draft r s)) → IfOk result (IsPlanOf (record { router = r; state = s }) event)
+  loud_plans (Ok plan) loud sending_draft = loud_plan plan loud sending_draft
+  loud_plans (Err e) loud sending_draft = tt

@@ -5,33 +5,34 @@ use Rattle.rsvp_contents.specs.Spelling.{header_fault}
 use Rattle.rsvp_contents.specs.declared.dropped.Dropped.{Dropped}
 use Rattle.rsvp_contents.specs.declared.dropped.Dropped.TheVariants as dropped
 use Rattle.std.proofs.Common.{refl, sym, ap, subst, inl, inr, ◌∙◌}
-use Rattle.lsr_facts.specs.declared.facts.Facts.{Facts}
 use Rattle.lsr_facts.specs.declared.refusal.Refusal.{Refusal}
 use Rattle.lsr_facts.specs.declared.refusal.Refusal.TheVariants as refusals
 use Rattle.lsr_facts.specs.declared.router.Router.{Router}
 use Rattle.router_events.specs.declared.events.Event.{Event}
 use Rattle.router_events.specs.declared.events.Made.{Made}
-use Rattle.abstract_router.specs.Steps.{IsServed, Step}
+use Rattle.abstract_lsr.specs.Steps.{Step}
+use Rattle.abstract_lsr.specs.Serving.{IsServed}
+use Rattle.abstract_lsr.specs.States.{State}
 use Rattle.router_events.specs.Frame.{Frame}
 use Rattle.router_events.specs.Frame.TheVariants as frames
 use Rattle.router_events.specs.Frames.{SpellsFrame, head_fault}
 use Rattle.router_events.specs.declared.events.Event.TheVariants as events
 use Rattle.router_core.specs.Plans.{IsOutFor}
-use Rattle.router_core.specs.States.{State}
+use Rattle.router_core.specs.States.{RouterState}
 use Rattle.router_core.specs.Serving.{IsDatagramAnswered, IsDropFor, IsEventOf}
 
 -- the step of the event that a datagram is, is what the datagram is served
-pub served_event : (r : Router) (before after : Facts) (link : ℕ) (bytes : List ℕ) (made : Made) → IsEventOf link bytes made.event → Step r before made after → IsServed r before link bytes made.reply made.outputs after
+pub served_event : (r : Router) (before after : State) (link : ℕ) (bytes : List ℕ) (made : Made) → IsEventOf link bytes made.event → Step r before made after → IsServed r before link bytes made.reply made.outputs after
 served_event r before after link bytes made comes step =
     inr (comes.0, comes.2, inr (made.labels, subst (λ (event : Event). Step r before (record made { event = event }) after) comes.1 step))
 
 -- and so whatever comes of serving it
-pub event_answered : (r : Router) (before after : Facts) (link : ℕ) (bytes : List ℕ) (event : Event) (result : Result Made Refusal) → IsEventOf link bytes event → IfOk result (λ made. made.event ≡ event) → IfOk result (λ made. Step r before made after) → IfErr result (IsOutFor (record { router = r; facts = before }) event) → IsDatagramAnswered r before link bytes after result
+pub event_answered : (r : Router) (before after : State) (link : ℕ) (bytes : List ℕ) (event : Event) (result : Result Made Refusal) → IsEventOf link bytes event → IfOk result (λ made. made.event ≡ event) → IfOk result (λ made. Step r before made after) → IfErr result (IsOutFor (record { router = r; state = before }) event) → IsDatagramAnswered r before link bytes after result
 event_answered r before after link bytes event (Ok made) comes same step memory = served_event r before after link bytes made (subst (IsEventOf link bytes) (sym same) comes) step
 event_answered r before after link bytes event (Err refusal) comes same step memory = inl memory.0
 
 -- a datagram that is no event is refused for its first fault, where there is memory
-pub drop_answered : (r : Router) (before : Facts) (link : ℕ) (bytes : List ℕ) (refusal : Refusal) → IsDropFor bytes refusal → IsDatagramAnswered r before link bytes before (Err refusal)
+pub drop_answered : (r : Router) (before : State) (link : ℕ) (bytes : List ℕ) (refusal : Refusal) → IsDropFor bytes refusal → IsDatagramAnswered r before link bytes before (Err refusal)
 drop_answered r before link bytes (refusals.Unread fault) first = inr (inl (fault, first, refl, refl, refl))
 drop_answered r before link bytes refusals.NoMemory first = inl refl
 drop_answered r before link bytes _ first = absurd first
@@ -84,7 +85,7 @@ frame_heads [] frame s = absurd s
 frame_heads (kind ∷ rest) (frames.Hop reading) s = subst (λ (k : ℕ). head_fault (k ∷ rest) ≡ None) (sym s.0) s.1.1.header
 
 -- and an error is one that a datagram can meet
-pub memory_drops : {A : Type 0} (s : State) (link : ℕ) (bytes : List ℕ) (event : Event) (result : Result A Refusal) → IsEventOf link bytes event → IfErr result (IsOutFor s event) → IfErr result (IsDropFor bytes)
+pub memory_drops : {A : Type 0} (s : RouterState) (link : ℕ) (bytes : List ℕ) (event : Event) (result : Result A Refusal) → IsEventOf link bytes event → IfErr result (IsOutFor s event) → IfErr result (IsDropFor bytes)
 memory_drops s link bytes event (Ok value) comes memory = tt
 memory_drops s link bytes event (Err refusal) comes memory = subst (IsDropFor bytes) (sym memory.0) (frame_heads bytes (frames.Hop comes.0) comes.2)
 

@@ -1,4 +1,3 @@
 pub mod Plans
 pub mod Serving
 pub mod States
-pub mod Touching

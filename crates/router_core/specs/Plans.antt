@@ -1,27 +1,29 @@
 -- The plan of a step.
-use Rattle.std.specs.Prelude.{◌≡◌, ℕ, false, List, [], Option}
-use Rattle.row_edits.specs.Edits as rows
-use Rattle.lsr_facts.specs.Orders.{item_cmp}
-use Rattle.lsr_facts.specs.declared.facts.Facts.{Facts}
-use Rattle.lsr_facts.specs.declared.key.Item.{Item}
-use Rattle.lsr_facts.specs.declared.reply.Reply.TheVariants as replies
-use Rattle.router_events.specs.declared.events.Event.{Event}
-use Rattle.router_events.specs.declared.events.Made.{Made}
+use Rattle.std.specs.Prelude.{◌≡◌, false, [], IfSome}
+use Rattle.std.specs.Option.{option_map_or}
 use Rattle.lsr_facts.specs.declared.refusal.Refusal.{Refusal}
 use Rattle.lsr_facts.specs.declared.refusal.Refusal.TheVariants.{NoMemory}
-use Rattle.abstract_router.specs.Steps.{Step, outcome}
-use Rattle.router_core.specs.States.{State}
+use Rattle.lsr_facts.specs.declared.reply.Reply.TheVariants as replies
+use Rattle.lsr_facts.specs.declared.router.Router.{Router}
+use Rattle.router_events.specs.declared.events.Event.{Event}
+use Rattle.router_events.specs.declared.events.Made.{Made}
+use Rattle.abstract_lsr.specs.Arrivals.{outcome}
+use Rattle.abstract_lsr.specs.Labels.{IsLabelling}
+use Rattle.abstract_lsr.specs.Outcomes.{Outcome}
+use Rattle.abstract_lsr.specs.Outputs.{outputs_of}
+use Rattle.abstract_lsr.specs.States.{State}
+use Rattle.abstract_lsr.specs.Steps.{Step, settled, with_moments}
+use Rattle.state_views.specs.StateDrafts.{upstream_due_by}
+use Rattle.state_views.specs.Views.{edited}
+use Rattle.state_views.specs.declared.draft.StateDraft.{StateDraft}
+use Rattle.router_steps.specs.Drafts.{due_by}
+use Rattle.router_tables.specs.Changes.{IsChange, changed}
+use Rattle.router_tables.specs.States.{RouterState}
 use Rattle.router_core.specs.declared.plan.Plan.{Plan}
-use Rattle.router_steps.specs.Drafts.{edited}
-use Rattle.router_steps.specs.declared.edits.Edits.{Edits}
-
--- what is known after edits, and others of the moments at which items were sent
-abbrev pub applied : Edits → List (Item × Option ℕ) → Facts → Facts
-applied edits moments s = record (edited edits s) { sent = rows.edited item_cmp moments s.sent }
 
 -- Why an event is left out: out of memory, and the event isn't silent. What is refused, and a start, take none.
-abbrev pub IsOutFor : State → Event → Refusal → Type 0
-IsOutFor s event refusal = (refusal ≡ NoMemory) × ((outcome s.router s.facts event).is_silent ≡ false)
+abbrev pub IsOutFor : RouterState → Event → Refusal → Type 0
+IsOutFor s event refusal = (refusal ≡ NoMemory) × ((outcome s.router s.state event).is_silent ≡ false)
 
 -- a step of this event that is done, and for which nothing is sent
 abbrev pub quiet : Event → Made
@@ -29,8 +31,34 @@ quiet event = record { event = event; labels = []; reply = replies.Done; outputs
 
 -- a plan of this event, once it is made
 abbrev pub made_by : Event → Plan → Made
-made_by event plan = record { event = event; labels = []; reply = plan.reply; outputs = plan.outputs }
+made_by event plan = record { event = event; labels = plan.chosen; reply = plan.reply; outputs = plan.outputs }
 
--- The plan is that of this event's step from this state: its answer, what it sends, and what is known after it.
-abbrev pub IsPlanOf : State → Event → Plan → Type 0
-IsPlanOf s event plan = Step s.router s.facts (made_by event plan) (applied plan.edits plan.moments s.facts)
+-- what is known once it is made
+abbrev pub after_plan : Plan → State → State
+after_plan plan s = option_map_or (λ change. changed change s) plan.change s
+
+-- The plan is that of this event's step from this state: its answer, what it sends, and what is known after it; and its
+-- change is one of the router's tables.
+pub record IsPlanOf (s : RouterState) (event : Event) (plan : Plan) : Type 0 where
+  pub step : Step s.router s.state (made_by event plan) (after_plan plan s.state)
+  pub change : IfSome plan.change (IsChange s.router s.state)
+
+-- what a draft says that an event does of itself
+abbrev pub drafted : StateDraft → Router → State → Outcome
+drafted draft r s = record {
+  reply = draft.reply;
+  errors = draft.errors;
+  due = due_by draft.due r s.facts;
+  upstream_due = upstream_due_by draft.due r s;
+  after = edited draft.edits s;
+  is_silent = draft.is_silent;
+}
+
+-- The plan is that of what an event does of itself, where that isn't silent: with labels that may be chosen, with what
+-- follows from it, and with what is sent.
+pub record IsSendingPlan (r : Router) (s : State) (o : Outcome) (plan : Plan) : Type 0 where
+  pub chosen : IsLabelling r s.labels o.after.facts.paths plan.chosen
+  pub replied : plan.reply ≡ o.reply
+  pub changed : after_plan plan s ≡ with_moments r s o (settled r plan.chosen o.after)
+  pub sent : plan.outputs ≡ outputs_of r s o.errors o.due o.upstream_due (after_plan plan s)
+  pub change : IfSome plan.change (IsChange r s)

@@ -1,18 +1,33 @@
 //! A step that is made ready.
 
-ghost use Rattle.std.specs.Prelude.{◌≡◌, ◌≢◌, IfOk, OnErr, false};
+ghost use Rattle.std.specs.Prelude.{◌≡◌, ◌≢◌, ◌||◌, Bool, IfOk, OnErr, false};
+ghost use Rattle.lsr_facts.specs.Orders.{key_cmp};
+ghost use Rattle.lsr_facts.specs.declared.key.Key.{Key};
 ghost use Rattle.router_events.specs.declared.events.Event.TheVariants as events;
-ghost use Rattle.abstract_router.specs.Steps.{IsEvent, Step, outcome};
-ghost use Rattle.router_core.specs.Plans.{IsPlanOf};
-ghost use Rattle.router_core.specs.States.{AreTables, facts_of, state_of};
+ghost use Rattle.abstract_router.specs.Soundness.{ArePaths};
+ghost use Rattle.abstract_router.specs.Steps.{IsEvent};
+ghost use Rattle.abstract_router.specs.Touched.{is_among};
+ghost use Rattle.abstract_lsr.proofs.Settling.{IsDrafted};
+ghost use Rattle.abstract_lsr.specs.Arrivals.{outcome};
+ghost use Rattle.abstract_lsr.specs.Soundness.{AreLabelled, IsResv};
+ghost use Rattle.state_views.specs.Views.{edited};
+ghost use Rattle.std.specs.List.{AllByRecursion};
+ghost use Rattle.label_table.specs.Rows.{AreTableEdits};
+ghost use Rattle.router_core.specs.Plans.{IsPlanOf, IsSendingPlan, drafted};
 
-use crate::sending::{StepSends, sends_of};
-use crate::tables::Tables;
-use lsr_facts::{Item, Reply};
+use claim_edits::bandwidth_edits;
+use forwarding_table::Action;
+use label_table::laws::edits_leave_other_lsps;
+use label_table::table_edits;
+use lsr_facts::{Key, Reply};
+use lsr_steps::draft_of;
 use router_events::{Event, Outputs};
-use router_steps::{Draft, Edits, draft_of};
+use router_tables::{Change, Tables};
 use rsvp_contents::Reading;
 use sorted_rows::Table;
+use state_sends::{StateSends, edited_lsps, sends_of};
+use state_settling::{Settled, settle};
+use state_views::{ChangedState, StateDraft, StateEdits};
 use std::alloc::{AllocError, Global};
 
 /// A step that is made ready, with all the memory that it takes, and hasn't happened yet. It is of use once, on
@@ -23,10 +38,10 @@ pub struct Plan {
     pub(crate) reply: Reply,
     /// What is sent.
     pub(crate) outputs: Outputs,
-    /// What changes, but for the moments at which items were sent.
-    pub(crate) edits: Edits,
-    /// What changes of those.
-    pub(crate) moments: Table<Item, Option<u64>>,
+    /// The labels that were chosen: of each LSP that is new its own.
+    pub(crate) chosen: Table<Key, u32>,
+    /// What changes, where something does.
+    pub(crate) change: Option<Change>,
 }
 
 impl Plan {
@@ -54,34 +69,92 @@ fn is_possible(event: &Event)
     }
 }
 
-/// The plan of an event's step. The only error is out of memory, and it comes for no event that is silent.
-pub(crate) fn plan_of(alloc: Global, tables: &Tables, event: &Event) -> Result<Plan, AllocError>
-    requires tables { AreTables tables.now }
-    requires event { event.now ≢ events.Restart }
-    ensures planned { IfOk result (IsPlanOf (state_of tables.now) event.now) }
-    ensures memory { OnErr result ((outcome tables.now.router (facts_of tables.now) event.now).is_silent ≡ false) }
+/// What becomes of the actions of labels by edits. The only error is out of memory.
+fn table_of(
+    alloc: Global,
+    tables: &Tables,
+    edits: &StateEdits,
+) -> Result<Table<u32, Option<Action>>, AllocError>
+    requires paths { ArePaths tables.now.router (edited edits.now tables.now.state).facts.moment
+        (edited edits.now tables.now.state).facts.paths }
+    requires labels { AreLabelled tables.now.router (edited edits.now tables.now.state) }
+    requires resvs { AllByRecursion (IsResv (edited edits.now tables.now.state).facts.moment)
+        (edited edits.now tables.now.state).resvs }
+    ensures { IfOk result (AreTableEdits tables.now.state (edited edits.now tables.now.state)) }
 {
-    is_possible(event);
-    let Draft {
+    tables.soundness();
+
+    // That of LSPs which have no edit the same is known after edits.
+    edits_leave_other_lsps();
+    let touched = edited_lsps(alloc, edits)?;
+    let after = ChangedState::new(tables, edits);
+    table_edits(alloc, tables, &after, touched.as_slice())
+}
+
+/// The plan of the step of a draft that isn't silent: with all that follows from its own change, with what is sent, and
+/// with what becomes of the label table. The only error is out of memory.
+fn sending_plan(alloc: Global, tables: &Tables, draft: StateDraft) -> Result<Plan, AllocError>
+    requires { IsDrafted tables.now.router tables.now.state (edited draft.edits tables.now.state) }
+    ensures { IfOk result (IsSendingPlan tables.now.router tables.now.state (drafted draft tables.now.router tables.now.state)) }
+{
+    tables.soundness();
+    let StateDraft {
         reply,
         errors,
         due,
-        is_silent,
         edits,
-    } = draft_of(alloc, tables, event)?;
-    if is_silent {
-        return Ok(Plan {
-            reply,
-            outputs: Outputs::new(alloc),
-            edits,
-            moments: Table::new(alloc),
-        });
-    }
-    let StepSends { outputs, moments } = sends_of(alloc, tables, &edits, due, errors)?;
+        ..
+    } = draft;
+    let StateEdits { facts, resvs, .. } = edits;
+    let own = StateEdits {
+        facts,
+        resvs,
+        labels: Table::new(alloc),
+    };
+    let Settled { edits, chosen } = settle(alloc, tables, own)?;
+    let StateSends {
+        outputs,
+        moments,
+        upstream,
+    } = sends_of(alloc, tables, &edits, due, errors)?;
+    let table = table_of(alloc, tables, &edits)?;
+    let StateEdits {
+        facts,
+        resvs,
+        labels,
+    } = edits;
+    let bandwidth = bandwidth_edits(alloc, tables, &facts, resvs)?;
     Ok(Plan {
         reply,
         outputs,
-        edits,
-        moments,
+        chosen,
+        change: Some(Change {
+            facts,
+            bandwidth,
+            labels,
+            moments,
+            upstream,
+            table,
+        }),
     })
+}
+
+/// The plan of an event's step. The only error is out of memory, and it comes for no event that is silent.
+pub(crate) fn plan_of(alloc: Global, tables: &Tables, event: &Event) -> Result<Plan, AllocError>
+    requires { event.now ≢ events.Restart }
+    ensures planned { IfOk result (IsPlanOf tables.now event.now) }
+    ensures memory { OnErr result ((outcome tables.now.router tables.now.state event.now).is_silent ≡ false) }
+{
+    tables.soundness();
+    is_possible(event);
+    let draft = draft_of(alloc, tables, event)?;
+    if draft.is_silent {
+        return Ok(Plan {
+            reply: draft.reply,
+            outputs: Outputs::new(alloc),
+            chosen: Table::new(alloc),
+            change: None,
+        });
+    }
+    sending_plan(alloc, tables, draft)
 }

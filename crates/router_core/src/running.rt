@@ -1,41 +1,41 @@
 //! A router, cold or running.
 
-ghost use Rattle.std.specs.Prelude.{◌≡◌, ◌≢◌, [], IfErr, IfOk, map, false, true};
+ghost use Rattle.std.specs.Prelude.{◌≡◌, ◌≢◌, IfErr, IfOk, false, true};
+ghost use Rattle.lsr_facts.specs.Routers.{IsRouter};
 ghost use Rattle.router_events.specs.declared.events.Event.{Event};
 ghost use Rattle.router_events.specs.declared.events.Event.TheVariants as events;
-ghost use Rattle.lsr_facts.specs.Routers.{IsRouter};
-ghost use Rattle.abstract_router.specs.Soundness.{IsSound};
-ghost use Rattle.abstract_router.specs.Steps.{Step};
+ghost use Rattle.resv_facts.specs.Claims.{reserved_of};
+ghost use Rattle.abstract_lsr.specs.Preempting.{claims_of};
+ghost use Rattle.abstract_lsr.specs.Soundness.{IsSound};
+ghost use Rattle.abstract_lsr.specs.Steps.{Step};
+ghost use Rattle.abstract_lsr.specs.Tables.{look};
 ghost use Rattle.router_core.specs.Plans.{IsOutFor, IsPlanOf, made_by, quiet};
-ghost use Rattle.router_core.specs.States.{cold, facts_of, opened};
+ghost use Rattle.router_core.specs.States.{IsEmpty, cold, emptied, opened};
 
-use crate::change::{apply, forget};
 use crate::plan::{Plan, plan_of};
-use crate::tables::Tables;
+use forwarding_table::Action;
 use lsr_config::Config;
-use lsr_facts::limits::MAX_LSPS;
-use lsr_facts::{Facts, Item, Link, Refusal};
-use path_state::PathState;
-use refresh_timers::RefreshTimers;
+use lsr_facts::{Key, Refusal};
 use router_events::{Event, Outputs};
-use sorted_rows::{Table, TryCopy, copy_plain_rows, copy_rows};
+use router_tables::Tables;
+use sorted_rows::Table;
 use std::alloc::{AllocError, Global};
 use std::marker::Model;
 
-/// A router that isn't started: it takes no event but its start, and knows no path. Contracts see what it knows.
+/// A router that isn't started: it takes no event but its start, and knows no LSP. Contracts see what it knows.
 #[derive(Debug, Drop)]
 pub struct Cold {
     tables: Tables,
 }
 
 impl Model for Cold {
-    ghost use Rattle.router_core.specs.States.{AreCold, State, cold, state_of};
+    ghost use Rattle.router_core.specs.States.{IsEmpty, RouterState, cold};
 
-    ghost Value = { State };
+    ghost Value = { RouterState };
 
-    ghost view = { λ c. cold (state_of c.tables) };
+    ghost view = { λ c. cold c.tables };
 
-    ghost invariant = { λ c. AreCold c.tables };
+    ghost invariant = { λ c. IsEmpty c.tables.state };
 }
 
 /// A router that runs. Contracts see what it knows, which is sound at any time.
@@ -45,68 +45,51 @@ pub struct Running {
 }
 
 impl Model for Running {
-    ghost use Rattle.router_core.specs.States.{AreTables, State, state_of};
+    ghost use Rattle.router_core.specs.States.{RouterState};
 
-    ghost Value = { State };
+    ghost Value = { RouterState };
 
-    ghost view = { λ r. state_of r.tables };
-
-    ghost invariant = { λ r. AreTables r.tables };
-}
-
-/// Of each link whether it is up when the router is opened.
-fn links_up(alloc: Global, links: &[(u16, Link)]) -> Result<Vec<(u16, bool)>, AllocError>
-    ensures { IfOk result (λ up. up.items ≡ map (λ l. (l.0, l.1.up)) links.now) }
-{
-    links.iter().map(|link| (link.0, link.1.up)).collect(alloc)
+    ghost view = { λ r. r.tables };
 }
 
 impl Cold {
-    /// The router of a configuration, not started yet. It reserves the memory of all paths that it may ever
-    /// know, and of all messages that these may want; the only error is out of that memory.
+    /// The router of a configuration, not started yet. It reserves the memory of all LSPs that it may ever know, and
+    /// of all messages that these may want; the only error is out of that memory.
     pub fn new(alloc: Global, config: Config) -> Result<Cold, AllocError>
         ensures opened { IfOk result (λ router. router ≡ cold (opened config)) }
     {
-        let up = links_up(alloc, config.router.links.as_slice())?;
-        let timers = RefreshTimers::new(alloc, config.router.refresh_ms)?;
         Ok(Cold {
-            tables: Tables {
-                router: config.router,
-                moment: 0,
-                up: Table::from_rows(up),
-                routes: config.routes,
-                paths: PathState::new(alloc)?,
-                timers,
-            },
+            tables: Tables::new(alloc, config)?,
         })
     }
 
     /// Starts the router. Takes no memory, and sends nothing.
     pub fn start(self) -> Running
-        ensures started { result ≡ record self { facts = record self.facts { cold = false } } }
-        ensures step { Step self.router self.facts (quiet events.Start) result.facts }
+        ensures started { result ≡ record self {
+          state = record self.state { facts = record self.state.facts { cold = false } };
+        } }
+        ensures step { Step self.router self.state (quiet events.Start) result.state }
     {
         let Cold { tables } = self;
+        tables.soundness();
         Running { tables }
     }
 
-    /// What the router knows, its tables in the order of their keys. The only error is out of memory.
-    pub fn export(&self, alloc: Global) -> Result<Facts, AllocError>
-        ensures facts { IfOk result (λ facts. facts ≡ self.now.facts) }
+    /// The tables of the router, as they are once it is started.
+    pub fn tables(&self) -> &Tables
+        ensures { cold result.now ≡ self.now }
     {
-        facts_in(alloc, &self.tables, true)
+        &self.tables
     }
 
     /// What the router knows is sound, and holds nothing that messages set up. A law: it does nothing when it runs.
     pub fn soundness(&self)
         ensures router { IsRouter self.now.router }
-        ensures sound { IsSound self.now.router self.now.facts }
-        ensures cold { self.now.facts.cold ≡ true }
-        ensures no_paths { self.now.facts.paths ≡ [] }
-        ensures nothing_sent { self.now.facts.sent ≡ [] }
+        ensures sound { IsSound self.now.router self.now.state }
+        ensures cold { self.now.state.facts.cold ≡ true }
+        ensures empty { IsEmpty self.now.state }
     {
-        // Whoever opens the value sees its invariant.
-        let _tables = &self.tables;
+        self.tables.soundness();
     }
 }
 
@@ -122,70 +105,65 @@ impl Running {
         Ok(plan_of(alloc, &self.tables, event)?)
     }
 
-    /// Makes the step of a plan, and gives what it sends. It asks for a plan of this router as it stands. Takes no
-    /// memory, and always succeeds.
-    pub fn commit(&mut self, plan: Plan) -> Outputs
+    /// Makes the step of a plan, and gives the labels that it chose and what it sends. It asks for a plan of this router
+    /// as it stands. Takes no memory, and always succeeds.
+    pub fn commit(&mut self, plan: Plan) -> (Table<Key, u32>, Outputs)
         requires { (event : Event) × IsPlanOf self.old event plan }
-        ensures step { (event : Event) → IsPlanOf self.old event plan →
-            Step self.old.router self.old.facts (record (made_by event plan) { outputs = result }) self.new.facts }
+        ensures step { (event : Event) → IsPlanOf self.old event plan → Step self.old.router self.old.state
+            (record (made_by event plan) { labels = result.0; outputs = result.1 }) self.new.state }
         ensures router { self.new.router ≡ self.old.router }
     {
-        apply(&mut self.tables, plan.edits, plan.moments);
-        plan.outputs
+        let Plan {
+            reply: _,
+            outputs,
+            chosen,
+            change,
+        } = plan;
+        if let Some(change) = change {
+            self.tables.make(change);
+        }
+        (chosen, outputs)
     }
 
     /// The router loses what messages had set up in it, and is cold until it is started: links, static routes and
     /// the moment stay. Takes no memory, and sends nothing.
     pub fn restart(self) -> Cold
-        ensures restarted { result ≡ record self {
-          facts = record self.facts { cold = true; paths = []; sent = [] };
-        } }
-        ensures step { Step self.router self.facts (quiet events.Restart) result.facts }
+        ensures restarted { result ≡ cold (record self { state = emptied self.state }) }
+        ensures step { Step self.router self.state (quiet events.Restart) result.state }
     {
         let Running { mut tables } = self;
-        forget(&mut tables);
+        tables.soundness();
+        tables.forget();
         Cold { tables }
     }
 
-    /// What the router knows, its tables in the order of their keys. The only error is out of memory.
-    pub fn export(&self, alloc: Global) -> Result<Facts, AllocError>
-        ensures facts { IfOk result (λ facts. facts ≡ self.now.facts) }
+    /// How much of a link is reserved at this priority, 0 (best) to 7, or a better one, in bytes per second.
+    pub fn reserved(&self, link: u16, priority: u8) -> u64
+        ensures { result ≡ reserved_of link priority (claims_of self.now.state.facts.paths self.now.state.resvs) }
     {
-        facts_in(alloc, &self.tables, false)
+        self.tables.reserved(link, priority)
+    }
+
+    /// What is done with a frame that comes under this label, or `None` where nothing is (RFC 3031, 3.10).
+    pub fn look(&self, label: u32) -> Option<Action>
+        ensures { result ≡ look self.now.state label }
+    {
+        self.tables.look(label)
+    }
+
+    /// The tables of the router.
+    pub fn tables(&self) -> &Tables
+        ensures { result.now ≡ self.now }
+    {
+        &self.tables
     }
 
     /// What the router knows is sound. A law: it does nothing when it runs.
     pub fn soundness(&self)
         ensures router { IsRouter self.now.router }
-        ensures sound { IsSound self.now.router self.now.facts }
-        ensures running { self.now.facts.cold ≡ false }
+        ensures sound { IsSound self.now.router self.now.state }
+        ensures running { self.now.state.facts.cold ≡ false }
     {
-        // Whoever opens the value sees its invariant.
-        let _tables = &self.tables;
+        self.tables.soundness();
     }
-}
-
-/// When each message was sent last, by the timers.
-fn moments_in(
-    alloc: Global,
-    timers: &RefreshTimers<Item, MAX_LSPS>,
-) -> Result<Table<Item, u64>, AllocError>
-    ensures { IfOk result (λ moments. moments ≡ timers.now.sent) }
-{
-    let rows = copy_plain_rows(alloc, timers.as_slice())?;
-    Ok(Table::from_rows(rows))
-}
-
-/// The facts that the tables hold of a router that is cold or runs.
-fn facts_in(alloc: Global, tables: &Tables, cold: bool) -> Result<Facts, AllocError>
-    ensures { IfOk result (λ facts. facts ≡ record (facts_of tables.now) { cold = cold }) }
-{
-    Ok(Facts {
-        cold,
-        moment: tables.moment,
-        up: tables.up.try_copy(alloc)?,
-        routes: tables.routes.try_copy(alloc)?,
-        paths: Table::from_rows(copy_rows(alloc, tables.paths.as_slice())?),
-        sent: moments_in(alloc, &tables.timers)?,
-    })
 }

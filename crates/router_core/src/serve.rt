@@ -2,7 +2,7 @@
 
 ghost use Rattle.std.specs.Prelude.{◌≡◌, ◌≢◌, IfOk, IfErr, OnErr};
 ghost use Rattle.router_events.specs.declared.events.Event.TheVariants as events;
-ghost use Rattle.abstract_router.specs.Steps.{Step};
+ghost use Rattle.abstract_lsr.specs.Steps.{Step};
 ghost use Rattle.router_core.specs.Plans.{IsOutFor};
 ghost use Rattle.router_core.specs.Serving.{IsDatagramAnswered, IsDropFor, IsEventOf};
 
@@ -11,7 +11,6 @@ use hop_frames::read_frame;
 use lsr_facts::Refusal;
 use router_events::{Arrive, Event, Frame, Made};
 use rsvp_contents::Dropped;
-use sorted_rows::Table;
 use std::alloc::Global;
 
 /// The event that a datagram is which came over a link, or why it is none: its first fault ([`Refusal::Unread`]), or
@@ -34,17 +33,17 @@ impl Running {
     pub fn serve_event(&mut self, alloc: Global, event: Event) -> Result<Made, Refusal>
         requires { event ≢ events.Restart }
         ensures event { IfOk result (λ made. made.event ≡ event) }
-        ensures step { IfOk result (λ made. Step self.old.router self.old.facts made self.new.facts) }
+        ensures step { IfOk result (λ made. Step self.old.router self.old.state made self.new.state) }
         ensures router { self.new.router ≡ self.old.router }
         ensures memory { IfErr result (IsOutFor self.old event) }
         ensures kept { OnErr result (self.new ≡ self.old) }
     {
         let plan = self.plan(alloc, &event)?;
         let reply = plan.reply;
-        let outputs = self.commit(plan);
+        let (labels, outputs) = self.commit(plan);
         Ok(Made {
             event,
-            labels: Table::new(alloc),
+            labels,
             reply,
             outputs,
         })
@@ -59,9 +58,9 @@ impl Running {
         link: u16,
         datagram: &[u8],
     ) -> Result<Made, Refusal>
-        ensures served { IsDatagramAnswered self.old.router self.old.facts link datagram.now self.new.facts result }
+        ensures served { IsDatagramAnswered self.old.router self.old.state link datagram.now self.new.state result }
         ensures event { IfOk result (λ made. IsEventOf link datagram.now made.event) }
-        ensures step { IfOk result (λ made. Step self.old.router self.old.facts made self.new.facts) }
+        ensures step { IfOk result (λ made. Step self.old.router self.old.state made self.new.state) }
         ensures router { self.new.router ≡ self.old.router }
         ensures fault { IfErr result (IsDropFor datagram.now) }
         ensures kept { OnErr result (self.new ≡ self.old) }

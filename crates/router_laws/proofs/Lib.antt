@@ -1,4 +1,5 @@
 pub mod Led
+pub mod OfPaths
 pub mod Repeats
-pub mod Unchanged
 pub mod Ticks
+pub mod Unchanged

@@ -3,4 +3,5 @@
 #![tactic(auto)]
 
 pub mod moments;
+pub mod served;
 pub mod stays;

@@ -3,6 +3,9 @@
 
 mod inputs;
 mod machine;
+mod passing;
 
 pub use inputs::{Datagram, Input, Served};
 pub use machine::Machine;
+pub use passing::Passed;
+pub use router_tables::Tables;

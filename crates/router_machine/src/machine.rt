@@ -4,19 +4,22 @@ ghost use Rattle.std.specs.Prelude.{◌≡◌, ◌≢◌, List, None, IfOk, OnEr
 ghost use Rattle.lsr_facts.specs.Routers.{IsRouter};
 ghost use Rattle.lsr_facts.specs.declared.refusal.Refusal.TheVariants.{NoMemory};
 ghost use Rattle.router_events.specs.declared.events.Made.{Made};
-ghost use Rattle.abstract_router.specs.Soundness.{IsSound};
-ghost use Rattle.abstract_router.specs.Steps.{Run, opening};
+ghost use Rattle.abstract_lsr.specs.Soundness.{IsSound};
+ghost use Rattle.abstract_lsr.specs.Steps.{Run, opening};
 ghost use Rattle.router_core.specs.Plans.{quiet};
 ghost use Rattle.router_core.specs.Serving.{IsDatagramAnswered, IsEventOf};
 ghost use Rattle.router_events.specs.Frames.{head_fault};
 ghost use Rattle.router_core.specs.States.{opened};
 ghost use Rattle.router_machine.specs.Machines.{AreTaken, IsDatagramLeft, IsEventFor, IsEventLeft, IsLeft, IsRefusedCold, IsTaken, MayRunOut, MayRunOutFor, state_in};
+ghost use Rattle.router_machine.specs.Passing.{IsPassed};
 
 use crate::inputs::{Input, Served};
+use crate::passing::{Passed, pass};
 use lsr_config::Config;
-use lsr_facts::{Facts, Refusal, Reply};
+use lsr_facts::{Refusal, Reply};
 use router_core::{Cold, Running, read_event};
 use router_events::{Event, Made, Outputs};
+use router_tables::Tables;
 use sorted_rows::Table;
 use std::alloc::{AllocError, Global};
 use std::marker::Model;
@@ -37,10 +40,10 @@ pub struct Machine {
 }
 
 impl Model for Machine {
-    ghost use Rattle.router_core.specs.States.{State};
+    ghost use Rattle.router_core.specs.States.{RouterState};
     ghost use Rattle.router_machine.specs.Machines.{state_in};
 
-    ghost Value = { State };
+    ghost Value = { RouterState };
 
     ghost view = { λ m. state_in m.inside };
 }
@@ -63,8 +66,8 @@ fn serve_running(
     alloc: Global,
     event: Event,
 ) -> (Inside, Result<Made, Refusal>)
-    ensures taken { IsTaken router.router router.facts (λ e. e ≡ event) (IsEventLeft router.facts event)
-        (MayRunOut router.router router.facts event) (state_in result.0).facts result.1 }
+    ensures taken { IsTaken router.router router.state (λ e. e ≡ event) (IsEventLeft router.state event)
+        (MayRunOut router.router router.state event) (state_in result.0).state result.1 }
     ensures router { (state_in result.0).router ≡ router.router }
 {
     router.soundness();
@@ -82,8 +85,8 @@ fn serve_running(
 
 /// Serves an event by a cold router.
 fn serve_cold(router: Cold, alloc: Global, event: Event) -> (Inside, Result<Made, Refusal>)
-    ensures taken { IsTaken router.router router.facts (λ e. e ≡ event) (IsEventLeft router.facts event)
-        (MayRunOut router.router router.facts event) (state_in result.0).facts result.1 }
+    ensures taken { IsTaken router.router router.state (λ e. e ≡ event) (IsEventLeft router.state event)
+        (MayRunOut router.router router.state event) (state_in result.0).state result.1 }
     ensures router { (state_in result.0).router ≡ router.router }
 {
     router.soundness();
@@ -103,9 +106,9 @@ fn serve_datagram_running(
     link: u16,
     datagram: &[u8],
 ) -> (Inside, Result<Made, Refusal>)
-    ensures taken { IsTaken router.router router.facts (IsEventOf link datagram.now) (IsDatagramLeft router.facts datagram.now)
-        (head_fault datagram.now ≡ None) (state_in result.0).facts result.1 }
-    ensures served { IsDatagramAnswered router.router router.facts link datagram.now (state_in result.0).facts result.1 }
+    ensures taken { IsTaken router.router router.state (IsEventOf link datagram.now) (IsDatagramLeft router.state datagram.now)
+        (head_fault datagram.now ≡ None) (state_in result.0).state result.1 }
+    ensures served { IsDatagramAnswered router.router router.state link datagram.now (state_in result.0).state result.1 }
     ensures router { (state_in result.0).router ≡ router.router }
 {
     let answer = router.serve_datagram(alloc, link, datagram);
@@ -129,9 +132,9 @@ fn serve_datagram_cold(
     link: u16,
     datagram: &[u8],
 ) -> (Inside, Result<Made, Refusal>)
-    ensures taken { IsTaken router.router router.facts (IsEventOf link datagram.now) (IsDatagramLeft router.facts datagram.now)
-        (head_fault datagram.now ≡ None) (state_in result.0).facts result.1 }
-    ensures served { IsDatagramAnswered router.router router.facts link datagram.now (state_in result.0).facts result.1 }
+    ensures taken { IsTaken router.router router.state (IsEventOf link datagram.now) (IsDatagramLeft router.state datagram.now)
+        (head_fault datagram.now ≡ None) (state_in result.0).state result.1 }
+    ensures served { IsDatagramAnswered router.router router.state link datagram.now (state_in result.0).state result.1 }
     ensures router { (state_in result.0).router ≡ router.router }
 {
     router.soundness();
@@ -166,8 +169,8 @@ impl Machine {
     /// [`Event::Start`] ([`Refusal::IsCold`]); else the only error is [`Refusal::NoMemory`]. What is refused changes
     /// nothing.
     pub fn serve_event(self, alloc: Global, event: Event) -> (Machine, Result<Made, Refusal>)
-        ensures taken { IsTaken self.router self.facts (λ e. e ≡ event) (IsEventLeft self.facts event)
-            (MayRunOut self.router self.facts event) result.0.facts result.1 }
+        ensures taken { IsTaken self.router self.state (λ e. e ≡ event) (IsEventLeft self.state event)
+            (MayRunOut self.router self.state event) result.0.state result.1 }
         ensures router { result.0.router ≡ self.router }
     {
         let (inside, answer) = match self.inside {
@@ -186,9 +189,9 @@ impl Machine {
         link: u16,
         datagram: &[u8],
     ) -> (Machine, Result<Made, Refusal>)
-        ensures taken { IsTaken self.router self.facts (IsEventOf link datagram.now) (IsDatagramLeft self.facts datagram.now)
-            (head_fault datagram.now ≡ None) result.0.facts result.1 }
-        ensures served { IsDatagramAnswered self.router self.facts link datagram.now result.0.facts result.1 }
+        ensures taken { IsTaken self.router self.state (IsEventOf link datagram.now) (IsDatagramLeft self.state datagram.now)
+            (head_fault datagram.now ≡ None) result.0.state result.1 }
+        ensures served { IsDatagramAnswered self.router self.state link datagram.now result.0.state result.1 }
         ensures router { result.0.router ≡ self.router }
     {
         let (inside, answer) = match self.inside {
@@ -200,8 +203,8 @@ impl Machine {
 
     /// Serves whatever comes, as [`Machine::serve_datagram`] and [`Machine::serve_event`] do.
     pub fn serve(self, alloc: Global, input: &Input) -> (Machine, Result<Made, Refusal>)
-        ensures taken { IsTaken self.router self.facts (IsEventFor input.now) (IsLeft self.facts input.now)
-            (MayRunOutFor self.router self.facts input.now) result.0.facts result.1 }
+        ensures taken { IsTaken self.router self.state (IsEventFor input.now) (IsLeft self.state input.now)
+            (MayRunOutFor self.router self.state input.now) result.0.state result.1 }
         ensures router { result.0.router ≡ self.router }
     {
         match input {
@@ -223,8 +226,8 @@ impl Machine {
         steps: &mut Vec<Made>,
     ) -> (Machine, Result<(), AllocError>)
         ensures taken { IfOk result.1 (λ _. (later : List Made) × (steps.new.items ≡ steps.old.items ++ later)
-            × AreTaken self.router self.facts (input.now ∷ []) later result.0.facts) }
-        ensures kept { OnErr result.1 ((steps.new.items ≡ steps.old.items) × (result.0.facts ≡ self.facts)) }
+            × AreTaken self.router self.state (input.now ∷ []) later result.0.state) }
+        ensures kept { OnErr result.1 ((steps.new.items ≡ steps.old.items) × (result.0.state ≡ self.state)) }
         ensures router { result.0.router ≡ self.router }
     {
         if let Err(error) = steps.reserve(1) {
@@ -243,10 +246,10 @@ impl Machine {
     /// Serves what comes, one input after the other, as long as there is memory: the router as it is then, and what
     /// came of the inputs. One for which there is no memory changes nothing, and waits with those behind it.
     pub fn serve_all(self, alloc: Global, inputs: &[Input]) -> (Machine, Served)
-        ensures taken { AreTaken self.router self.facts (take result.1.count inputs.now) result.1.steps.items result.0.facts }
+        ensures taken { AreTaken self.router self.state (take result.1.count inputs.now) result.1.steps.items result.0.state }
         ensures all { result.1.is_out_of_memory ≡ false → result.1.count ≡ length inputs.now }
-        ensures run { Run self.router self.facts result.1.steps.items result.0.facts }
-        ensures sound { IsSound result.0.router result.0.facts }
+        ensures run { Run self.router self.state result.1.steps.items result.0.state }
+        ensures sound { IsSound result.0.router result.0.state }
         ensures router { result.0.router ≡ self.router }
     {
         let mut machine = self;
@@ -291,28 +294,49 @@ impl Machine {
         inputs: &[Input],
     ) -> Result<(Machine, Served), AllocError>
         ensures run { IfOk result (λ after. Run config.router (opening config.router config.routes)
-            after.1.steps.items after.0.facts) }
-        ensures sound { IfOk result (λ after. IsSound config.router after.0.facts) }
+            after.1.steps.items after.0.state) }
+        ensures sound { IfOk result (λ after. IsSound config.router after.0.state) }
         ensures taken { IfOk result (λ after. AreTaken config.router (opening config.router config.routes)
-            (take after.1.count inputs.now) after.1.steps.items after.0.facts) }
+            (take after.1.count inputs.now) after.1.steps.items after.0.state) }
     {
         Ok(Machine::open(alloc, config)?.serve_all(alloc, inputs))
     }
 
-    /// What the router knows, its tables in the order of their keys. The only error is out of memory.
-    pub fn export(&self, alloc: Global) -> Result<Facts, AllocError>
-        ensures facts { IfOk result (λ facts. facts ≡ self.now.facts) }
+    /// What becomes of a datagram that holds a labelled frame, be the router cold or running. It is no event, and changes
+    /// nothing: the label table alone says where a frame goes (RFC 3031, 3.10), and that of a cold router is empty. A
+    /// frame is dropped for its first fault ([`Refusal::Unread`]), for a label that nothing is done with
+    /// ([`Refusal::NoLabel`]), for a TTL that ran out ([`Refusal::HopLimit`]), or where it would leave with more than
+    /// eight labels ([`Refusal::Unread`]). One that isn't labelled, or carries a message, is dropped
+    /// ([`Refusal::Unread`]). [`Refusal::NoMemory`] can come in place of any answer.
+    pub fn pass(&self, alloc: Global, datagram: &[u8]) -> Result<Passed, Refusal>
+        ensures { IsPassed self.now.state datagram.now result }
     {
         match &self.inside {
-            Inside::Running(router) => router.export(alloc),
-            Inside::Cold(router) => router.export(alloc),
+            Inside::Running(router) => pass(alloc, router.tables(), datagram),
+            Inside::Cold(router) => pass(alloc, router.tables(), datagram),
         }
+    }
+
+    /// The tables of the router: what it knows, and what is reserved. They say nothing of whether it is cold.
+    pub fn tables(&self) -> &Tables
+        ensures router { result.now.router ≡ self.now.router }
+        ensures facts { result.now.state.facts ≡ record self.now.state.facts { cold = false } }
+        ensures resvs { result.now.state.resvs ≡ self.now.state.resvs }
+        ensures labels { result.now.state.labels ≡ self.now.state.labels }
+        ensures upstream { result.now.state.sent_upstream ≡ self.now.state.sent_upstream }
+    {
+        let tables = match &self.inside {
+            Inside::Running(router) => router.tables(),
+            Inside::Cold(router) => router.tables(),
+        };
+        tables.soundness();
+        tables
     }
 
     /// What the router knows is sound. A law: it does nothing when it runs.
     pub fn soundness(&self)
         ensures router { IsRouter self.now.router }
-        ensures sound { IsSound self.now.router self.now.facts }
+        ensures sound { IsSound self.now.router self.now.state }
     {
         match &self.inside {
             Inside::Running(router) => router.soundness(),

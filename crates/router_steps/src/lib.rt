@@ -2,7 +2,6 @@
 //! draft that holds the answer, the errors and the edits.
 #![tactic(auto)]
 
-mod arrivals;
 mod draft;
 mod edits;
 mod links;
@@ -12,7 +11,6 @@ mod ticks;
 mod told;
 mod view;
 
-pub use arrivals::draft_of;
 pub use draft::Draft;
 pub use edits::{Changed, Edits};
 pub use links::link_change;

@@ -6,3 +6,4 @@ mod sends;
 mod touched;
 
 pub use sends::{StateSends, sends_of};
+pub use touched::edited_lsps;

@@ -101,8 +101,8 @@ fn with_all_due<V: WholeState>(view: &V, due: Option<u64>, keys: Lsps) -> Result
     with_due(keys, refresh_ms, view.all_sent_upstream(), moment)
 }
 
-/// The LSPs that have an edit.
-fn edited_lsps(alloc: Global, edits: &StateEdits) -> Result<Lsps, AllocError>
+/// The LSPs that have an edit, in the order of their keys. The only error is out of memory.
+pub fn edited_lsps(alloc: Global, edits: &StateEdits) -> Result<Table<Key, ()>, AllocError>
     ensures { IfOk result (λ all. (key : Key) → is_among key_cmp all key ≡ is_edited edits.now key) }
 {
     let paths = with_keys(Table::new(alloc), edits.facts.paths.as_slice())?;

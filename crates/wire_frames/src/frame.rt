@@ -6,8 +6,8 @@ use std::net::Ipv4Addr;
 
 /// The kind of a Hop frame.
 pub(crate) const KIND_HOP: u8 = 1;
-/// The kind of a Labelled frame.
-pub(crate) const KIND_LABELLED: u8 = 2;
+/// The kind of a Labelled frame: the first byte of its datagram.
+pub const KIND_LABELLED: u8 = 2;
 /// The kind of a Routed frame.
 pub(crate) const KIND_ROUTED: u8 = 3;
 

@@ -8,7 +8,7 @@ mod payload;
 mod reading;
 mod writing;
 
-pub use frame::{Frame, Unread, UnreadRule};
+pub use frame::{Frame, KIND_LABELLED, Unread, UnreadRule};
 pub use label_stacks::{Stack, StackEntry};
 pub use payload::{Data, DataRule, MAX_DATA_LEN, Payload};
 pub use reading::read_frame;

@@ -1,24 +1,18 @@
-use Rattle.std.proofs.Common.{Bool, refl, subst, sym, ◌∙◌}
-use Rattle.abstract_router.proofs.EventSoundness.{IsLeft, outcome_sound}
-use Rattle.abstract_router.specs.Soundness.{IsStanding}
-use Rattle.abstract_router.specs.Steps.{outcome}
-use Rattle.router_core.specs.States.{facts_of}
-use Rattle.router_core.proofs.Planning.{sending_step}
+-- A draft is a plan of the event's step.
+use Rattle.router_core.proofs.Planning.{draft_leaves, loud_plans, silent_plan}
 use Rattle.router_core.proofs.plan.plan_of.Goals as goal
 
-pub sends_of-requires-clause-standing : goal.sends_of-requires-clause-standing
-sends_of-requires-clause-standing c =
+pub returns-then-draft-clause-planned : goal.returns-then-draft-clause-planned
+returns-then-draft-clause-planned c =
     let t = c.args.tables.now in
-    let s = facts_of t in
-    let event = c.args.event.now in
-    let o = outcome t.router s event in
-    let is = c.in_ok-reply.ensures.draft in
-    subst (IsStanding t.router) (sym is.after)
-    (subst (λ (silent : Bool). IsLeft t.router silent o.after) (sym is.is_silent ∙ c.if-is_silent.false)
-    (outcome_sound t.router s event c.requires.tables.router c.requires.tables.sound c.is_possible.ensures (λ cold. absurd (let e = cold in cc))))
+    silent_plan t.router t.state c.args.event.now c.in_ok-draft.draft c.soundness.ensures.running c.is_possible.ensures c.in_ok-draft.ensures.draft c.requires c.if-draft.true c.new.result c.new-then-draft.result c.new.ensures c.new-then-draft.ensures
+
+pub sending_plan-requires : goal.sending_plan-requires
+sending_plan-requires c =
+    let t = c.args.tables.now in
+    draft_leaves t.router t.state c.args.event.now c.in_ok-draft.draft c.soundness.ensures.running c.is_possible.ensures c.in_ok-draft.ensures.draft c.soundness.ensures.router c.soundness.ensures.sound c.if-draft.false
 
 pub returns-clause-planned : goal.returns-clause-planned
 returns-clause-planned c =
     let t = c.args.tables.now in
-    let sends = c.in_ok-outputs.ensures in
-    sending_step t.router (facts_of t) c.args.event.now c.in_ok-reply.field-0 refl c.is_possible.ensures c.in_ok-reply.ensures.draft c.in_ok-outputs.field-0.outputs c.in_ok-outputs.field-0.moments c.if-is_silent.false sends.outputs sends.moments
+    loud_plans t.router t.state c.args.event.now c.in_ok-draft.draft c.soundness.ensures.running c.is_possible.ensures c.in_ok-draft.ensures.draft c.sending_plan.result c.if-draft.false c.sending_plan.ensures

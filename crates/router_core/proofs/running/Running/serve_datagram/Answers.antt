@@ -8,7 +8,7 @@ pub returns-clause-served : goal.returns-clause-served
 returns-clause-served c =
     let before = c.args.self.now in
     let served = c.serve_event.ensures in
-    event_answered before.router before.facts c.serve_event.new.self.facts c.args.link c.args.datagram.now c.in_ok-event.event c.serve_event.result c.in_ok-event.ensures.event served.event served.step served.memory
+    event_answered before.router before.state c.serve_event.new.self.state c.args.link c.args.datagram.now c.in_ok-event.event c.serve_event.result c.in_ok-event.ensures.event served.event served.step served.memory
 
 pub returns-clause-event : goal.returns-clause-event
 returns-clause-event c =

@@ -10,10 +10,10 @@ use Rattle.router_machine.proofs.machine.Machine.serve.Goals as goal
 pub returns-in-Datagram-clause-taken : goal.returns-in-Datagram-clause-taken
 returns-in-Datagram-clause-taken c =
     let r = c.args.self.router in
-    let before = c.args.self.facts in
+    let before = c.args.self.state in
     let is : c.args.input.now ≡ inputs.Datagram c.in-Datagram.datagram = c.in-Datagram.is in
     let d = c.in-Datagram.datagram in
-    let after = c.serve_datagram.result.0.facts in
+    let after = c.serve_datagram.result.0.state in
     let answer = c.serve_datagram.result.1 in
     let taken = subst (λ (bytes : List ℕ). IsTaken r before (IsEventOf d.link bytes) (IsDatagramLeft before bytes) (head_fault bytes ≡ None) after answer) c.deref.ensures.value c.serve_datagram.ensures.taken in
     subst (λ (input : Input). IsTaken r before (IsEventFor input) (IsLeft before input) (MayRunOutFor r before input) after answer) (sym is) taken

@@ -6,6 +6,6 @@ use Rattle.router_machine.proofs.machine.Machine.serve_all.Given as goal
 abbrev pub invariant-loop-input : goal.invariant-loop-input
 invariant-loop-input l = record {
   count : l.count ≡ l.input-index;
-  taken : AreTaken l.fn.self.router l.fn.self.facts (take l.input-index l.inputs) l.steps.items l.machine.facts;
+  taken : AreTaken l.fn.self.router l.fn.self.state (take l.input-index l.inputs) l.steps.items l.machine.state;
   router : l.machine.router ≡ l.fn.self.router;
 }

@@ -1,0 +1,4 @@
+mod Applying
+mod Emptying
+mod Opening
+mod Rooms

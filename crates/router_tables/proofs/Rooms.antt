@@ -1,0 +1,85 @@
+-- There is room in the tables for all that a sound router knows.
+use Rattle.std.specs.Prelude.{◌≡◌, ◌≤◌, ◌&&◌, ℕ, suc, Bool, true, false, T, List, [], ◌∷◌, filter_map, length, Option, Some, None, IfSome}
+use Rattle.std.specs.FinMap.Entries.{find, is_sorted, same_entries}
+use Rattle.std.specs.List.{cons_option}
+use Rattle.std.specs.Option.{option_and_then, option_map, option_map_or}
+use Rattle.std.proofs.Common.{refl, ap, arith, ◌∙◌}
+use Rattle.std.proofs.lemmas.List.{length-map}
+use Rattle.sorted_rows.specs.RowsLaws.{find-all_row}
+use Rattle.lsr_facts.specs.OrderLaws.{key_exact, key_total}
+use Rattle.lsr_facts.specs.Orders.{key_cmp}
+use Rattle.lsr_facts.specs.declared.key.Item.{Item}
+use Rattle.lsr_facts.specs.declared.key.Key.{Key}
+use Rattle.lsr_facts.specs.declared.path_fact.PathFact.{PathFact}
+use Rattle.lsr_facts.specs.declared.router.Router.{Router}
+use Rattle.resv_facts.specs.declared.resv_fact.ResvFact.{ResvFact}
+use Rattle.resv_facts.specs.declared.upstream.Upstream.{Upstream}
+use Rattle.abstract_router.specs.LocalityLaws.{find-made, is_sorted-made}
+use Rattle.abstract_router.specs.Places.{is_up}
+use Rattle.abstract_router.specs.Tears.{leaves_by}
+use Rattle.abstract_router.specs.Wanted.{downstream_row, wanted_of}
+use Rattle.abstract_router.specs.WantedLaws.{wanted-downstream}
+use Rattle.abstract_lsr.specs.Soundness.{IsSound}
+use Rattle.abstract_lsr.specs.States.{State}
+use Rattle.abstract_lsr.specs.Steps.{stands}
+use Rattle.abstract_lsr.specs.UpstreamLaws.{upstream-few}
+use Rattle.abstract_lsr.specs.Upstreams.{upstream_of}
+use Rattle.label_bindings.specs.BindingLaws.{length-labelled}
+
+-- one more at most
+length_cons : {A : Type 0} (o : Option A) (xs : List A) → length (cons_option o xs) ≤ suc (length xs)
+length_cons None xs = omega arith
+length_cons (Some x) xs = omega arith
+
+-- no more are given than are asked
+length_asked : {A B : Type 0} (f : A → Option B) (xs : List A) → length (filter_map f xs) ≤ length xs
+length_asked f [] = omega arith
+length_asked f (x ∷ xs) = omega (arith, length_cons (f x) (filter_map f xs), length_asked f xs)
+
+-- what the rows of paths say of reservations
+abbrev resv_rows : State → List (Key × ResvFact)
+resv_rows s = filter_map (λ path. option_map (λ resv. (path.0, resv)) (find key_cmp path.0 s.resvs)) s.facts.paths
+
+-- where each reservation stands, they are all that there are
+resvs_of_paths : (r : Router) (s : State) → IsSound r s → resv_rows s ≡ s.resvs
+resvs_of_paths r s is =
+    same_entries key_cmp key_total key_exact (resv_rows s) s.resvs
+    (is_sorted-made key_cmp key_total key_exact (λ (path : Key × PathFact). find key_cmp path.0 s.resvs) s.facts.paths in_order)
+    is.held.in_order
+    (λ q. find-made key_cmp key_total key_exact (λ (path : Key × PathFact). find key_cmp path.0 s.resvs) q s.facts.paths in_order ∙ by q (find key_cmp q s.facts.paths) (find key_cmp q s.resvs) (find-all_row key_cmp key_exact (λ resv. stands s.facts resv ≡ true) q s.resvs is.standing))
+  where
+    in_order : T (is_sorted key_cmp s.facts.paths)
+    in_order = is.paths.standing.paths.in_order
+
+    nowhere : (up : Bool) → (up && false) ≡ true → ⊥
+    nowhere true e = absurd (let f = e in cc)
+    nowhere false e = absurd (let f = e in cc)
+
+    by : (q : Key) (path : Option PathFact) (resv : Option ResvFact) → IfSome resv (λ v. (is_up s.facts.up v.link && option_map_or (leaves_by v.link) path false) ≡ true) → option_and_then (λ (p : PathFact). resv) path ≡ resv
+    by q (Some path) resv stood = refl
+    by q None None stood = refl
+    by q None (Some resv) stood = absurd (nowhere (is_up s.facts.up resv.link) stood)
+
+module _ (r : Router) (s : State) (is : IsSound r s) where
+  pub few_paths : length s.facts.paths ≤ 1024
+  few_paths = is.paths.standing.paths.few
+
+  pub few_resvs : length s.resvs ≤ 1024
+  few_resvs =
+      let all = ap length (resvs_of_paths r s is) in
+      omega (arith, all, length_asked (λ (path : Key × PathFact). option_map {U = Key × ResvFact} (λ resv. (path.0, resv)) (find key_cmp path.0 s.resvs)) s.facts.paths, few_paths)
+
+  pub few_labels : length s.labels ≤ 1024
+  few_labels = omega (arith, length-labelled r s is.labels, few_paths)
+
+  pub few_moments : length s.facts.sent ≤ 1024
+  few_moments =
+      let as_many = length-map s.facts.sent (λ (row : Item × ℕ). row.0) in
+      let wanted = length-map (wanted_of r s.facts) (λ row. row.0) in
+      omega (arith, as_many, wanted, ap length is.paths.sent, ap length (wanted-downstream r s.facts), length_asked (downstream_row r s.facts.up) s.facts.paths, few_paths)
+
+  pub few_upstream : length s.sent_upstream ≤ 1024
+  few_upstream =
+      let as_many = length-map s.sent_upstream (λ (row : Upstream × ℕ). row.0) in
+      let wanted = length-map (upstream_of r s) (λ row. row.0) in
+      omega (arith, as_many, wanted, ap length is.sent_upstream, (upstream-few r s s.facts.moment is.paths.standing.paths).1)

@@ -1,0 +1,30 @@
+-- What a change makes of what a router knows.
+use Rattle.std.specs.Prelude.{◌≡◌}
+use Rattle.row_edits.specs.Edits as rows
+use Rattle.lsr_facts.specs.Orders.{item_cmp, key_cmp}
+use Rattle.lsr_facts.specs.declared.router.Router.{Router}
+use Rattle.resv_facts.specs.Upstreams.{upstream_cmp}
+use Rattle.abstract_lsr.specs.Preempting.{claims_of}
+use Rattle.abstract_lsr.specs.Soundness.{IsSound}
+use Rattle.abstract_lsr.specs.States.{State}
+use Rattle.admission.specs.Bandwidths.{AreEdits, claim_edits, resv_edits}
+use Rattle.label_table.specs.Rows.{AreTableEdits}
+use Rattle.router_steps.specs.Drafts.{edited}
+use Rattle.router_tables.specs.declared.change.Change.{Change}
+
+-- what is known after a change
+abbrev pub changed : Change → State → State
+changed c s = record {
+  facts = record (edited c.facts s.facts) { sent = rows.edited item_cmp c.moments s.facts.sent };
+  resvs = rows.edited key_cmp (resv_edits c.bandwidth) s.resvs;
+  labels = rows.edited key_cmp c.labels s.labels;
+  sent_upstream = rows.edited upstream_cmp c.upstream s.sent_upstream;
+}
+
+-- The change is one of a router that knows this: what is known after it is sound, what reservations claim then is what
+-- its edits make of their claims, and the label table after it is what its edits make of the table before.
+pub record IsChange (r : Router) (s : State) (c : Change) : Type 0 where
+  pub sound : IsSound r (changed c s)
+  pub edits : AreEdits c.bandwidth
+  pub claims : rows.edited key_cmp (claim_edits c.bandwidth) (claims_of s.facts.paths s.resvs) ≡ claims_of (changed c s).facts.paths (changed c s).resvs
+  pub table : AreTableEdits s (changed c s) c.table

@@ -1,0 +1,52 @@
+-- What a router is and knows, and the rows that say so.
+use Rattle.std.specs.Prelude.{◌≡◌, false, []}
+use Rattle.lsr_config.specs.Configs.{Setup}
+use Rattle.lsr_facts.specs.Routers.{IsRouter}
+use Rattle.lsr_facts.specs.declared.facts.Facts.{Facts}
+use Rattle.lsr_facts.specs.declared.router.Router.{Router}
+use Rattle.abstract_lsr.specs.Preempting.{claims_of}
+use Rattle.abstract_lsr.specs.Soundness.{IsSound}
+use Rattle.abstract_lsr.specs.States.{State}
+use Rattle.abstract_lsr.specs.Steps.{opening}
+use Rattle.state_views.specs.Views.{Held}
+use Rattle.label_table.specs.Rows.{IsTableOf}
+use Rattle.router_tables.specs.declared.rows.Rows.{Rows}
+
+-- a router: what never changes of it, and what it knows
+pub record RouterState : Type 0 where
+  pub router : Router
+  pub state : State
+
+-- what it knows beside its paths
+abbrev pub held_of : State → Held
+held_of s = record { resvs = s.resvs; labels = s.labels; sent_upstream = s.sent_upstream }
+
+-- what the rows of a running router say of its paths
+abbrev pub facts_of : Rows → Facts
+facts_of t = record { cold = false; moment = t.moment; up = t.up; routes = t.routes; paths = t.paths; sent = t.timers.sent }
+
+-- and all that they say
+abbrev pub state_of : Rows → State
+state_of t = record { facts = facts_of t; resvs = t.bandwidth.resvs; labels = t.labels.labels; sent_upstream = t.upstream.sent }
+
+abbrev pub router_state_of : Rows → RouterState
+router_state_of t = record { router = t.router; state = state_of t }
+
+-- The rows are those of a sound router: claims, free labels and actions are what its state says, and messages are
+-- refreshed as often as it says.
+pub record AreTables (t : Rows) : Type 0 where
+  pub router : IsRouter t.router
+  pub sound : IsSound t.router (state_of t)
+  pub period : t.timers.refresh_ms ≡ t.router.refresh_ms
+  pub upstream_period : t.upstream.refresh_ms ≡ t.router.refresh_ms
+  pub claims : t.bandwidth.claims ≡ claims_of t.paths t.bandwidth.resvs
+  pub range : t.labels.range ≡ t.router.labels
+  pub table : IsTableOf (state_of t) t.table.labels
+
+-- the router of a configuration as it is opened
+abbrev pub opened : Setup → RouterState
+opened c = record { router = c.router; state = opening c.router c.routes }
+
+-- what is left where all is lost that messages set up: the moment, links, static routes
+abbrev pub emptied : State → State
+emptied s = record { facts = record s.facts { paths = []; sent = [] }; resvs = []; labels = []; sent_upstream = [] }

@@ -1,0 +1,27 @@
+//! The change of a step.
+
+use forwarding_table::Action;
+use lsr_facts::{Item, Key};
+use resv_facts::{ResvFact, Upstream};
+use router_steps::Edits;
+use sorted_rows::Table;
+
+/// Edits of what LSPs have: from now on this reservation, kept at this priority, or none.
+pub type BandwidthEdits = Table<Key, Option<(ResvFact, u8)>>;
+
+/// All that a step changes, with all the memory that this takes. Where a row of a table is `None`, it goes.
+#[derive(Debug, Drop)]
+pub struct Change {
+    /// What changes of the moment, of links and of paths.
+    pub facts: Edits,
+    /// Of LSPs the reservation that each has from now on, and the priority at which it is kept.
+    pub bandwidth: BandwidthEdits,
+    /// Of LSPs the label that each has from now on.
+    pub labels: Table<Key, Option<u32>>,
+    /// When Paths were sent last that are kept alive at a neighbour, in milliseconds.
+    pub moments: Table<Item, Option<u64>>,
+    /// And Resvs.
+    pub upstream: Table<Upstream, Option<u64>>,
+    /// What is done with labels from now on.
+    pub table: Table<u32, Option<Action>>,
+}

@@ -1,0 +1,143 @@
+//! The rows of all tables, and what is made of them.
+
+ghost use Rattle.std.specs.Prelude.{◌≡◌, ◌≤◌, [], length};
+ghost use Rattle.row_edits.specs.Edits as in_rows;
+ghost use Rattle.lsr_facts.specs.Orders.{item_cmp, key_cmp};
+ghost use Rattle.resv_facts.specs.Upstreams.{upstream_cmp};
+ghost use Rattle.admission.specs.Bandwidths.{AreEdits, resv_edits, with_edits};
+ghost use Rattle.label_bindings.specs.Bindings.{AreHeldOf};
+ghost use Rattle.router_steps.specs.Drafts.{edited};
+ghost use Rattle.router_tables.specs.Changes.{IsChange, changed};
+ghost use Rattle.router_tables.specs.States.{AreTables, emptied, facts_of, state_of};
+
+use crate::change::{BandwidthEdits, Change};
+use admission::Admission;
+use forwarding_table::ForwardingTable;
+use label_bindings::LabelBindings;
+use lsr_facts::laws::items_are_in_order;
+use lsr_facts::limits::MAX_LSPS;
+use lsr_facts::{Item, Key, Router};
+use path_state::PathState;
+use refresh_timers::RefreshTimers;
+use resv_facts::Upstream;
+use router_steps::Edits;
+use rsvp_routes::Prefix;
+use sorted_rows::Table;
+
+/// What a router holds: what never changes of it, and its tables.
+#[derive(Debug, Drop)]
+pub(crate) struct Rows {
+    /// What never changes.
+    pub(crate) router: Router,
+    /// The moment that it was told last, in milliseconds.
+    pub(crate) moment: u64,
+    /// Of each link whether it is up.
+    pub(crate) up: Table<u16, bool>,
+    /// The static routes.
+    pub(crate) routes: Table<Prefix, u16>,
+    /// The paths.
+    pub(crate) paths: PathState,
+    /// When each Path was sent last that is kept alive at a neighbour.
+    pub(crate) timers: RefreshTimers<Item, MAX_LSPS>,
+    /// The reservations, and what they claim.
+    pub(crate) bandwidth: Admission,
+    /// The labels that LSPs hold, and those that are free.
+    pub(crate) labels: LabelBindings,
+    /// When each Resv was sent last that is kept alive at a neighbour.
+    pub(crate) upstream: RefreshTimers<Upstream, MAX_LSPS>,
+    /// What is done with labelled frames.
+    pub(crate) table: ForwardingTable,
+}
+
+/// Makes edits of the moment, of links and of paths.
+fn edit_facts(rows: &mut Rows, edits: Edits)
+    requires { length (edited edits (facts_of rows.old)).paths ≤ 1024 }
+    ensures rows { rows.new ≡ record rows.old {
+      moment = (edited edits (facts_of rows.old)).moment;
+      up = (edited edits (facts_of rows.old)).up;
+      paths = (edited edits (facts_of rows.old)).paths;
+    } }
+{
+    let Edits { moment, up, paths } = edits;
+    if let Some(moment) = moment {
+        rows.moment = moment;
+    }
+    if let Some(up) = up {
+        rows.up = up;
+    }
+    rows.paths.edit(paths);
+}
+
+/// Makes edits of reservations and labels.
+fn edit_held(rows: &mut Rows, bandwidth: BandwidthEdits, labels: Table<Key, Option<u32>>)
+    requires room { length (in_rows.edited key_cmp (resv_edits bandwidth) rows.old.bandwidth.resvs) ≤ 1024 }
+    requires edits { AreEdits bandwidth }
+    requires few { length (in_rows.edited key_cmp labels rows.old.labels.labels) ≤ 1024 }
+    requires held { AreHeldOf rows.old.labels.range (in_rows.edited key_cmp labels rows.old.labels.labels) }
+    ensures rows { rows.new ≡ record rows.old {
+      bandwidth = with_edits bandwidth rows.old.bandwidth;
+      labels = record rows.old.labels { labels = in_rows.edited key_cmp labels rows.old.labels.labels };
+    } }
+{
+    rows.bandwidth.edit(bandwidth);
+    rows.labels.edit(labels);
+}
+
+/// Makes edits of the moments at which messages were sent.
+fn edit_moments(
+    rows: &mut Rows,
+    moments: Table<Item, Option<u64>>,
+    upstream: Table<Upstream, Option<u64>>,
+)
+    requires room { length (in_rows.edited item_cmp moments rows.old.timers.sent) ≤ 1024 }
+    requires few { length (in_rows.edited upstream_cmp upstream rows.old.upstream.sent) ≤ 1024 }
+    ensures rows { rows.new ≡ record rows.old {
+      timers = record rows.old.timers { sent = in_rows.edited item_cmp moments rows.old.timers.sent };
+      upstream = record rows.old.upstream { sent = in_rows.edited upstream_cmp upstream rows.old.upstream.sent };
+    } }
+{
+    // That items are compared by the order that their rows stand in.
+    items_are_in_order();
+    rows.timers.edit(moments);
+    rows.upstream.edit(upstream);
+}
+
+/// Makes a change. Takes no memory, and always succeeds.
+pub(crate) fn apply(rows: &mut Rows, change: Change)
+    requires tables { AreTables rows.old }
+    requires change { IsChange rows.old.router (state_of rows.old) change }
+    ensures tables { AreTables rows.new }
+    ensures router { rows.new.router ≡ rows.old.router }
+    ensures state { state_of rows.new ≡ changed change (state_of rows.old) }
+{
+    let Change {
+        facts,
+        bandwidth,
+        labels,
+        moments,
+        upstream,
+        table,
+    } = change;
+
+    // That the rows of the label table are in order.
+    let _ = rows.table.label_rows();
+    edit_facts(rows, facts);
+    edit_held(rows, bandwidth, labels);
+    edit_moments(rows, moments, upstream);
+    rows.table.edit(table);
+}
+
+/// What messages set up goes. Takes no memory.
+pub(crate) fn forget(rows: &mut Rows)
+    requires { AreTables rows.old }
+    ensures tables { AreTables rows.new }
+    ensures router { rows.new.router ≡ rows.old.router }
+    ensures state { state_of rows.new ≡ emptied (state_of rows.old) }
+{
+    rows.paths.clear();
+    rows.timers.set_all(&[]);
+    rows.bandwidth.clear();
+    rows.labels.clear();
+    rows.upstream.set_all(&[]);
+    rows.table.clear();
+}
