@@ -1,17 +1,19 @@
 -- Lines of a capture that are over and were answered, and the last one, as far as it was read.
-use Rattle.std.proofs.Common.{◌≡◌, ◌≢◌, ◌<◌, ◌≤◌, ◌+◌, ◌-◌, ◌||◌, ℕ, zero, suc, List, [], ◌∷◌, ◌++◌, Bool, true, false, refl, sym, ap, ap₂, subst, ◌∙◌, arith, get_or, take, ◌==◌, length, length-append, ne_eqb, append_assoc, append-nil, codes, rules, Option, Some, None, Result, Ok, Err}
-use Rattle.std.specs.Prelude.{IfSome, MatchOption}
+use Rattle.std.proofs.Common.{◌≡◌, ◌≢◌, ◌<◌, ◌≤◌, ◌+◌, ◌||◌, ◌^◌, ◌⊎◌, inl, inr, ℕ, zero, suc, List, [], ◌∷◌, ◌++◌, Bool, true, false, refl, sym, ap, subst, ◌∙◌, arith, get_or, take, ◌==◌, length, length-append, ne_eqb, append_assoc, append-nil, Option, Some, None}
+use Rattle.std.specs.Prelude.{IfNone, IfSome, MatchOption, if◌then◌else◌}
 use Rattle.std.specs.List.{onto_first}
 use Rattle.std.specs.Io.KnownBytes.{Appends, Consumes, IsAtEnd}
 use Rattle.std.proofs.KnownBytes.{Appends-nil, Appends-trans, Consumes-nil, Consumes-trans}
 use Rattle.lsr_lines.specs.Lines.{lines_of}
+use Rattle.lsr_lines.specs.Texts.{Stream}
 use Rattle.lsr_decode.specs.Decoding.{Decodes}
 use Rattle.lsr_decode.specs.declared.decoding.Decoded.{Decoded}
 use Rattle.lsr_decode.specs.declared.capture.Ending.{Ending}
 use Rattle.lsr_decode.specs.declared.capture.Ending.TheVariants as endings
-use Rattle.lsr_decode.specs.declared.capture.Taken.{Taken}
+use Rattle.lsr_decode.specs.declared.capture.Stop.{Stop}
+use Rattle.lsr_decode.specs.declared.capture.Stop.TheVariants as stops
 use Rattle.lsr_decode.specs.declared.capture.Taken.TheVariants as lots
-use Rattle.lsr_decode.specs.Captures.{Answered, AnswersAll, AnswersSome, DecodesBytes, Finishes, IsCaptured, IsOneLine, IsReadTo, TakesBytes, answer_text, is_refused, onto}
+use Rattle.lsr_decode.specs.Captures.{AnswersAll, AnswersSome, DecodesLines, Finishes, IsCaptured, IsFirstShort, IsOneLine, IsReadTo, Overfills, StopsAtCount, StopsAtLongLine, StopsAtMemory, StopsFor, TakesBytes, answer_text, ending_of, is_refused, onto}
 
 -- a byte that is no newline goes onto the first line
 line_more : (b : ℕ) (rest : List ℕ) → b ≢ 10 → lines_of (b ∷ rest) ≡ onto_first b (lines_of rest)
@@ -43,19 +45,62 @@ one_line : (line bytes : List ℕ) → IsOneLine line → IsOneLine bytes → Is
 one_line [] bytes h g = g
 one_line (b ∷ line) bytes h g = λ k l. one_more b line bytes h (one_line line bytes (λ i t. h (suc i) (omega arith)) g) k l
 
+-- a byte goes onto a first line
+onto_some : (b : ℕ) (lines : List (List ℕ)) → (x : List ℕ) × (behind : List (List ℕ)) × (onto_first b lines ≡ (b ∷ x) ∷ behind)
+onto_some b [] = ([], [], refl)
+onto_some b (line ∷ lines) = (line, lines, refl)
+
+-- a text that begins with a line that isn't over, and isn't empty, has a first line that begins with it
+first_line : (line more : List ℕ) → 1 ≤ length line → IsOneLine line → (x : List ℕ) × (behind : List (List ℕ)) × (lines_of (line ++ more) ≡ (line ++ x) ∷ behind)
+first_line [] more low h = absurd (omega (arith, low))
+first_line (b ∷ []) more low h =
+    let first = onto_some b (lines_of more) in
+    (first.0, first.1, line_more b more (h 0 (omega arith)) ∙ first.2)
+first_line (b ∷ (c ∷ line)) more low h =
+    let next = first_line (c ∷ line) more (omega arith) (λ i l. h (suc i) (omega arith)) in
+    (next.0, next.1, line_more b ((c ∷ line) ++ more) (h 0 (omega arith)) ∙ ap (onto_first b) next.2)
+
+-- and where it has more bytes than are taken, so has that first line
+first_long : (line more : List ℕ) → 16777216 < length line → IsOneLine line → (first : List ℕ) × (behind : List (List ℕ)) × (lines_of (line ++ more) ≡ first ∷ behind) × (16777216 < length first)
+first_long line more long h =
+    let next = first_line line more (omega (arith, long)) h in
+    (line ++ next.0, next.1, next.2, omega (arith, long, length-append line next.0))
+
+-- a text has no more lines than bytes
+lines_either : (newline : Bool) (b n : ℕ) (lines : List (List ℕ)) → length lines ≤ n → length (if newline then [] ∷ lines else onto_first b lines) ≤ suc n
+lines_either true b n lines h = omega (arith, h)
+lines_either false b n [] h = omega arith
+lines_either false b n (line ∷ lines) h = omega (arith, h)
+
+lines_count : (text : List ℕ) → length (lines_of text) ≤ length text
+unfolding lines_of
+lines_count [] = omega arith
+lines_count (b ∷ text) = lines_either (b == 10) b (length text) (lines_of text) (lines_count text)
+
+length_onto : (served lines : List (List ℕ)) → length (onto served lines) ≡ length served + length lines
+length_onto [] lines = omega arith
+length_onto (line ∷ served) lines = omega (arith, length_onto served (line ∷ lines))
+
+-- so no more lines were answered than bytes were read
+pub served_count : (read printed line : List ℕ) (count : ℕ) (refused : Bool) → IsCaptured read printed line count refused → count ≤ length read
+served_count read printed line count refused c =
+    omega (arith, c.counted, lines_count (read ++ []), ap length (c.lines []), length_onto c.served (lines_of (line ++ [])), ap length (append-nil read))
+
 -- at first nothing was read
 pub captured_none : IsCaptured [] [] [] 0 false
-captured_none = record { served = []; lines = λ more. refl; answered = (refl, refl); counted = refl; one = none_here }
+captured_none = record { served = []; lines = λ more. refl; answered = (refl, refl); counted = refl; one = none_here; short = omega arith }
 
 -- bytes without a newline are more of the last line
-pub captured_part : (read printed line bytes : List ℕ) (count : ℕ) (refused : Bool) → IsCaptured read printed line count refused → IsOneLine bytes → IsCaptured (read ++ bytes) printed (line ++ bytes) count refused
-captured_part read printed line bytes count refused c h =
+pub captured_part : (read printed line bytes : List ℕ) (count : ℕ) (refused : Bool) → IsCaptured read printed line count refused → IsOneLine bytes → length (line ++ bytes) ≤ 16777216
+    → IsCaptured (read ++ bytes) printed (line ++ bytes) count refused
+captured_part read printed line bytes count refused c h short =
     record {
       served = c.served;
       lines = λ more. ap lines_of (append_assoc read bytes more) ∙ c.lines (bytes ++ more) ∙ ap (λ l. onto c.served (lines_of l)) (sym (append_assoc line bytes more));
       answered = c.answered;
       counted = c.counted;
       one = one_line line bytes c.one h;
+      short = short;
     }
 
 -- a newline ends the last line, which is answered
@@ -66,9 +111,10 @@ captured_line read printed line answer count number refused bad decoded c n d a 
     record {
       served = line ∷ c.served;
       lines = λ more. ap lines_of (append_assoc read (10 ∷ []) more) ∙ c.lines (10 ∷ more) ∙ ap (onto c.served) (lines_cut line more c.one);
-      answered = (printed, refused, decoded, c.answered, d, ap (λ l. printed ++ l) (a ∙ ap (λ m. answer_text m decoded) counted), ap (λ r. refused || r) b);
+      answered = (printed, refused, decoded, c.answered, d, ap (λ l. printed ++ l) (a ∙ ap (λ m. answer_text m decoded) counted), ap (λ r. refused || r) b, c.short);
       counted = omega (arith, counted);
       one = none_here;
+      short = omega arith;
     }
 
 -- the lines that were answered are the first ones, whatever stands behind
@@ -89,6 +135,11 @@ captured_all read printed line count refused c e =
       lines = ap lines_of (sym (append-nil read)) ∙ c.lines [] ∙ ap (λ l. onto c.served (lines_of (l ++ []))) e ∙ ap (onto c.served) no_lines;
       answered = c.answered;
     }
+
+-- where the next line can't be counted, there are too many bytes
+pub captured_many : (read printed line : List ℕ) (count : ℕ) (refused : Bool) → IsCaptured read printed line count refused → 2 ^ 64 ≤ count + 1 → StopsAtCount read printed
+captured_many read printed line count refused c many =
+    (subst (λ l. AnswersSome l printed) (append-nil read) (captured_some read printed line [] count refused c), omega (arith, many, served_count read printed line count refused c))
 
 not_both : true ≡ false → ⊥
 not_both t = cc
@@ -113,7 +164,7 @@ captured_last read printed line answer count number refused bad decoded c n d a 
     record {
       served = line ∷ c.served;
       lines = ap lines_of (sym (append-nil read)) ∙ c.lines [] ∙ ap (onto c.served) (last_line line low c.one);
-      answered = (printed, refused, decoded, c.answered, d, ap (λ l. printed ++ l) (a ∙ ap (λ m. answer_text m decoded) counted), ap (λ r. refused || r) b);
+      answered = (printed, refused, decoded, c.answered, d, ap (λ l. printed ++ l) (a ∙ ap (λ m. answer_text m decoded) counted), ap (λ r. refused || r) b, c.short);
     }
 
 -- Of the bytes these were taken so far.
@@ -135,10 +186,10 @@ taken_none read printed bytes line now count refused c =
     }
 
 pub taken_more : (read printed bytes : List ℕ) (old mid new : Option (List ℕ)) (rest front behind line whole answer : List ℕ) (count number : ℕ) (refused bad : Bool) (decoded : Decoded)
-    → IsTakenTo read printed bytes old mid rest line count refused → IsOneLine front → rest ≡ front ++ (10 ∷ behind) → whole ≡ line ++ front → number ≡ count + 1 → Decodes whole decoded
+    → IsTakenTo read printed bytes old mid rest line count refused → IsOneLine front → rest ≡ front ++ (10 ∷ behind) → whole ≡ line ++ front → length whole ≤ 16777216 → number ≡ count + 1 → Decodes whole decoded
     → Appends mid new answer → answer ≡ answer_text number decoded → bad ≡ is_refused decoded → IsTakenTo read printed bytes old new behind [] number (refused || bad)
-taken_more read printed bytes old mid new rest front behind line whole answer count number refused bad decoded t one parts w n d told a b =
-    let grown = subst (λ l. IsCaptured ((read ++ t.front) ++ front) (printed ++ t.more) l count refused) (sym w) (captured_part (read ++ t.front) (printed ++ t.more) line front count refused t.captured one) in
+taken_more read printed bytes old mid new rest front behind line whole answer count number refused bad decoded t one parts w short n d told a b =
+    let grown = subst (λ l. IsCaptured ((read ++ t.front) ++ front) (printed ++ t.more) l count refused) (sym w) (captured_part (read ++ t.front) (printed ++ t.more) line front count refused t.captured one (subst (λ l. length l ≤ 16777216) w short)) in
     let ended = captured_line ((read ++ t.front) ++ front) (printed ++ t.more) whole answer count number refused bad decoded grown n d a b in
     let where_read : ((read ++ t.front) ++ front) ++ (10 ∷ []) ≡ read ++ (t.front ++ (front ++ (10 ∷ []))) = simp append_assoc in
     record {
@@ -159,28 +210,94 @@ taken_some read printed bytes old new rest line count refused t = (
   subst (λ l. AnswersSome l (printed ++ t.more)) (append_assoc read t.front rest ∙ ap (λ l. read ++ l) (sym t.parts)) (captured_some (read ++ t.front) (printed ++ t.more) line rest count refused t.captured),
 )
 
+-- where a part of the rest makes the line longer than is taken, the lines before it are answered alone
+taken_long : (read printed bytes : List ℕ) (old new : Option (List ℕ)) (rest line part tail : List ℕ) (count : ℕ) (refused : Bool) → IsTakenTo read printed bytes old new rest line count refused → IsOneLine part → rest ≡ part ++ tail
+    → 16777216 < length (line ++ part) → (more : List ℕ) × Appends old new more × StopsAtLongLine (read ++ bytes) (printed ++ more)
+taken_long read printed bytes old new rest line part tail count refused t one parts long = (
+  t.more,
+  t.told,
+  record {
+    served = t.captured.served;
+    refused = refused;
+    lines = λ more.
+        let first = first_long (line ++ part) (tail ++ more) long (one_line line part t.captured.one one) in
+        let where_read : (read ++ (t.front ++ rest)) ++ more ≡ (read ++ t.front) ++ (rest ++ more) = simp append_assoc in
+        let where_line : line ++ ((part ++ tail) ++ more) ≡ (line ++ part) ++ (tail ++ more) = simp append_assoc in (
+          first.0,
+          first.1,
+          ap (λ l. lines_of ((read ++ l) ++ more)) t.parts ∙ ap lines_of where_read ∙ t.captured.lines (rest ++ more)
+              ∙ ap (λ l. onto t.captured.served (lines_of (line ++ (l ++ more)))) parts ∙ ap (λ l. onto t.captured.served (lines_of l)) where_line ∙ ap (onto t.captured.served) first.2,
+          first.3,
+        );
+    answered = t.captured.answered;
+  },
+)
+
+-- and where the next line can't be counted, there are too many bytes
+pub taken_many : (read printed bytes : List ℕ) (old new : Option (List ℕ)) (rest line : List ℕ) (count : ℕ) (refused : Bool) → IsTakenTo read printed bytes old new rest line count refused → 2 ^ 64 ≤ count + 1
+    → (more : List ℕ) × Appends old new more × StopsAtCount (read ++ bytes) (printed ++ more)
+taken_many read printed bytes old new rest line count refused t many =
+    let some = taken_some read printed bytes old new rest line count refused t in
+    let served = served_count (read ++ t.front) (printed ++ t.more) line count refused t.captured in
+    (some.0, some.1, (some.2, omega (arith, many, served, length-append read t.front, length-append read bytes, ap length t.parts, length-append t.front rest)))
+
+-- where a part of the rest is all that the text has of the line, and leaves it short, so is the next line as far as the text goes
+short_next : (line tail : List ℕ) → IsOneLine line → length line ≤ 16777216 → (tail ≡ []) ⊎ ((behind : List ℕ) × (tail ≡ 10 ∷ behind)) → IsFirstShort (lines_of (line ++ tail))
+short_next [] tail one short (inl none) = subst (λ l. IsFirstShort l) (sym (ap lines_of none ∙ no_lines)) tt
+short_next (b ∷ line) tail one short (inl none) = subst (λ l. IsFirstShort l) (sym (ap (λ t. lines_of ((b ∷ line) ++ t)) none ∙ ap lines_of (append-nil (b ∷ line)) ∙ lines_last b line one)) short
+short_next line tail one short (inr more) = subst (λ l. IsFirstShort l) (sym (ap (λ t. lines_of (line ++ t)) more.1 ∙ lines_cut line more.0 one)) short
+
+taken_memory : (read printed bytes : List ℕ) (old new : Option (List ℕ)) (rest line part tail : List ℕ) (count : ℕ) (refused : Bool) → IsTakenTo read printed bytes old new rest line count refused → IsOneLine part
+    → rest ≡ part ++ tail → (tail ≡ []) ⊎ ((behind : List ℕ) × (tail ≡ 10 ∷ behind)) → length (line ++ part) ≤ 16777216 → (more : List ℕ) × Appends old new more × StopsAtMemory (read ++ bytes) (printed ++ more)
+taken_memory read printed bytes old new rest line part tail count refused t one parts ends short = (
+  t.more,
+  t.told,
+  record {
+    served = t.captured.served;
+    refused = refused;
+    lines = λ more.
+        let where_read : (read ++ (t.front ++ rest)) ++ more ≡ (read ++ t.front) ++ (rest ++ more) = simp append_assoc in
+        (lines_of (line ++ (rest ++ more)), ap (λ l. lines_of ((read ++ l) ++ more)) t.parts ∙ ap lines_of where_read ∙ t.captured.lines (rest ++ more));
+    answered = t.captured.answered;
+    left = lines_of ((line ++ part) ++ tail);
+    next = ap (λ l. lines_of (read ++ l)) t.parts ∙ ap lines_of (sym (append_assoc read t.front rest)) ∙ t.captured.lines rest
+        ∙ ap (λ l. onto t.captured.served (lines_of (line ++ l))) parts ∙ ap (λ l. onto t.captured.served (lines_of l)) (sym (append_assoc line part tail));
+    short = short_next (line ++ part) tail (one_line line part t.captured.one one) short ends;
+  },
+)
+
+-- whatever stops the line from growing
+pub taken_stopped : (stop : Stop) (read printed bytes : List ℕ) (old new : Option (List ℕ)) (rest line part tail : List ℕ) (count : ℕ) (refused : Bool) → IsTakenTo read printed bytes old new rest line count refused → IsOneLine part
+    → rest ≡ part ++ tail → (tail ≡ []) ⊎ ((behind : List ℕ) × (tail ≡ 10 ∷ behind)) → Overfills line part stop → (more : List ℕ) × Appends old new more × StopsFor stop (read ++ bytes) (printed ++ more)
+taken_stopped stops.TooLong read printed bytes old new rest line part tail count refused t one parts ends over = taken_long read printed bytes old new rest line part tail count refused t one parts over
+taken_stopped stops.TooMany read printed bytes old new rest line part tail count refused t one parts ends over = absurd over
+taken_stopped stops.Memory read printed bytes old new rest line part tail count refused t one parts ends over = taken_memory read printed bytes old new rest line part tail count refused t one parts ends over
+
 -- and where the rest is a part of a line, all is taken
-pub taken_all : (read printed bytes : List ℕ) (old new : Option (List ℕ)) (rest line whole : List ℕ) (count : ℕ) (refused : Bool) → IsTakenTo read printed bytes old new rest line count refused → IsOneLine rest → whole ≡ line ++ rest
+pub taken_all : (read printed bytes : List ℕ) (old new : Option (List ℕ)) (rest line whole : List ℕ) (count : ℕ) (refused : Bool) → IsTakenTo read printed bytes old new rest line count refused → IsOneLine rest → whole ≡ line ++ rest → length whole ≤ 16777216
     → TakesBytes read printed bytes old new whole (lots.Whole count refused)
-taken_all read printed bytes old new rest line whole count refused t one w = (
+taken_all read printed bytes old new rest line whole count refused t one w short = (
   t.more,
   t.told,
   subst (λ l. IsCaptured l (printed ++ t.more) whole count refused) (append_assoc read t.front rest ∙ ap (λ l. read ++ l) (sym t.parts))
-      (subst (λ l. IsCaptured ((read ++ t.front) ++ rest) (printed ++ t.more) l count refused) (sym w) (captured_part (read ++ t.front) (printed ++ t.more) line rest count refused t.captured one)),
+      (subst (λ l. IsCaptured ((read ++ t.front) ++ rest) (printed ++ t.more) l count refused) (sym w) (captured_part (read ++ t.front) (printed ++ t.more) line rest count refused t.captured one (subst (λ l. length l ≤ 16777216) w short))),
 )
 
-pub read_none : (first old : Option (List ℕ)) → IsReadTo first first old old [] 0 false
-read_none first old = record { read = []; printed = []; consumed = Consumes-nil first; told = Appends-nil old; captured = captured_none }
+pub read_none : (first : Stream) (old : Option (List ℕ)) → IsReadTo first first old old [] 0 0 false
+read_none first old =
+    record { read = []; printed = []; consumed = Consumes-nil first.bytes; breaks = λ b. b; told = Appends-nil old; captured = captured_none; many = omega arith }
 
-pub read_more : (first mid now old was new : Option (List ℕ)) (line bytes after : List ℕ) (count number : ℕ) (refused bad : Bool) → (r : IsReadTo first mid old was line count refused) → Consumes mid now bytes
-    → TakesBytes r.read r.printed bytes was new after (lots.Whole number bad) → IsReadTo first now old new after number bad
-read_more first mid now old was new line bytes after count number refused bad r consumed t =
+pub read_more : (first mid now : Stream) (old was new : Option (List ℕ)) (line bytes after : List ℕ) (count number reads : ℕ) (refused bad : Bool) → (r : IsReadTo first mid old was line count reads refused) → Consumes mid.bytes now.bytes bytes
+    → (now.may_break ≡ true → mid.may_break ≡ true) → 1 ≤ length bytes → TakesBytes r.read r.printed bytes was new after (lots.Whole number bad) → IsReadTo first now old new after number (reads + 1) bad
+read_more first mid now old was new line bytes after count number reads refused bad r consumed breaks some t =
     record {
       read = r.read ++ bytes;
       printed = r.printed ++ t.0;
       consumed = Consumes-trans _ _ _ _ _ r.consumed consumed;
+      breaks = λ b. r.breaks (breaks b);
       told = Appends-trans _ _ _ _ _ r.told t.1;
       captured = t.2;
+      many = omega (arith, some, r.many, length-append r.read bytes);
     }
 
 -- known bytes begin with what was read of them
@@ -194,23 +311,31 @@ known_all None b text h e = tt
 known_all (Some x) None text h e = absurd h
 known_all (Some x) (Some y) text h e = h ∙ ap (λ l. text ++ l) e ∙ append-nil text
 
--- a run that ends before the end
-pub cut_off : (first now : Option (List ℕ)) (text printed : List ℕ) → Consumes first now text → AnswersSome text printed
-    → (t : List ℕ) × IfSome first (λ bytes. (more : List ℕ) × (bytes ≡ t ++ more)) × AnswersSome t printed
-cut_off first now text printed c a = (text, known_some first now text c, a)
-
 captured_so_far : (read printed line : List ℕ) (count : ℕ) (refused : Bool) → IsCaptured read printed line count refused → AnswersSome read printed
 captured_so_far read printed line count refused c = subst (λ l. AnswersSome l printed) (append-nil read) (captured_some read printed line [] count refused c)
 
-pub stuck_at : (first now old new : Option (List ℕ)) (line : List ℕ) (count : ℕ) (refused : Bool) → IsReadTo first now old new line count refused
-    → (printed : List ℕ) × Appends old new printed × ((t : List ℕ) × IfSome first (λ bytes. (more : List ℕ) × (bytes ≡ t ++ more)) × AnswersSome t printed)
-stuck_at first now old new line count refused r = (r.printed, r.told, cut_off first now r.read r.printed r.consumed (captured_so_far r.read r.printed line count refused r.captured))
+-- where the stream breaks the run ends
+pub broken_at : (first now : Stream) (old new : Option (List ℕ)) (line : List ℕ) (count reads : ℕ) (refused : Bool) → IsReadTo first now old new line count reads refused → now.may_break ≡ true
+    → (printed : List ℕ) × Appends old new printed × DecodesLines first printed endings.Unreadable
+broken_at first now old new line count reads refused r broke =
+    (r.printed, r.told, (r.read, known_some first.bytes now.bytes r.read r.consumed, inl (r.breaks broke, captured_so_far r.read r.printed line count refused r.captured)))
 
-pub stopped : (first mid now old was new : Option (List ℕ)) (line bytes : List ℕ) (count : ℕ) (refused : Bool) → (r : IsReadTo first mid old was line count refused) → Consumes mid now bytes
-    → (more : List ℕ) × Appends was new more × AnswersSome (r.read ++ bytes) (r.printed ++ more)
-    → (printed : List ℕ) × Appends old new printed × ((t : List ℕ) × IfSome first (λ bytes. (more : List ℕ) × (bytes ≡ t ++ more)) × AnswersSome t printed)
-stopped first mid now old was new line bytes count refused r consumed t =
-    (r.printed ++ t.0, Appends-trans _ _ _ _ _ r.told t.1, cut_off first now (r.read ++ bytes) (r.printed ++ t.0) (Consumes-trans _ _ _ _ _ r.consumed consumed) t.2)
+-- and after more reads than can be counted
+pub endless_at : (first now : Stream) (old new : Option (List ℕ)) (line : List ℕ) (count reads : ℕ) (refused : Bool) → IsReadTo first now old new line count reads refused → 2 ^ 64 ≤ reads + 1
+    → (printed : List ℕ) × Appends old new printed × DecodesLines first printed endings.Unreadable
+endless_at first now old new line count reads refused r many =
+    (r.printed, r.told, (r.read, known_some first.bytes now.bytes r.read r.consumed, inr (inr (captured_so_far r.read r.printed line count refused r.captured, omega (arith, many, r.many)))))
+
+-- and where no line is answered any more
+pub stopped : (stop : Stop) (first mid now : Stream) (old was new : Option (List ℕ)) (line bytes : List ℕ) (count reads : ℕ) (refused : Bool) → (r : IsReadTo first mid old was line count reads refused) → Consumes mid.bytes now.bytes bytes
+    → (more : List ℕ) × Appends was new more × StopsFor stop (r.read ++ bytes) (r.printed ++ more)
+    → (printed : List ℕ) × Appends old new printed × DecodesLines first printed (ending_of stop)
+stopped stops.TooLong first mid now old was new line bytes count reads refused r consumed t =
+    (r.printed ++ t.0, Appends-trans _ _ _ _ _ r.told t.1, (r.read ++ bytes, known_some first.bytes now.bytes (r.read ++ bytes) (Consumes-trans _ _ _ _ _ r.consumed consumed), inr (inl t.2)))
+stopped stops.TooMany first mid now old was new line bytes count reads refused r consumed t =
+    (r.printed ++ t.0, Appends-trans _ _ _ _ _ r.told t.1, (r.read ++ bytes, known_some first.bytes now.bytes (r.read ++ bytes) (Consumes-trans _ _ _ _ _ r.consumed consumed), inr (inr t.2)))
+stopped stops.Memory first mid now old was new line bytes count reads refused r consumed t =
+    (r.printed ++ t.0, Appends-trans _ _ _ _ _ r.told t.1, (r.read ++ bytes, known_some first.bytes now.bytes (r.read ++ bytes) (Consumes-trans _ _ _ _ _ r.consumed consumed), t.2))
 
 take_none : (room : List ℕ) → take 0 room ≡ []
 take_none [] = refl
@@ -220,15 +345,39 @@ all_read : (first mid now : Option (List ℕ)) (read room : List ℕ) (len : ℕ
 all_read first mid now read room len c d e = subst (Consumes first now) (ap (λ n. read ++ take n room) e ∙ ap (λ l. read ++ l) (take_none room) ∙ append-nil read) (Consumes-trans _ _ _ _ _ c d)
 
 -- what is left once all was read ends the run
-pub finished : (first mid now old was new : Option (List ℕ)) (line room : List ℕ) (count len : ℕ) (refused : Bool) (ending : Ending) → (r : IsReadTo first mid old was line count refused)
-    → Consumes mid now (take len room) → IsAtEnd now → len ≡ 0 → Finishes r.read r.printed was new ending → (printed : List ℕ) × Appends old new printed × DecodesBytes first printed ending
-finished first mid now old was new line room count len refused (endings.Done any) r c end none f =
-    (r.printed ++ f.0, Appends-trans _ _ _ _ _ r.told f.1, (r.read, known_all first now r.read (all_read _ _ _ r.read room len r.consumed c none) end, f.2))
-finished first mid now old was new line room count len refused endings.Unreadable r c end none f =
-    (r.printed ++ f.0, Appends-trans _ _ _ _ _ r.told f.1, (r.read, known_some first now r.read (all_read _ _ _ r.read room len r.consumed c none), f.2))
-finished first mid now old was new line room count len refused endings.Memory r c end none f =
-    (r.printed ++ f.0, Appends-trans _ _ _ _ _ r.told f.1, (r.read, known_some first now r.read (all_read _ _ _ r.read room len r.consumed c none), f.2))
+pub finished : (first mid now : Stream) (old was new : Option (List ℕ)) (line room : List ℕ) (count reads len : ℕ) (refused : Bool) (ending : Ending) → (r : IsReadTo first mid old was line count reads refused)
+    → Consumes mid.bytes now.bytes (take len room) → IsAtEnd now.bytes → len ≡ 0 → Finishes r.read r.printed was new ending → (printed : List ℕ) × Appends old new printed × DecodesLines first printed ending
+finished first mid now old was new line room count reads len refused (endings.Done any) r c end none f =
+    (r.printed ++ f.0, Appends-trans _ _ _ _ _ r.told f.1, (r.read, known_all first.bytes now.bytes r.read (all_read _ _ _ r.read room len r.consumed c none) end, f.2))
+finished first mid now old was new line room count reads len refused endings.Unreadable r c end none f =
+    (r.printed ++ f.0, Appends-trans _ _ _ _ _ r.told f.1, (r.read, known_some first.bytes now.bytes r.read (all_read _ _ _ r.read room len r.consumed c none), inr (inr f.2)))
+finished first mid now old was new line room count reads len refused endings.Memory r c end none f =
+    (r.printed ++ f.0, Appends-trans _ _ _ _ _ r.told f.1, (r.read, known_some first.bytes now.bytes r.read (all_read _ _ _ r.read room len r.consumed c none), f.2))
 
 pub when_none : {X : Type 0} (P : X → Type 0) (Q : Type 0) (r : Option X) → ((x : X) → r ≡ Some x → ⊥) → MatchOption r Q P → Q
 when_none P Q None none h = h
 when_none P Q (Some x) none h = absurd (none x refl)
+
+pub when_no : {X : Type 0} (P : Type 0) (r : Option X) → ((x : X) → r ≡ Some x → ⊥) → IfNone r P → P
+when_no P None none h = h
+when_no P (Some x) none h = absurd (none x refl)
+
+-- before anything was read nothing was answered
+pub memory_at_first : (first : Stream) (old : Option (List ℕ)) → (printed : List ℕ) × Appends old old printed × DecodesLines first printed endings.Memory
+memory_at_first first old = (
+  [],
+  Appends-nil old,
+  (
+    [],
+    known_some first.bytes first.bytes [] (Consumes-nil first.bytes),
+    record {
+      served = [];
+      refused = false;
+      lines = λ more. (lines_of more, refl);
+      answered = (refl, refl);
+      left = [];
+      next = no_lines;
+      short = tt;
+    },
+  ),
+)

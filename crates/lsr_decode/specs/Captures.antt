@@ -1,5 +1,5 @@
 -- What `decode -` prints for a capture: a message in each line, and an answer to each.
-use Rattle.std.specs.Prelude.{◌≡◌, ◌≢◌, ◌<◌, ◌+◌, ◌||◌, ◌⊎◌, ℕ, List, [], ◌∷◌, ◌++◌, Option, length, slice_index, codes, Bool, true, false, string_bytes, IfSome}
+use Rattle.std.specs.Prelude.{◌≡◌, ◌≢◌, ◌<◌, ◌≤◌, ◌+◌, ◌^◌, ◌||◌, ◌⊎◌, ℕ, List, [], ◌∷◌, ◌++◌, Option, length, slice_index, codes, Bool, true, false, string_bytes, IfSome}
 use Rattle.std.specs.Fmt.{decimal}
 use Rattle.std.specs.Io.KnownBytes.{Appends, Consumes}
 use Rattle.lsr_facts.specs.declared.refusal.Refusal.TheVariants.{Unread}
@@ -11,6 +11,8 @@ use Rattle.lsr_decode.specs.declared.decoding.Decoded.{Decoded}
 use Rattle.lsr_decode.specs.declared.decoding.Decoded.TheVariants as answers
 use Rattle.lsr_decode.specs.declared.capture.Ending.{Ending}
 use Rattle.lsr_decode.specs.declared.capture.Ending.TheVariants as endings
+use Rattle.lsr_decode.specs.declared.capture.Stop.{Stop}
+use Rattle.lsr_decode.specs.declared.capture.Stop.TheVariants as stops
 use Rattle.lsr_decode.specs.declared.capture.Taken.{Taken}
 use Rattle.lsr_decode.specs.declared.capture.Taken.TheVariants as lots
 use Rattle.lsr_decode.specs.declared.capture.Turn.{Turn}
@@ -34,12 +36,14 @@ is_refused (answers.Refused fault) = true
 is_refused answers.NoDigits = true
 is_refused answers.Memory = true
 
--- These lines, the newest first, were answered in their order, and so much was printed; whether any was refused.
+-- These lines, the newest first, were answered in their order, and so much was printed; whether any was refused. Each has at
+-- most 16,777,216 bytes.
 abbrev pub Answered : List (List ℕ) → List ℕ → Bool → Type 0
 Answered [] printed refused = (printed ≡ []) × (refused ≡ false)
 Answered (line ∷ earlier) printed refused =
     (before : List ℕ) × (was : Bool) × (decoded : Decoded) × Answered earlier before was × Decodes line decoded
     × (printed ≡ before ++ answer_text (length earlier + 1) decoded) × (refused ≡ (was || is_refused decoded))
+    × (length line ≤ 16777216)
 
 -- lines, the newest first, in their order, and these behind them
 abbrev pub onto : List (List ℕ) → List (List ℕ) → List (List ℕ)
@@ -59,6 +63,45 @@ pub record AnswersSome (text printed : List ℕ) : Type 0 where
   pub lines : (more : List ℕ) → (behind : List (List ℕ)) × (lines_of (text ++ more) ≡ onto served behind)
   pub answered : Answered served printed refused
 
+-- The first lines of a text were answered, and the next one has more than 16,777,216 bytes, whatever stands behind the text.
+pub record StopsAtLongLine (text printed : List ℕ) : Type 0 where
+  pub served : List (List ℕ)
+  pub refused : Bool
+  pub lines : (more : List ℕ) → (line : List ℕ) × (behind : List (List ℕ)) × (lines_of (text ++ more) ≡ onto served (line ∷ behind)) × (16777216 < length line)
+  pub answered : Answered served printed refused
+
+-- The first lines of a text were answered, and it has 2^64 - 1 bytes or more, so that not all can be counted.
+abbrev pub StopsAtCount : List ℕ → List ℕ → Type 0
+StopsAtCount text printed = AnswersSome text printed × (2 ^ 64 ≤ length text + 1)
+
+-- the first of lines, if there is one, has at most 16,777,216 bytes
+abbrev pub IsFirstShort : List (List ℕ) → Type 0
+IsFirstShort [] = Unit {0}
+IsFirstShort (line ∷ lines) = length line ≤ 16777216
+
+-- The first lines of a text were answered, whatever stands behind the text, and the next one, as far as the text goes, has at
+-- most 16,777,216 bytes.
+pub record StopsAtMemory (text printed : List ℕ) : Type 0 where
+  pub served : List (List ℕ)
+  pub refused : Bool
+  pub lines : (more : List ℕ) → (behind : List (List ℕ)) × (lines_of (text ++ more) ≡ onto served behind)
+  pub answered : Answered served printed refused
+  pub left : List (List ℕ)
+  pub next : lines_of text ≡ onto served left
+  pub short : IsFirstShort left
+
+-- why no line of a text is answered any more
+abbrev pub StopsFor : Stop → List ℕ → List ℕ → Type 0
+StopsFor stops.TooLong text printed = StopsAtLongLine text printed
+StopsFor stops.TooMany text printed = StopsAtCount text printed
+StopsFor stops.Memory text printed = StopsAtMemory text printed
+
+-- why bytes aren't appended to a line: it would have more than 16,777,216, or it wouldn't and there is no memory for them
+abbrev pub Overfills : List ℕ → List ℕ → Stop → Type 0
+Overfills line bytes stops.TooLong = 16777216 < length (line ++ bytes)
+Overfills line bytes stops.TooMany = ⊥
+Overfills line bytes stops.Memory = length (line ++ bytes) ≤ 16777216
+
 -- So far was read: the lines that are over were answered, and this is the last one, as far as it goes.
 pub record IsCaptured (read printed line : List ℕ) (count : ℕ) (refused : Bool) : Type 0 where
   pub served : List (List ℕ)
@@ -66,45 +109,60 @@ pub record IsCaptured (read printed line : List ℕ) (count : ℕ) (refused : Bo
   pub answered : Answered served printed refused
   pub counted : count ≡ length served
   pub one : IsOneLine line
+  pub short : length line ≤ 16777216
 
 -- what becomes of bytes that are read next
 abbrev pub TakesBytes : List ℕ → List ℕ → List ℕ → Option (List ℕ) → Option (List ℕ) → List ℕ → Taken → Type 0
 TakesBytes read printed bytes old new line (lots.Whole count refused) =
     (more : List ℕ) × Appends old new more × IsCaptured (read ++ bytes) (printed ++ more) line count refused
-TakesBytes read printed bytes old new line lots.TooLong = (more : List ℕ) × Appends old new more × AnswersSome (read ++ bytes) (printed ++ more)
-TakesBytes read printed bytes old new line lots.Memory = (more : List ℕ) × Appends old new more × AnswersSome (read ++ bytes) (printed ++ more)
+TakesBytes read printed bytes old new line (lots.Stopped stop) =
+    (more : List ℕ) × Appends old new more × StopsFor stop (read ++ bytes) (printed ++ more)
 
 -- how a run ends once all was read
 abbrev pub Finishes : List ℕ → List ℕ → Option (List ℕ) → Option (List ℕ) → Ending → Type 0
 Finishes read printed old new (endings.Done refused) = (more : List ℕ) × Appends old new more × AnswersAll read (printed ++ more) refused
-Finishes read printed old new endings.Unreadable = (more : List ℕ) × Appends old new more × AnswersSome read (printed ++ more)
-Finishes read printed old new endings.Memory = (more : List ℕ) × Appends old new more × AnswersSome read (printed ++ more)
+Finishes read printed old new endings.Unreadable = (more : List ℕ) × Appends old new more × StopsAtCount read (printed ++ more)
+Finishes read printed old new endings.Memory = (more : List ℕ) × Appends old new more × StopsAtMemory read (printed ++ more)
 
--- So far was read of a stream that had these bytes first, if they are known, and has those now; so much was printed.
-pub record IsReadTo (first now before after : Option (List ℕ)) (line : List ℕ) (count : ℕ) (refused : Bool) : Type 0 where
+-- So far was read of a stream, which was the first one and is the other now, by so many reads that each gave a byte or more;
+-- so much was printed.
+pub record IsReadTo (first now : Stream) (before after : Option (List ℕ)) (line : List ℕ) (count reads : ℕ) (refused : Bool) : Type 0 where
   pub read : List ℕ
   pub printed : List ℕ
-  pub consumed : Consumes first now read
+  pub consumed : Consumes first.bytes now.bytes read
+  pub breaks : now.may_break ≡ true → first.may_break ≡ true
   pub told : Appends before after printed
   pub captured : IsCaptured read printed line count refused
+  pub many : reads ≤ length read
 
--- What is printed for the bytes of a stream: the answers to all of its lines; or to the first ones, where it broke, had a
--- line of more bytes than are taken, or memory ran out.
-abbrev pub DecodesBytes : Option (List ℕ) → List ℕ → Ending → Type 0
-DecodesBytes known printed (endings.Done refused) =
-    (text : List ℕ) × IfSome known (λ bytes. bytes ≡ text) × AnswersAll text printed refused
-DecodesBytes known printed endings.Unreadable =
-    (text : List ℕ) × IfSome known (λ bytes. (more : List ℕ) × (bytes ≡ text ++ more)) × AnswersSome text printed
-DecodesBytes known printed endings.Memory =
-    (text : List ℕ) × IfSome known (λ bytes. (more : List ℕ) × (bytes ≡ text ++ more)) × AnswersSome text printed
+-- how a run ends that answers no line any more
+abbrev pub ending_of : Stop → Ending
+ending_of stops.TooLong = endings.Unreadable
+ending_of stops.TooMany = endings.Unreadable
+ending_of stops.Memory = endings.Memory
 
+-- Why an input is unreadable behind the lines of a text that were answered: its stream may break, or the next line has more
+-- than 16,777,216 bytes, or the text has 2^64 - 1 bytes or more.
+abbrev pub IsUnreadable : Bool → List ℕ → List ℕ → Type 0
+IsUnreadable may_break text printed =
+    ((may_break ≡ true) × AnswersSome text printed) ⊎ (StopsAtLongLine text printed ⊎ StopsAtCount text printed)
+
+-- the bytes of a stream, if they are known, begin with a text
+abbrev pub BeginsWith : Stream → List ℕ → Type 0
+BeginsWith stream text = IfSome stream.bytes (λ bytes. (more : List ℕ) × (bytes ≡ text ++ more))
+
+-- What is printed for a stream: the answers to all of its lines, none of which has more than 16,777,216 bytes; or to the
+-- first ones, where it is unreadable, or where memory ran out before the next was found to be too long.
 abbrev pub DecodesLines : Stream → List ℕ → Ending → Type 0
-DecodesLines stream printed ending = DecodesBytes stream.bytes printed ending
+DecodesLines stream printed (endings.Done refused) =
+    (text : List ℕ) × IfSome stream.bytes (λ bytes. bytes ≡ text) × AnswersAll text printed refused
+DecodesLines stream printed endings.Unreadable = (text : List ℕ) × BeginsWith stream text × IsUnreadable stream.may_break text printed
+DecodesLines stream printed endings.Memory = (text : List ℕ) × BeginsWith stream text × StopsAtMemory text printed
 
 -- what becomes of one more read
-abbrev pub TurnsTo : Option (List ℕ) → Option (List ℕ) → Option (List ℕ) → Option (List ℕ) → List ℕ → Turn → Type 0
-TurnsTo first now before after line (turns.More count refused) = IsReadTo first now before after line count refused
-TurnsTo first now before after line (turns.Over ending) = (printed : List ℕ) × Appends before after printed × DecodesBytes first printed ending
+abbrev pub TurnsTo : Stream → Stream → Option (List ℕ) → Option (List ℕ) → List ℕ → ℕ → Turn → Type 0
+TurnsTo first now before after line reads (turns.More count refused) = IsReadTo first now before after line count reads refused
+TurnsTo first now before after line reads (turns.Over ending) = (printed : List ℕ) × Appends before after printed × DecodesLines first printed ending
 
 -- what is told on the error stream
 abbrev pub ending_text : Ending → List ℕ

@@ -1,10 +1,11 @@
 //! `lsr decode -`: a capture, a message in each line, answered one after the other.
-ghost use Rattle.std.specs.Prelude.{◌≡◌, ◌≤◌, ◌++◌, ◌||◌, ℕ, List, Option, true, length, take, IfOk, IfSome, OnOk};
+ghost use Rattle.std.specs.Prelude.{◌≡◌, ◌≤◌, ◌+◌, ◌++◌, ◌||◌, ℕ, List, Option, true, length, take, IfErr, IfOk, IfSome, IfNone, OnOk};
 ghost use Rattle.std.specs.Io.KnownBytes.{Appends, Consumes, IsAtEnd};
 ghost use Rattle.lsr_decode.specs.declared.decoding.Decoded.{Decoded};
 ghost use Rattle.lsr_decode.specs.declared.capture.Ending.{Ending};
 ghost use Rattle.lsr_decode.specs.Decoding.{Decodes};
-ghost use Rattle.lsr_decode.specs.Captures.{DecodesLines, DecodesWord, Finishes, IsCaptured, IsReadTo, TakesBytes, TurnsTo, answer_text, ending_status, ending_text, is_refused};
+ghost use Rattle.lsr_decode.specs.Captures.{DecodesLines, DecodesWord, Finishes, IsCaptured, IsReadTo, Overfills, TakesBytes, TurnsTo, answer_text, ending_of, ending_status, ending_text, is_refused};
+ghost use Rattle.lsr_lines.specs.Texts.{Stream};
 
 use crate::decoding::{Decoded, decode_digits, run_decode};
 use crate::newline::split_line;
@@ -27,9 +28,21 @@ const UNREADABLE: &str = "unreadable";
 pub enum Ending {
     /// All lines were answered, and this says whether any was refused.
     Done(bool),
-    /// The input broke, or a line has more bytes than are taken. Lines before that were answered.
+    /// The input broke, a line has more than [`MAX_INPUT_LEN`] bytes, or there are more lines or bytes than 64 bits count.
+    /// Lines before that were answered.
     Unreadable,
     /// There is no memory for a line. Lines before it were answered.
+    Memory,
+}
+
+/// Why no line is answered any more.
+#[derive(Clone, Copy, Debug, PartialEq, Eq)]
+enum Stop {
+    /// The next line has more than [`MAX_INPUT_LEN`] bytes.
+    TooLong,
+    /// The next line can't be counted.
+    TooMany,
+    /// There is no memory for the next line.
     Memory,
 }
 
@@ -38,10 +51,8 @@ pub enum Ending {
 enum Taken {
     /// The lines that end in them were answered: how many there are so far, and whether any was refused.
     Whole(u64, bool),
-    /// A line has more bytes than are taken, or can't be counted.
-    TooLong,
-    /// There is no memory for a line.
-    Memory,
+    /// The lines before one that ends in them or behind them were answered.
+    Stopped(Stop),
 }
 
 /// What became of a read.
@@ -95,13 +106,18 @@ fn answer_line<W: Write>(
     Ok(is_refused(&decoded))
 }
 
-/// Appends the bytes to the line. False where there is no memory for them.
-fn append(line: &mut Vec<u8>, bytes: &[u8]) -> bool
-    ensures { result ≡ true → line.new.items ≡ line.old.items ++ bytes.now }
+/// Appends the bytes to the line, where that leaves it with at most [`MAX_INPUT_LEN`] bytes.
+fn extend(line: &mut Vec<u8>, bytes: &[u8]) -> Result<(), Stop>
+    ensures whole { OnOk result (line.new.items ≡ line.old.items ++ bytes.now) }
+    ensures short { OnOk result (length line.new.items ≤ MAX_INPUT_LEN) }
+    ensures stop { IfErr result (Overfills line.old.items bytes.now) }
 {
-    match line.extend_from_slice(bytes) {
-        Ok(()) => true,
-        Err(AllocError) => false,
+    match line.len().checked_add(bytes.len()) {
+        Some(len) if len <= MAX_INPUT_LEN => match line.extend_from_slice(bytes) {
+            Ok(()) => Ok(()),
+            Err(AllocError) => Err(Stop::Memory),
+        },
+        _ => Err(Stop::TooLong),
     }
 }
 
@@ -121,11 +137,11 @@ fn answer_bytes<W: Write>(
     let mut any = refused;
     let mut rest = bytes;
     while let Some((front, behind)) = split_line(rest) {
-        if !append(line, front) {
-            return Ok(Taken::Memory);
+        if let Err(stop) = extend(line, front) {
+            return Ok(Taken::Stopped(stop));
         }
         let Some(number) = answered.checked_add(1) else {
-            return Ok(Taken::TooLong);
+            return Ok(Taken::Stopped(Stop::TooMany));
         };
         let is_bad = answer_line(alloc, number, line.as_slice(), output)?;
         line.clear();
@@ -133,13 +149,10 @@ fn answer_bytes<W: Write>(
         any = any | is_bad;
         rest = behind;
     }
-    if !append(line, rest) {
-        return Ok(Taken::Memory);
+    match extend(line, rest) {
+        Ok(()) => Ok(Taken::Whole(answered, any)),
+        Err(stop) => Ok(Taken::Stopped(stop)),
     }
-    if line.len() > MAX_INPUT_LEN {
-        return Ok(Taken::TooLong);
-    }
-    Ok(Taken::Whole(answered, any))
 }
 
 /// Answers what stands behind the last newline, if that is anything. The error is the output's.
@@ -163,9 +176,21 @@ fn finish<W: Write>(
     Ok(Ending::Done(refused | is_bad))
 }
 
+/// How a run ends that answers no line any more.
+fn ending_of(stop: Stop) -> Ending
+    ensures { result ≡ ending_of stop }
+{
+    match stop {
+        Stop::TooLong | Stop::TooMany => Ending::Unreadable,
+        Stop::Memory => Ending::Memory,
+    }
+}
+
 /// Reads once: how many bytes came, 0 at the end. None where the input broke.
 fn read_some<S: ByteStream>(input: &mut S, room: &mut [u8]) -> Option<usize>
     requires { 1 ≤ length room.old }
+    ensures broke { IfNone result ((S.stream input.old).may_break ≡ true) }
+    ensures breaks { (S.stream input.new).may_break ≡ true → (S.stream input.old).may_break ≡ true }
     ensures bound { IfSome result (λ len. len ≤ length room.new) }
     ensures bytes { IfSome result (λ len. Consumes (S.stream input.old).bytes (S.stream input.new).bytes (take len room.new)) }
     ensures end { IfSome result (λ len. len ≡ 0 → IsAtEnd (S.stream input.new).bytes) }
@@ -194,9 +219,9 @@ fn take_turn<S: ByteStream, W: Write>(
     output: &mut W,
 ) -> io::Result<Turn>
     requires { 1 ≤ length room.old }
-    ensures { IfOk result (λ turn. (first before : Option (List ℕ))
-        → IsReadTo first (S.stream input.old).bytes before (W.contents output.old) line.old.items count refused
-        → TurnsTo first (S.stream input.new).bytes before (W.contents output.new) line.new.items turn) }
+    ensures { IfOk result (λ turn. (first : Stream) (before : Option (List ℕ)) (reads : ℕ)
+        → IsReadTo first (S.stream input.old) before (W.contents output.old) line.old.items count reads refused
+        → TurnsTo first (S.stream input.new) before (W.contents output.new) line.new.items (reads + 1) turn) }
 {
     let Some(len) = read_some(input, room) else {
         return Ok(Turn::Over(Ending::Unreadable));
@@ -210,8 +235,7 @@ fn take_turn<S: ByteStream, W: Write>(
     let (bytes, _) = room.split_at(len);
     match answer_bytes(alloc, line, count, refused, bytes, output)? {
         Taken::Whole(answered, any) => Ok(Turn::More(answered, any)),
-        Taken::TooLong => Ok(Turn::Over(Ending::Unreadable)),
-        Taken::Memory => Ok(Turn::Over(Ending::Memory)),
+        Taken::Stopped(stop) => Ok(Turn::Over(ending_of(stop))),
     }
 }
 

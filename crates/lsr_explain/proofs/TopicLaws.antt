@@ -1,11 +1,12 @@
 -- Headings cut at their first space, lines that were looked at, and lines that were printed.
 use Rattle.std.proofs.Common.{◌≡◌, ◌≢◌, ◌<◌, ℕ, suc, List, [], ◌∷◌, ◌++◌, Bool, true, false, refl, sym, ap, ◌∙◌, arith, get_or, length, ne_eqb, append_assoc, append-nil, codes, ◌||◌, ◌⊎◌, inl, inr, rules}
-use Rattle.std.specs.Prelude.{Option, Some, None, option_map, bytes_eq, IsNone}
+use Rattle.std.specs.Prelude.{Option, Some, None, option_map, bytes_eq, if◌then◌else◌, IsNone}
 use Rattle.std.specs.Option.{MatchOption}
 use Rattle.std.specs.Str.{IsUtf8}
 use Rattle.std.specs.Io.KnownBytes.{Appends}
 use Rattle.lsr_lines.specs.Lines.{lines_of}
 use Rattle.lsr_explain.specs.Topics.{found, is_asked_by, is_indented, is_one_of, is_sought, longer_first, words_of}
+use Rattle.lsr_explain.specs.declared.topics.Kind.{Kind}
 use Rattle.lsr_explain.specs.Answers.{explained}
 
 word_more : (b : ℕ) (rest : List ℕ) → b ≢ 32 → words_of (b ∷ rest) ≡ longer_first b (words_of rest)
@@ -23,32 +24,34 @@ no_words [] h = refl
 no_words (b ∷ line) h = word_more b line (h 0 (omega arith)) ∙ ap (longer_first b) (no_words line (λ i l. h (suc i) (omega arith)))
 
 -- what a word asks for is still among the lines that are left
-pub record IsSought (word : List ℕ) (text rest : List ℕ) : Type 0 where
-  pub same : found word (lines_of text) ≡ found word (lines_of rest)
+pub record IsSought (kind : Kind) (word : List ℕ) (text rest : List ℕ) : Type 0 where
+  pub same : found kind word (lines_of text) ≡ found kind word (lines_of rest)
   pub utf8 : IsUtf8 rest
 
-pub found_first : (word line : List ℕ) (lines : List (List ℕ)) → is_sought word line ≡ true → found word (line ∷ lines) ≡ Some (line ∷ lines)
+pub found_first : (kind : Kind) (word line : List ℕ) (lines : List (List ℕ)) → is_sought kind word line ≡ true → found kind word (line ∷ lines) ≡ Some (line ∷ lines)
 unfolding found
-found_first word line lines h = rw h refl
+found_first kind word line lines h = rw h refl
 
-pub found_behind : (word line : List ℕ) (lines : List (List ℕ)) → is_sought word line ≡ false → found word (line ∷ lines) ≡ found word lines
+pub found_behind : (kind : Kind) (word line : List ℕ) (lines : List (List ℕ)) → is_sought kind word line ≡ false → found kind word (line ∷ lines) ≡ found kind word lines
 unfolding found
-found_behind word line lines h = rw h refl
+found_behind kind word line lines h = rw h refl
 
-pub found_none : (word : List ℕ) → found word [] ≡ None
+pub found_none : (kind : Kind) (word : List ℕ) → found kind word [] ≡ None
 unfolding found
-found_none word = refl
+found_none kind word = refl
 
 pub no_lines : lines_of [] ≡ []
 unfolding lines_of
 no_lines = refl
 
--- one of a heading's two words is the word that was asked for
-pub asked_first : (word heading first second : List ℕ) (r : Bool) → words_of heading ≡ Some (first, second) → r ≡ bytes_eq first word → r ≡ true → r ≡ is_asked_by word heading
-asked_first word heading first second r e h t = t ∙ sym (ap (λ b. b || bytes_eq second word) (sym h ∙ t)) ∙ sym (ap (is_one_of word) e)
+-- a heading's first word is the word that was asked for, or it is its name, or neither is
+pub asked_first : (named : Bool) (word heading first name : List ℕ) (q : Bool) → words_of heading ≡ Some (first, name) → q ≡ bytes_eq first word → q ≡ true → true ≡ is_asked_by named word heading
+asked_first named word heading first name q e h t = sym (ap (λ b. b || (if named then bytes_eq name word else false)) (sym h ∙ t)) ∙ sym (ap (is_one_of named word heading) e)
 
-pub asked_second : (word heading first second : List ℕ) (q r : Bool) → words_of heading ≡ Some (first, second) → q ≡ bytes_eq first word → q ≡ false → r ≡ bytes_eq second word → r ≡ is_asked_by word heading
-asked_second word heading first second q r e h t g = g ∙ sym (ap (λ b. b || bytes_eq second word) (sym h ∙ t)) ∙ sym (ap (is_one_of word) e)
+pub asked_name : (named : Bool) (word heading first name : List ℕ) (q r : Bool) → words_of heading ≡ Some (first, name) → q ≡ bytes_eq first word → q ≡ false → r ≡ (if named then bytes_eq name word else false)
+    → r ≡ is_asked_by named word heading
+asked_name named word heading first name q r e h t g =
+    g ∙ sym (ap (λ b. b || (if named then bytes_eq name word else false)) (sym h ∙ t)) ∙ sym (ap (is_one_of named word heading) e)
 
 pub none_by : {X : Type 0} (r : Option X) → ((x : X) → r ≡ Some x → ⊥) → IsNone r
 none_by None h = search rules

@@ -13,7 +13,8 @@ use Rattle.lsr_explain.specs.declared.explaining.Answer.TheVariants as answers
 abbrev pub told_word : Kind → List ℕ
 told_word kinds.Refusal = codes "refused "
 told_word kinds.RsvpError = codes "error "
-told_word kinds.Fault = []
+told_word kinds.ConfigFault = codes "config "
+told_word kinds.Ending = []
 
 -- the lines up to the first that doesn't begin with a space
 unfoldable pub explained : List (List ℕ) → List ℕ
@@ -41,15 +42,21 @@ headings_text lines = flat_map heading_line lines
 abbrev pub section_text : List ℕ → Kind → List ℕ
 section_text title kind = title ++ headings_text (lines_of (text_of kind))
 
--- what can be asked besides refusals
-abbrev pub other_topics_text : List ℕ
-other_topics_text =
-    section_text (codes "Errors of RSVP, by code and value or by name; N stands for any value:\n") kinds.RsvpError
-    ++ section_text (codes "Faults of a configuration, and what ends a run, by name:\n") kinds.Fault
+-- what can be asked of a run's answers
+abbrev pub answers_text : List ℕ
+answers_text =
+    section_text (codes "Refusals (refused N NAME), by number or name:\n") kinds.Refusal
+    ++ section_text (codes "Errors of RSVP (error CODE VALUE), by CODE/VALUE or name; N stands for any value:\n") kinds.RsvpError
+
+-- what can be asked of the error stream
+abbrev pub faults_text : List ℕ
+faults_text =
+    section_text (codes "Faults of a configuration (config FAULT KEY), by FAULT:\n") kinds.ConfigFault
+    ++ section_text (codes "What else ends a run, by its first word:\n") kinds.Ending
 
 -- all that can be asked
 abbrev pub topics_text : List ℕ
-topics_text = section_text (codes "Refusals, by number or name:\n") kinds.Refusal ++ other_topics_text
+topics_text = answers_text ++ faults_text
 
 -- what is told of a word that asks for nothing
 abbrev pub unknown_text : List ℕ

@@ -11,13 +11,21 @@ use Rattle.lsr_explain.specs.declared.explaining.Answer.{Answer}
 use Rattle.lsr_explain.specs.declared.explaining.Answer.TheVariants as answers
 use Rattle.lsr_explain.specs.declared.refusals.TheConstants.{REFUSALS}
 use Rattle.lsr_explain.specs.declared.errors.TheConstants.{ERRORS}
-use Rattle.lsr_explain.specs.declared.faults.TheConstants.{FAULTS}
+use Rattle.lsr_explain.specs.declared.faults.TheConstants.{CONFIG_FAULTS, ENDINGS}
 
 -- the topics of a kind
 abbrev pub text_of : Kind → List ℕ
 text_of kinds.Refusal = REFUSALS.now
 text_of kinds.RsvpError = ERRORS.now
-text_of kinds.Fault = FAULTS.now
+text_of kinds.ConfigFault = CONFIG_FAULTS.now
+text_of kinds.Ending = ENDINGS.now
+
+-- whether a name stands behind the first word of each heading of a kind
+abbrev pub has_names : Kind → Bool
+has_names kinds.Refusal = true
+has_names kinds.RsvpError = true
+has_names kinds.ConfigFault = false
+has_names kinds.Ending = false
 
 -- a line that begins with a space is no heading
 abbrev pub is_indented : List ℕ → Bool
@@ -34,23 +42,24 @@ unfoldable pub words_of : List ℕ → Option (List ℕ × List ℕ)
 words_of [] = None
 words_of (byte ∷ rest) = if byte == 32 then Some ([], rest) else longer_first byte (words_of rest)
 
--- whether a word is one of the two
-abbrev pub is_one_of : List ℕ → Option (List ℕ × List ℕ) → Bool
-is_one_of word None = false
-is_one_of word (Some words) = bytes_eq words.0 word || bytes_eq words.1 word
+-- whether a word is a heading's first word, which is the whole heading where it has no space; or the name behind that, where
+-- headings have names
+abbrev pub is_one_of : Bool → List ℕ → List ℕ → Option (List ℕ × List ℕ) → Bool
+is_one_of named word heading None = bytes_eq heading word
+is_one_of named word heading (Some words) = bytes_eq words.0 word || (if named then bytes_eq words.1 word else false)
 
 -- whether a word asks for what a heading stands over
-abbrev pub is_asked_by : List ℕ → List ℕ → Bool
-is_asked_by word heading = is_one_of word (words_of heading)
+abbrev pub is_asked_by : Bool → List ℕ → List ℕ → Bool
+is_asked_by named word heading = is_one_of named word heading (words_of heading)
 
--- whether a line is a heading, which a word asks for
-abbrev pub is_sought : List ℕ → List ℕ → Bool
-is_sought word line = if is_indented line then false else is_asked_by word line
+-- whether a line is a heading of a kind, which a word asks for
+abbrev pub is_sought : Kind → List ℕ → List ℕ → Bool
+is_sought kind word line = if is_indented line then false else is_asked_by (has_names kind) word line
 
--- the lines from the first heading on that a word asks for
-unfoldable pub found : List ℕ → List (List ℕ) → Option (List (List ℕ))
-found word [] = None
-found word (line ∷ lines) = if is_sought word line then Some (line ∷ lines) else found word lines
+-- the lines from the first heading of a kind on that a word asks for
+unfoldable pub found : Kind → List ℕ → List (List ℕ) → Option (List (List ℕ))
+found kind word [] = None
+found kind word (line ∷ lines) = if is_sought kind word line then Some (line ∷ lines) else found kind word lines
 
 -- the lines from a topic's heading on
 abbrev pub lines_from : Topic → List (List ℕ)
@@ -67,11 +76,13 @@ of_kind kind (Some lines) = Some (kind, lines)
 
 -- what a word asks for among the topics of a kind
 abbrev pub found_in : Kind → List ℕ → Option (Kind × List (List ℕ))
-found_in kind word = of_kind kind (found word (lines_of (text_of kind)))
+found_in kind word = of_kind kind (found kind word (lines_of (text_of kind)))
 
--- the topic that a word asks for: of refusals, else of errors, else of faults
+-- the topic that a word asks for: of refusals, else of errors, else of faults of a configuration, else of what ends a run
 abbrev pub topic_of : List ℕ → Option (Kind × List (List ℕ))
-topic_of word = option_or (found_in kinds.Refusal word) (option_or (found_in kinds.RsvpError word) (found_in kinds.Fault word))
+topic_of word =
+    option_or (found_in kinds.Refusal word)
+    (option_or (found_in kinds.RsvpError word) (option_or (found_in kinds.ConfigFault word) (found_in kinds.Ending word)))
 
 -- The digits are decimal, leading zeros taken, and their value fits 16 bits.
 pub record ValueOf (digits : List ℕ) (value : ℕ) : Type 0 where

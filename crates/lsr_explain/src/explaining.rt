@@ -22,7 +22,8 @@ const ALL_OF_CTYPE: &str = "14/N";
 pub enum Answer {
     /// What this explains.
     Topic(Topic),
-    /// An error about an object: what it means, and its value, which is 256 times the object's class and its C-Type.
+    /// An error about an object: what it means, and its value, which is 256 times the object's class, plus its
+    /// C-Type.
     Object(Topic, u16),
     /// All that can be asked.
     List,

@@ -1,57 +1,64 @@
 //! What each fault of a configuration means, and what else is told on the error stream.
 
-/// A heading for each, its name and how it is told, and behind it what it means, in lines that begin with spaces.
-pub const FAULTS: &str = "\
-Text (config Text)
+/// Faults of a configuration: for each a heading, which is the fault as it is told behind `config`, and behind it what it
+/// means, in lines that begin with spaces. `KEY` stands for the name of a key.
+pub const CONFIG_FAULTS: &str = "\
+Text
   The configuration's text isn't TOML, or has a whole number outside 64 bits.
   What to do: look at quotes, brackets, and keys that are given twice.
-  See: docs/CONFIGURATION.md
-Missing (config Missing KEY)
+  See: docs/CONFIGURATION.md (Faults)
+Missing KEY
   The configuration lacks a key that is needed.
   What to do: give that key a value.
-  See: docs/CONFIGURATION.md
-BadValue (config BadValue KEY)
+  See: docs/CONFIGURATION.md (Faults)
+BadValue KEY
   The key's value isn't of the kind that it takes, or out of its range; or a table that
   there may be many of has one pair of brackets, as `[link]`.
   What to do: write the value as docs/CONFIGURATION.md says; head such tables `[[link]]`.
-  See: docs/CONFIGURATION.md
-Repeated (config Repeated KEY)
+  See: docs/CONFIGURATION.md (Faults)
+Repeated KEY
   A number, an address or a prefix that may stand once stands there twice.
   What to do: give each a value of its own.
-  See: docs/CONFIGURATION.md
-UnknownName (config UnknownName KEY)
-  The key's value names something that the configuration doesn't have.
-  What to do: add what it names, or name another.
-  See: docs/CONFIGURATION.md
-TooMany (config TooMany KEY)
-  The table has more records than a router keeps.
+  See: docs/CONFIGURATION.md (Faults)
+UnknownName KEY
+  The key's value is the number of a link that the configuration doesn't have.
+  What to do: add that link, or name another.
+  See: docs/CONFIGURATION.md (Faults)
+TooMany KEY
+  The table has more records than a router keeps: 16 links, 256 routes.
   What to do: take records out of it.
-  See: docs/CONFIGURATION.md
-UnknownKey (config UnknownKey KEY)
-  No configuration has a key of this name.
+  See: docs/CONFIGURATION.md (Faults)
+UnknownKey KEY
+  No configuration has a key of this name in this place.
   What to do: look at its spelling, and at the table that it stands in; or take it out.
-  See: docs/CONFIGURATION.md
-Memory (config Memory)
+  See: docs/CONFIGURATION.md (Faults)
+Memory
   There wasn't memory enough to read the configuration.
   What to do: free some memory and try again.
-  See: docs/CONFIGURATION.md
+  See: docs/CONFIGURATION.md (Faults)
+";
+
+/// What else is told on the error stream and ends a run: for each a heading, which is what is told, and behind it what it
+/// means, in lines that begin with spaces. `N` stands for a number.
+pub const ENDINGS: &str = "\
 bad line N
   Line N has none of the forms that `lsr step --help` tells. It ended the run; what the
   lines before it asked for is done.
   What to do: mend the line, and run the whole again.
-  See: lsr step --help
-unreadable (on standard error)
+  See: README.md (A short tour)
+unreadable
   The file or the input can't be opened or read, isn't UTF-8, or has more than 16777216
-  bytes.
+  bytes. Of `lsr decode -`: the input broke, or a line has more than 16777216 bytes; the
+  lines before that are answered.
   What to do: look at its name and its permissions; give it as text.
-  See: lsr step --help
-memory (on standard error)
+  See: docs/CONFIGURATION.md (Faults); docs/PROGRAM.md (`lsr decode`: what messages are made of)
+memory
   There is no memory. What was printed before is done.
   What to do: free some memory and try again.
-  See: a limit of this machine
-unwritable (on standard error)
+  See: README.md (What is promised)
+unwritable
   The output or the error stream can't be written: its reader has gone, or a disk is
-  full.
-  What to do: look at where the output goes.
-  See: a limit of this machine
+  full. It ended the run.
+  What to do: look at where the output goes, and run the whole again.
+  See: docs/DECISIONS.md (The program)
 ";

@@ -4,7 +4,7 @@ ghost use Rattle.std.specs.Io.KnownBytes.{Appends};
 ghost use Rattle.lsr_lines.specs.Lines.{lines_of};
 ghost use Rattle.lsr_explain.specs.declared.explaining.Answer.{Answer};
 ghost use Rattle.lsr_explain.specs.Topics.{Explains};
-ghost use Rattle.lsr_explain.specs.Answers.{answer_status, explained, heading_line, headings_text, object_line, other_topics_text, section_text, shown_text, told_text, told_word, topic_text, topics_text, unknown_text};
+ghost use Rattle.lsr_explain.specs.Answers.{answer_status, answers_text, explained, faults_text, heading_line, headings_text, object_line, section_text, shown_text, told_text, told_word, topic_text, topics_text, unknown_text};
 
 use crate::explaining::{Answer, explain};
 use crate::topics::{Kind, Topic, is_indented};
@@ -14,16 +14,19 @@ use std::io::Write;
 
 /// The status of a word that asks for nothing.
 const BAD_WORDS: u8 = 2;
-/// The value of an error about an object is so many times the object's class, and its C-Type (RFC 2205, B).
+/// The value of an error about an object is so many times the object's class, plus its C-Type (RFC 2205, B).
 const CLASS_UNIT: u16 = 256;
 /// What is told of a word that asks for nothing.
 const UNKNOWN: &str = "error: no refusal, error or fault has this number or name\n";
 /// What stands over the topics.
-const OF_REFUSALS: &str = "Refusals, by number or name:\n";
+const OF_REFUSALS: &str = "Refusals (refused N NAME), by number or name:\n";
 
-const OF_ERRORS: &str = "Errors of RSVP, by code and value or by name; N stands for any value:\n";
+const OF_ERRORS: &str =
+    "Errors of RSVP (error CODE VALUE), by CODE/VALUE or name; N stands for any value:\n";
 
-const OF_FAULTS: &str = "Faults of a configuration, and what ends a run, by name:\n";
+const OF_CONFIG_FAULTS: &str = "Faults of a configuration (config FAULT KEY), by FAULT:\n";
+
+const OF_ENDINGS: &str = "What else ends a run, by its first word:\n";
 
 /// The word that a router or the program tells such a topic with.
 fn told_word(kind: Kind) -> &'static str
@@ -32,7 +35,8 @@ fn told_word(kind: Kind) -> &'static str
     match kind {
         Kind::Refusal => "refused ",
         Kind::RsvpError => "error ",
-        Kind::Fault => "",
+        Kind::ConfigFault => "config ",
+        Kind::Ending => "",
     }
 }
 
@@ -111,20 +115,28 @@ fn put_section<W: Write>(output: &mut W, title: &str, kind: Kind) -> io::Result<
     put_headings(output, kind.text())
 }
 
-/// Prints what can be asked besides refusals. The error is the stream's.
-fn put_other_topics<W: Write>(output: &mut W) -> io::Result<()>
-    ensures { OnOk result (Appends (W.contents output.old) (W.contents output.new) other_topics_text) }
+/// Prints what can be asked of a run's answers. The error is the stream's.
+fn put_answers<W: Write>(output: &mut W) -> io::Result<()>
+    ensures { OnOk result (Appends (W.contents output.old) (W.contents output.new) answers_text) }
 {
-    put_section(output, OF_ERRORS, Kind::RsvpError)?;
-    put_section(output, OF_FAULTS, Kind::Fault)
+    put_section(output, OF_REFUSALS, Kind::Refusal)?;
+    put_section(output, OF_ERRORS, Kind::RsvpError)
+}
+
+/// Prints what can be asked of the error stream. The error is the stream's.
+fn put_faults<W: Write>(output: &mut W) -> io::Result<()>
+    ensures { OnOk result (Appends (W.contents output.old) (W.contents output.new) faults_text) }
+{
+    put_section(output, OF_CONFIG_FAULTS, Kind::ConfigFault)?;
+    put_section(output, OF_ENDINGS, Kind::Ending)
 }
 
 /// Prints all that can be asked. The error is the stream's.
 fn put_topics<W: Write>(output: &mut W) -> io::Result<()>
     ensures { OnOk result (Appends (W.contents output.old) (W.contents output.new) topics_text) }
 {
-    put_section(output, OF_REFUSALS, Kind::Refusal)?;
-    put_other_topics(output)
+    put_answers(output)?;
+    put_faults(output)
 }
 
 /// Prints the topic of an error about an object, and which object its value tells. The error is the stream's.

@@ -1,9 +1,9 @@
 //! Topics: what is explained, and which words ask for it.
 ghost use Rattle.std.specs.Prelude.{◌≡◌, option_map};
-ghost use Rattle.lsr_explain.specs.Topics.{found_in, is_asked_by, is_indented, is_sought, seen, text_of, topic_of};
+ghost use Rattle.lsr_explain.specs.Topics.{found_in, has_names, is_asked_by, is_indented, is_sought, seen, text_of, topic_of};
 
 use crate::errors::ERRORS;
-use crate::faults::FAULTS;
+use crate::faults::{CONFIG_FAULTS, ENDINGS};
 use crate::refusals::REFUSALS;
 use lsr_lines::next_line;
 
@@ -14,19 +14,32 @@ pub enum Kind {
     Refusal,
     /// An error of RSVP.
     RsvpError,
-    /// A fault of a configuration, or what else is told on the error stream.
-    Fault,
+    /// A fault of a configuration.
+    ConfigFault,
+    /// What else is told on the error stream, and ends a run.
+    Ending,
 }
 
 impl Kind {
-    /// The topics of this kind: a heading for each, a line of two words, and behind it lines that begin with spaces.
+    /// The topics of this kind: a heading for each, a line of a word or more, and behind it lines that begin with spaces.
     pub(crate) fn text(self) -> &'static str
         ensures { result.now ≡ text_of self }
     {
         match self {
             Kind::Refusal => REFUSALS,
             Kind::RsvpError => ERRORS,
-            Kind::Fault => FAULTS,
+            Kind::ConfigFault => CONFIG_FAULTS,
+            Kind::Ending => ENDINGS,
+        }
+    }
+
+    /// Whether a name stands behind the first word of each heading of this kind.
+    fn has_names(self) -> bool
+        ensures { result ≡ has_names self }
+    {
+        match self {
+            Kind::Refusal | Kind::RsvpError => true,
+            Kind::ConfigFault | Kind::Ending => false,
         }
     }
 }
@@ -36,7 +49,8 @@ impl Kind {
 pub struct Topic {
     /// What it is.
     pub kind: Kind,
-    /// Its number, code and value or name, and its name or how it is told.
+    /// How it is told, but for the word that all of its kind begin with: a number or a code and value, and a name; or a
+    /// fault.
     pub heading: &'static str,
     /// What stands behind that: the explanation is the lines up to the first that doesn't begin with a space.
     pub behind: &'static str,
@@ -49,24 +63,30 @@ pub(crate) fn is_indented(line: &str) -> bool
     matches!(line.as_bytes(), [b' ', ..])
 }
 
-/// Whether the word asks for what this heading stands over: it is what stands before its first space or behind it.
-fn is_asked_by(word: &str, heading: &str) -> bool
-    ensures { result ≡ is_asked_by word.now heading.now }
+/// Whether the word asks for what this heading stands over: it is the heading's first word, or the name behind that, where
+/// headings have names.
+fn is_asked_by(named: bool, word: &str, heading: &str) -> bool
+    ensures { result ≡ is_asked_by named word.now heading.now }
 {
     match heading.split_once(' ') {
-        Some((first, second)) => first == word || second == word,
-        None => false,
+        Some((first, name)) => {
+            if first == word {
+                return true;
+            }
+            if named { name == word } else { false }
+        }
+        None => heading == word,
     }
 }
 
-/// Whether the line is a heading that the word asks for.
-fn is_sought(word: &str, line: &str) -> bool
-    ensures { result ≡ is_sought word.now line.now }
+/// Whether the line is a heading of this kind that the word asks for.
+fn is_sought(kind: Kind, word: &str, line: &str) -> bool
+    ensures { result ≡ is_sought kind word.now line.now }
 {
     if is_indented(line) {
         return false;
     }
-    is_asked_by(word, line)
+    is_asked_by(kind.has_names(), word, line)
 }
 
 /// The first topic of this kind that the word asks for.
@@ -75,7 +95,7 @@ fn find_in(kind: Kind, word: &str) -> Option<Topic>
 {
     let mut rest = kind.text();
     while let Some((line, behind)) = next_line(rest) {
-        if is_sought(word, line) {
+        if is_sought(kind, word, line) {
             return Some(Topic {
                 kind,
                 heading: line,
@@ -97,5 +117,8 @@ pub fn find_topic(word: &str) -> Option<Topic>
     if let Some(topic) = find_in(Kind::RsvpError, word) {
         return Some(topic);
     }
-    find_in(Kind::Fault, word)
+    if let Some(topic) = find_in(Kind::ConfigFault, word) {
+        return Some(topic);
+    }
+    find_in(Kind::Ending, word)
 }

@@ -19,8 +19,15 @@ Example: the router refuses to tear down a path that it doesn't know.
   echo rx 1 1005b988ff000030001001070a000004000000010a000001000c03010a00000100000001\
 000c0b070a00000100000001 | lsr step
 
-The status is 0; 1 for a refused file, input, line or message, and where the output can't be
-written or memory runs out; 2 for words that aren't taken. Why is said on standard error.
+The status is, of each command:
+  0                   what was asked for is done, or help was. A line of `step` that the router
+                      refuses, or says is an error, is answered: that is 0, too
+  1                   a file, the input, a line of `step` or a message to decode wasn't taken;
+                      the output can't be written; or memory ran out
+  2                   the words behind `lsr` aren't taken, and nothing was done: too few, too
+                      many or unknown ones, HEX that isn't hexadecimal digits, or WHAT that asks
+                      for nothing
+Why it isn't 0 is said on standard error, and by `decode -` in its answers too.
 ";
 
 const STEP_ABOUT: &str = "\
@@ -28,21 +35,27 @@ Serves messages, frames, moments, links that come up and go down, and restarts, 
 from standard input, and prints what the router answers and sends";
 
 const STEP_HELP: &str = "\
-A line of standard input, its words parted by one space:
+Standard input is read to its end, at most 16777216 bytes, before its first line is answered. A
+newline at the very end begins no further line. Each line is one of these:
   rx LINK HEX       a message came over link LINK, 1 to 65535; HEX is its bytes in
-                    hexadecimal digits of either case, and may be empty
-  frame LINK HEX    a whole frame came over link LINK: its first byte is 1 before a message,
-                    2 before a payload under labels
-  tick N            moment N came, in milliseconds; the router is opened at moment 0
+                    hexadecimal digits of either case, two for each, and may be empty
+  frame LINK HEX    a whole frame came over link LINK: its first byte is 01 before a message,
+                    02 before a payload under labels
+  tick N            moment N came, in milliseconds, 0 to 18446744073709551615; the router is
+                    opened at moment 0, and refuses N above 4611686018427387904
   up LINK           link LINK came up
   down LINK         link LINK went down
   restart           the router lost what messages had set up in it, and is cold
-  start             a cold router is started; a running one goes on as it is
+  start             a cold router is started; a running one goes on as it is. The router is
+                    opened running
   show paths        asks for the paths that the router knows
   show resvs        asks for the reservations that stand
   show table        asks for the label table
   show links        asks for the links, and for what is reserved on them
   show recent       asks for the last 32 replies
+Words are parted by one space, and nothing else stands in a line: no sign, no blank before or
+behind, no carriage return. Numbers are decimal; zeros may stand before them. An empty line is
+a bad line.
 
 What is printed for each of them but `show`:
   done              it was done
@@ -57,14 +70,17 @@ What is printed for a frame under labels, in place of these:
   refused N NAME    it was dropped
 
 What to do next:
-  refused 24 UnknownLink   name a link of the configuration
+  refused 1 to 9           the message can't be read: `lsr decode HEX` tells the same
+  refused 10 NoMatch       `show paths` and `show resvs` have what a message can speak of
   refused 12 LinkDown      `up LINK` first
+  refused 14 NoLabel       `show table` has the labels that frames may come under
+  refused 24 UnknownLink   name a link of the configuration: `show links` has them
   refused 29 Late          a moment below the last one: go on from that
   refused 30 BadMoment     a moment above 4611686018427387904 (2^62)
+  refused 40 NoMemory      there was no memory, and nothing changed: try again
   refused 42 IsCold        the router was restarted: `start` it first
-  refused 1 to 9           the message can't be read: `lsr decode HEX` tells the same
-  refused 14 NoLabel       `show table` has the labels that frames may come under
-`lsr explain N`, `lsr explain NAME` and `lsr explain CODE/VALUE` say more of each.
+`lsr explain N`, `lsr explain NAME` and `lsr explain CODE/VALUE` say more of each; CODE/VALUE
+is one word, as 24/5 for `error 24 5`.
 
 What is printed for `show recent`, the oldest reply first: `done`, `error CODE VALUE` or
 `refused N NAME`, without what was sent. A frame that went on or was delivered has no reply.
@@ -86,11 +102,13 @@ ENDPOINT/TUNNEL/EXTENDED SENDER/LSP, the session, sender and LSP ID of an LSP:
 
 The router is the one that FILE says (docs/CONFIGURATION.md has the keys; begin with a copy
 of examples/middle.toml), or without it the built-in one: 10.0.0.2, link 1 to 10.0.0.1, link
-2 to 10.0.0.3.
+2 to 10.0.0.3, and 10.0.0.4 behind link 2. FILE is read whole before the first line.
 
-On standard error, with status 1:
-  bad line N        line N has none of the forms above, and ends the run; what the lines
-                    before it asked for is done. Mend it, and run the whole again
+The status is 0 where each line was answered, whatever the answers are; 1 with one of these on
+standard error; 2 where the words of the command aren't taken:
+  bad line N        line N, counted from 1, has none of the forms above, and ends the run;
+                    what the lines before it asked for is done. Mend it, and run the whole
+                    again
   config FAULT KEY  the first fault of FILE, and the key that it is about; mend that, and
                     run again for the next. docs/CONFIGURATION.md says what each FAULT is
   unreadable        FILE or the input can't be opened or read, isn't UTF-8, or has more than
@@ -106,16 +124,20 @@ Example: a tear of a path that isn't there prints `refused 10 NoMatch`.
 const DECODE_ABOUT: &str = "Prints the objects of one message, or of each message of a capture";
 
 const DECODE_HELP: &str = "\
+HEX is one word, the bytes of one message in hexadecimal digits of either case, two for each,
+with no blanks; or it is `-`, which reads standard input to its end.
+
 What is printed:
   KIND LENGTH       the message's type (Path, Resv, PathErr, ResvErr, PathTear or ResvTear)
-                    and its bytes
+                    and the number of its bytes, 8 to 4096
   CLASS CTYPE BODY  a line for each object, in the order of the bytes: its class and
-                    C-Type in decimal, and its body in hexadecimal digits, if it has any
+                    C-Type in decimal, 0 to 255, and its body in hexadecimal digits, if it
+                    has any
 
 A message that can't be read prints `refused N NAME` on standard error, status 1: what is
 wrong with it first. A router answers the same to `rx LINK HEX` (lsr step --help), and
 `lsr explain N` says what to do about it.
-  1 Short              fewer than 8 bytes
+  1 Short              fewer than 8 bytes; no bytes at all, too
   2 Version            its version isn't 1
   3 LengthField        its length field isn't the number of its bytes
   4 Checksum           its checksum field is neither 0 nor right
@@ -128,13 +150,21 @@ wrong with it first. A router answers the same to `rx LINK HEX` (lsr step --help
                        above the limit
   40 NoMemory          there is no memory to read it
 
-With `-` for HEX the messages are the lines of standard input, each the digits of one; as
-many as come. Each line has its answer on standard output at once, and an empty line behind
-it: what is printed above, or for a line that is refused, which doesn't end the run:
+With `-` for HEX the messages are the lines of standard input, each the digits of one, as many
+as come, until the input ends; a line has at most 16777216 bytes. An empty line is a message of
+no bytes; a newline at the very end begins no further line, and the last line needs none. Each
+line has its answer on standard output at once, and an empty line behind it: what is printed
+above, or for a line that is refused, which doesn't end the run:
   line N: refused M NAME
   line N: no hexadecimal digits
-The status is 1 if any line was refused, and 1 with `unreadable` or `memory` on standard
-error if the input breaks, a line has more than 16777216 bytes, or memory runs out.
+N counts lines from 1.
+
+The status of HEX is 0; 1 where the message is refused; 2 where it isn't an even number of
+hexadecimal digits. That of `-` is 0; 1 where a line was refused or is no hexadecimal digits;
+and 1 where the run ends before the last line, with one of these on standard error:
+  unreadable        the input broke, or a line has more than 16777216 bytes
+  memory            there is no memory
+  unwritable        the output or the error stream can't be written
 
 Example: this PathTear prints `PathTear 48`, `1 7 0a000004000000010a000001`,
 `3 1 0a00000100000001` and `11 7 0a00000100000001`.
@@ -149,15 +179,20 @@ const EXPLAIN_ABOUT: &str = "\
 Says what a refusal, an error or a fault means, what to do about it, and where its rule stands";
 
 const EXPLAIN_HELP: &str = "\
-WHAT is one of these, as it was told:
+WHAT is one word, in upper and lower case as it was told:
   N or NAME         a refusal: of `refused 24 UnknownLink` 24 or UnknownLink
-  CODE/VALUE        an error of RSVP: of `error 24 5` 24/5; these have names too, as NoRoute.
-                    The value of 13 and 14 may be any, or N: it tells an object
-  FAULT             a fault of a configuration: of `config BadValue limit` BadValue; or what
-                    else ends a run: bad (of `bad line N`), unreadable, memory, unwritable
+  CODE/VALUE        an error of RSVP, as one word with a slash and no blanks: of `error 24 5`
+                    24/5. Errors have names too, as NoRoute
+  13/VALUE          an error about an object, and so is 14/VALUE; VALUE, 0 to 65535, is 256
+                    times the object's class, plus its C-Type, and both are told. 13/N and
+                    14/N tell of all such errors
+  FAULT             a fault of a configuration: of `config BadValue limit` BadValue
+  bad               of `bad line N`; unreadable, memory and unwritable, too: what else ends
+                    a run
   list              all that can be asked
 
-Any other word prints that list on standard error, status 2.
+The status is 0; 2 for any other word, which prints that list on standard error, and for more
+words than one; 1 where the output can't be written.
 
 Example: what to do about `error 24 5`.
   lsr explain 24/5
@@ -165,10 +200,11 @@ Example: what to do about `error 24 5`.
 
 const HEX_HELP: &str = "\
 The message's bytes: an even number of hexadecimal digits of either case; or `-` for a message
-in each line of standard input";
+in each line of standard input, which is read to its end";
 
-const WHAT_HELP: &str =
-    "A refusal's number or name, an error's code and value, a fault's name, or `list`";
+const WHAT_HELP: &str = "\
+A refusal's number or name; an error's code and value as one word, as 24/5, or its name; a
+fault's name; or `list`";
 
 const CONFIG_HELP: &str =
     "The file of the router's configuration (TOML); without it the built-in router serves";

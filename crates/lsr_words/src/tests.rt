@@ -68,6 +68,12 @@ fn other_words_are_told_on_the_error_stream(rt: HostRuntime) -> Result<(), Fail>
     Ok(())
 }
 
+/// Whether the help of these words is no error and has the text.
+fn help_has(alloc: Global, words: &[&str], text: &str) -> Result<bool, Fail> {
+    let (is_error, help) = told(alloc, words)?;
+    Ok(!is_error && help.as_str().contains(text))
+}
+
 #[test]
 fn help_shows_lines_and_an_example(rt: HostRuntime) -> Result<(), Fail> {
     let helps = [
@@ -83,9 +89,29 @@ fn help_shows_lines_and_an_example(rt: HostRuntime) -> Result<(), Fail> {
         (["lsr", "explain", "--help"].as_slice(), "CODE/VALUE"),
     ];
     for (words, text) in helps {
-        let (is_error, help) = told(rt.alloc(), words)?;
-        assert!(rt; !is_error);
-        assert!(rt; help.as_str().contains(text));
+        assert!(rt; help_has(rt.alloc(), words, text)?);
+    }
+    Ok(())
+}
+
+#[test]
+fn help_tells_statuses_inputs_and_ranges(rt: HostRuntime) -> Result<(), Fail> {
+    let step = ["lsr", "step", "--help"];
+    for text in [
+        "The status is 0",
+        "0 to 18446744073709551615",
+        "at most 16777216 bytes",
+        "as 24/5 for `error 24 5`",
+    ] {
+        assert!(rt; help_has(rt.alloc(), step.as_slice(), text)?);
+    }
+    let decode = ["lsr", "decode", "--help"];
+    for text in ["The status of HEX is 0", "reads standard input to its end"] {
+        assert!(rt; help_has(rt.alloc(), decode.as_slice(), text)?);
+    }
+    let explain = ["lsr", "explain", "--help"];
+    for text in ["The status is 0", "as one word with a slash"] {
+        assert!(rt; help_has(rt.alloc(), explain.as_slice(), text)?);
     }
     Ok(())
 }

@@ -1,9 +1,16 @@
 -- Where no more is read the lines so far were answered.
-use Rattle.lsr_decode.proofs.Capturing.{stuck_at}
+use Rattle.std.proofs.Common.{arith}
+use Rattle.lsr_decode.proofs.Capturing.{endless_at, memory_at_first}
 use Rattle.lsr_decode.proofs.capture.decode_lines.Goals as goal
 
+pub returns-in_default : goal.returns-in_default
+returns-in_default g c = memory_at_first (g.S.ByteStream.stream c.args.input.now) (g.W.Write.contents c.args.output.now)
+
 pub returns-in-Over : goal.returns-in-Over
-returns-in-Over g c = rw c.in-Over.is at (c.in_ok-answered.ensures (g.S.ByteStream.stream c.args.input.now).bytes (g.W.Write.contents c.args.output.now) c.reads.invariant.0)
+returns-in-Over g c =
+    rw c.in-Over.is at (c.in_ok-answered.ensures (g.S.ByteStream.stream c.args.input.now) (g.W.Write.contents c.args.output.now) c.reads.counter c.reads.invariant.0)
 
 pub returns : goal.returns
-returns g c = stuck_at _ _ _ _ _ _ _ c.reads.invariant.0
+returns g c =
+    endless_at (g.S.ByteStream.stream c.args.input.now) (g.S.ByteStream.stream c.reads.input) (g.W.Write.contents c.args.output.now) (g.W.Write.contents c.reads.output) c.reads.line.items c.reads.count c.reads.counter c.reads.refused
+    c.reads.invariant.0 (omega (arith, c.reads-test.false))

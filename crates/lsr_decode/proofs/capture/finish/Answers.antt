@@ -1,8 +1,8 @@
 -- What stands behind the last newline is answered, if it is anything.
-use Rattle.std.proofs.Common.{rules, arith, sym, ap, subst, ◌∙◌, ◌++◌, ◌≡◌, ◌≤◌, ◌+◌, [], append-nil, length, refl}
+use Rattle.std.proofs.Common.{rules, sym, subst, ◌≡◌, ◌≤◌, ◌^◌, ◌+◌, [], append-nil, refl}
 use Rattle.std.proofs.KnownBytes.{Appends-nil}
-use Rattle.lsr_decode.specs.Captures.{AnswersAll, AnswersSome}
-use Rattle.lsr_decode.proofs.Capturing.{captured_all, captured_last, captured_some, none_there, some_there}
+use Rattle.lsr_decode.specs.Captures.{AnswersAll, StopsAtCount}
+use Rattle.lsr_decode.proofs.Capturing.{captured_all, captured_last, captured_many, none_there, some_there}
 use Rattle.lsr_decode.proofs.capture.finish.Goals as goal
 
 pub returns-then-is_empty : goal.returns-then-is_empty
@@ -12,7 +12,8 @@ returns-then-is_empty g c = λ read printed captured.
 
 pub returns-in_default : goal.returns-in_default
 returns-in_default g c = λ read printed captured.
-    ([], Appends-nil _, subst (λ l. AnswersSome read l) (sym (append-nil printed)) (subst (λ l. AnswersSome l printed) (append-nil read) (captured_some read printed c.args.line.now [] c.args.count c.args.refused captured)))
+    let many : 2 ^ 64 ≤ c.args.count + 1 = search rules in
+    ([], Appends-nil _, subst (λ l. StopsAtCount read l) (sym (append-nil printed)) (captured_many read printed c.args.line.now c.args.count c.args.refused captured many))
 
 pub returns : goal.returns
 returns g c = λ read printed captured.

@@ -1,9 +1,0 @@
--- One behind the other.
-use Rattle.std.proofs.Common.{codes}
-use Rattle.lsr_explain.specs.Answers.{section_text}
-use Rattle.lsr_explain.specs.declared.topics.Kind.TheVariants as kinds
-use Rattle.lsr_explain.proofs.Printing.{appends_after}
-use Rattle.lsr_explain.proofs.telling.put_other_topics.Goals as goal
-
-pub returns : goal.returns
-returns g c = appends_after c.put_section-2.result _ _ _ (section_text (codes "Errors of RSVP, by code and value or by name; N stands for any value:\n") kinds.RsvpError) (section_text (codes "Faults of a configuration, and what ends a run, by name:\n") kinds.Fault) c.in_ok-put_section.ensures c.put_section-2.ensures
