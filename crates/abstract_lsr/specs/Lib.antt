@@ -1,4 +1,5 @@
 pub mod Arrivals
+pub mod Below
 pub mod Choosing
 pub mod ChoosingLaws
 pub mod Errors

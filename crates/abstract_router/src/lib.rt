@@ -4,3 +4,5 @@
 pub mod laws;
 pub mod locality;
 pub mod soundness;
+
+pub use router_events::{Frame, Output, Outputs};

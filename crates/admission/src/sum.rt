@@ -6,7 +6,7 @@ ghost use Rattle.admission.specs.Bandwidths.{AreRated};
 ghost use Rattle.admission.specs.Sums.{AddsClaims, IsSumOf, shared_by};
 
 use lsr_facts::Key;
-use resv_facts::{Claim, ResvStyle};
+use resv_facts::{Claim, ResvStyle, is_same_session};
 use rsvp_objects::Session;
 
 /// Whether a claim is on a link, and is kept at a priority or a better one.
@@ -52,7 +52,7 @@ impl Sum {
         ensures { result ≡ shared_by self.now session.now }
     {
         match &self.session {
-            Some(last) if last.cmp(session).is_eq() => self.shared,
+            Some(last) if is_same_session(last, session) => self.shared,
             _ => 0,
         }
     }

@@ -10,14 +10,13 @@ ghost use Rattle.lsr_facts.specs.declared.key.Key.{Key};
 ghost use Rattle.abstract_lsr.specs.Preempting.{claims_of};
 ghost use Rattle.abstract_lsr.specs.Soundness.{IsResv};
 ghost use Rattle.admission.specs.Bandwidths.{AreEdits, claim_edits, resv_edits};
-ghost use Rattle.router_steps.specs.Drafts.{edited};
+ghost use Rattle.state_views.specs.Below.steps.Drafts.{edited};
 ghost use Rattle.claim_edits.specs.Keeping.{edit_at, holding_at, kept_edit, moved, with_edit};
 
 use lsr_facts::{FactsView, Key};
 use resv_facts::{ResvFact, holding_of};
-use router_steps::{Changed, Edits};
 use sorted_rows::{Table, TryCopy};
-use state_views::{StateView, WholeState};
+use state_views::{Changed, Edits, StateView, WholeState};
 use std::alloc::{AllocError, Global};
 
 /// Edits of what LSPs have: from now on this reservation, kept at this priority, or none.

@@ -1,3 +1,5 @@
+pub mod Below
 pub mod Choosing
 pub mod Entries
 pub mod Nodes
+pub mod Unfolded

@@ -9,6 +9,7 @@ mod places;
 mod records;
 mod routing;
 
+pub use abstract_router::{Frame, Output, Outputs};
 pub use fault::{RouteError, RouteFault};
 pub use hops::choose_hop;
 pub use places::{is_up, link_at};

@@ -5,3 +5,4 @@
 mod frame;
 
 pub use frame::{Frame, KIND_HOP};
+pub use rsvp_contents::Reading;

@@ -1,4 +1,4 @@
-use rsvp_routes::Route;
+use rsvp_contents::Route;
 
 /// The way that a path takes from here.
 #[derive(Debug, Drop)]

@@ -1,6 +1,6 @@
 use crate::key::{Item, Key};
 use crate::path_fact::PathFact;
-use rsvp_routes::Prefix;
+use rsvp_contents::Prefix;
 use sorted_rows::{Table, TryCopy};
 use std::alloc::{AllocError, Global};
 

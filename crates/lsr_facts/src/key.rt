@@ -1,4 +1,4 @@
-use rsvp_objects::{Session, Template};
+use rsvp_contents::{Session, Template};
 
 /// What tells one LSP from all others: its session, and its head and LSP ID (RFC 3209, 4.6). Keys stand in
 /// the order of endpoint, tunnel, extended tunnel ID, sender, LSP ID.

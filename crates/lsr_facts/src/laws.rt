@@ -13,7 +13,7 @@ ghost use Rattle.lsr_facts.specs.declared.path_fact.PathFact.{PathFact};
 
 use crate::errors::RsvpError;
 use crate::key::{Item, Key};
-use rsvp_routes::Prefix;
+use rsvp_contents::Prefix;
 
 /// Keys stand in the order of endpoint, tunnel, extended tunnel ID, sender and LSP ID. It is total, and keys
 /// that it doesn't tell apart are equal.

@@ -25,4 +25,5 @@ pub use path_fact::{Origin, PathFact, Role};
 pub use refusal::Refusal;
 pub use reply::Reply;
 pub use router::{LabelRange, Link, Router};
+pub use rsvp_contents::Passing;
 pub use view::{FactsView, Snapshot};

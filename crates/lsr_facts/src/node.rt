@@ -1,5 +1,5 @@
 use crate::router::Router;
-use rsvp_routes::Prefix;
+use rsvp_contents::Prefix;
 use sorted_rows::Table;
 
 /// Where a router stands: its own addresses and links, which of these are up, and its static routes.

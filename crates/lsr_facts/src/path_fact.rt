@@ -1,9 +1,6 @@
 ghost use Rattle.std.specs.Prelude.{◌≡◌};
 
-use rsvp_contents::Passing;
-use rsvp_objects::{Attr, FastReroute, Hop, LabelRequest};
-use rsvp_routes::{Record, Route};
-use rsvp_traffic::Tspec;
+use rsvp_contents::{Attr, FastReroute, Hop, LabelRequest, Passing, Record, Route, Tspec};
 use sorted_rows::{Table, TryCopy};
 use std::alloc::{AllocError, Global};
 use std::net::Ipv4Addr;

@@ -1,40 +1,61 @@
--- What is printed for datagrams and for the label table.
-use Rattle.std.proofs.Common.{◌≡◌, ℕ, List, [], ◌∷◌, ◌++◌, Result, Ok, Err, ap, sym, subst, false}
+-- What comes of a datagram can be printed, and what is printed for the label table.
+use Rattle.std.proofs.Common.{◌≡◌, ℕ, List, Result, Ok, Err, ap, inl, inr, sym, subst, false}
 use Rattle.std.specs.Prelude.{IfOk, T}
 use Rattle.std.specs.FinMap.Entries.{is_sorted}
 use Rattle.std.specs.Ordering.{nat_cmp}
-use Rattle.forwarding_table.specs.declared.action.Action.{Action}
-use Rattle.router_events.specs.declared.events.Made.{Made}
-use Rattle.lsr_facts.specs.declared.refusal.Refusal.{Refusal}
-use Rattle.lsr_facts.specs.declared.facts.Facts.{Facts}
 use Rattle.abstract_lsr.specs.States.{State}
-use Rattle.label_table.specs.RowLaws.{table-alike}
-use Rattle.label_table.specs.Rows.{IsTableOf}
-use Rattle.router_machine.specs.Passing.{IsPassed}
-use Rattle.router_machine.specs.States.{RouterState}
-use Rattle.router_machine.specs.declared.passing.Passed.{Passed}
-use Rattle.lsr_text.specs.Answers.{answer_text}
+use Rattle.abstract_lsr.specs.Tables.{forwarded}
+use Rattle.forwarding_table.specs.declared.action.Action.{Action}
+use Rattle.forwarding_table.specs.declared.forwarding.Forwarding.{Forwarding}
+use Rattle.forwarding_table.specs.declared.forwarding.Forwarding.TheVariants.{Deliver, Drop, Send}
+use Rattle.lsr_facts.specs.declared.facts.Facts.{Facts}
+use Rattle.lsr_facts.specs.declared.refusal.Refusal.{Refusal}
+use Rattle.lsr_facts.specs.declared.router.Router.{Router}
 use Rattle.lsr_text.specs.Rows.{table_text}
-use Rattle.lsr_session.specs.Requests.{PrintsDatagram, PrintsPassed, PrintsTable, SessionState, TakesDatagram, latest, passed_text, remembered, reply_of}
+use Rattle.router_machine.specs.Below.labels.RowLaws.{table-alike}
+use Rattle.router_machine.specs.Below.labels.Rows.{IsTableOf}
+use Rattle.router_machine.specs.Machines.{IsDatagramServed}
+use Rattle.router_machine.specs.Passing.{IsPassed, carried, passed_of}
+use Rattle.router_machine.specs.declared.inputs.Served.{Served}
+use Rattle.router_machine.specs.declared.inputs.Served.TheVariants as serves
+use Rattle.router_machine.specs.declared.passing.Passed.TheVariants as passes
+use Rattle.wire_frames.specs.Frames.{IsWhole}
+use Rattle.wire_frames.specs.declared.frame.Frame.{Frame}
+use Rattle.wire_frames.specs.declared.frame.Frame.TheVariants as frames
+use Rattle.wire_frames.specs.declared.payload.Payload.{Payload}
+use Rattle.wire_frames.specs.declared.payload.Payload.TheVariants as payloads
+use Rattle.lsr_session.specs.Requests.{IsWholeServed, PrintsTable}
 
--- what is printed for a datagram that is taken as an event
-pub prints_datagram : {A E : Type 0} (bytes : A → List ℕ) (r : Result A E) (before : SessionState) (link : ℕ) (datagram : List ℕ) (answer : Result Made Refusal) (router : RouterState) (after : SessionState)
-    → TakesDatagram before.router link datagram answer router → after ≡ record { router = router; recent = latest (before.recent ++ (reply_of answer ∷ [])) }
-    → IfOk r (λ text. bytes text ≡ answer_text answer) → IfOk r (λ text. PrintsDatagram before link datagram (bytes text) after)
-prints_datagram bytes (Ok text) before link datagram answer router after taken is told = (
-  answer,
-  subst (λ (s : RouterState). TakesDatagram before.router link datagram answer s) (sym (ap (λ (s : SessionState). s.router) is)) taken,
-  record { shown = told; recent = ap (λ (s : SessionState). s.recent) is },
-)
-prints_datagram bytes (Err error) before link datagram answer router after taken is told = told
+-- what is sent on is a labelled frame
+carried_is_whole : (forwarding : Forwarding) (payload : Payload) (link : ℕ) (frame : Frame) → Ok (passes.Sent link frame) ≡ carried forwarding payload → IsWhole frame
+carried_is_whole (Send onward stack) payload link frame is =
+    let same : frame ≡ frames.Labelled stack payload = cc in
+    subst IsWhole (sym same) tt
+carried_is_whole Deliver payload link frame is = absurd cc
+carried_is_whole (Drop fault) payload link frame is = absurd cc
 
--- what is printed for a labelled frame
-pub prints_passed : {A E : Type 0} (bytes : A → List ℕ) (r : Result A E) (before : SessionState) (datagram : List ℕ) (answer : Result Passed Refusal) (after : SessionState)
-    → IsPassed before.router.state datagram answer → after ≡ record { router = before.router; recent = remembered before.recent answer }
-    → IfOk r (λ text. bytes text ≡ passed_text answer) → IfOk r (λ text. PrintsPassed before datagram (bytes text) after)
-prints_passed bytes (Ok text) before datagram answer after passed is told =
-    (answer, record { passed = passed; shown = told; router = ap (λ (s : SessionState). s.router) is; recent = ap (λ (s : SessionState). s.recent) is })
-prints_passed bytes (Err error) before datagram answer after passed is told = told
+sent_is_whole : (s : State) (come : Frame) (link : ℕ) (frame : Frame) → Ok (passes.Sent link frame) ≡ passed_of s come → IsWhole frame
+sent_is_whole s (frames.Labelled stack (payloads.Bytes content)) link frame is = carried_is_whole (forwarded s stack) (payloads.Bytes content) link frame is
+sent_is_whole s (frames.Labelled stack (payloads.Message content)) link frame is = absurd cc
+sent_is_whole s (frames.Hop reading) link frame is = absurd cc
+sent_is_whole s (frames.Routed to limit message) link frame is = absurd cc
+
+passed_is_whole : (s : State) (bytes : List ℕ) (link : ℕ) (frame : Frame) → IsPassed s bytes (Ok (passes.Sent link frame)) → IsWhole frame
+passed_is_whole s bytes link frame passed =
+    elim passed [
+      | inl framed ↦ sent_is_whole s framed.0 link frame framed.2
+      | inr dropped ↦ elim dropped [
+        | inl fault ↦ absurd (let never = fault.2 in cc)
+        | inr memory ↦ absurd cc
+      ]
+    ]
+
+-- so what comes of a datagram can be printed
+pub whole_served : (r : Router) (before : State) (link : ℕ) (bytes : List ℕ) (after : State) (answer : Result Served Refusal) → IsDatagramServed r before link bytes after answer → IsWholeServed answer
+whole_served r before link bytes after (Ok (serves.Made made)) served = tt
+whole_served r before link bytes after (Ok (serves.Passed (passes.Sent onward frame))) served = passed_is_whole before bytes onward frame served.0
+whole_served r before link bytes after (Ok (serves.Passed (passes.Delivered payload))) served = tt
+whole_served r before link bytes after (Err refusal) served = tt
 
 -- what is printed for the label table, which says nothing of whether the router is cold
 pub prints_table : {A E : Type 0} (bytes : A → List ℕ) (r : Result A E) (state shown : State) (rows : List (ℕ × Action))

@@ -1,6 +1,5 @@
 -- What a session answers to a request.
-use Rattle.std.specs.Prelude.{◌≡◌, ◌==◌, ◌-◌, ℕ, List, ◌∷◌, ◌++◌, [], length, drop, map, flat_map, T, Bool, false, None, Result, Ok, Err}
-use Rattle.std.specs.Bool.{MatchBool}
+use Rattle.std.specs.Prelude.{◌≡◌, ◌-◌, ℕ, List, ◌∷◌, ◌++◌, [], length, drop, map, flat_map, T, Result, Ok, Err}
 use Rattle.std.specs.FinMap.Entries.{is_sorted}
 use Rattle.std.specs.Ordering.{nat_cmp}
 use Rattle.forwarding_table.specs.declared.action.Action.{Action}
@@ -15,12 +14,11 @@ use Rattle.resv_facts.specs.Claims.{reserved_of}
 use Rattle.abstract_router.specs.Places.{is_up}
 use Rattle.abstract_lsr.specs.Preempting.{claims_of}
 use Rattle.abstract_lsr.specs.States.{State}
-use Rattle.router_events.specs.Frames.{head_fault}
-use Rattle.label_table.specs.Rows.{IsTableOf}
+use Rattle.router_machine.specs.Below.labels.Rows.{IsTableOf}
 use Rattle.router_machine.specs.States.{RouterState}
-use Rattle.router_machine.specs.Serving.{IsEventOf}
-use Rattle.router_machine.specs.Machines.{IsDatagramLeft, IsEventLeft, IsTaken, MayRunOut}
-use Rattle.router_machine.specs.Passing.{IsPassed}
+use Rattle.router_machine.specs.Machines.{IsDatagramServed, IsEventLeft, IsTaken}
+use Rattle.router_machine.specs.declared.inputs.Served.{Served}
+use Rattle.router_machine.specs.declared.inputs.Served.TheVariants as serves
 use Rattle.router_machine.specs.declared.passing.Passed.{Passed}
 use Rattle.router_machine.specs.declared.passing.Passed.TheVariants as passes
 use Rattle.wire_frames.specs.Frames.{IsWhole}
@@ -43,13 +41,13 @@ latest replies = drop (length replies - 32) replies
 -- An event: it makes its step; or it is left out, and leaves the router as it was. Memory may run out only for one that
 -- isn't silent, while the router runs.
 pub record TakesEvent (before : RouterState) (event : Event) (answer : Result Made Refusal) (after : RouterState) : Type 0 where
-  pub taken : IsTaken before.router before.state (λ e. e ≡ event) (IsEventLeft before.state event) (MayRunOut before.router before.state event) after.state answer
+  pub taken : IsTaken before.router before.state (λ e. e ≡ event) (IsEventLeft before.router before.state event) after.state answer
   pub router : after.router ≡ before.router
 
--- A datagram that came over a link: the event that it is makes its step; or it is left out, and leaves the router as
--- it was. Memory may run out only where its head has no fault.
-pub record TakesDatagram (before : RouterState) (link : ℕ) (datagram : List ℕ) (answer : Result Made Refusal) (after : RouterState) : Type 0 where
-  pub taken : IsTaken before.router before.state (IsEventOf link datagram) (IsDatagramLeft before.state datagram) (head_fault datagram ≡ None) after.state answer
+-- A datagram that came over a link: the event that it is makes its step; or it is a labelled frame, and is passed on or
+-- delivered; or it is left out. Only a step changes the router.
+pub record TakesDatagram (before : RouterState) (link : ℕ) (datagram : List ℕ) (answer : Result Served Refusal) (after : RouterState) : Type 0 where
+  pub taken : IsDatagramServed before.router before.state link datagram after.state answer
   pub router : after.router ≡ before.router
 
 -- what is answered, without what is sent
@@ -62,52 +60,48 @@ pub record Tells (before : SessionState) (answer : Result Made Refusal) (printed
   pub shown : printed ≡ answer_text answer
   pub recent : after.recent ≡ latest (before.recent ++ reply_of answer ∷ [])
 
--- what is printed for a datagram that is taken as an event
-abbrev pub PrintsDatagram : SessionState → ℕ → List ℕ → List ℕ → SessionState → Type 0
-PrintsDatagram before link datagram printed after =
-    (answer : Result Made Refusal) × TakesDatagram before.router link datagram answer after.router × Tells before answer printed after
-
--- what is printed for a message that came: the answer to the Hop frame that holds it, whose first byte is 1
-abbrev pub PrintsArrival : SessionState → ℕ → List ℕ → List ℕ → SessionState → Type 0
-PrintsArrival before link message printed after = PrintsDatagram before link (1 ∷ message) printed after
-
--- a datagram that begins as a Labelled frame does, whose kind is 2
-abbrev pub is_labelled : List ℕ → Bool
-is_labelled [] = false
-is_labelled (kind ∷ rest) = kind == 2
-
 -- what is printed for what becomes of a labelled frame: `frame LINK HEX` where it is sent on, `deliver HEX` where its
--- payload is for this router, or its refusal
-abbrev pub passed_text : Result Passed Refusal → List ℕ
-passed_text (Ok (passes.Sent link frame)) = sent_line link frame
-passed_text (Ok (passes.Delivered payload)) = delivery_line payload
-passed_text (Err refusal) = refusal_line refusal
+-- payload is for this router
+abbrev pub passed_text : Passed → List ℕ
+passed_text (passes.Sent link frame) = sent_line link frame
+passed_text (passes.Delivered payload) = delivery_line payload
+
+-- what is printed for what comes of a datagram: the answer to the event that it is; what becomes of the labelled frame
+-- that it is; or its refusal
+abbrev pub served_text : Result Served Refusal → List ℕ
+served_text (Ok (serves.Made made)) = answer_text (Ok made)
+served_text (Ok (serves.Passed passed)) = passed_text passed
+served_text (Err refusal) = refusal_line refusal
 
 -- a frame that is sent on can be written
-abbrev pub IsWholePassed : Result Passed Refusal → Type 0
-IsWholePassed (Ok (passes.Sent link frame)) = IsWhole frame
-IsWholePassed answer = Unit {0}
+abbrev pub IsWholePassed : Passed → Type 0
+IsWholePassed (passes.Sent link frame) = IsWhole frame
+IsWholePassed (passes.Delivered payload) = Unit {0}
+
+abbrev pub IsWholeServed : Result Served Refusal → Type 0
+IsWholeServed (Ok (serves.Made made)) = Unit {0}
+IsWholeServed (Ok (serves.Passed passed)) = IsWholePassed passed
+IsWholeServed (Err refusal) = Unit {0}
 
 -- the last replies then: a refusal is one, and a frame that is sent on or delivered has none
-abbrev pub remembered : List Reply → Result Passed Refusal → List Reply
-remembered recent (Ok passed) = recent
+abbrev pub remembered : List Reply → Result Served Refusal → List Reply
+remembered recent (Ok (serves.Made made)) = latest (recent ++ made.reply ∷ [])
+remembered recent (Ok (serves.Passed passed)) = recent
 remembered recent (Err refusal) = latest (recent ++ replies.Refused refusal ∷ [])
 
--- What becomes of a labelled frame by the router's label table is printed. The router stays as it was, cold or running.
-pub record TellsPassed (before : SessionState) (datagram : List ℕ) (answer : Result Passed Refusal) (printed : List ℕ) (after : SessionState) : Type 0 where
-  pub passed : IsPassed before.router.state datagram answer
-  pub shown : printed ≡ passed_text answer
-  pub router : after.router ≡ before.router
+-- What came of a datagram is printed, and its reply, if it has one, is the newest of the last ones.
+pub record TellsServed (before : SessionState) (answer : Result Served Refusal) (printed : List ℕ) (after : SessionState) : Type 0 where
+  pub shown : printed ≡ served_text answer
   pub recent : after.recent ≡ remembered before.recent answer
 
--- what is printed for a labelled frame
-abbrev pub PrintsPassed : SessionState → List ℕ → List ℕ → SessionState → Type 0
-PrintsPassed before datagram printed after = (answer : Result Passed Refusal) × TellsPassed before datagram answer printed after
+-- what is printed for a datagram that came
+abbrev pub PrintsDatagram : SessionState → ℕ → List ℕ → List ℕ → SessionState → Type 0
+PrintsDatagram before link datagram printed after =
+    (answer : Result Served Refusal) × TakesDatagram before.router link datagram answer after.router × TellsServed before answer printed after
 
--- what is printed for a frame that came: a labelled one is passed on, and any other is taken as an event
-abbrev pub PrintsFrame : SessionState → ℕ → List ℕ → List ℕ → SessionState → Type 0
-PrintsFrame before link datagram printed after =
-    MatchBool (is_labelled datagram) (PrintsPassed before datagram printed after) (PrintsDatagram before link datagram printed after)
+-- what is printed for a message that came: what comes of the Hop frame that holds it, whose first byte is 1
+abbrev pub PrintsArrival : SessionState → ℕ → List ℕ → List ℕ → SessionState → Type 0
+PrintsArrival before link message printed after = PrintsDatagram before link (1 ∷ message) printed after
 
 -- what is printed for an event
 abbrev pub PrintsEvent : SessionState → Event → List ℕ → SessionState → Type 0
@@ -134,10 +128,11 @@ abbrev pub links_text : RouterState → List ℕ
 links_text r = flat_map (link_text r.state) r.router.links
 
 -- What is printed for a request, and what the session is then: the answer to an event, whose reply is the newest of
--- the last ones; what becomes of a labelled frame; or what the session shows of itself as it stands.
+-- the last ones; what comes of a datagram, be it a labelled frame or not; or what the session shows of itself as it
+-- stands.
 abbrev pub PrintsAnswer : SessionState → Request → List ℕ → SessionState → Type 0
 PrintsAnswer before (requests.Receive arrival) printed after = PrintsArrival before arrival.link arrival.bytes.items printed after
-PrintsAnswer before (requests.Frame arrival) printed after = PrintsFrame before arrival.link arrival.bytes.items printed after
+PrintsAnswer before (requests.Frame arrival) printed after = PrintsDatagram before arrival.link arrival.bytes.items printed after
 PrintsAnswer before (requests.Tick moment) printed after = PrintsEvent before (events.Tick moment) printed after
 PrintsAnswer before (requests.LinkUp link) printed after = PrintsEvent before (events.LinkUp link) printed after
 PrintsAnswer before (requests.LinkDown link) printed after = PrintsEvent before (events.LinkDown link) printed after

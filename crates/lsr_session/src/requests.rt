@@ -1,16 +1,16 @@
 //! What a session answers to a request.
 ghost use Rattle.std.specs.Prelude.{◌≡◌, ◌∷◌, ◌++◌, [], IfOk, string_bytes};
 ghost use Rattle.lsr_text.specs.Answers.{answer_text, replies_text};
-ghost use Rattle.lsr_session.specs.Requests.{IsWholePassed, PrintsAnswer, PrintsArrival, PrintsDatagram, PrintsEvent, PrintsFrame, PrintsPassed, TakesDatagram, TakesEvent, latest, passed_text, remembered, reply_of};
+ghost use Rattle.lsr_session.specs.Requests.{IsWholePassed, IsWholeServed, PrintsAnswer, PrintsArrival, PrintsDatagram, PrintsEvent, TakesDatagram, TakesEvent, latest, passed_text, remembered, reply_of, served_text};
 
-use crate::passing::{is_labelled, pass, passed_text, remember};
+use crate::passing::passed_text;
 use crate::shown::{show_links, show_paths, show_resvs, show_table};
 use circular_buffer::HeapCircularBuffer;
 use lsr_facts::{Refusal, Reply};
 use lsr_lines::{Answers, Arrival, Request};
 use lsr_text::{answer_text, push_replies};
 use router_events::{Event, KIND_HOP, Made};
-use router_machine::{Machine, Passed};
+use router_machine::{Machine, Passed, Served};
 use std::alloc::{AllocError, Global};
 use std::marker::Model;
 
@@ -109,6 +109,40 @@ fn tell(
     (Session { router, recent }, answer_text(alloc, answer))
 }
 
+/// The session of the router when that became of a labelled frame, which is no reply, and its line.
+fn tell_passed(
+    alloc: Global,
+    router: Machine,
+    recent: HeapCircularBuffer<Reply>,
+    passed: Passed,
+) -> (Session, Result<String, AllocError>)
+    requires room { recent.capacity ≡ 32 }
+    requires whole { IsWholePassed passed }
+    ensures session { result.0 ≡ record { router = router; recent = recent.items } }
+    ensures text { IfOk result.1 (λ text. string_bytes text ≡ passed_text passed) }
+{
+    (Session { router, recent }, passed_text(alloc, &passed))
+}
+
+/// The session of the router when that came of a datagram, and the lines of it.
+fn tell_served(
+    alloc: Global,
+    router: Machine,
+    recent: HeapCircularBuffer<Reply>,
+    answer: Result<Served, Refusal>,
+) -> (Session, Result<String, AllocError>)
+    requires room { recent.capacity ≡ 32 }
+    requires whole { IsWholeServed answer }
+    ensures session { result.0 ≡ record { router = router; recent = remembered recent.items answer } }
+    ensures text { IfOk result.1 (λ text. string_bytes text ≡ served_text answer) }
+{
+    match answer {
+        Ok(Served::Made(made)) => tell(alloc, router, recent, &Ok(made)),
+        Ok(Served::Passed(passed)) => tell_passed(alloc, router, recent, passed),
+        Err(refusal) => tell(alloc, router, recent, &Err(refusal)),
+    }
+}
+
 /// The Hop frame that holds the message.
 fn hop_frame(alloc: Global, message: &[u8]) -> Result<Vec<u8>, AllocError>
     ensures { IfOk result (λ frame. frame.items ≡ KIND_HOP ∷ message.now) }
@@ -124,8 +158,9 @@ fn take_datagram(
     router: Machine,
     link: u16,
     datagram: &[u8],
-) -> (Machine, Result<Made, Refusal>)
-    ensures { TakesDatagram router link datagram.now result.1 result.0 }
+) -> (Machine, Result<Served, Refusal>)
+    ensures taken { TakesDatagram router link datagram.now result.1 result.0 }
+    ensures whole { IsWholeServed result.1 }
 {
     router.serve_datagram(alloc, link, datagram)
 }
@@ -137,7 +172,7 @@ fn take_event(alloc: Global, router: Machine, event: Event) -> (Machine, Result<
     router.serve_event(alloc, event)
 }
 
-/// Serves a datagram that came, and prints its answer.
+/// Serves a datagram that came, and prints what came of it.
 fn answer_datagram(
     alloc: Global,
     session: Session,
@@ -148,7 +183,7 @@ fn answer_datagram(
 {
     let Session { router, recent } = session;
     let (router, answer) = take_datagram(alloc, router, link, datagram);
-    tell(alloc, router, recent, &answer)
+    tell_served(alloc, router, recent, answer)
 }
 
 /// Serves the message that came, in its frame.
@@ -166,49 +201,15 @@ fn answer_arrival(
     answer_datagram(alloc, session, arrival.link, frame.as_slice())
 }
 
-/// The session of the router when that became of a labelled frame, and its line.
-fn tell_passed(
-    alloc: Global,
-    router: Machine,
-    recent: HeapCircularBuffer<Reply>,
-    answer: &Result<Passed, Refusal>,
-) -> (Session, Result<String, AllocError>)
-    requires room { recent.capacity ≡ 32 }
-    requires whole { IsWholePassed answer.now }
-    ensures session { result.0 ≡ record { router = router; recent = remembered recent.items answer.now } }
-    ensures text { IfOk result.1 (λ text. string_bytes text ≡ passed_text answer.now) }
-{
-    let recent = remember(recent, answer);
-    (Session { router, recent }, passed_text(alloc, answer))
-}
-
-/// Tells what becomes of a labelled frame.
-fn answer_labelled(
-    alloc: Global,
-    session: Session,
-    datagram: &[u8],
-) -> (Session, Result<String, AllocError>)
-    ensures { IfOk result.1 (λ text. PrintsPassed session datagram.now (string_bytes text) result.0) }
-{
-    let Session { router, recent } = session;
-    let answer = pass(alloc, &router, datagram);
-    tell_passed(alloc, router, recent, &answer)
-}
-
-/// Passes a labelled frame on, and serves any other.
+/// Serves the frame that came.
 fn answer_frame(
     alloc: Global,
     session: Session,
     arrival: &Arrival,
 ) -> (Session, Result<String, AllocError>)
-    ensures { IfOk result.1 (λ text. PrintsFrame session arrival.now.link arrival.now.bytes.items (string_bytes text) result.0) }
+    ensures { IfOk result.1 (λ text. PrintsDatagram session arrival.now.link arrival.now.bytes.items (string_bytes text) result.0) }
 {
-    let datagram = arrival.bytes.as_slice();
-    if is_labelled(datagram) {
-        answer_labelled(alloc, session, datagram)
-    } else {
-        answer_datagram(alloc, session, arrival.link, datagram)
-    }
+    answer_datagram(alloc, session, arrival.link, arrival.bytes.as_slice())
 }
 
 /// Makes the step of an event.

@@ -7,9 +7,7 @@ ghost use Rattle.lsr_session.specs.Requests.{PrintsTable, link_text, links_text,
 use explicit_routes::is_up;
 use lsr_facts::{FactsView, Link};
 use lsr_text::{PRIORITIES, paths_text, push_link, resvs_text, table_text};
-use router_machine::{Machine, Tables};
-use router_steps::WholeView;
-use state_views::WholeState;
+use router_machine::{Machine, Tables, WholeState, WholeView};
 use std::alloc::{AllocError, Global};
 
 /// The lines of the paths that the router knows.

@@ -5,7 +5,7 @@ ghost use Rattle.std.specs.Option.{option_map};
 ghost use Rattle.std.specs.Prelude.{◌≡◌, ◌∷◌, [], IfOk, OnErr, false, filter_map, is_some, map, true};
 ghost use Rattle.rsvp_contents.specs.Spelling.{IsMessage};
 ghost use Rattle.rsvp_contents.specs.declared.messages.Content.TheVariants as contents;
-ghost use Rattle.resv_rules.specs.Rooms.{HaveRoom};
+ghost use Rattle.resv_arrivals.specs.Below.rules.Rooms.{HaveRoom};
 ghost use Rattle.abstract_lsr.specs.Outcomes.{listed};
 ghost use Rattle.abstract_lsr.specs.Tearing.{err_onward, is_from_origin, resv_err_arrival};
 ghost use Rattle.state_views.specs.StateDrafts.{IsStateDraft};
@@ -13,7 +13,7 @@ ghost use Rattle.state_views.specs.Views.{known};
 
 use lsr_facts::{PathFact, Refusal, Reply};
 use path_rules::{goes_on, lsp};
-use resv_rules::{resv_err_leaves_room, told_downstream};
+use resv_arrivals::{resv_err_leaves_room, told_downstream};
 use router_events::{Output, Outputs};
 use router_steps::Edits;
 use rsvp_contents::ResvErr;

@@ -13,7 +13,7 @@ ghost use Rattle.state_views.specs.Views.{known};
 
 use lsr_facts::Reply;
 use path_rules::lsp;
-use resv_rules::NO_LABEL;
+use resv_arrivals::NO_LABEL;
 use router_steps::{Draft, WholeView, failed, path_arrival};
 use rsvp_contents::Path;
 use state_views::{StateDraft, WholeState, of_paths};

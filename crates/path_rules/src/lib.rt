@@ -8,7 +8,7 @@ mod spelling;
 mod tears;
 mod wanted;
 
-pub use explicit_routes::{RouteError, RouteFault, is_up, link_at};
+pub use explicit_routes::{Frame, Output, Outputs, RouteError, RouteFault, is_up, link_at};
 pub use messages::{found_here, lsp, sent_by};
 pub use paths::{
     carries_ipv4, drops_record, has_been_here, has_no_rate, knows_record, lifetime, link_of,

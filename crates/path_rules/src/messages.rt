@@ -1,10 +1,10 @@
 //! Parts of the messages that a router sends, and what they are about.
 
 ghost use Rattle.std.specs.Prelude.{◌≡◌};
-ghost use Rattle.abstract_router.specs.Outcomes.{found_here, lsp, sent_by};
+ghost use Rattle.explicit_routes.specs.Below.router.Outcomes.{found_here, lsp, sent_by};
 
+use explicit_routes::{Frame, Output};
 use lsr_facts::{Key, Router, RsvpError};
-use router_events::{Frame, Output};
 use rsvp_contents::{Message, Reading};
 use rsvp_objects::{ErrorSpec, Session, Template};
 

@@ -2,7 +2,7 @@
 
 ghost use Rattle.std.specs.Option.{option_map_or};
 ghost use Rattle.std.specs.Prelude.{◌≡◌, ◌==◌, IfOk, false, is_none, option_copied};
-ghost use Rattle.abstract_router.specs.Paths.{drops_record, has_loop, is_same_record, lifetime, link_of, origins_of, rest_of, role_of, unknown_code, unknown_object, way_for, way_of};
+ghost use Rattle.explicit_routes.specs.Below.router.Paths.{drops_record, has_loop, is_same_record, lifetime, link_of, origins_of, rest_of, role_of, unknown_code, unknown_object, way_for, way_of};
 ghost use Rattle.rsvp_traffic.specs.TokenBuckets.{token_rate};
 ghost use Rattle.explicit_routes.specs.Choosing.{IsChosen};
 ghost use Rattle.explicit_routes.specs.Nodes.{place_at};
@@ -60,7 +60,7 @@ pub fn has_no_rate(tspec: &Tspec) -> bool
 
 /// Whether a path that recorded this, if it recorded anything, has been here before: an entry names this router
 /// (RFC 3209, 4.4.4).
-#[tactic(auto, unfolding(abstract_router::specs::Paths::has_loop))]
+#[tactic(auto, unfolding(explicit_routes::specs::Unfolded::has_loop))]
 pub fn has_been_here(node: &Node, recorded: &Option<Record>) -> bool
     ensures { result ≡ has_loop node.now.router.now recorded.now }
 {
@@ -82,7 +82,7 @@ fn way_of(fact: &PathFact) -> Result<Choice, AllocError>
 
 /// The way of a Path: that of the path which stands, where the explicit route is the same; else the next hop
 /// (RFC 3209, 4.3.4). The fault is an error of RFC 3209, 7.3, or out of memory.
-#[tactic(auto, unfolding(abstract_router::specs::Paths::way_for))]
+#[tactic(auto, unfolding(explicit_routes::specs::Unfolded::way_for))]
 pub fn way_for(
     alloc: Global,
     node: &Node,

@@ -1,7 +1,7 @@
 //! What a PathTear and a PathErr match (RFC 2205, 3.1.5 and 3.1.7).
 
 ghost use Rattle.std.specs.Prelude.{◌≡◌, IfOk};
-ghost use Rattle.abstract_router.specs.Tears.{is_from, is_torn_by, leaves_by, origins_without};
+ghost use Rattle.explicit_routes.specs.Below.router.Tears.{is_from, is_torn_by, leaves_by, origins_without};
 
 use crate::wanted::goes_on;
 use lsr_facts::{Origin, PathFact};
@@ -42,7 +42,7 @@ pub fn origins_without(
 }
 
 /// Whether the path leaves by this link: it goes on, and this is its link out.
-#[tactic(auto, unfolding(abstract_router::specs::Tears::leaves_by))]
+#[tactic(auto, unfolding(explicit_routes::specs::Unfolded::leaves_by))]
 pub fn leaves_by(link: u16, fact: &PathFact) -> bool
     ensures { result ≡ leaves_by link fact.now }
 {

@@ -2,8 +2,8 @@
 
 ghost use Rattle.std.specs.Option.{option_and_then};
 ghost use Rattle.std.specs.Prelude.{◌≡◌, IfOk};
-ghost use Rattle.abstract_router.specs.Paths.{goes_on, grown};
-ghost use Rattle.abstract_router.specs.Wanted.{path_onward};
+ghost use Rattle.explicit_routes.specs.Below.router.Paths.{goes_on, grown};
+ghost use Rattle.explicit_routes.specs.Below.router.Wanted.{path_onward};
 
 use explicit_routes::push_hop;
 use lsr_facts::{Key, Link, Node, PathFact, Role};

@@ -21,10 +21,9 @@ use path_rules::unknown_object;
 use resv_facts::ResvStyle;
 use resv_rules::{UNKNOWN_STYLE, found_here, key_in, named, resv_leaves_room, told_downstream};
 use router_events::Outputs;
-use router_steps::Edits;
 use rsvp_contents::Resv;
 use rsvp_flows::ErrorDescriptor;
-use state_views::{StateDraft, StateEdits, StateView, WholeState, refused};
+use state_views::{Edits, StateDraft, StateEdits, StateView, WholeState, refused};
 use std::alloc::{AllocError, Global};
 
 /// A Resv that is in error as a whole: that is told back, and changes nothing.

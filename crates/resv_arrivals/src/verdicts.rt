@@ -19,7 +19,7 @@ use admission::reserved_with;
 use forwarding_table::is_label;
 use lsr_facts::{Key, PathFact, RsvpError};
 use path_rules::{has_been_here, leaves_by};
-use resv_facts::Request;
+use resv_facts::{Request, is_same_session};
 use resv_rules::{
     NO_BANDWIDTH, NO_PATH, NO_SENDER, UNACCEPTABLE_LABEL, conflicting_style, key_in, limit_of,
     request_of, style_conflict, traffic_error,
@@ -162,7 +162,7 @@ fn has_path(paths: &[(Key, PathFact)], session: Session) -> bool
 {
     paths
         .iter()
-        .any(|path| session.cmp(&path.0.session).is_eq())
+        .any(|path| is_same_session(&session, &path.0.session))
 }
 
 /// What becomes of a flow descriptor.

@@ -1,7 +1,7 @@
 ghost use Rattle.std.specs.Prelude.{◌≡◌, nat_lt};
 ghost use Rattle.resv_facts.specs.Reservations.{lives_past, style_of};
 
-use rsvp_contents::Passing;
+use lsr_facts::Passing;
 use rsvp_flows::{is_fixed, is_shared};
 use rsvp_objects::Style;
 use rsvp_routes::Record;

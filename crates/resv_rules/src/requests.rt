@@ -9,7 +9,7 @@ ghost use Rattle.resv_rules.specs.Conflicts.{conflicts};
 
 use lsr_facts::{Key, Router};
 use path_rules::link_at;
-use resv_facts::{Claim, Request, ResvStyle, holding_of, setup_of};
+use resv_facts::{Claim, Request, ResvStyle, holding_of, is_same_session, setup_of};
 use rsvp_objects::Attr;
 
 /// How much of a link may be reserved, in bytes per second: nothing of a link that the router doesn't have.
@@ -57,7 +57,7 @@ pub fn is_same_style(style: ResvStyle, other: ResvStyle) -> bool
 fn conflicts(link: u16, style: ResvStyle, key: &Key, row: &(Key, Claim)) -> bool
     ensures { result ≡ conflicts link style key.now row.now }
 {
-    key.session.cmp(&row.0.session).is_eq()
+    is_same_session(&key.session, &row.0.session)
         && key.cmp(&row.0).is_ne()
         && row.1.link == link
         && !is_same_style(style, row.1.style)

@@ -11,8 +11,8 @@ use Rattle.lsr_facts.specs.Routers.{IsRouter}
 use Rattle.lsr_facts.specs.declared.key.Item.{Item}
 use Rattle.lsr_facts.specs.declared.key.Key.{Key}
 use Rattle.lsr_facts.specs.declared.router.Router.{Router}
-use Rattle.label_table.specs.RowLaws.{table-alike}
-use Rattle.label_table.specs.Rows.{AreTableEdits}
+use Rattle.router_tables.specs.Below.labels.RowLaws.{table-alike}
+use Rattle.router_tables.specs.Below.labels.Rows.{AreTableEdits}
 use Rattle.resv_facts.specs.Upstreams.{upstream_cmp}
 use Rattle.resv_facts.specs.declared.resv_fact.ResvFact.{ResvFact}
 use Rattle.resv_facts.specs.declared.upstream.Upstream.{Upstream}
@@ -37,14 +37,14 @@ use Rattle.abstract_lsr.specs.Steps.{MayChooseBy, Step, settled, with_moments}
 use Rattle.abstract_lsr.specs.Upstreams.{upstream_of}
 use Rattle.router_core.specs.Plans.{IsPlanOf, IsSendingPlan, after_plan, drafted}
 use Rattle.router_core.specs.declared.plan.Plan.{Plan}
-use Rattle.router_steps.specs.Drafts as paths
+use Rattle.router_tables.specs.Below.steps.Drafts as paths
 use Rattle.router_tables.specs.Changes.{IsChange, changed}
 use Rattle.router_tables.specs.States.{RouterState}
 use Rattle.router_tables.specs.declared.change.Change.{Change}
-use Rattle.state_views.specs.StateDrafts.{IsStateDraft}
-use Rattle.state_views.specs.Views.{edited}
-use Rattle.state_views.specs.declared.draft.StateDraft.{StateDraft}
-use Rattle.state_views.specs.declared.edits.StateEdits.{StateEdits}
+use Rattle.router_tables.specs.Below.views.StateDrafts.{IsStateDraft}
+use Rattle.router_tables.specs.Below.views.Views.{edited}
+use Rattle.router_tables.specs.Below.views.declared.draft.StateDraft.{StateDraft}
+use Rattle.router_tables.specs.Below.views.declared.edits.StateEdits.{StateEdits}
 
 -- what is sent doesn't depend on when messages were sent
 sent_alike : (r : Router) (s : State) (o : Outcome) (t : State) → outputs_of r s o.errors o.due o.upstream_due t ≡ outputs_of r s o.errors o.due o.upstream_due (with_moments r s o t)

@@ -1,3 +1,4 @@
+pub mod Below
 pub mod Plans
 pub mod Serving
 pub mod States

@@ -13,10 +13,10 @@ use Rattle.abstract_lsr.specs.Outcomes.{Outcome}
 use Rattle.abstract_lsr.specs.Outputs.{outputs_of}
 use Rattle.abstract_lsr.specs.States.{State}
 use Rattle.abstract_lsr.specs.Steps.{Step, settled, with_moments}
-use Rattle.state_views.specs.StateDrafts.{upstream_due_by}
-use Rattle.state_views.specs.Views.{edited}
-use Rattle.state_views.specs.declared.draft.StateDraft.{StateDraft}
-use Rattle.router_steps.specs.Drafts.{due_by}
+use Rattle.router_tables.specs.Below.views.StateDrafts.{upstream_due_by}
+use Rattle.router_tables.specs.Below.views.Views.{edited}
+use Rattle.router_tables.specs.Below.views.declared.draft.StateDraft.{StateDraft}
+use Rattle.router_tables.specs.Below.steps.Drafts.{due_by}
 use Rattle.router_tables.specs.Changes.{IsChange, changed}
 use Rattle.router_tables.specs.States.{RouterState}
 use Rattle.router_core.specs.declared.plan.Plan.{Plan}

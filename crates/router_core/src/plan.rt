@@ -10,24 +10,23 @@ ghost use Rattle.abstract_router.specs.Touched.{is_among};
 ghost use Rattle.abstract_lsr.proofs.Settling.{IsDrafted};
 ghost use Rattle.abstract_lsr.specs.Arrivals.{outcome};
 ghost use Rattle.abstract_lsr.specs.Soundness.{AreLabelled, IsResv};
-ghost use Rattle.state_views.specs.Views.{edited};
+ghost use Rattle.router_tables.specs.Below.views.Views.{edited};
 ghost use Rattle.std.specs.List.{AllByRecursion};
-ghost use Rattle.label_table.specs.Rows.{AreTableEdits};
+ghost use Rattle.router_tables.specs.Below.labels.Rows.{AreTableEdits};
 ghost use Rattle.router_core.specs.Plans.{IsPlanOf, IsSendingPlan, drafted};
 
 use claim_edits::bandwidth_edits;
 use forwarding_table::Action;
-use label_table::laws::edits_leave_other_lsps;
-use label_table::table_edits;
 use lsr_facts::{Key, Reply};
 use lsr_steps::draft_of;
 use router_events::{Event, Outputs};
-use router_tables::{Change, Tables};
+use router_tables::{
+    Change, ChangedState, StateDraft, StateEdits, Tables, edits_leave_other_lsps, table_edits,
+};
 use rsvp_contents::Reading;
 use sorted_rows::Table;
 use state_sends::{StateSends, edited_lsps, sends_of};
 use state_settling::{Settled, settle};
-use state_views::{ChangedState, StateDraft, StateEdits};
 use std::alloc::{AllocError, Global};
 
 /// A step that is made ready, with all the memory that it takes, and hasn't happened yet. It is of use once, on

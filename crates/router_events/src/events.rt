@@ -2,9 +2,8 @@
 
 ghost use Rattle.std.specs.Prelude.{◌≡◌, ◌∷◌, ◌++◌, [], OnOk, OnErr};
 
-use link_frames::Frame;
+use link_frames::{Frame, Reading};
 use lsr_facts::{Key, Reply};
-use rsvp_contents::Reading;
 use sorted_rows::{Table, TryCopy};
 use std::alloc::{AllocError, Global};
 use std::marker::Model;

@@ -1,3 +1,4 @@
+pub mod Below
 pub mod Machines
 pub mod Passing
 pub use Rattle.router_core.specs.Serving

@@ -1,5 +1,5 @@
 -- What becomes of labelled frames (RFC 3031, 3.10 and 3.18; RFC 3032, 2.4.1).
-use Rattle.std.specs.Prelude.{◌≡◌, List, ℕ, Result, Ok, Err, ◌⊎◌}
+use Rattle.std.specs.Prelude.{◌≡◌, ◌==◌, List, [], ◌∷◌, ℕ, Bool, false, Result, Ok, Err, ◌⊎◌}
 use Rattle.abstract_lsr.specs.States.{State}
 use Rattle.abstract_lsr.specs.Tables.{forwarded}
 use Rattle.forwarding_table.specs.declared.forwarding.Fault.{Fault}
@@ -17,6 +17,11 @@ use Rattle.wire_frames.specs.declared.frame.Frame.{Frame}
 use Rattle.wire_frames.specs.declared.frame.Frame.TheVariants as frames
 use Rattle.wire_frames.specs.declared.payload.Payload.{Payload}
 use Rattle.wire_frames.specs.declared.payload.Payload.TheVariants as payloads
+
+-- a datagram that begins as a Labelled frame does, whose kind is 2
+abbrev pub is_labelled : List ℕ → Bool
+is_labelled [] = false
+is_labelled (kind ∷ rest) = kind == 2
 
 -- why a frame is dropped, by the fault of its stack: nothing is done with its label, its TTL ran out, or it would have
 -- too many labels

@@ -1,5 +1,6 @@
 //! What comes to a router, and what comes of it.
 
+use crate::passing::Passed;
 use router_events::Made;
 
 /// A datagram that came over a link: one frame.
@@ -28,11 +29,20 @@ pub enum Input {
     Start,
 }
 
+/// What came of an input that wasn't left out.
+#[derive(Debug, Drop)]
+pub enum Served {
+    /// It was an event, and this is its step.
+    Made(Made),
+    /// It was a labelled frame, and this became of it (RFC 3031, 3.10). The router is as it was.
+    Passed(Passed),
+}
+
 /// What came of inputs.
 #[derive(Debug, Drop)]
-pub struct Served {
-    /// The steps that were made, in their order.
-    pub steps: Vec<Made>,
+pub struct Report {
+    /// What came of each that wasn't left out, in their order.
+    pub served: Vec<Served>,
     /// How many inputs were taken or left out, from the first on.
     pub count: usize,
     /// Whether the rest wait because memory ran out.

@@ -5,7 +5,7 @@ mod inputs;
 mod machine;
 mod passing;
 
-pub use inputs::{Datagram, Input, Served};
+pub use inputs::{Datagram, Input, Report, Served};
 pub use machine::Machine;
 pub use passing::Passed;
-pub use router_tables::Tables;
+pub use router_core::{Tables, WholeState, WholeView};

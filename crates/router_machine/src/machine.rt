@@ -1,25 +1,23 @@
 //! A router that is cold or runs.
 
-ghost use Rattle.std.specs.Prelude.{◌≡◌, ◌≢◌, List, None, IfOk, OnErr, false, length, take, ◌++◌, ◌∷◌, []};
+ghost use Rattle.std.specs.Prelude.{◌≡◌, ◌≢◌, List, IfOk, OnErr, false, length, take, ◌++◌, ◌∷◌, []};
 ghost use Rattle.lsr_facts.specs.Routers.{IsRouter};
 ghost use Rattle.lsr_facts.specs.declared.refusal.Refusal.TheVariants.{NoMemory};
-ghost use Rattle.router_events.specs.declared.events.Made.{Made};
 ghost use Rattle.abstract_lsr.specs.Soundness.{IsSound};
 ghost use Rattle.abstract_lsr.specs.Steps.{Run, opening};
 ghost use Rattle.router_core.specs.Plans.{quiet};
 ghost use Rattle.router_core.specs.Serving.{IsDatagramAnswered, IsEventOf};
-ghost use Rattle.router_events.specs.Frames.{head_fault};
 ghost use Rattle.router_core.specs.States.{opened};
-ghost use Rattle.router_machine.specs.Machines.{AreTaken, IsDatagramLeft, IsEventFor, IsEventLeft, IsLeft, IsRefusedCold, IsTaken, MayRunOut, MayRunOutFor, state_in};
-ghost use Rattle.router_machine.specs.Passing.{IsPassed};
+ghost use Rattle.router_machine.specs.Machines.{AreServed, IsDatagramServed, IsEventLeft, IsEventServed, IsInputServed, IsMessageAnswered, IsMessageLeft, IsRefusedCold, IsTaken, state_in, steps_in};
+ghost use Rattle.router_machine.specs.Passing.{IsPassed, is_labelled};
+ghost use Rattle.router_machine.specs.declared.inputs.Served.{Served};
 
-use crate::inputs::{Input, Served};
-use crate::passing::{Passed, pass};
+use crate::inputs::{Input, Report, Served};
+use crate::passing::{Passed, is_labelled, pass};
 use lsr_config::Config;
 use lsr_facts::{Refusal, Reply};
-use router_core::{Cold, Running, read_event};
+use router_core::{Cold, Running, Tables, read_event};
 use router_events::{Event, Made, Outputs};
-use router_tables::Tables;
 use sorted_rows::Table;
 use std::alloc::{AllocError, Global};
 use std::marker::Model;
@@ -66,8 +64,8 @@ fn serve_running(
     alloc: Global,
     event: Event,
 ) -> (Inside, Result<Made, Refusal>)
-    ensures taken { IsTaken router.router router.state (λ e. e ≡ event) (IsEventLeft router.state event)
-        (MayRunOut router.router router.state event) (state_in result.0).state result.1 }
+    ensures taken { IsTaken router.router router.state (λ e. e ≡ event) (IsEventLeft router.router router.state event)
+        (state_in result.0).state result.1 }
     ensures router { (state_in result.0).router ≡ router.router }
 {
     router.soundness();
@@ -85,8 +83,8 @@ fn serve_running(
 
 /// Serves an event by a cold router.
 fn serve_cold(router: Cold, alloc: Global, event: Event) -> (Inside, Result<Made, Refusal>)
-    ensures taken { IsTaken router.router router.state (λ e. e ≡ event) (IsEventLeft router.state event)
-        (MayRunOut router.router router.state event) (state_in result.0).state result.1 }
+    ensures taken { IsTaken router.router router.state (λ e. e ≡ event) (IsEventLeft router.router router.state event)
+        (state_in result.0).state result.1 }
     ensures router { (state_in result.0).router ≡ router.router }
 {
     router.soundness();
@@ -99,15 +97,15 @@ fn serve_cold(router: Cold, alloc: Global, event: Event) -> (Inside, Result<Made
     }
 }
 
-/// Serves a datagram by a running router.
-fn serve_datagram_running(
+/// Serves a datagram as a message by a running router.
+fn serve_message_running(
     mut router: Running,
     alloc: Global,
     link: u16,
     datagram: &[u8],
 ) -> (Inside, Result<Made, Refusal>)
-    ensures taken { IsTaken router.router router.state (IsEventOf link datagram.now) (IsDatagramLeft router.state datagram.now)
-        (head_fault datagram.now ≡ None) (state_in result.0).state result.1 }
+    ensures taken { IsTaken router.router router.state (IsEventOf link datagram.now) (IsMessageLeft router.state datagram.now)
+        (state_in result.0).state result.1 }
     ensures served { IsDatagramAnswered router.router router.state link datagram.now (state_in result.0).state result.1 }
     ensures router { (state_in result.0).router ≡ router.router }
 {
@@ -115,7 +113,7 @@ fn serve_datagram_running(
     (Inside::Running(router), answer)
 }
 
-/// Why a cold router leaves a datagram out: its first fault, else that the router is cold.
+/// Why a cold router leaves a datagram out as no message: its first fault, else that the router is cold.
 fn refusal_while_cold(alloc: Global, link: u16, datagram: &[u8]) -> Refusal
     ensures { IsRefusedCold datagram.now result }
 {
@@ -125,15 +123,15 @@ fn refusal_while_cold(alloc: Global, link: u16, datagram: &[u8]) -> Refusal
     }
 }
 
-/// Serves a datagram by a cold router: it leaves it out.
-fn serve_datagram_cold(
+/// Serves a datagram as a message by a cold router: it leaves it out.
+fn serve_message_cold(
     router: Cold,
     alloc: Global,
     link: u16,
     datagram: &[u8],
 ) -> (Inside, Result<Made, Refusal>)
-    ensures taken { IsTaken router.router router.state (IsEventOf link datagram.now) (IsDatagramLeft router.state datagram.now)
-        (head_fault datagram.now ≡ None) (state_in result.0).state result.1 }
+    ensures taken { IsTaken router.router router.state (IsEventOf link datagram.now) (IsMessageLeft router.state datagram.now)
+        (state_in result.0).state result.1 }
     ensures served { IsDatagramAnswered router.router router.state link datagram.now (state_in result.0).state result.1 }
     ensures router { (state_in result.0).router ≡ router.router }
 {
@@ -169,8 +167,8 @@ impl Machine {
     /// [`Event::Start`] ([`Refusal::IsCold`]); else the only error is [`Refusal::NoMemory`]. What is refused changes
     /// nothing.
     pub fn serve_event(self, alloc: Global, event: Event) -> (Machine, Result<Made, Refusal>)
-        ensures taken { IsTaken self.router self.state (λ e. e ≡ event) (IsEventLeft self.state event)
-            (MayRunOut self.router self.state event) result.0.state result.1 }
+        ensures taken { IsTaken self.router self.state (λ e. e ≡ event) (IsEventLeft self.router self.state event)
+            result.0.state result.1 }
         ensures router { result.0.router ≡ self.router }
     {
         let (inside, answer) = match self.inside {
@@ -180,63 +178,103 @@ impl Machine {
         (Machine { inside }, answer)
     }
 
-    /// Serves a datagram: the router as it is then, and the step of the event that the datagram is. One that spells
-    /// no frame is refused for its first fault ([`Refusal::Unread`]), and behind that a cold router refuses each
-    /// ([`Refusal::IsCold`]); else the only error is [`Refusal::NoMemory`]. What is refused changes nothing.
-    pub fn serve_datagram(
+    /// Serves a datagram as a message: the router as it is then, and the step of the event that the datagram is.
+    fn serve_message(
         self,
         alloc: Global,
         link: u16,
         datagram: &[u8],
     ) -> (Machine, Result<Made, Refusal>)
-        ensures taken { IsTaken self.router self.state (IsEventOf link datagram.now) (IsDatagramLeft self.state datagram.now)
-            (head_fault datagram.now ≡ None) result.0.state result.1 }
+        ensures taken { IsTaken self.router self.state (IsEventOf link datagram.now) (IsMessageLeft self.state datagram.now)
+            result.0.state result.1 }
         ensures served { IsDatagramAnswered self.router self.state link datagram.now result.0.state result.1 }
         ensures router { result.0.router ≡ self.router }
     {
         let (inside, answer) = match self.inside {
-            Inside::Running(router) => serve_datagram_running(router, alloc, link, datagram),
-            Inside::Cold(router) => serve_datagram_cold(router, alloc, link, datagram),
+            Inside::Running(router) => serve_message_running(router, alloc, link, datagram),
+            Inside::Cold(router) => serve_message_cold(router, alloc, link, datagram),
         };
         (Machine { inside }, answer)
     }
 
+    /// Serves a datagram that came over a link, whatever it is: the router as it is then, and what came of the datagram.
+    ///
+    /// A labelled frame is passed on or delivered, or refused as [`Machine::pass`] says (RFC 3031, 3.10), and changes
+    /// nothing. Any other datagram is an event, whose step is made. One that spells no frame is refused for its first
+    /// fault ([`Refusal::Unread`]), and behind that a cold router refuses each ([`Refusal::IsCold`]); else the only error
+    /// is [`Refusal::NoMemory`]. What is refused changes nothing.
+    pub fn serve_datagram(
+        self,
+        alloc: Global,
+        link: u16,
+        datagram: &[u8],
+    ) -> (Machine, Result<Served, Refusal>)
+        ensures taken { IsDatagramServed self.router self.state link datagram.now result.0.state result.1 }
+        ensures served { is_labelled datagram.now ≡ false
+            → IsMessageAnswered self.router self.state link datagram.now result.0.state result.1 }
+        ensures router { result.0.router ≡ self.router }
+    {
+        if is_labelled(datagram) {
+            match self.pass(alloc, datagram) {
+                Ok(passed) => (self, Ok(Served::Passed(passed))),
+                Err(refusal) => (self, Err(refusal)),
+            }
+        } else {
+            let (machine, answer) = self.serve_message(alloc, link, datagram);
+            match answer {
+                Ok(made) => (machine, Ok(Served::Made(made))),
+                Err(refusal) => (machine, Err(refusal)),
+            }
+        }
+    }
+
+    /// Serves an event, and tells what came of it as of any input.
+    fn serve_input(self, alloc: Global, event: Event) -> (Machine, Result<Served, Refusal>)
+        ensures taken { IsEventServed self.router self.state event result.0.state result.1 }
+        ensures router { result.0.router ≡ self.router }
+    {
+        let (machine, answer) = self.serve_event(alloc, event);
+        match answer {
+            Ok(made) => (machine, Ok(Served::Made(made))),
+            Err(refusal) => (machine, Err(refusal)),
+        }
+    }
+
     /// Serves whatever comes, as [`Machine::serve_datagram`] and [`Machine::serve_event`] do.
-    pub fn serve(self, alloc: Global, input: &Input) -> (Machine, Result<Made, Refusal>)
-        ensures taken { IsTaken self.router self.state (IsEventFor input.now) (IsLeft self.state input.now)
-            (MayRunOutFor self.router self.state input.now) result.0.state result.1 }
+    pub fn serve(self, alloc: Global, input: &Input) -> (Machine, Result<Served, Refusal>)
+        ensures taken { IsInputServed self.router self.state input.now result.0.state result.1 }
         ensures router { result.0.router ≡ self.router }
     {
         match input {
             Input::Datagram(datagram) => self.serve_datagram(alloc, datagram.link, &datagram.bytes),
-            Input::Tick(moment) => self.serve_event(alloc, Event::Tick(*moment)),
-            Input::LinkUp(number) => self.serve_event(alloc, Event::LinkUp(*number)),
-            Input::LinkDown(number) => self.serve_event(alloc, Event::LinkDown(*number)),
-            Input::Restart => self.serve_event(alloc, Event::Restart),
-            Input::Start => self.serve_event(alloc, Event::Start),
+            Input::Tick(moment) => self.serve_input(alloc, Event::Tick(*moment)),
+            Input::LinkUp(number) => self.serve_input(alloc, Event::LinkUp(*number)),
+            Input::LinkDown(number) => self.serve_input(alloc, Event::LinkDown(*number)),
+            Input::Restart => self.serve_input(alloc, Event::Restart),
+            Input::Start => self.serve_input(alloc, Event::Start),
         }
     }
 
-    /// Serves an input, and puts its step, if it makes one, behind the others: the router as it is then, and whether
-    /// there was memory for it. Where there was none, nothing changed.
+    /// Serves an input, and puts what came of it, if it isn't left out, behind the others: the router as it is then, and
+    /// whether there was memory for it. Where there was none, nothing changed.
     fn serve_next(
         self,
         alloc: Global,
         input: &Input,
-        steps: &mut Vec<Made>,
+        served: &mut Vec<Served>,
     ) -> (Machine, Result<(), AllocError>)
-        ensures taken { IfOk result.1 (λ _. (later : List Made) × (steps.new.items ≡ steps.old.items ++ later)
-            × AreTaken self.router self.state (input.now ∷ []) later result.0.state) }
-        ensures kept { OnErr result.1 ((steps.new.items ≡ steps.old.items) × (result.0.state ≡ self.state)) }
+        ensures taken { IfOk result.1 (λ _. (later : List Served) × (served.new.items ≡ served.old.items ++ later)
+            × AreServed self.router self.state (input.now ∷ []) later result.0.state) }
+        ensures kept { OnErr result.1 ((served.new.items ≡ served.old.items) × (result.0.state ≡ self.state)) }
         ensures router { result.0.router ≡ self.router }
     {
-        if let Err(error) = steps.reserve(1) {
+        if let Err(error) = served.reserve(1) {
             return (self, Err(error));
         }
         let (machine, answer) = self.serve(alloc, input);
         match answer {
-            Ok(made) => {
-                steps.push(made).unwrap();
+            Ok(one) => {
+                served.push(one).unwrap();
                 (machine, Ok(()))
             }
             Err(refusal) => (machine, only_memory(refusal)),
@@ -245,18 +283,18 @@ impl Machine {
 
     /// Serves what comes, one input after the other, as long as there is memory: the router as it is then, and what
     /// came of the inputs. One for which there is no memory changes nothing, and waits with those behind it.
-    pub fn serve_all(self, alloc: Global, inputs: &[Input]) -> (Machine, Served)
-        ensures taken { AreTaken self.router self.state (take result.1.count inputs.now) result.1.steps.items result.0.state }
+    pub fn serve_all(self, alloc: Global, inputs: &[Input]) -> (Machine, Report)
+        ensures taken { AreServed self.router self.state (take result.1.count inputs.now) result.1.served.items result.0.state }
         ensures all { result.1.is_out_of_memory ≡ false → result.1.count ≡ length inputs.now }
-        ensures run { Run self.router self.state result.1.steps.items result.0.state }
+        ensures run { Run self.router self.state (steps_in result.1.served.items) result.0.state }
         ensures sound { IsSound result.0.router result.0.state }
         ensures router { result.0.router ≡ self.router }
     {
         let mut machine = self;
-        let mut steps = Vec::new(alloc);
+        let mut served = Vec::new(alloc);
         let mut count = 0;
         for input in inputs {
-            let (next, answer) = machine.serve_next(alloc, input, &mut steps);
+            let (next, answer) = machine.serve_next(alloc, input, &mut served);
             machine = next;
             match answer {
                 Ok(()) => count += 1,
@@ -265,8 +303,8 @@ impl Machine {
                     let is_out_of_memory = true;
                     return (
                         machine,
-                        Served {
-                            steps,
+                        Report {
+                            served,
                             count,
                             is_out_of_memory,
                         },
@@ -278,8 +316,8 @@ impl Machine {
         let is_out_of_memory = false;
         (
             machine,
-            Served {
-                steps,
+            Report {
+                served,
                 count,
                 is_out_of_memory,
             },
@@ -292,12 +330,12 @@ impl Machine {
         alloc: Global,
         config: Config,
         inputs: &[Input],
-    ) -> Result<(Machine, Served), AllocError>
+    ) -> Result<(Machine, Report), AllocError>
         ensures run { IfOk result (λ after. Run config.router (opening config.router config.routes)
-            after.1.steps.items after.0.state) }
+            (steps_in after.1.served.items) after.0.state) }
         ensures sound { IfOk result (λ after. IsSound config.router after.0.state) }
-        ensures taken { IfOk result (λ after. AreTaken config.router (opening config.router config.routes)
-            (take after.1.count inputs.now) after.1.steps.items after.0.state) }
+        ensures taken { IfOk result (λ after. AreServed config.router (opening config.router config.routes)
+            (take after.1.count inputs.now) after.1.served.items after.0.state) }
     {
         Ok(Machine::open(alloc, config)?.serve_all(alloc, inputs))
     }

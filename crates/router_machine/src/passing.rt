@@ -1,16 +1,16 @@
 //! Labelled frames, by what a router knows.
 
 ghost use Rattle.std.specs.Prelude.{◌≡◌};
-ghost use Rattle.router_machine.specs.Passing.{IsPassed, carried, passed_of, refusal_of};
+ghost use Rattle.router_machine.specs.Passing.{IsPassed, carried, is_labelled, passed_of, refusal_of};
 ghost use Rattle.abstract_lsr.specs.Tables.{forwarded};
 
 use forwarding_table::{Fault, Forwarding};
 use label_stacks::Stack;
 use lsr_facts::Refusal;
-use router_tables::Tables;
+use router_core::Tables;
 use rsvp_contents::Dropped;
 use std::alloc::Global;
-use wire_frames::{Frame, Payload, read_frame};
+use wire_frames::{Frame, KIND_LABELLED, Payload, read_frame};
 
 /// What became of a labelled frame.
 #[derive(Debug, Drop)]
@@ -24,6 +24,16 @@ pub enum Passed {
     },
     /// It has arrived: what it carried is for this router.
     Delivered(Payload),
+}
+
+/// Whether a datagram begins as a Labelled frame does.
+pub(crate) fn is_labelled(datagram: &[u8]) -> bool
+    ensures { result ≡ is_labelled datagram.now }
+{
+    match datagram {
+        [kind, ..] => *kind == KIND_LABELLED,
+        [] => false,
+    }
 }
 
 /// Why a frame is dropped whose stack has this fault.

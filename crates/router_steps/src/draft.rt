@@ -5,7 +5,7 @@ ghost use Rattle.router_steps.specs.Drafts.{IsDraft};
 
 use crate::edits::Edits;
 use lsr_facts::{FactsView, Refusal, Reply};
-use router_events::Outputs;
+use path_rules::Outputs;
 use std::alloc::Global;
 
 /// What an event does of itself.

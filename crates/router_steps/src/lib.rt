@@ -14,6 +14,7 @@ mod view;
 pub use draft::Draft;
 pub use edits::{Changed, Edits};
 pub use links::link_change;
+pub use path_rules::Outputs;
 pub use paths::{path_arrival, unknown_path_arrival};
 pub use tears::{path_err_arrival, path_tear_arrival};
 pub use ticks::tick;

@@ -7,8 +7,7 @@ ghost use Rattle.router_steps.specs.Drafts.{IsDraft};
 use crate::draft::{Draft, refused};
 use crate::edits::Edits;
 use lsr_facts::{FactsView, Refusal, Reply};
-use path_rules::link_at;
-use router_events::Outputs;
+use path_rules::{Outputs, link_at};
 use sorted_rows::{Table, TryCopy};
 use std::alloc::{AllocError, Global};
 

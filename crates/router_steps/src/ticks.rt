@@ -14,7 +14,7 @@ use crate::edits::Edits;
 use crate::view::WholeView;
 use lsr_facts::limits::MAX_MOMENT;
 use lsr_facts::{Key, Origin, PathFact, Refusal, Reply, keep_living, lives_on};
-use router_events::Outputs;
+use path_rules::Outputs;
 use sorted_rows::{Table, TryCopy};
 use std::alloc::{AllocError, Global};
 use std::net::Ipv4Addr;

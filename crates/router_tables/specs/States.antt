@@ -8,7 +8,7 @@ use Rattle.abstract_lsr.specs.Preempting.{claims_of}
 use Rattle.abstract_lsr.specs.Soundness.{IsSound}
 use Rattle.abstract_lsr.specs.States.{State}
 use Rattle.abstract_lsr.specs.Steps.{opening}
-use Rattle.state_views.specs.Views.{Held}
+use Rattle.label_table.specs.Below.views.Views.{Held}
 use Rattle.label_table.specs.Rows.{IsTableOf}
 use Rattle.router_tables.specs.declared.rows.Rows.{Rows}
 

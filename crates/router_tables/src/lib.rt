@@ -7,4 +7,6 @@ mod rows;
 mod tables;
 
 pub use change::Change;
+pub use label_table::laws::edits_leave_other_lsps;
+pub use label_table::{ChangedState, StateDraft, StateEdits, WholeState, WholeView, table_edits};
 pub use tables::Tables;

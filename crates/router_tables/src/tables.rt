@@ -18,6 +18,7 @@ use admission::Admission;
 use forwarding_table::{Action, Forwarding, ForwardingTable};
 use label_bindings::LabelBindings;
 use label_stacks::Stack;
+use label_table::{StateView, WholeState};
 use lsr_config::Config;
 use lsr_facts::{FactsView, Item, Key, Link, Node, PathFact, Router};
 use path_state::PathState;
@@ -25,7 +26,6 @@ use refresh_timers::RefreshTimers;
 use resv_facts::{Claim, ResvFact, Upstream};
 use router_steps::WholeView;
 use sorted_rows::Table;
-use state_views::{StateView, WholeState};
 use std::alloc::{AllocError, Global};
 use std::marker::Model;
 

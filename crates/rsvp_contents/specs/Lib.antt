@@ -1,6 +1,7 @@
 pub mod Addresses
 pub mod Answers
 pub mod Behind
+pub mod Below
 pub mod Counting
 pub mod Dropping
 pub mod Fitting

@@ -11,8 +11,7 @@ use crate::messages::{Content, Path, Resv};
 use crate::numbers::{MAX_MESSAGE_LEN, TYPE_PATH, TYPE_RESV};
 use rsvp_flows::{FlowDescriptor, counts_on, fits_style};
 use rsvp_objects::numbers::{CLASS_ADSPEC, CLASS_FAST_REROUTE};
-use rsvp_objects::{FastReroute, Opaque};
-use rsvp_routes::{Record, Route};
+use rsvp_objects::{FastReroute, Opaque, Record, Route};
 
 /// Whether an explicit route, where there is one, is within its limits.
 fn has_short_route(route: &Option<Route>) -> bool

@@ -17,9 +17,7 @@ use rsvp_objects::numbers::{
     HEADER_LEN as OBJECT_HEADER_LEN, HOP_LEN, LABEL_REQUEST_LEN, SESSION_LEN, STYLE_LEN,
     TEMPLATE_LEN, TIME_VALUES_LEN, WORD_LEN,
 };
-use rsvp_objects::{Attr, ErrorSpec, FastReroute, Hop, Session, Template};
-use rsvp_routes::{Record, Route};
-use rsvp_traffic::Tspec;
+use rsvp_objects::{Attr, ErrorSpec, FastReroute, Hop, Record, Route, Session, Template, Tspec};
 
 /// How many bytes a SESSION is written in.
 fn session_len(session: Session) -> usize

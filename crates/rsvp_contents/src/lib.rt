@@ -19,3 +19,6 @@ pub use message::{Message, Reading};
 pub use messages::{Content, Path, PathErr, PathTear, Resv, ResvErr, ResvTear};
 pub use parts::Parts;
 pub use passing::Passing;
+pub use rsvp_objects::{
+    Attr, FastReroute, Hop, LabelRequest, Prefix, Record, Route, Session, Template, Tspec,
+};

@@ -9,8 +9,7 @@ ghost use Rattle.rsvp_contents.specs.Limits.{are_short_records, is_short_route, 
 use crate::numbers::*;
 use crate::passing::Passing;
 use rsvp_objects::numbers::CLASS_FAST_REROUTE;
-use rsvp_objects::{Kind, Object, Opaque, Treatment};
-use rsvp_routes::{Record, Route, Step};
+use rsvp_objects::{Kind, Object, Opaque, Record, Route, Step, Treatment};
 
 /// Whether the address of a step, where it has one, is four octets. It always is.
 fn has_address(step: &Step) -> bool

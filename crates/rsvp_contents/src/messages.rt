@@ -3,10 +3,9 @@ ghost use Rattle.std.specs.Prelude.{◌≡◌};
 use crate::passing::Passing;
 use rsvp_flows::{ErrorDescriptors, Filters, FlowDescriptors};
 use rsvp_objects::{
-    Attr, ErrorSpec, FastReroute, Hop, LabelRequest, Session, Style, Template, TimeValues,
+    Attr, ErrorSpec, FastReroute, Hop, LabelRequest, Record, Route, Session, Style, Template,
+    TimeValues, Tspec,
 };
-use rsvp_routes::{Record, Route};
-use rsvp_traffic::Tspec;
 use std::alloc::AllocError;
 
 /// A Path: a sender's wish for a path, on its way to the endpoint (RFC 2205, 3.1.3; RFC 3209, 3.1).

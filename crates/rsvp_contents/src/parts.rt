@@ -1,8 +1,7 @@
 use rsvp_objects::{
-    Attr, ErrorSpec, FastReroute, Hop, LabelRequest, Session, Style, Template, TimeValues,
+    Attr, ErrorSpec, FastReroute, Hop, LabelRequest, Record, Route, Session, Style, Template,
+    TimeValues, Tspec,
 };
-use rsvp_routes::{Record, Route};
-use rsvp_traffic::Tspec;
 
 /// What the objects of a message say, of whatever type it is: of each class the first that says it. What is
 /// passed on and flow descriptors aren't among it.

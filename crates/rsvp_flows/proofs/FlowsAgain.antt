@@ -4,7 +4,7 @@ use Rattle.std.specs.List.{list_all, count_by}
 use Rattle.std.specs.Option.{option_map}
 use Rattle.std.specs.Cmp.Lexicographic.{bytes_decides}
 use Rattle.std.proofs.lemmas.Bool.{and_parts, and_from, cond-true, cond-false, ne_eqb, not_from_false, le-ltb, ltb-false, false≢true}
-use Rattle.rsvp_routes.specs.declared.trace.Trace.{Trace}
+use Rattle.rsvp_objects.specs.Below.routes.declared.trace.Trace.{Trace}
 use Rattle.rsvp_objects.specs.declared.values.Label.{Label}
 use Rattle.rsvp_objects.specs.declared.values.Style.{Style}
 use Rattle.rsvp_objects.specs.declared.values.Template.{Template}

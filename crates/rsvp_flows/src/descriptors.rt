@@ -1,9 +1,7 @@
 ghost use Rattle.std.specs.Prelude.{◌≡◌};
 
 use crate::sequence::{Exact, Sequence};
-use rsvp_objects::{Label, Template};
-use rsvp_routes::Record;
-use rsvp_traffic::Flowspec;
+use rsvp_objects::{Flowspec, Label, Record, Template};
 use std::alloc::AllocError;
 
 /// A flow descriptor of a Resv (RFC 2205, 3.1.4; RFC 3209, 3.2): what is reserved for one LSP.

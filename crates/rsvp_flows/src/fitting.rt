@@ -12,9 +12,7 @@ ghost use Rattle.rsvp_flows.specs.Lengths.{spelled_len};
 use crate::descriptors::*;
 use crate::style::{is_other, is_shared};
 use rsvp_objects::numbers::{HEADER_LEN, LABEL_LEN, TEMPLATE_LEN};
-use rsvp_objects::{Style, Template};
-use rsvp_routes::Record;
-use rsvp_traffic::Flowspec;
+use rsvp_objects::{Flowspec, Record, Style, Template};
 
 /// Bytes of an IPv4 address.
 const ADDRESS_LEN: usize = 4;

@@ -9,8 +9,7 @@ ghost use Rattle.rsvp_flows.specs.Flows.{flows_of, is_flowspec, styled_flows};
 
 use crate::descriptors::*;
 use crate::style::{is_other, is_shared};
-use rsvp_objects::{Object, Style};
-use rsvp_traffic::Flowspec;
+use rsvp_objects::{Flowspec, Object, Style};
 use std::alloc::{AllocError, Global};
 
 /// The FLOWSPEC that counts for what the objects begin with, where one may count already, and the objects

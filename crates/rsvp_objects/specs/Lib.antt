@@ -1,3 +1,4 @@
+pub mod Below
 pub mod Framing
 pub mod Kinds
 pub mod Objects

@@ -11,9 +11,8 @@ ghost use Rattle.state_settling.specs.Falling.{fallen_key, has_fallen, without_a
 use lsr_facts::{FactsView, Key};
 use path_rules::{is_up, leaves_by};
 use resv_facts::ResvFact;
-use router_steps::node_of;
 use sorted_rows::Table;
-use state_views::{ChangedState, StateEdits, StateView, WholeState};
+use state_views::{ChangedState, StateEdits, StateView, WholeState, node_of};
 use std::alloc::{AllocError, Global};
 
 /// Whether a reservation stands on its path: on the link that this leaves by, which is up.

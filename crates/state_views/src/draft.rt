@@ -1,7 +1,7 @@
 //! A decision: the answer, the errors and the edits.
 
 ghost use Rattle.std.specs.Prelude.{◌≡◌, []};
-ghost use Rattle.abstract_router.specs.Outcomes as paths;
+ghost use Rattle.abstract_lsr.specs.Below.paths.Outcomes as paths;
 ghost use Rattle.abstract_lsr.specs.Outcomes.{of_paths, refused};
 ghost use Rattle.router_steps.specs.Drafts.{IsDraft};
 ghost use Rattle.state_views.specs.StateDrafts.{IsStateDraft};
@@ -10,8 +10,7 @@ ghost use Rattle.state_views.specs.Views.{known};
 use crate::edits::StateEdits;
 use crate::views::StateView;
 use lsr_facts::{Refusal, Reply};
-use router_events::Outputs;
-use router_steps::{Draft, Edits};
+use router_steps::{Draft, Edits, Outputs};
 use std::alloc::Global;
 
 /// What an event does of itself.

@@ -8,4 +8,5 @@ mod views;
 
 pub use draft::{StateDraft, of_paths, refused};
 pub use edits::{ChangedState, StateEdits};
+pub use router_steps::{Changed, Edits, WholeView, node_of};
 pub use views::{StateView, WholeState};

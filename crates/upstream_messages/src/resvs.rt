@@ -13,12 +13,11 @@ use crate::rows::WantedUpstream;
 use lsr_facts::{Key, Link, Origin, PathFact, Router};
 use path_rules::{is_up, link_at, sent_by};
 use resv_facts::{ResvStyle, Upstream};
-use router_steps::node_of;
 use rsvp_contents::numbers::ADDRESS_LEN;
 use rsvp_contents::{Content, Message, Resv};
 use rsvp_flows::{FlowDescriptor, FlowDescriptors};
 use rsvp_objects::{Hop, Label, Style, Template, TimeValues};
-use state_views::StateView;
+use state_views::{StateView, node_of};
 use std::alloc::{AllocError, Global};
 use std::net::Ipv4Addr;
 

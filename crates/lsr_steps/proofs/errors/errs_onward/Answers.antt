@@ -7,7 +7,7 @@ use Rattle.std.proofs.lemmas.List.{map-append}
 use Rattle.rsvp_flows.specs.declared.descriptors.ErrorDescriptor.{ErrorDescriptor}
 use Rattle.router_events.specs.declared.events.Output.{Output}
 use Rattle.abstract_router.specs.RowLaws.{one_more}
-use Rattle.resv_rules.specs.Rooms.{HaveRoom}
+use Rattle.resv_arrivals.specs.Below.rules.Rooms.{HaveRoom}
 use Rattle.abstract_lsr.specs.Outcomes.{listed}
 use Rattle.abstract_lsr.specs.Tearing.{err_onward}
 use Rattle.state_views.specs.Views.{known}

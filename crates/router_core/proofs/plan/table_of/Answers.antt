@@ -2,12 +2,12 @@
 use Rattle.std.proofs.Common.{◌≡◌, List, subst, sym, ◌∙◌, false}
 use Rattle.abstract_lsr.specs.States.{State}
 use Rattle.abstract_router.specs.Touched.{is_among}
-use Rattle.label_table.specs.Rows.{AreAlikeElsewhere}
+use Rattle.router_tables.specs.Below.labels.Rows.{AreAlikeElsewhere}
 use Rattle.lsr_facts.specs.Orders.{key_cmp}
 use Rattle.lsr_facts.specs.declared.key.Key.{Key}
-use Rattle.router_steps.specs.Drafts as paths
+use Rattle.router_tables.specs.Below.steps.Drafts as paths
 use Rattle.router_tables.specs.States.{held_of}
-use Rattle.state_views.specs.Views.{edited, held_with, known}
+use Rattle.router_tables.specs.Below.views.Views.{edited, held_with, known}
 use Rattle.router_core.proofs.plan.table_of.Goals as goal
 
 pub table_edits-requires-clause-elsewhere : goal.table_edits-requires-clause-elsewhere

@@ -3,7 +3,7 @@ use Rattle.std.proofs.Common.{◌≡◌, ◌++◌, filter_map, ap, ◌∙◌}
 use Rattle.std.proofs.lemmas.Result.{IfOk-weaker}
 use Rattle.lsr_facts.specs.declared.key.Key.{Key}
 use Rattle.abstract_lsr.specs.States.{is_among}
-use Rattle.router_steps.specs.Drafts as paths
+use Rattle.state_views.specs.Below.steps.Drafts as paths
 use Rattle.state_views.specs.Views.{edited, held_with, known}
 use Rattle.state_settling.specs.Falling.{fallen_key, has_fallen}
 use Rattle.state_settling.specs.FallingLaws.{among-both, fallen-edited, fallen-known}

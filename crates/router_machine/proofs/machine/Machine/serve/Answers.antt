@@ -1,8 +1,6 @@
--- What holds of a datagram holds of the input that it is.
-use Rattle.std.proofs.Common.{◌≡◌, ℕ, List, None, subst, sym}
-use Rattle.router_core.specs.Serving.{IsEventOf}
-use Rattle.router_events.specs.Frames.{head_fault}
-use Rattle.router_machine.specs.Machines.{IsDatagramLeft, IsEventFor, IsLeft, IsTaken, MayRunOutFor}
+-- What comes of a datagram comes of the input that it is.
+use Rattle.std.proofs.Common.{◌≡◌, ℕ, List, subst, sym}
+use Rattle.router_machine.specs.Machines.{IsDatagramServed, IsInputServed}
 use Rattle.router_machine.specs.declared.inputs.Input.{Input}
 use Rattle.router_machine.specs.declared.inputs.Input.TheVariants as inputs
 use Rattle.router_machine.proofs.machine.Machine.serve.Goals as goal
@@ -15,5 +13,5 @@ returns-in-Datagram-clause-taken c =
     let d = c.in-Datagram.datagram in
     let after = c.serve_datagram.result.0.state in
     let answer = c.serve_datagram.result.1 in
-    let taken = subst (λ (bytes : List ℕ). IsTaken r before (IsEventOf d.link bytes) (IsDatagramLeft before bytes) (head_fault bytes ≡ None) after answer) c.deref.ensures.value c.serve_datagram.ensures.taken in
-    subst (λ (input : Input). IsTaken r before (IsEventFor input) (IsLeft before input) (MayRunOutFor r before input) after answer) (sym is) taken
+    let served = subst (λ (bytes : List ℕ). IsDatagramServed r before d.link bytes after answer) c.deref.ensures.value c.serve_datagram.ensures.taken in
+    subst (λ (input : Input). IsInputServed r before input after answer) (sym is) served

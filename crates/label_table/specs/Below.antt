@@ -1,0 +1,3 @@
+-- The words of crates further down, as the crates above this one name them.
+pub use Rattle.state_views.specs as views
+pub use Rattle.state_views.specs.Below.steps as steps
