@@ -45,7 +45,7 @@ abbrev pub giving_way : Router → State → Key → ResvFact → List Key
 giving_way r s key fact = victims_of (limit_of r fact.link) (request_of s.facts.paths key fact) (claims_of s.facts.paths s.resvs)
 
 -- An LSP loses its reservation to another: its next hop is told, in the style and for the traffic that were reserved
--- (RFC 2205, 3.1.8 and B, 12). RFC 3209, 4.7.3 leaves the code open; this router's is 12.
+-- (RFC 2205, 3.1.8 and B, 12). RFC 3209, 4.7.3 would rather have code 2; this router's is 12.
 abbrev pub told_preempted : Router → Key → ResvFact → Option Output
 told_preempted r key fact =
     told_downstream r fact.link key.session (found_here r false preempted) (style_word fact.style)

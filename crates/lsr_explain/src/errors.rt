@@ -149,7 +149,7 @@ pub const ERRORS: &str = "\
   See: RFC 3209, 7.3 and 4.2.4
 25/1 RecordTooLong
   Notify: the record of the Path has no room for one more address, so the Path goes on
-  without it. This router tells the tunnel's head so, and answers the Path `done`: this is
+  without its record. This router tells the tunnel's head so, and answers the Path `done`: this is
   news and no failure.
   What to do: nothing; turn off the recording of routes where the tunnel begins if it isn't needed.
   See: RFC 3209, 7.3 and 4.4.3

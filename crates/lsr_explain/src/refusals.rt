@@ -38,7 +38,8 @@ pub const REFUSALS: &str = "\
 7 KindUnsupported
   The message's type is none of 1 to 6, or the frame's or its payload's kind isn't known
   here. Frames of kind 3, and labelled frames that carry a message, aren't taken yet.
-  What to do: turn off at the neighbour what sends it, as Hello, Bundle and Srefresh messages.
+  What to do: turn off at the neighbour what sends it, such as Hello, Bundle or Srefresh; ResvConf
+  (7) does no harm.
   In `frame LINK HEX` begin with 01 before a message, or with 02 before labels.
   See: RFC 2205, 3.1.1; docs/WIRE.md (Frames)
 8 Integrity
@@ -151,7 +152,7 @@ pub const REFUSALS: &str = "\
 42 IsCold
   The router was restarted, and lost what messages had set up in it. Until it is started it
   takes no message, no moment, and no link that comes up or goes down.
-  What to do: start it: `start`.
+  What to do: start it: `start`. `show` and labelled frames are answered all the same.
   See: docs/ROUTER.md (A restart)
 43 WrongPort
   The port isn't the one that the router knows by its number, or isn't at the entry

@@ -23,10 +23,10 @@ pub enum Refusal {
     #[error("hop limit: it was passed on as often as it may be, so it may be going round in a loop")]
     HopLimit,
     /// 14: no action for its label.
-    #[error("no label: its label isn't one that this router gave out")]
+    #[error("no label: nothing is done here with frames under its label; show table lists the labels")]
     NoLabel,
     /// 20: there is no such tunnel.
-    #[error("unknown tunnel: no tunnel or bypass has this number; show tunnels lists them")]
+    #[error("unknown tunnel: no tunnel or bypass has this number")]
     UnknownTunnel,
     /// 21: the tunnel's number is taken.
     #[error("tunnel exists: a tunnel has this number; drop it or take another number")]

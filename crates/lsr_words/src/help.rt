@@ -70,9 +70,11 @@ What is printed for a frame under labels, in place of these:
   refused N NAME    it was dropped
 
 What to do next:
-  refused 1 to 9           the message can't be read: `lsr decode HEX` tells the same
+  refused 1 to 9           the message can't be read: `lsr decode HEX` tells the same of `rx`,
+                           and of `frame` with what stands behind its first byte, 01
   refused 10 NoMatch       `show paths` and `show resvs` have what a message can speak of
   refused 12 LinkDown      `up LINK` first
+  refused 13 HopLimit      the frame's TTL ran out: look for a loop
   refused 14 NoLabel       `show table` has the labels that frames may come under
   refused 24 UnknownLink   name a link of the configuration: `show links` has them
   refused 29 Late          a moment below the last one: go on from that
@@ -109,8 +111,8 @@ standard error; 2 where the words of the command aren't taken:
   bad line N        line N, counted from 1, has none of the forms above, and ends the run;
                     what the lines before it asked for is done. Mend it, and run the whole
                     again
-  config FAULT KEY  the first fault of FILE, and the key that it is about; mend that, and
-                    run again for the next. docs/CONFIGURATION.md says what each FAULT is
+  config FAULT KEY  the first fault of FILE, and the key that it is about (none for Text
+                    and Memory); mend that, and run again for the next. docs/CONFIGURATION.md says what each FAULT is
   unreadable        FILE or the input can't be opened or read, isn't UTF-8, or has more than
                     16777216 bytes
   memory            there is no memory; what was printed before is done
@@ -132,7 +134,8 @@ What is printed:
                     and the number of its bytes, 8 to 4096
   CLASS CTYPE BODY  a line for each object, in the order of the bytes: its class and
                     C-Type in decimal, 0 to 255, and its body in hexadecimal digits, if it
-                    has any
+                    has any. The last three bytes of an ERROR_SPEC, `6 1 0a00000200180007`,
+                    are code and value of the error, here 24/7
 
 A message that can't be read prints `refused N NAME` on standard error, status 1: what is
 wrong with it first. A router answers the same to `rx LINK HEX` (lsr step --help), and

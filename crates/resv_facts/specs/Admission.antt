@@ -28,7 +28,7 @@ can_give_way request claim =
 abbrev pub held_at : ℕ → List (Key × Claim) → List (Key × Claim)
 held_at holding claims = reverse (filter (λ claim. claim.1.holding == holding) claims)
 
--- The worst priority first, and of one priority the greater key: so it is here, where the standards leave it open.
+-- The worst priority first (RFC 3209, 4.7.3), and of one priority the greater key: so it is here, where the RFC leaves it open.
 abbrev pub by_worst : List (Key × Claim) → List (Key × Claim)
 by_worst claims =
     held_at 7 claims ++ held_at 6 claims ++ held_at 5 claims ++ held_at 4 claims ++ held_at 3 claims ++ held_at 2 claims ++ held_at 1 claims ++ held_at 0 claims
