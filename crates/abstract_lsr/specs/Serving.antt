@@ -13,8 +13,8 @@ use Rattle.router_events.specs.declared.events.Output.{Output}
 use Rattle.abstract_lsr.specs.States.{State}
 use Rattle.abstract_lsr.specs.Steps.{IsAnswered}
 
--- What a datagram is answered that comes over a link, and what is sent for it: one that spells no frame is dropped
--- for its first fault, and that leaves no trace; a frame that it spells is an event.
+-- What a datagram is answered that comes over a link and is no labelled frame, and what is sent for it: one that spells
+-- no Hop frame is dropped for its first fault, and that leaves no trace; a frame that it spells is an event.
 abbrev pub IsServed : Router → State → ℕ → List ℕ → Reply → List Output → State → Type 0
 IsServed r before link bytes reply outputs after =
     ((fault : Dropped) × IsFirstFrameFault bytes fault × (reply ≡ replies.Refused (Unread fault)) × (outputs ≡ []) × (after ≡ before))

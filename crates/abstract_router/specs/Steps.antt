@@ -1,5 +1,5 @@
 -- One step of the abstract router, and runs of steps.
-use Rattle.std.specs.Prelude.{◌≡◌, ◌≢◌, ℕ, true, false, not, if◌then◌else◌, List, [], ◌∷◌, is_none, map, ◌⊎◌}
+use Rattle.std.specs.Prelude.{◌≡◌, ℕ, true, false, not, if◌then◌else◌, List, [], ◌∷◌, is_none, map}
 use Rattle.abstract_router.specs.Links.{link_change}
 use Rattle.abstract_router.specs.Outcomes.{Outcome, refused, silent}
 use Rattle.abstract_router.specs.Outputs.{outputs_of}
@@ -8,14 +8,11 @@ use Rattle.abstract_router.specs.Places.{is_up}
 use Rattle.abstract_router.specs.Stamps.{with_stamps}
 use Rattle.abstract_router.specs.Tears.{path_tear_arrival, path_err_arrival}
 use Rattle.abstract_router.specs.Time.{tick}
-use Rattle.router_events.specs.Frames.{SpellsFrame, IsFirstFrameFault}
-use Rattle.router_events.specs.Frame.TheVariants as frames
 use Rattle.lsr_facts.specs.Routers.{link_at}
 use Rattle.lsr_facts.specs.declared.facts.Facts.{Facts}
 use Rattle.lsr_facts.specs.declared.key.Key.{Key}
-use Rattle.lsr_facts.specs.declared.refusal.Refusal.TheVariants.{LinkDown, Unread, UnknownLink, IsCold}
+use Rattle.lsr_facts.specs.declared.refusal.Refusal.TheVariants.{LinkDown, Unread, UnknownLink}
 use Rattle.lsr_facts.specs.declared.reply.Reply.TheVariants as replies
-use Rattle.lsr_facts.specs.declared.reply.Reply.{Reply}
 use Rattle.lsr_facts.specs.declared.router.Router.{Router}
 use Rattle.router_events.specs.declared.events.Arrive.{Arrive}
 use Rattle.router_events.specs.declared.events.Event.TheVariants as events
@@ -24,7 +21,6 @@ use Rattle.router_events.specs.declared.events.Made.{Made}
 use Rattle.router_events.specs.declared.events.Output.{Output}
 use Rattle.rsvp_contents.specs.Spelling.{IsMessage}
 use Rattle.rsvp_contents.specs.Picking.{content_in}
-use Rattle.rsvp_contents.specs.declared.dropped.Dropped.{Dropped}
 use Rattle.rsvp_contents.specs.declared.dropped.Dropped.TheVariants.{KindUnsupported}
 use Rattle.rsvp_contents.specs.declared.message.Reading.TheVariants as readings
 use Rattle.rsvp_contents.specs.declared.message.Reading.{Reading}
@@ -36,7 +32,8 @@ use Rattle.rsvp_routes.specs.declared.prefix.Prefix.{Prefix}
 abbrev pub opening : Router → List (Prefix × ℕ) → Facts
 opening r routes = record { cold = false; moment = 0; up = map (λ l. (l.0, l.1.up)) r.links; routes = routes; paths = []; sent = [] }
 
--- What a message does that is read whole. Those of reservations aren't served yet (RFC 2205, 3.1.4, 3.1.6, 3.1.8).
+-- What a message does that is read whole. Those of reservations do nothing here: `abstract_lsr` has them (RFC 2205,
+-- 3.1.4, 3.1.6, 3.1.8).
 abbrev pub message_arrival : Router → Facts → ℕ → Content → Outcome
 message_arrival r s link (contents.Path p) = path_arrival r s link p
 message_arrival r s link (contents.PathErr e) = path_err_arrival s link e
@@ -91,7 +88,7 @@ taken_over r s = s
 abbrev pub repaired : Router → Facts → Facts
 repaired r s = s
 
--- Then each LSP that is new has the label that was chosen for it. No label is given out yet.
+-- Then each LSP that is new has the label that was chosen for it: none here, `abstract_lsr` gives labels.
 abbrev pub labelled : Router → List (Key × ℕ) → Facts → Facts
 labelled r labels s = s
 
@@ -100,7 +97,7 @@ abbrev pub settled : Router → List (Key × ℕ) → Facts → Facts
 settled r labels s = labelled r labels (repaired r (taken_over r s))
 
 -- The labels that a step may choose which leads from these facts to those: the one thing about a step that state
--- and event leave open. None yet.
+-- and event leave open. None here, `abstract_lsr` gives labels.
 abbrev pub IsLabelling : Router → Facts → Facts → List (Key × ℕ) → Type 0
 IsLabelling r before after labels = labels ≡ []
 
@@ -126,17 +123,3 @@ pub record Step (r : Router) (before : Facts) (made : Made) (after : Facts) : Ty
 abbrev pub Run : Router → Facts → List Made → Facts → Type 0
 Run r before [] after = after ≡ before
 Run r before (made ∷ more) after = (between : Facts) × Step r before made between × Run r between more after
-
--- What an event is answered, and what is sent for it, be the router cold or not: a cold one refuses all but its
--- start, and that leaves no trace; else the event's step is made.
-abbrev pub IsAnswered : Router → Facts → Event → Reply → List Output → Facts → Type 0
-IsAnswered r before event reply outputs after =
-    ((before.cold ≡ true) × (event ≢ events.Start) × (reply ≡ replies.Refused IsCold) × (outputs ≡ []) × (after ≡ before))
-    ⊎ ((labels : List (Key × ℕ)) × Step r before (record { event = event; labels = labels; reply = reply; outputs = outputs }) after)
-
--- What a datagram is answered that comes over a link, and what is sent for it: one that spells no frame is dropped
--- for its first fault, and that leaves no trace; a frame that it spells is an event.
-abbrev pub IsServed : Router → Facts → ℕ → List ℕ → Reply → List Output → Facts → Type 0
-IsServed r before link bytes reply outputs after =
-    ((fault : Dropped) × IsFirstFrameFault bytes fault × (reply ≡ replies.Refused (Unread fault)) × (outputs ≡ []) × (after ≡ before))
-    ⊎ ((reading : Reading) × SpellsFrame bytes (frames.Hop reading) × IsAnswered r before (events.Arrive (record { link = link; reading = reading })) reply outputs after)

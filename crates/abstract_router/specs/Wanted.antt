@@ -50,7 +50,7 @@ downstream_rows r s = filter_map (downstream_row r s.up) s.paths
 abbrev pub backup_rows : Router → Facts → List (Item × Output)
 backup_rows r s = []
 
--- the Resvs, to the neighbours that Paths came from: none yet
+-- the Resvs, to the neighbours that Paths came from: none here, `abstract_lsr` has them
 abbrev pub upstream_rows : Router → Facts → List (Item × Output)
 upstream_rows r s = []
 

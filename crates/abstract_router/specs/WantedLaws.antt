@@ -95,7 +95,7 @@ module _ (r : Router) (up : List (ℕ × Bool)) where
       (downstream_of (λ w. T (below_all item_cmp w.0 (filter_map (downstream_row r up) es))) e (λ o. below-downstream e.0 e.1.out_link es (first _ _ h)))
       (is_sorted-downstream es (second _ _ h))
 
--- Only Paths are wanted yet.
+-- Only Paths are wanted here.
 pub wanted-downstream : (r : Router) (s : Facts) → wanted_of r s ≡ downstream_rows r s
 unfolding wanted_of
 wanted-downstream r s = append-nil (downstream_rows r s)

@@ -4,7 +4,7 @@ use rsvp_contents::Prefix;
 use sorted_rows::{Table, TryCopy};
 use std::alloc::{AllocError, Global};
 
-/// All that a router knows and that events change.
+/// What a router knows of links, static routes, time and paths, and that events change.
 #[derive(Debug, Drop)]
 pub struct Facts {
     /// Whether it is cold: it was restarted, and not started yet.
@@ -17,7 +17,7 @@ pub struct Facts {
     pub routes: Table<Prefix, u16>,
     /// The paths, by LSP.
     pub paths: Table<Key, PathFact>,
-    /// Of each message that is kept alive at a neighbour the moment when it was sent last, in milliseconds.
+    /// Of each Path that is kept alive at a neighbour the moment when it was sent last, in milliseconds.
     pub sent: Table<Item, u64>,
 }
 

@@ -10,7 +10,7 @@ pub struct Key {
     pub sender: Template,
 }
 
-/// A message that the state wants kept alive at a neighbour, by what it is for. Items stand in the order of
+/// A Path that the state wants kept alive at a neighbour, by what it is for. Items stand in the order of
 /// their kinds, in each by key and then by what is left.
 #[derive(Clone, Copy, Debug, PartialEq, Eq, PartialOrd, Ord)]
 pub enum Item {

@@ -16,7 +16,7 @@ pub enum Role {
     Head,
 }
 
-/// Where a path comes from: the neighbour that sent its Path, until when that counts.
+/// Where a path comes from: the neighbour that sent its Path, and until when that counts.
 #[derive(Clone, Copy, Debug, PartialEq, Eq)]
 pub struct Origin {
     /// The number of the link that it came over.

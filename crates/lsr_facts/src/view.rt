@@ -35,7 +35,7 @@ pub trait FactsView {
     fn path(&self, key: &Key) -> Option<&PathFact>
         ensures path { option_copied result ≡ find key_cmp key.now (facts self.now).paths };
 
-    /// When a message was sent last that is kept alive at a neighbour, in milliseconds; `None` for any other.
+    /// When a Path was sent last that is kept alive at a neighbour, in milliseconds; `None` for any other.
     fn sent_at(&self, item: &Item) -> Option<u64>
         ensures sent { result ≡ find item_cmp item.now (facts self.now).sent };
 }

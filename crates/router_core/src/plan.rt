@@ -97,25 +97,17 @@ fn sending_plan(alloc: Global, tables: &Tables, draft: StateDraft) -> Result<Pla
     ensures { IfOk result (IsSendingPlan tables.now.router tables.now.state (drafted draft tables.now.router tables.now.state)) }
 {
     tables.soundness();
-    let StateDraft {
-        reply,
-        errors,
-        due,
-        edits,
-        ..
-    } = draft;
-    let StateEdits { facts, resvs, .. } = edits;
+    let edits = draft.edits;
     let own = StateEdits {
-        facts,
-        resvs,
         labels: Table::new(alloc),
+        ..edits
     };
     let Settled { edits, chosen } = settle(alloc, tables, own)?;
     let StateSends {
         outputs,
         moments,
         upstream,
-    } = sends_of(alloc, tables, &edits, due, errors)?;
+    } = sends_of(alloc, tables, &edits, draft.due, draft.errors)?;
     let table = table_of(alloc, tables, &edits)?;
     let StateEdits {
         facts,
@@ -124,7 +116,7 @@ fn sending_plan(alloc: Global, tables: &Tables, draft: StateDraft) -> Result<Pla
     } = edits;
     let bandwidth = bandwidth_edits(alloc, tables, &facts, resvs)?;
     Ok(Plan {
-        reply,
+        reply: draft.reply,
         outputs,
         chosen,
         change: Some(Change {

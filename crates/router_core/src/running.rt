@@ -9,7 +9,7 @@ ghost use Rattle.abstract_lsr.specs.Preempting.{claims_of};
 ghost use Rattle.abstract_lsr.specs.Soundness.{IsSound};
 ghost use Rattle.abstract_lsr.specs.Steps.{Step};
 ghost use Rattle.abstract_lsr.specs.Tables.{look};
-ghost use Rattle.router_core.specs.Plans.{IsOutFor, IsPlanOf, made_by, quiet};
+ghost use Rattle.router_core.specs.Plans.{IsOutFor, IsPlanOf, after_plan, made_by, quiet};
 ghost use Rattle.router_core.specs.States.{IsEmpty, cold, emptied, opened};
 
 use crate::plan::{Plan, plan_of};
@@ -105,12 +105,15 @@ impl Running {
         Ok(plan_of(alloc, &self.tables, event)?)
     }
 
-    /// Makes the step of a plan, and gives the labels that it chose and what it sends. It asks for a plan of this router
-    /// as it stands. Takes no memory, and always succeeds.
+    /// Makes the plan's own step: gives the labels that the plan chose and what it sends, and what is known then is what
+    /// the plan's change leaves. It asks for a plan of this router as it stands. Takes no memory, and always succeeds.
     pub fn commit(&mut self, plan: Plan) -> (Table<Key, u32>, Outputs)
         requires { (event : Event) × IsPlanOf self.old event plan }
         ensures step { (event : Event) → IsPlanOf self.old event plan → Step self.old.router self.old.state
             (record (made_by event plan) { labels = result.0; outputs = result.1 }) self.new.state }
+        ensures chosen { result.0 ≡ plan.chosen }
+        ensures outputs { result.1 ≡ plan.outputs }
+        ensures state { self.new.state ≡ after_plan plan self.old.state }
         ensures router { self.new.router ≡ self.old.router }
     {
         let Plan {

@@ -49,7 +49,8 @@ impl Running {
         })
     }
 
-    /// Serves a datagram: the step of the event that it is. A datagram that is no event is refused for its first fault
+    /// Serves a datagram that is no labelled frame: the step of the event that it is. One that is no event, as each that
+    /// holds no Hop frame, is refused for its first fault
     /// ([`Refusal::Unread`]), and leaves no trace; neither does one for which there is no memory
     /// ([`Refusal::NoMemory`]). A fault of the datagram's head takes none.
     pub fn serve_datagram(
