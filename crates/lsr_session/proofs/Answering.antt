@@ -46,7 +46,7 @@ passed_is_whole s bytes link frame passed =
       | inl framed ↦ sent_is_whole s framed.0 link frame framed.2
       | inr dropped ↦ elim dropped [
         | inl fault ↦ absurd (let never = fault.2 in cc)
-        | inr memory ↦ absurd cc
+        | inr memory ↦ absurd (let never = memory.1 in cc)
       ]
     ]
 

@@ -1,5 +1,5 @@
 -- What becomes of labelled frames (RFC 3031, 3.10 and 3.18; RFC 3032, 2.4.1).
-use Rattle.std.specs.Prelude.{◌≡◌, ◌==◌, List, [], ◌∷◌, ℕ, Bool, false, Result, Ok, Err, ◌⊎◌}
+use Rattle.std.specs.Prelude.{◌≡◌, ◌==◌, List, [], ◌∷◌, ℕ, Bool, None, false, Result, Ok, Err, ◌⊎◌}
 use Rattle.abstract_lsr.specs.States.{State}
 use Rattle.abstract_lsr.specs.Tables.{forwarded}
 use Rattle.forwarding_table.specs.declared.forwarding.Fault.{Fault}
@@ -12,7 +12,7 @@ use Rattle.router_machine.specs.declared.passing.Passed.{Passed}
 use Rattle.router_machine.specs.declared.passing.Passed.TheVariants.{Delivered, Sent}
 use Rattle.rsvp_contents.specs.declared.dropped.Dropped.{Dropped}
 use Rattle.rsvp_contents.specs.declared.dropped.Dropped.TheVariants as dropped
-use Rattle.wire_frames.specs.Frames.{IsFirstFrameFault, SpellsFrame}
+use Rattle.wire_frames.specs.Frames.{IsFirstFrameFault, SpellsFrame, frame_fault}
 use Rattle.wire_frames.specs.declared.frame.Frame.{Frame}
 use Rattle.wire_frames.specs.declared.frame.Frame.TheVariants as frames
 use Rattle.wire_frames.specs.declared.payload.Payload.{Payload}
@@ -45,9 +45,10 @@ passed_of s (frames.Hop reading) = Err (refusals.Unread dropped.KindUnsupported)
 passed_of s (frames.Routed to limit message) = Err (refusals.Unread dropped.KindUnsupported)
 
 -- What becomes of a datagram, by what the router knows: the frame that it spells goes its way, and one that spells no
--- frame is dropped for its first fault. Memory can run out in place of either.
+-- frame is dropped for its first fault. Memory can run out in place of either, but only where the frame has no fault
+-- before its message: so for a labelled frame that has a fault it never does.
 abbrev pub IsPassed : State → List ℕ → Result Passed Refusal → Type 0
 IsPassed s bytes answer =
     ((frame : Frame) × SpellsFrame bytes frame × (answer ≡ passed_of s frame))
     ⊎ ((fault : Dropped) × IsFirstFrameFault bytes fault × (answer ≡ Err (refusals.Unread fault)))
-    ⊎ (answer ≡ Err refusals.NoMemory)
+    ⊎ ((frame_fault bytes ≡ None) × (answer ≡ Err refusals.NoMemory))

@@ -1,6 +1,6 @@
 //! A router that is cold or runs.
 
-ghost use Rattle.std.specs.Prelude.{◌≡◌, ◌≢◌, List, IfOk, OnErr, false, length, take, ◌++◌, ◌∷◌, []};
+ghost use Rattle.std.specs.Prelude.{◌≡◌, ◌≢◌, ◌<◌, List, IfOk, OnErr, false, true, length, take, ◌++◌, ◌∷◌, []};
 ghost use Rattle.lsr_facts.specs.Routers.{IsRouter};
 ghost use Rattle.lsr_facts.specs.declared.refusal.Refusal.TheVariants.{NoMemory};
 ghost use Rattle.abstract_lsr.specs.Soundness.{IsSound};
@@ -282,10 +282,12 @@ impl Machine {
     }
 
     /// Serves what comes, one input after the other, as long as there is memory: the router as it is then, and what
-    /// came of the inputs. One for which there is no memory changes nothing, and waits with those behind it.
+    /// came of the inputs. One for which there is no memory changes nothing, and waits with those behind it: so memory
+    /// ran out only where an input waits, and where it did not, each input is counted.
     pub fn serve_all(self, alloc: Global, inputs: &[Input]) -> (Machine, Report)
         ensures taken { AreServed self.router self.state (take result.1.count inputs.now) result.1.served.items result.0.state }
         ensures all { result.1.is_out_of_memory ≡ false → result.1.count ≡ length inputs.now }
+        ensures memory { result.1.is_out_of_memory ≡ true → result.1.count < length inputs.now }
         ensures run { Run self.router self.state (steps_in result.1.served.items) result.0.state }
         ensures sound { IsSound result.0.router result.0.state }
         ensures router { result.0.router ≡ self.router }
@@ -300,32 +302,31 @@ impl Machine {
                 Ok(()) => count += 1,
                 Err(_no_memory) => {
                     machine.soundness();
-                    let is_out_of_memory = true;
                     return (
                         machine,
                         Report {
                             served,
                             count,
-                            is_out_of_memory,
+                            is_out_of_memory: true,
                         },
                     );
                 }
             }
         }
         machine.soundness();
-        let is_out_of_memory = false;
         (
             machine,
             Report {
                 served,
                 count,
-                is_out_of_memory,
+                is_out_of_memory: false,
             },
         )
     }
 
     /// Opens the router of a configuration and serves what comes: the steps that were made are a run from its
-    /// opening, and what it knows at the end is sound. The only error is out of memory, before anything is served.
+    /// opening, and what it knows at the end is sound. As [`Machine::serve_all`] does, it serves each input unless memory
+    /// runs out, and then at least one waits. The only error is out of memory, before anything is served.
     pub fn run(
         alloc: Global,
         config: Config,
@@ -336,6 +337,9 @@ impl Machine {
         ensures sound { IfOk result (λ after. IsSound config.router after.0.state) }
         ensures taken { IfOk result (λ after. AreServed config.router (opening config.router config.routes)
             (take after.1.count inputs.now) after.1.served.items after.0.state) }
+        ensures all { IfOk result (λ after. after.1.is_out_of_memory ≡ false → after.1.count ≡ length inputs.now) }
+        ensures memory { IfOk result (λ after. after.1.is_out_of_memory ≡ true → after.1.count < length inputs.now) }
+        ensures router { IfOk result (λ after. after.0.router ≡ config.router) }
     {
         Ok(Machine::open(alloc, config)?.serve_all(alloc, inputs))
     }
@@ -345,7 +349,8 @@ impl Machine {
     /// frame is dropped for its first fault ([`Refusal::Unread`]), for a label that nothing is done with
     /// ([`Refusal::NoLabel`]), for a TTL that ran out ([`Refusal::HopLimit`]), or where it would leave with more than
     /// eight labels ([`Refusal::Unread`]). One that isn't labelled, or carries a message, is dropped
-    /// ([`Refusal::Unread`]). [`Refusal::NoMemory`] can come in place of any answer.
+    /// ([`Refusal::Unread`]). [`Refusal::NoMemory`] can come in place of any answer but a fault of the frame before its
+    /// message.
     pub fn pass(&self, alloc: Global, datagram: &[u8]) -> Result<Passed, Refusal>
         ensures { IsPassed self.now.state datagram.now result }
     {

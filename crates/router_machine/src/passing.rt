@@ -78,7 +78,7 @@ fn pass_frame(tables: &Tables, frame: Frame) -> Result<Passed, Refusal>
 /// ([`Refusal::Unread`]), for a label that nothing is done with ([`Refusal::NoLabel`]), for a TTL that ran out
 /// ([`Refusal::HopLimit`]), or where it would leave with too many labels ([`Dropped::TooLong`]). Any other frame, and
 /// one that carries a message, isn't passed on ([`Dropped::KindUnsupported`]). [`Refusal::NoMemory`] can come in place
-/// of any answer.
+/// of any answer but a fault of the frame before its message.
 pub(crate) fn pass(alloc: Global, tables: &Tables, datagram: &[u8]) -> Result<Passed, Refusal>
     ensures { IsPassed tables.now.state datagram.now result }
 {

@@ -8,7 +8,13 @@ use Rattle.rsvp_contents.specs.Spelling.{SpellsReading, IsFirstFault, ReadsMessa
 use Rattle.rsvp_contents.specs.Answers.{Tells, IsTold}
 use Rattle.wire_frames.specs.declared.frame.Frame.{Frame}
 use Rattle.wire_frames.specs.declared.frame.Frame.TheVariants as frames
+use Rattle.wire_frames.specs.Dropping.{IsDropFor}
 use Rattle.wire_frames.specs.Frames.{frame_fault, kind_of, SpellsFrame, IsFirstFrameFault, ReadsFrame}
+
+-- a frame is dropped for its first fault, which isn't that there was no memory
+pub drop_for : (bytes : List ℕ) (fault : Dropped) → fault ≢ dropped.NoMemory → frame_fault bytes ≡ Some fault → IsDropFor bytes fault
+drop_for bytes dropped.NoMemory other first = absurd (other refl)
+drop_for bytes _ other first = first
 
 -- no byte
 pub no_byte : (bytes : List ℕ) → (length bytes == 0) ≡ true → ReadsFrame bytes (Err dropped.Short)
@@ -26,7 +32,7 @@ no_kind bytes some hop labelled routed =
     record { told = inl fault; only = λ frame s. absurd (let e : Some dropped.KindUnsupported ≡ None = sym fault ∙ s.0 in cc) }
 
 -- a Hop frame has no fault but its message's
-no_fault : (bytes : List ℕ) → (length bytes == 0) ≡ false → kind_of bytes ≡ 1 → frame_fault bytes ≡ None
+pub no_fault : (bytes : List ℕ) → (length bytes == 0) ≡ false → kind_of bytes ≡ 1 → frame_fault bytes ≡ None
 unfolding frame_fault
 no_fault bytes some kind = rw (some, eq-eqb _ _ kind) refl
 

@@ -1,4 +1,5 @@
-ghost use Rattle.std.specs.Prelude.{◌≡◌, ◌≤◌, ◌+◌, ◌*◌, length, None, IfOk, IfErr, IfNone};
+ghost use Rattle.std.specs.Prelude.{◌≡◌, ◌≢◌, ◌≤◌, ◌+◌, ◌*◌, length, None, Err, IfOk, IfErr, IfNone, IfSome};
+ghost use Rattle.rsvp_contents.specs.declared.dropped.Dropped.TheVariants.{NoMemory};
 ghost use Rattle.wire_frames.specs.Frames.{count_of, frame_fault, kind_of, labelled_fault, labelled_in, payload_of, routed_in, ReadsFrame};
 ghost use Rattle.wire_frames.specs.Dropping.{IsDropFor};
 
@@ -22,6 +23,7 @@ pub(crate) const PAYLOAD_MESSAGE: u8 = 1;
 #[tactic(auto, unfolding(crate::specs::Frames::labelled_fault))]
 fn labelled_fault(bytes: &[u8]) -> Option<Dropped>
     ensures fault { result ≡ labelled_fault bytes.now }
+    ensures told { IfSome result (λ fault. fault ≢ NoMemory) }
     ensures few { IfNone result (count_of bytes.now ≤ 8) }
     ensures whole { IfNone result (4 * count_of bytes.now + 3 ≤ length bytes.now) }
     ensures short { IfNone result (length bytes.now ≤ 4 * count_of bytes.now + 4099) }
@@ -62,7 +64,7 @@ fn payload_of(kind: u8, content: Data) -> Payload
 }
 
 /// The Labelled frame that the bytes spell, or its first fault.
-#[tactic(auto, unfolding(crate::specs::Frames::frame_fault))]
+#[tactic(auto, using(crate::proofs::Answered::drop_for), unfolding(crate::specs::Frames::frame_fault))]
 fn read_labelled(alloc: Global, bytes: &[u8]) -> Result<Frame, Dropped>
     requires some { 1 ≤ length bytes.now }
     requires kind { kind_of bytes.now ≡ 2 }
@@ -109,9 +111,12 @@ fn read_routed(alloc: Global, bytes: &[u8]) -> Result<Frame, Dropped>
 /// message, [`Dropped::TooLong`] where it has more than eight labels or a payload above 4,096 bytes,
 /// [`Dropped::LengthField`] where a bottom bit is wrong, [`Dropped::KindUnsupported`] where its kind or its
 /// payload's isn't known, and in a Hop frame the message's. The messages of other frames aren't read.
-/// [`Dropped::NoMemory`] can come in place of any answer.
+/// [`Dropped::NoMemory`] can come in place of any answer but a fault of the frame before its message.
 pub fn read_frame(alloc: Global, bytes: &[u8]) -> Result<Frame, Dropped>
-    ensures { ReadsFrame bytes.now result }
+    ensures reads { ReadsFrame bytes.now result }
+
+    // A fault that isn't a message's takes no memory to tell.
+    ensures memory { result ≡ Err NoMemory → frame_fault bytes.now ≡ None }
 {
     if bytes.is_empty() {
         return Err(Dropped::Short);
