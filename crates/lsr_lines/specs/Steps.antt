@@ -41,9 +41,14 @@ Ends answers before lines printed (endings.BadLine number) =
 Ends answers before lines printed endings.Memory =
     (some : PrintsSome answers before lines printed) × (line : List ℕ) × (more : List (List ℕ)) × (some.behind ≡ line ∷ more) × TakesMemory line
 
--- What becomes of one line: its answer is printed; or it asks for nothing, and nothing is; or memory ran out for one
--- that asks for something, and nothing is.
+-- Memory ran out for an answer. The session is as it was; or it is as it is after the answer, for whose text there was
+-- no memory. `prints` says which text is printed, and what the session is then.
+abbrev pub IsUntold : {S : Type 0} → (List ℕ → S → Type 0) → S → S → Type 0
+IsUntold prints before after = (after ≡ before) ⊎ ((text : List ℕ) × prints text after)
+
+-- What becomes of one line: its answer is printed; or it asks for nothing, and nothing is printed or changed; or memory
+-- ran out for one that asks for something, and nothing is printed.
 abbrev pub Becomes : {S : Type 0} → (S → Request → List ℕ → S → Type 0) → S → List ℕ → List ℕ → Served → S → Type 0
 Becomes answers before line printed lots.Printed after = PrintsLine answers before line printed after
-Becomes answers before line printed lots.NoRequest after = (printed ≡ []) × ((request : Request) → AsksFor line request → ⊥)
-Becomes answers before line printed lots.Memory after = (printed ≡ []) × TakesMemory line
+Becomes answers before line printed lots.NoRequest after = (printed ≡ []) × ((request : Request) → AsksFor line request → ⊥) × (after ≡ before)
+Becomes answers before line printed lots.Memory after = (printed ≡ []) × TakesMemory line × IsUntold (PrintsLine answers before line) before after

@@ -1,5 +1,5 @@
 //! The lines of standard input, and what a line asks for.
-ghost use Rattle.std.specs.Prelude.{◌≡◌, ◌≢◌, ◌↔◌, ◌<◌, ◌≤◌, ◌∷◌, ℕ, List, [], Ok, codes, length, IfOk, OnErr, IfSome, IsNone};
+ghost use Rattle.std.specs.Prelude.{◌≡◌, ◌≢◌, ◌↔◌, ◌<◌, ◌≤◌, ◌∷◌, ◌++◌, ◌⊎◌, ℕ, List, [], Ok, codes, length, IfOk, OnErr, IfSome, IsNone};
 ghost use Rattle.std.specs.Bool.{MatchBool};
 ghost use Rattle.std.specs.Char.{is_ascii_hexdigit};
 ghost use Rattle.std.specs.List.{list_all};
@@ -73,9 +73,10 @@ const SHOW_LINKS: &str = "show links";
 
 const SHOW_RECENT: &str = "show recent";
 
-/// The text's first line without its newline, and what stands behind it. None where the text is empty.
+/// The text's first line without its newline, and all that stands behind that. None where the text is empty.
 pub fn next_line(text: &str) -> Option<(&str, &str)>
     ensures end { IsNone result ↔ (text.now ≡ []) }
+    ensures cut { IfSome result (λ r. (text.now ≡ r.0.now ++ (10 ∷ r.1.now)) ⊎ ((text.now ≡ r.0.now) × (r.1.now ≡ []))) }
     ensures line { IfSome result (λ r. lines_of text.now ≡ r.0.now ∷ lines_of r.1.now) }
     ensures shorter { IfSome result (λ r. length r.1.now < length text.now) }
 {

@@ -1,9 +1,9 @@
 //! The lines of a text, answered one after the other.
-ghost use Rattle.std.specs.Prelude.{ℕ, List, IfOk, string_bytes};
+ghost use Rattle.std.specs.Prelude.{ℕ, List, IfOk, OnErr, string_bytes};
 ghost use Rattle.std.specs.Io.KnownBytes.{Appends};
 ghost use Rattle.lsr_lines.specs.declared.lines.Request.{Request};
 ghost use Rattle.lsr_lines.specs.Lines.{lines_of};
-ghost use Rattle.lsr_lines.specs.Steps.{Becomes, Ends};
+ghost use Rattle.lsr_lines.specs.Steps.{Becomes, Ends, IsUntold};
 
 use crate::lines::{Request, next_line, read_request};
 use std::alloc::{AllocError, Global};
@@ -15,9 +15,10 @@ pub trait Answers: Drop {
     ghost answers: { Self → Request → List ℕ → Self → Type 0 };
 
     /// Answers a request: gives itself as it is then, and the lines that are printed. The only error is that
-    /// memory ran out.
+    /// memory ran out: then it is as it was, or as it is after the answer for whose lines there was no memory.
     fn answer(self, alloc: Global, request: &Request) -> (Self, Result<String, AllocError>)
-        ensures { IfOk result.1 (λ text. answers self request.now (string_bytes text) result.0) };
+        ensures told { IfOk result.1 (λ text. answers self request.now (string_bytes text) result.0) }
+        ensures untold { OnErr result.1 (IsUntold (answers self request.now) self result.0) };
 }
 
 /// How a run over lines ends.
@@ -43,7 +44,9 @@ enum Served {
     Memory,
 }
 
-/// Answers the line, and prints the answer: the session as it is then. The error is the output's.
+/// Answers the line, and prints the answer: the session as it is then. A line that asks for nothing leaves it as it
+/// was. Where memory ran out it is as it was, or as it is after the answer for which there was no memory. The error is
+/// the output's.
 fn step_line<A: Answers, W: Write>(
     alloc: Global,
     session: A,

@@ -1,5 +1,6 @@
 //! What a session answers to a request.
-ghost use Rattle.std.specs.Prelude.{◌≡◌, ◌∷◌, ◌++◌, [], IfOk, string_bytes};
+ghost use Rattle.std.specs.Prelude.{◌≡◌, ◌∷◌, ◌++◌, ℕ, List, [], IfOk, OnErr, string_bytes};
+ghost use Rattle.lsr_lines.specs.Steps.{IsUntold};
 ghost use Rattle.lsr_text.specs.Answers.{answer_text, replies_text};
 ghost use Rattle.lsr_session.specs.Requests.{IsWholePassed, IsWholeServed, PrintsAnswer, PrintsArrival, PrintsDatagram, PrintsEvent, TakesDatagram, TakesEvent, latest, passed_text, remembered, reply_of, served_text};
 
@@ -172,27 +173,29 @@ fn take_event(alloc: Global, router: Machine, event: Event) -> (Machine, Result<
     router.serve_event(alloc, event)
 }
 
-/// Serves a datagram that came, and prints what came of it.
+/// Serves a datagram that came, and prints what came of it. Where memory ran out for its lines it was served too.
 fn answer_datagram(
     alloc: Global,
     session: Session,
     link: u16,
     datagram: &[u8],
 ) -> (Session, Result<String, AllocError>)
-    ensures { IfOk result.1 (λ text. PrintsDatagram session link datagram.now (string_bytes text) result.0) }
+    ensures told { IfOk result.1 (λ text. PrintsDatagram session link datagram.now (string_bytes text) result.0) }
+    ensures untold { OnErr result.1 ((text : List ℕ) × PrintsDatagram session link datagram.now text result.0) }
 {
     let Session { router, recent } = session;
     let (router, answer) = take_datagram(alloc, router, link, datagram);
     tell_served(alloc, router, recent, answer)
 }
 
-/// Serves the message that came, in its frame.
+/// Serves the message that came, in its frame. Where memory ran out for the frame the session is as it was.
 fn answer_arrival(
     alloc: Global,
     session: Session,
     arrival: &Arrival,
 ) -> (Session, Result<String, AllocError>)
-    ensures { IfOk result.1 (λ text. PrintsArrival session arrival.now.link arrival.now.bytes.items (string_bytes text) result.0) }
+    ensures told { IfOk result.1 (λ text. PrintsArrival session arrival.now.link arrival.now.bytes.items (string_bytes text) result.0) }
+    ensures untold { OnErr result.1 (IsUntold (PrintsArrival session arrival.now.link arrival.now.bytes.items) session result.0) }
 {
     let frame = match hop_frame(alloc, arrival.bytes.as_slice()) {
         Ok(frame) => frame,
@@ -201,24 +204,26 @@ fn answer_arrival(
     answer_datagram(alloc, session, arrival.link, frame.as_slice())
 }
 
-/// Serves the frame that came.
+/// Serves the frame that came. Where memory ran out for its lines it was served too.
 fn answer_frame(
     alloc: Global,
     session: Session,
     arrival: &Arrival,
 ) -> (Session, Result<String, AllocError>)
-    ensures { IfOk result.1 (λ text. PrintsDatagram session arrival.now.link arrival.now.bytes.items (string_bytes text) result.0) }
+    ensures told { IfOk result.1 (λ text. PrintsDatagram session arrival.now.link arrival.now.bytes.items (string_bytes text) result.0) }
+    ensures untold { OnErr result.1 ((text : List ℕ) × PrintsDatagram session arrival.now.link arrival.now.bytes.items text result.0) }
 {
     answer_datagram(alloc, session, arrival.link, arrival.bytes.as_slice())
 }
 
-/// Makes the step of an event.
+/// Makes the step of an event. Where memory ran out for its lines it was made too.
 fn answer_event(
     alloc: Global,
     session: Session,
     event: Event,
 ) -> (Session, Result<String, AllocError>)
-    ensures { IfOk result.1 (λ text. PrintsEvent session event (string_bytes text) result.0) }
+    ensures told { IfOk result.1 (λ text. PrintsEvent session event (string_bytes text) result.0) }
+    ensures untold { OnErr result.1 ((text : List ℕ) × PrintsEvent session event text result.0) }
 {
     let Session { router, recent } = session;
     let (router, answer) = take_event(alloc, router, event);
