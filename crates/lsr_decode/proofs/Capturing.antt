@@ -1,9 +1,9 @@
 -- Lines of a capture that are over and were answered, and the last one, as far as it was read.
 use Rattle.std.proofs.Common.{◌≡◌, ◌≢◌, ◌<◌, ◌≤◌, ◌+◌, ◌||◌, ◌^◌, ◌⊎◌, inl, inr, ℕ, zero, suc, List, [], ◌∷◌, ◌++◌, Bool, true, false, refl, sym, ap, subst, ◌∙◌, arith, get_or, take, ◌==◌, length, length-append, ne_eqb, append_assoc, append-nil, Option, Some, None}
-use Rattle.std.specs.Prelude.{IfNone, IfSome, MatchOption, if◌then◌else◌}
+use Rattle.std.specs.Prelude.{IfNone, MatchOption, if◌then◌else◌}
 use Rattle.std.specs.List.{onto_first}
-use Rattle.std.specs.Io.KnownBytes.{Appends, Consumes, IsAtEnd}
-use Rattle.std.proofs.KnownBytes.{Appends-nil, Appends-trans, Consumes-nil, Consumes-trans}
+use Rattle.std.specs.Io.KnownBytes.{Appends, Consumes, IsAtEnd, Keeps}
+use Rattle.std.proofs.KnownBytes.{Appends-nil, Appends-trans, Consumes-kept, Consumes-nil, Consumes-trans}
 use Rattle.lsr_lines.specs.Lines.{lines_of}
 use Rattle.lsr_lines.specs.Texts.{Stream}
 use Rattle.lsr_decode.specs.Decoding.{Decodes}
@@ -13,7 +13,7 @@ use Rattle.lsr_decode.specs.declared.capture.Ending.TheVariants as endings
 use Rattle.lsr_decode.specs.declared.capture.Stop.{Stop}
 use Rattle.lsr_decode.specs.declared.capture.Stop.TheVariants as stops
 use Rattle.lsr_decode.specs.declared.capture.Taken.TheVariants as lots
-use Rattle.lsr_decode.specs.Captures.{AnswersAll, AnswersSome, DecodesLines, Finishes, IsCaptured, IsFirstShort, IsOneLine, IsReadTo, Overfills, StopsAtCount, StopsAtLongLine, StopsAtMemory, StopsFor, TakesBytes, answer_text, ending_of, is_refused, onto}
+use Rattle.lsr_decode.specs.Captures.{AnswersAll, AnswersSome, AnswersWhole, DecodesLines, Finishes, IsCaptured, IsFirstShort, IsOneLine, IsReadTo, Overfills, StopsAtCount, StopsAtLongLine, StopsAtMemory, StopsFor, TakesBytes, answer_text, ending_of, is_refused, onto}
 
 -- a byte that is no newline goes onto the first line
 line_more : (b : ℕ) (rest : List ℕ) → b ≢ 10 → lines_of (b ∷ rest) ≡ onto_first b (lines_of rest)
@@ -248,27 +248,31 @@ short_next (b ∷ line) tail one short (inl none) = subst (λ l. IsFirstShort l)
 short_next line tail one short (inr more) = subst (λ l. IsFirstShort l) (sym (ap (λ t. lines_of (line ++ t)) more.1 ∙ lines_cut line more.0 one)) short
 
 taken_memory : (read printed bytes : List ℕ) (old new : Option (List ℕ)) (rest line part tail : List ℕ) (count : ℕ) (refused : Bool) → IsTakenTo read printed bytes old new rest line count refused → IsOneLine part
-    → rest ≡ part ++ tail → (tail ≡ []) ⊎ ((behind : List ℕ) × (tail ≡ 10 ∷ behind)) → length (line ++ part) ≤ 16777216 → (more : List ℕ) × Appends old new more × StopsAtMemory (read ++ bytes) (printed ++ more)
+    → rest ≡ part ++ tail → (tail ≡ []) ⊎ ((behind : List ℕ) × (tail ≡ 10 ∷ behind)) → length (line ++ part) ≤ 16777216 → (more : List ℕ) × Appends old new more × StopsAtMemory (length bytes) (read ++ bytes) (printed ++ more)
 taken_memory read printed bytes old new rest line part tail count refused t one parts ends short = (
   t.more,
   t.told,
   record {
     served = t.captured.served;
     refused = refused;
+    rest = (line ++ part) ++ tail;
     lines = λ more.
         let where_read : (read ++ (t.front ++ rest)) ++ more ≡ (read ++ t.front) ++ (rest ++ more) = simp append_assoc in
-        (lines_of (line ++ (rest ++ more)), ap (λ l. lines_of ((read ++ l) ++ more)) t.parts ∙ ap lines_of where_read ∙ t.captured.lines (rest ++ more));
+        let where_line : line ++ ((part ++ tail) ++ more) ≡ ((line ++ part) ++ tail) ++ more = simp append_assoc in
+        ap (λ l. lines_of ((read ++ l) ++ more)) t.parts ∙ ap lines_of where_read ∙ t.captured.lines (rest ++ more)
+        ∙ ap (λ l. onto t.captured.served (lines_of (line ++ (l ++ more)))) parts ∙ ap (λ l. onto t.captured.served (lines_of l)) where_line;
     answered = t.captured.answered;
-    left = lines_of ((line ++ part) ++ tail);
-    next = ap (λ l. lines_of (read ++ l)) t.parts ∙ ap lines_of (sym (append_assoc read t.front rest)) ∙ t.captured.lines rest
-        ∙ ap (λ l. onto t.captured.served (lines_of (line ++ l))) parts ∙ ap (λ l. onto t.captured.served (lines_of l)) (sym (append_assoc line part tail));
     short = short_next (line ++ part) tail (one_line line part t.captured.one one) short ends;
+    late =
+        let length_line = length-append line part in
+        let length_rest = length-append part tail in
+        omega (arith, t.captured.short, ap length t.parts, length-append t.front rest, ap length parts, length_rest, length_line, length-append (line ++ part) tail);
   },
 )
 
 -- whatever stops the line from growing
 pub taken_stopped : (stop : Stop) (read printed bytes : List ℕ) (old new : Option (List ℕ)) (rest line part tail : List ℕ) (count : ℕ) (refused : Bool) → IsTakenTo read printed bytes old new rest line count refused → IsOneLine part
-    → rest ≡ part ++ tail → (tail ≡ []) ⊎ ((behind : List ℕ) × (tail ≡ 10 ∷ behind)) → Overfills line part stop → (more : List ℕ) × Appends old new more × StopsFor stop (read ++ bytes) (printed ++ more)
+    → rest ≡ part ++ tail → (tail ≡ []) ⊎ ((behind : List ℕ) × (tail ≡ 10 ∷ behind)) → Overfills line part stop → (more : List ℕ) × Appends old new more × StopsFor stop (length bytes) (read ++ bytes) (printed ++ more)
 taken_stopped stops.TooLong read printed bytes old new rest line part tail count refused t one parts ends over = taken_long read printed bytes old new rest line part tail count refused t one parts over
 taken_stopped stops.TooMany read printed bytes old new rest line part tail count refused t one parts ends over = absurd over
 taken_stopped stops.Memory read printed bytes old new rest line part tail count refused t one parts ends over = taken_memory read printed bytes old new rest line part tail count refused t one parts ends over
@@ -300,42 +304,55 @@ read_more first mid now old was new line bytes after count number reads refused 
       many = omega (arith, some, r.many, length-append r.read bytes);
     }
 
--- known bytes begin with what was read of them
-known_some : (a b : Option (List ℕ)) (text : List ℕ) → Consumes a b text → IfSome a (λ bytes. (more : List ℕ) × (bytes ≡ text ++ more))
-known_some None b text h = tt
-known_some (Some x) None text h = absurd h
-known_some (Some x) (Some y) text h = (y, h)
-
-known_all : (a b : Option (List ℕ)) (text : List ℕ) → Consumes a b text → IsAtEnd b → IfSome a (λ bytes. bytes ≡ text)
-known_all None b text h e = tt
-known_all (Some x) None text h e = absurd h
-known_all (Some x) (Some y) text h e = h ∙ ap (λ l. text ++ l) e ∙ append-nil text
-
 captured_so_far : (read printed line : List ℕ) (count : ℕ) (refused : Bool) → IsCaptured read printed line count refused → AnswersSome read printed
 captured_so_far read printed line count refused c = subst (λ l. AnswersSome l printed) (append-nil read) (captured_some read printed line [] count refused c)
 
+captured_whole : (read printed line : List ℕ) (count : ℕ) (refused : Bool) → IsCaptured read printed line count refused → AnswersWhole read printed
+captured_whole read printed line count refused c =
+    record {
+      served = c.served;
+      refused = refused;
+      last = line;
+      lines = c.lines;
+      one = c.one;
+      short = c.short;
+      answered = c.answered;
+    }
+
 -- where the stream breaks the run ends
-pub broken_at : (first now : Stream) (old new : Option (List ℕ)) (line : List ℕ) (count reads : ℕ) (refused : Bool) → IsReadTo first now old new line count reads refused → now.may_break ≡ true
-    → (printed : List ℕ) × Appends old new printed × DecodesLines first printed endings.Unreadable
-broken_at first now old new line count reads refused r broke =
-    (r.printed, r.told, (r.read, known_some first.bytes now.bytes r.read r.consumed, inl (r.breaks broke, captured_so_far r.read r.printed line count refused r.captured)))
+pub broken_at : (first mid now : Stream) (old new : Option (List ℕ)) (line : List ℕ) (count reads : ℕ) (refused : Bool) → IsReadTo first mid old new line count reads refused → mid.may_break ≡ true → Keeps mid.bytes now.bytes
+    → (printed : List ℕ) × Appends old new printed × DecodesLines first now printed endings.Unreadable
+broken_at first mid now old new line count reads refused r broke kept =
+    (r.printed, r.told, (r.read, Consumes-kept _ _ _ _ r.consumed kept, inl (r.breaks broke, captured_whole r.read r.printed line count refused r.captured)))
 
 -- and after more reads than can be counted
 pub endless_at : (first now : Stream) (old new : Option (List ℕ)) (line : List ℕ) (count reads : ℕ) (refused : Bool) → IsReadTo first now old new line count reads refused → 2 ^ 64 ≤ reads + 1
-    → (printed : List ℕ) × Appends old new printed × DecodesLines first printed endings.Unreadable
+    → (printed : List ℕ) × Appends old new printed × DecodesLines first now printed endings.Unreadable
 endless_at first now old new line count reads refused r many =
-    (r.printed, r.told, (r.read, known_some first.bytes now.bytes r.read r.consumed, inr (inr (captured_so_far r.read r.printed line count refused r.captured, omega (arith, many, r.many)))))
+    (r.printed, r.told, (r.read, r.consumed, inr (inr (captured_so_far r.read r.printed line count refused r.captured, omega (arith, many, r.many)))))
+
+memory_later : (came limit : ℕ) (text printed : List ℕ) → came ≤ limit → StopsAtMemory came text printed → StopsAtMemory limit text printed
+memory_later came limit text printed low s =
+    record {
+      served = s.served;
+      refused = s.refused;
+      rest = s.rest;
+      lines = s.lines;
+      answered = s.answered;
+      short = s.short;
+      late = omega (arith, low, s.late);
+    }
 
 -- and where no line is answered any more
 pub stopped : (stop : Stop) (first mid now : Stream) (old was new : Option (List ℕ)) (line bytes : List ℕ) (count reads : ℕ) (refused : Bool) → (r : IsReadTo first mid old was line count reads refused) → Consumes mid.bytes now.bytes bytes
-    → (more : List ℕ) × Appends was new more × StopsFor stop (r.read ++ bytes) (r.printed ++ more)
-    → (printed : List ℕ) × Appends old new printed × DecodesLines first printed (ending_of stop)
-stopped stops.TooLong first mid now old was new line bytes count reads refused r consumed t =
-    (r.printed ++ t.0, Appends-trans _ _ _ _ _ r.told t.1, (r.read ++ bytes, known_some first.bytes now.bytes (r.read ++ bytes) (Consumes-trans _ _ _ _ _ r.consumed consumed), inr (inl t.2)))
-stopped stops.TooMany first mid now old was new line bytes count reads refused r consumed t =
-    (r.printed ++ t.0, Appends-trans _ _ _ _ _ r.told t.1, (r.read ++ bytes, known_some first.bytes now.bytes (r.read ++ bytes) (Consumes-trans _ _ _ _ _ r.consumed consumed), inr (inr t.2)))
-stopped stops.Memory first mid now old was new line bytes count reads refused r consumed t =
-    (r.printed ++ t.0, Appends-trans _ _ _ _ _ r.told t.1, (r.read ++ bytes, known_some first.bytes now.bytes (r.read ++ bytes) (Consumes-trans _ _ _ _ _ r.consumed consumed), t.2))
+    → length bytes ≤ 65536 → (more : List ℕ) × Appends was new more × StopsFor stop (length bytes) (r.read ++ bytes) (r.printed ++ more)
+    → (printed : List ℕ) × Appends old new printed × DecodesLines first now printed (ending_of stop)
+stopped stops.TooLong first mid now old was new line bytes count reads refused r consumed low t =
+    (r.printed ++ t.0, Appends-trans _ _ _ _ _ r.told t.1, (r.read ++ bytes, Consumes-trans _ _ _ _ _ r.consumed consumed, inr (inl t.2)))
+stopped stops.TooMany first mid now old was new line bytes count reads refused r consumed low t =
+    (r.printed ++ t.0, Appends-trans _ _ _ _ _ r.told t.1, (r.read ++ bytes, Consumes-trans _ _ _ _ _ r.consumed consumed, inr (inr t.2)))
+stopped stops.Memory first mid now old was new line bytes count reads refused r consumed low t =
+    (r.printed ++ t.0, Appends-trans _ _ _ _ _ r.told t.1, (r.read ++ bytes, Consumes-trans _ _ _ _ _ r.consumed consumed, memory_later (length bytes) 65536 _ _ low t.2))
 
 take_none : (room : List ℕ) → take 0 room ≡ []
 take_none [] = refl
@@ -346,13 +363,12 @@ all_read first mid now read room len c d e = subst (Consumes first now) (ap (λ 
 
 -- what is left once all was read ends the run
 pub finished : (first mid now : Stream) (old was new : Option (List ℕ)) (line room : List ℕ) (count reads len : ℕ) (refused : Bool) (ending : Ending) → (r : IsReadTo first mid old was line count reads refused)
-    → Consumes mid.bytes now.bytes (take len room) → IsAtEnd now.bytes → len ≡ 0 → Finishes r.read r.printed was new ending → (printed : List ℕ) × Appends old new printed × DecodesLines first printed ending
+    → Consumes mid.bytes now.bytes (take len room) → IsAtEnd now.bytes → len ≡ 0 → Finishes r.read r.printed was new ending → (printed : List ℕ) × Appends old new printed × DecodesLines first now printed ending
 finished first mid now old was new line room count reads len refused (endings.Done any) r c end none f =
-    (r.printed ++ f.0, Appends-trans _ _ _ _ _ r.told f.1, (r.read, known_all first.bytes now.bytes r.read (all_read _ _ _ r.read room len r.consumed c none) end, f.2))
+    (r.printed ++ f.0, Appends-trans _ _ _ _ _ r.told f.1, (r.read, all_read _ _ _ r.read room len r.consumed c none, end, f.2))
 finished first mid now old was new line room count reads len refused endings.Unreadable r c end none f =
-    (r.printed ++ f.0, Appends-trans _ _ _ _ _ r.told f.1, (r.read, known_some first.bytes now.bytes r.read (all_read _ _ _ r.read room len r.consumed c none), inr (inr f.2)))
-finished first mid now old was new line room count reads len refused endings.Memory r c end none f =
-    (r.printed ++ f.0, Appends-trans _ _ _ _ _ r.told f.1, (r.read, known_some first.bytes now.bytes r.read (all_read _ _ _ r.read room len r.consumed c none), f.2))
+    (r.printed ++ f.0, Appends-trans _ _ _ _ _ r.told f.1, (r.read, all_read _ _ _ r.read room len r.consumed c none, inr (inr f.2)))
+finished first mid now old was new line room count reads len refused endings.Memory r c end none f = absurd f
 
 pub when_none : {X : Type 0} (P : X → Type 0) (Q : Type 0) (r : Option X) → ((x : X) → r ≡ Some x → ⊥) → MatchOption r Q P → Q
 when_none P Q None none h = h
@@ -363,21 +379,21 @@ when_no P None none h = h
 when_no P (Some x) none h = absurd (none x refl)
 
 -- before anything was read nothing was answered
-pub memory_at_first : (first : Stream) (old : Option (List ℕ)) → (printed : List ℕ) × Appends old old printed × DecodesLines first printed endings.Memory
+pub memory_at_first : (first : Stream) (old : Option (List ℕ)) → (printed : List ℕ) × Appends old old printed × DecodesLines first first printed endings.Memory
 memory_at_first first old = (
   [],
   Appends-nil old,
   (
     [],
-    known_some first.bytes first.bytes [] (Consumes-nil first.bytes),
+    Consumes-nil first.bytes,
     record {
       served = [];
       refused = false;
-      lines = λ more. (lines_of more, refl);
+      rest = [];
+      lines = λ more. refl;
       answered = (refl, refl);
-      left = [];
-      next = no_lines;
-      short = tt;
+      short = subst (λ l. IsFirstShort l) (sym no_lines) tt;
+      late = omega arith;
     },
   ),
 )

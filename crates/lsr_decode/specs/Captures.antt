@@ -1,7 +1,7 @@
 -- What `decode -` prints for a capture: a message in each line, and an answer to each.
-use Rattle.std.specs.Prelude.{◌≡◌, ◌≢◌, ◌<◌, ◌≤◌, ◌+◌, ◌^◌, ◌||◌, ◌⊎◌, ℕ, List, [], ◌∷◌, ◌++◌, Option, length, slice_index, codes, Bool, true, false, string_bytes, IfSome}
+use Rattle.std.specs.Prelude.{◌≡◌, ◌≢◌, ◌<◌, ◌≤◌, ◌+◌, ◌^◌, ◌||◌, ◌⊎◌, ℕ, List, [], ◌∷◌, ◌++◌, Option, length, slice_index, codes, Bool, true, false, string_bytes}
 use Rattle.std.specs.Fmt.{decimal}
-use Rattle.std.specs.Io.KnownBytes.{Appends, Consumes}
+use Rattle.std.specs.Io.KnownBytes.{Appends, Consumes, IsAtEnd}
 use Rattle.lsr_facts.specs.declared.refusal.Refusal.TheVariants.{Unread}
 use Rattle.lsr_text.specs.Answers.{refusal_line}
 use Rattle.lsr_lines.specs.Lines.{lines_of}
@@ -63,6 +63,16 @@ pub record AnswersSome (text printed : List ℕ) : Type 0 where
   pub lines : (more : List ℕ) → (behind : List (List ℕ)) × (lines_of (text ++ more) ≡ onto served behind)
   pub answered : Answered served printed refused
 
+-- All lines of a text that are over were answered, and this is the last one, as far as the text goes.
+pub record AnswersWhole (text printed : List ℕ) : Type 0 where
+  pub served : List (List ℕ)
+  pub refused : Bool
+  pub last : List ℕ
+  pub lines : (more : List ℕ) → lines_of (text ++ more) ≡ onto served (lines_of (last ++ more))
+  pub one : IsOneLine last
+  pub short : length last ≤ 16777216
+  pub answered : Answered served printed refused
+
 -- The first lines of a text were answered, and the next one has more than 16,777,216 bytes, whatever stands behind the text.
 pub record StopsAtLongLine (text printed : List ℕ) : Type 0 where
   pub served : List (List ℕ)
@@ -80,21 +90,21 @@ IsFirstShort [] = Unit {0}
 IsFirstShort (line ∷ lines) = length line ≤ 16777216
 
 -- The first lines of a text were answered, whatever stands behind the text, and the next one, as far as the text goes, has at
--- most 16,777,216 bytes.
-pub record StopsAtMemory (text printed : List ℕ) : Type 0 where
+-- most 16,777,216 bytes. What of the text isn't answered has at most that many bytes and these, which came last.
+pub record StopsAtMemory (came : ℕ) (text printed : List ℕ) : Type 0 where
   pub served : List (List ℕ)
   pub refused : Bool
-  pub lines : (more : List ℕ) → (behind : List (List ℕ)) × (lines_of (text ++ more) ≡ onto served behind)
+  pub rest : List ℕ
+  pub lines : (more : List ℕ) → lines_of (text ++ more) ≡ onto served (lines_of (rest ++ more))
   pub answered : Answered served printed refused
-  pub left : List (List ℕ)
-  pub next : lines_of text ≡ onto served left
-  pub short : IsFirstShort left
+  pub short : IsFirstShort (lines_of rest)
+  pub late : length rest ≤ 16777216 + came
 
--- why no line of a text is answered any more
-abbrev pub StopsFor : Stop → List ℕ → List ℕ → Type 0
-StopsFor stops.TooLong text printed = StopsAtLongLine text printed
-StopsFor stops.TooMany text printed = StopsAtCount text printed
-StopsFor stops.Memory text printed = StopsAtMemory text printed
+-- why no line of a text is answered any more, of which so many bytes came last
+abbrev pub StopsFor : Stop → ℕ → List ℕ → List ℕ → Type 0
+StopsFor stops.TooLong came text printed = StopsAtLongLine text printed
+StopsFor stops.TooMany came text printed = StopsAtCount text printed
+StopsFor stops.Memory came text printed = StopsAtMemory came text printed
 
 -- why bytes aren't appended to a line: it would have more than 16,777,216, or it wouldn't and there is no memory for them
 abbrev pub Overfills : List ℕ → List ℕ → Stop → Type 0
@@ -116,13 +126,13 @@ abbrev pub TakesBytes : List ℕ → List ℕ → List ℕ → Option (List ℕ)
 TakesBytes read printed bytes old new line (lots.Whole count refused) =
     (more : List ℕ) × Appends old new more × IsCaptured (read ++ bytes) (printed ++ more) line count refused
 TakesBytes read printed bytes old new line (lots.Stopped stop) =
-    (more : List ℕ) × Appends old new more × StopsFor stop (read ++ bytes) (printed ++ more)
+    (more : List ℕ) × Appends old new more × StopsFor stop (length bytes) (read ++ bytes) (printed ++ more)
 
 -- how a run ends once all was read
 abbrev pub Finishes : List ℕ → List ℕ → Option (List ℕ) → Option (List ℕ) → Ending → Type 0
 Finishes read printed old new (endings.Done refused) = (more : List ℕ) × Appends old new more × AnswersAll read (printed ++ more) refused
 Finishes read printed old new endings.Unreadable = (more : List ℕ) × Appends old new more × StopsAtCount read (printed ++ more)
-Finishes read printed old new endings.Memory = (more : List ℕ) × Appends old new more × StopsAtMemory read (printed ++ more)
+Finishes read printed old new endings.Memory = ⊥
 
 -- So far was read of a stream, which was the first one and is the other now, by so many reads that each gave a byte or more;
 -- so much was printed.
@@ -141,28 +151,27 @@ ending_of stops.TooLong = endings.Unreadable
 ending_of stops.TooMany = endings.Unreadable
 ending_of stops.Memory = endings.Memory
 
--- Why an input is unreadable behind the lines of a text that were answered: its stream may break, or the next line has more
--- than 16,777,216 bytes, or the text has 2^64 - 1 bytes or more.
+-- Why an input is unreadable behind the lines of the text that was read of it: its stream may break, and all lines that were
+-- read whole were answered; or the next line has more than 16,777,216 bytes; or the text has 2^64 - 1 bytes or more.
 abbrev pub IsUnreadable : Bool → List ℕ → List ℕ → Type 0
 IsUnreadable may_break text printed =
-    ((may_break ≡ true) × AnswersSome text printed) ⊎ (StopsAtLongLine text printed ⊎ StopsAtCount text printed)
+    ((may_break ≡ true) × AnswersWhole text printed) ⊎ (StopsAtLongLine text printed ⊎ StopsAtCount text printed)
 
--- the bytes of a stream, if they are known, begin with a text
-abbrev pub BeginsWith : Stream → List ℕ → Type 0
-BeginsWith stream text = IfSome stream.bytes (λ bytes. (more : List ℕ) × (bytes ≡ text ++ more))
-
--- What is printed for a stream: the answers to all of its lines, none of which has more than 16,777,216 bytes; or to the
--- first ones, where it is unreadable, or where memory ran out before the next was found to be too long.
-abbrev pub DecodesLines : Stream → List ℕ → Ending → Type 0
-DecodesLines stream printed (endings.Done refused) =
-    (text : List ℕ) × IfSome stream.bytes (λ bytes. bytes ≡ text) × AnswersAll text printed refused
-DecodesLines stream printed endings.Unreadable = (text : List ℕ) × BeginsWith stream text × IsUnreadable stream.may_break text printed
-DecodesLines stream printed endings.Memory = (text : List ℕ) × BeginsWith stream text × StopsAtMemory text printed
+-- What is printed for a stream, which was the first one and is the other now, so that a text was read of it: where it is at its
+-- end the answers to all lines of that text, none of which has more than 16,777,216 bytes; or to the first ones, where the
+-- stream is unreadable, or where memory ran out before the next was found to be too long: then what isn't answered is that
+-- line, as far as it was read, and what came with the last read, which has at most 65,536 bytes.
+abbrev pub DecodesLines : Stream → Stream → List ℕ → Ending → Type 0
+DecodesLines first now printed (endings.Done refused) =
+    (text : List ℕ) × Consumes first.bytes now.bytes text × IsAtEnd now.bytes × AnswersAll text printed refused
+DecodesLines first now printed endings.Unreadable =
+    (text : List ℕ) × Consumes first.bytes now.bytes text × IsUnreadable first.may_break text printed
+DecodesLines first now printed endings.Memory = (text : List ℕ) × Consumes first.bytes now.bytes text × StopsAtMemory 65536 text printed
 
 -- what becomes of one more read
 abbrev pub TurnsTo : Stream → Stream → Option (List ℕ) → Option (List ℕ) → List ℕ → ℕ → Turn → Type 0
 TurnsTo first now before after line reads (turns.More count refused) = IsReadTo first now before after line count reads refused
-TurnsTo first now before after line reads (turns.Over ending) = (printed : List ℕ) × Appends before after printed × DecodesLines first printed ending
+TurnsTo first now before after line reads (turns.Over ending) = (printed : List ℕ) × Appends before after printed × DecodesLines first now printed ending
 
 -- what is told on the error stream
 abbrev pub ending_text : Ending → List ℕ
@@ -177,10 +186,11 @@ ending_status (endings.Done true) = 1
 ending_status endings.Unreadable = 1
 ending_status endings.Memory = 1
 
--- What becomes of a word: `-` stands for the lines of the input, each of which is answered; any other word is decoded.
-abbrev pub DecodesWord : List ℕ → Stream → Option (List ℕ) → Option (List ℕ) → Option (List ℕ) → Option (List ℕ) → ℕ → Type 0
-DecodesWord word input output printed error told status =
-    ((word ≡ codes "-") × ((ending : Ending) × (text : List ℕ) × (status ≡ ending_status ending) × DecodesLines input text ending
+-- What becomes of a word: `-` stands for the lines of the input, each of which is answered; any other word is decoded, and
+-- the input isn't read.
+abbrev pub DecodesWord : List ℕ → Stream → Stream → Option (List ℕ) → Option (List ℕ) → Option (List ℕ) → Option (List ℕ) → ℕ → Type 0
+DecodesWord word input left output printed error told status =
+    ((word ≡ codes "-") × ((ending : Ending) × (text : List ℕ) × (status ≡ ending_status ending) × DecodesLines input left text ending
     × Appends output printed text × Appends error told (ending_text ending)))
-    ⊎ ((word ≢ codes "-") × ((decoded : Decoded) × Decodes word decoded × (status ≡ decoded_status decoded)
+    ⊎ ((word ≢ codes "-") × ((decoded : Decoded) × Decodes word decoded × (status ≡ decoded_status decoded) × (left ≡ input)
     × Appends output printed (shown_text decoded) × Appends error told (told_text decoded)))

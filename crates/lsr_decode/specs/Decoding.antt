@@ -1,5 +1,5 @@
 -- What `decode` prints for a message.
-use Rattle.std.specs.Prelude.{◌≡◌, ℕ, List, [], ◌∷◌, ◌++◌, length, drop, codes, flat_map, Ok, string_bytes}
+use Rattle.std.specs.Prelude.{◌≡◌, ℕ, ◌%◌, List, [], ◌∷◌, ◌++◌, None, length, drop, codes, flat_map, Ok, string_bytes}
 use Rattle.std.specs.Fmt.{decimal}
 use Rattle.hex.specs.Hex.{encode_lower, decode_of}
 use Rattle.rsvp_objects.specs.Raw.{Raw, object_bytes}
@@ -7,7 +7,7 @@ use Rattle.rsvp_contents.specs.declared.dropped.Dropped.{Dropped}
 use Rattle.rsvp_contents.specs.declared.dropped.Dropped.TheVariants.{NoMemory}
 use Rattle.rsvp_contents.specs.declared.message.Reading.{Reading}
 use Rattle.rsvp_contents.specs.Picking.{content_in}
-use Rattle.rsvp_contents.specs.Spelling.{SpellsReading, IsFirstFault}
+use Rattle.rsvp_contents.specs.Spelling.{SpellsReading, IsFirstFault, header_fault}
 use Rattle.rsvp_contents.specs.declared.messages.Content.{Content}
 use Rattle.rsvp_contents.specs.declared.messages.Content.TheVariants as contents
 use Rattle.lsr_facts.specs.declared.refusal.Refusal.TheVariants.{Unread}
@@ -51,17 +51,19 @@ pub record ShowsMessage (bytes printed : List ℕ) : Type 0 where
   pub objects : ShowsObjects (drop 8 bytes) lines
   pub shown : printed ≡ message_lines (content_in reading) (length bytes) lines
 
--- the bytes are read as no message, for this first fault; or there was no memory to read them
+-- the bytes are read as no message, for this first fault; or their common header has no fault, and there was no memory to
+-- read what stands behind it
 abbrev pub RefusesMessage : List ℕ → Dropped → Type 0
-RefusesMessage bytes NoMemory = Unit {0}
+RefusesMessage bytes NoMemory = header_fault bytes ≡ None
 RefusesMessage bytes fault = IsFirstFault bytes fault
 
--- What a word is decoded as, where it is the bytes of a message in hexadecimal digits, or isn't.
+-- What a word is decoded as, where it is the bytes of a message in hexadecimal digits, or isn't. Memory runs out for no word
+-- with an odd number of bytes.
 abbrev pub Decodes : List ℕ → Decoded → Type 0
 Decodes word (answers.Shown text) = (bytes : List ℕ) × (decode_of word ≡ Ok bytes) × ShowsMessage bytes (string_bytes text)
 Decodes word (answers.Refused fault) = (bytes : List ℕ) × (decode_of word ≡ Ok bytes) × RefusesMessage bytes fault
 Decodes word answers.NoDigits = (bytes : List ℕ) → decode_of word ≡ Ok bytes → ⊥
-Decodes word answers.Memory = Unit {0}
+Decodes word answers.Memory = length word % 2 ≡ 0
 
 -- what is printed on the output
 abbrev pub shown_text : Decoded → List ℕ

@@ -1,6 +1,6 @@
 //! `lsr decode -`: a capture, a message in each line, answered one after the other.
 ghost use Rattle.std.specs.Prelude.{◌≡◌, ◌≤◌, ◌+◌, ◌++◌, ◌||◌, ℕ, List, Option, true, length, take, IfErr, IfOk, IfSome, IfNone, OnOk};
-ghost use Rattle.std.specs.Io.KnownBytes.{Appends, Consumes, IsAtEnd};
+ghost use Rattle.std.specs.Io.KnownBytes.{Appends, Consumes, IsAtEnd, Keeps};
 ghost use Rattle.lsr_decode.specs.declared.decoding.Decoded.{Decoded};
 ghost use Rattle.lsr_decode.specs.declared.capture.Ending.{Ending};
 ghost use Rattle.lsr_decode.specs.Decoding.{Decodes};
@@ -190,6 +190,7 @@ fn ending_of(stop: Stop) -> Ending
 fn read_some<S: ByteStream>(input: &mut S, room: &mut [u8]) -> Option<usize>
     requires { 1 ≤ length room.old }
     ensures broke { IfNone result ((S.stream input.old).may_break ≡ true) }
+    ensures kept { IfNone result (Keeps (S.stream input.old).bytes (S.stream input.new).bytes) }
     ensures breaks { (S.stream input.new).may_break ≡ true → (S.stream input.old).may_break ≡ true }
     ensures bound { IfSome result (λ len. len ≤ length room.new) }
     ensures bytes { IfSome result (λ len. Consumes (S.stream input.old).bytes (S.stream input.new).bytes (take len room.new)) }
@@ -220,6 +221,7 @@ fn take_turn<S: ByteStream, W: Write>(
 ) -> io::Result<Turn>
     requires { 1 ≤ length room.old }
     ensures { IfOk result (λ turn. (first : Stream) (before : Option (List ℕ)) (reads : ℕ)
+        → length room.old ≤ CHUNK_LEN
         → IsReadTo first (S.stream input.old) before (W.contents output.old) line.old.items count reads refused
         → TurnsTo first (S.stream input.new) before (W.contents output.new) line.new.items (reads + 1) turn) }
 {
@@ -246,7 +248,7 @@ fn decode_lines<S: ByteStream, W: Write>(
     output: &mut W,
 ) -> io::Result<Ending>
     ensures { IfOk result (λ ending. (printed : List ℕ) × Appends (W.contents output.old) (W.contents output.new) printed
-        × DecodesLines (S.stream input.old) printed ending) }
+        × DecodesLines (S.stream input.old) (S.stream input.new) printed ending) }
 {
     let Ok(mut room) = room_for(alloc, CHUNK_LEN) else {
         return Ok(Ending::Memory);
@@ -303,7 +305,7 @@ pub fn run_decode_lines<S: ByteStream, W: Write, E: Write>(
     error: &mut E,
 ) -> io::Result<u8>
     ensures { IfOk result (λ status. (ending : Ending) × (printed : List ℕ) × (status ≡ ending_status ending)
-        × DecodesLines (S.stream input.old) printed ending
+        × DecodesLines (S.stream input.old) (S.stream input.new) printed ending
         × Appends (W.contents output.old) (W.contents output.new) printed
         × Appends (E.contents error.old) (E.contents error.new) (ending_text ending)) }
 {
@@ -320,7 +322,7 @@ pub fn run_decode_of<S: ByteStream, W: Write, E: Write>(
     output: &mut W,
     error: &mut E,
 ) -> io::Result<u8>
-    ensures { IfOk result (DecodesWord word.now (S.stream input.old)
+    ensures { IfOk result (DecodesWord word.now (S.stream input.old) (S.stream input.new)
         (W.contents output.old) (W.contents output.new) (E.contents error.old) (E.contents error.new)) }
 {
     if word == INPUT {

@@ -1,5 +1,5 @@
 -- What is done of what the words ask for, and the status of words that aren't taken.
-use Rattle.std.specs.Prelude.{◌≡◌, ◌⊎◌, ℕ, List, Option}
+use Rattle.std.specs.Prelude.{◌≡◌, ◌⊎◌, ℕ, List, [], Option}
 use Rattle.std.specs.Option.{option_map}
 use Rattle.std.specs.Io.KnownBytes.{Appends}
 use Rattle.clap.specs.Words.{IsAmong, fault_of}
@@ -20,15 +20,15 @@ use Rattle.lsr_tool.specs.declared.endings.RunEnding.{RunEnding}
 
 -- What was asked for is done, with this status: a run on the router of the file that is named, or without a name on
 -- the built-in router; or a word or the lines of the input are decoded; or a word is explained. What is printed and told
--- stands behind what the streams held.
-abbrev pub Does : {F : Type 0} → (List ℕ → F → Type 0) → (List ℕ → InputFault → Type 0) → (F → Stream) → Asked → Stream → Option (List ℕ) → Option (List ℕ) → Option (List ℕ) → Option (List ℕ) → ℕ → Type 0
-Does opens fails stream (asked.Step file) input output printed error told status =
+-- stands behind what the streams held. The input was the first stream, and is the other now: to explain a word it isn't read.
+abbrev pub Does : {F : Type 0} → (List ℕ → F → Type 0) → (List ℕ → InputFault → Type 0) → (F → Stream) → Asked → Stream → Stream → Option (List ℕ) → Option (List ℕ) → Option (List ℕ) → Option (List ℕ) → ℕ → Type 0
+Does opens fails stream (asked.Step file) input left output printed error told status =
     (ending : RunEnding) × (text : List ℕ) × (status ≡ status_of ending)
     × StepsOnFile opens fails stream (option_map (λ f. f.now) file) input text ending
     × Appends output printed text × Appends error told (ending_text ending)
-Does opens fails stream (asked.Decode word) input output printed error told status = DecodesWord word.now input output printed error told status
-Does opens fails stream (asked.Explain word) input output printed error told status =
-    (answer : Answer) × Explains word.now answer × (status ≡ answer_status answer)
+Does opens fails stream (asked.Decode word) input left output printed error told status = DecodesWord word.now input left output printed error told status
+Does opens fails stream (asked.Explain word) input left output printed error told status =
+    (answer : Answer) × Explains word.now answer × (status ≡ answer_status answer) × (left ≡ input)
     × Appends output printed (shown_text answer) × Appends error told (told_text answer)
 
 -- The status of words that aren't taken: 0 for help, 1 where memory ran out, else 2.
@@ -43,9 +43,15 @@ abbrev pub IsFaultStatus : List (List ℕ) → ℕ → Type 0
 IsFaultStatus words status =
     (kind : ErrorKind) × ((kind ≡ kinds.OutOfMemory) ⊎ IsAmong kind (fault_of lsr_words words)) × (status ≡ words_status kind)
 
--- Words are run, with this status: what they ask for is done; or they aren't taken, and the status says so; or they
--- name nothing that there is.
-abbrev pub Runs : {F : Type 0} → (List ℕ → F → Type 0) → (List ℕ → InputFault → Type 0) → (F → Stream) → List (List ℕ) → Stream → Option (List ℕ) → Option (List ℕ) → Option (List ℕ) → Option (List ℕ) → ℕ → Type 0
-Runs opens fails stream words input output printed error told status =
-    ((asked : Asked) × AsksFor words asked × Does opens fails stream asked input output printed error told status)
-    ⊎ (IsFaultStatus words status ⊎ (((asked : Asked) → AsksFor words asked → ⊥) × (status ≡ 2)))
+-- Words that are taken are run, with this status: what they ask for is done, or they name nothing that there is.
+abbrev pub RunsTaken : {F : Type 0} → (List ℕ → F → Type 0) → (List ℕ → InputFault → Type 0) → (F → Stream) → List (List ℕ) → Stream → Stream → Option (List ℕ) → Option (List ℕ) → Option (List ℕ) → Option (List ℕ) → ℕ → Type 0
+RunsTaken opens fails stream words input left output printed error told status =
+    ((asked : Asked) × AsksFor words asked × Does opens fails stream asked input left output printed error told status)
+    ⊎ (((asked : Asked) → AsksFor words asked → ⊥) × (status ≡ 2))
+
+-- Words are run, with this status: they have no fault, and are run as words that are taken; or the status is that of
+-- one of their faults, or of memory that ran out.
+abbrev pub Runs : {F : Type 0} → (List ℕ → F → Type 0) → (List ℕ → InputFault → Type 0) → (F → Stream) → List (List ℕ) → Stream → Stream → Option (List ℕ) → Option (List ℕ) → Option (List ℕ) → Option (List ℕ) → ℕ → Type 0
+Runs opens fails stream words input left output printed error told status =
+    ((fault_of lsr_words words ≡ []) × RunsTaken opens fails stream words input left output printed error told status)
+    ⊎ IsFaultStatus words status

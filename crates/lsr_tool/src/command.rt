@@ -1,6 +1,8 @@
 //! What the words of the command line ask for, done.
-ghost use Rattle.std.specs.Prelude.{◌≡◌, ◌⊎◌, IfOk, OnOk, map};
+ghost use Rattle.std.specs.Prelude.{◌≡◌, ◌≢◌, ◌⊎◌, IfOk, OnOk, map};
 ghost use Rattle.std.specs.Io.KnownBytes.{Appends};
+ghost use Rattle.std.specs.IoError.{error_kind};
+ghost use Rattle.std.specs.declared.io.ErrorKind.TheVariants.{OutOfMemory};
 ghost use Rattle.clap.specs.Words.{kind_of};
 ghost use Rattle.lsr_tool.specs.Commands.{Does, Runs, words_status};
 
@@ -62,8 +64,8 @@ pub fn run_asked<F: FilesByName, R: ByteStream, W: Write, E: Write>(
     output: &mut W,
     error: &mut E,
 ) -> io::Result<u8>
-    ensures { IfOk result (Does (F.opens files.now) (F.fails files.now) F.File.stream asked.entry (R.stream input.old)
-        (W.contents output.old) (W.contents output.new) (E.contents error.old) (E.contents error.new)) }
+    ensures { IfOk result (Does (F.opens files.now) (F.fails files.now) F.File.stream asked.entry
+        (R.stream input.old) (R.stream input.new) (W.contents output.old) (W.contents output.new) (E.contents error.old) (E.contents error.new)) }
 {
     match asked {
         Asked::Step(file) => run_step_of(files, alloc, file, input, output, error),
@@ -81,8 +83,8 @@ fn run_words<F: FilesByName, S: AsStr, R: ByteStream, W: Write, E: Write>(
     output: &mut W,
     error: &mut E,
 ) -> io::Result<u8>
-    ensures { IfOk result (Runs (F.opens files.now) (F.fails files.now) F.File.stream (map S.text words.now) (R.stream input.old)
-        (W.contents output.old) (W.contents output.new) (E.contents error.old) (E.contents error.new)) }
+    ensures { IfOk result (Runs (F.opens files.now) (F.fails files.now) F.File.stream (map S.text words.now)
+        (R.stream input.old) (R.stream input.new) (W.contents output.old) (W.contents output.new) (E.contents error.old) (E.contents error.new)) }
 {
     match read_words(alloc, words) {
         Ok(Some(asked)) => run_asked(files, alloc, asked, input, output, error),
@@ -102,8 +104,8 @@ pub fn run<F: Files, S: AsStr, R: ByteStream, W: Write, E: Write>(
     output: &mut W,
     error: &mut E,
 ) -> u8
-    ensures { (result ≡ 1) ⊎ Runs (λ _ _. Unit {0}) (λ _ _. Unit {0}) ⟦<F::File as ByteStream>⟧.stream (map S.text words.now) (R.stream input.old)
-        (W.contents output.old) (W.contents output.new) (E.contents error.old) (E.contents error.new) result }
+    ensures { (result ≡ 1) ⊎ Runs (λ _ _. Unit {0}) (λ _ _. Unit {0}) ⟦<F::File as ByteStream>⟧.stream (map S.text words.now)
+        (R.stream input.old) (R.stream input.new) (W.contents output.old) (W.contents output.new) (E.contents error.old) (E.contents error.new) result }
 {
     let files = SystemFiles::new(files);
     match run_words(&files, alloc, words, input, output, error) {
@@ -116,7 +118,10 @@ pub fn run<F: Files, S: AsStr, R: ByteStream, W: Write, E: Write>(
 }
 
 /// Tells why there are no words to run: one isn't UTF-8, or memory ran out. Gives the status, 2 or 1.
-pub fn tell_unread_words<E: Write>(fault: &io::Error, error: &mut E) -> u8 {
+pub fn tell_unread_words<E: Write>(fault: &io::Error, error: &mut E) -> u8
+    ensures memory { error_kind fault.now ≡ OutOfMemory → result ≡ 1 }
+    ensures unread { error_kind fault.now ≢ OutOfMemory → result ≡ 2 }
+{
     if fault.kind() == io::ErrorKind::OutOfMemory {
         let _ = write!(error, "{OUT_OF_MEMORY}\n");
         return FAILED;

@@ -1,5 +1,5 @@
 //! The files that words name.
-ghost use Rattle.std.specs.Prelude.{ℕ, List, IfOk, IfErr};
+ghost use Rattle.std.specs.Prelude.{◌≡◌, ℕ, List, IfOk, IfErr};
 ghost use Rattle.lsr_lines.specs.declared.input.InputFault.{InputFault};
 
 use lsr_lines::{ByteStream, InputFault};
@@ -30,7 +30,9 @@ pub struct SystemFiles<'a, F: Files> {
 
 impl<'a, F: Files> SystemFiles<'a, F> {
     /// The files that are opened by `files`.
-    pub fn new(files: &'a F) -> SystemFiles<'a, F> {
+    pub fn new(files: &'a F) -> SystemFiles<'a, F>
+        ensures { result.files.now ≡ files.now }
+    {
         SystemFiles { files }
     }
 }
