@@ -44,7 +44,10 @@ use Rattle.lsr_facts.specs.declared.refusal.Refusal.TheVariants.{LinkDown, NoMat
 use Rattle.lsr_facts.specs.declared.router.Router.{Router}
 use Rattle.resv_facts.specs.Reservations.{expire, lives_past, style_of}
 use Rattle.resv_facts.specs.declared.resv_fact.ResvStyle.{ResvStyle}
-use Rattle.router_events.specs.declared.events.Arrive.{Arrive}
+use Rattle.router_events.specs.declared.ways.ArrivalWay.{ArrivalWay}
+use Rattle.router_events.specs.declared.ways.ArrivalWay.TheVariants as ways
+use Rattle.router_events.specs.declared.ways.Arrive.{Arrive}
+use Rattle.router_events.specs.declared.ways.Relay.{Relay}
 use Rattle.router_events.specs.declared.events.Event.TheVariants as events
 use Rattle.router_events.specs.declared.events.Event.{Event}
 use Rattle.router_events.specs.declared.events.Output.{Output}
@@ -56,6 +59,8 @@ use Rattle.abstract_router.specs.Outcomes.{lsp}
 use Rattle.abstract_router.specs.Paths.{failed, taken, has_loop, key_of, path_arrival, path_by, path_on_its_way, way_for}
 use Rattle.abstract_router.specs.Places.{is_up, place_of}
 use Rattle.abstract_router.specs.Soundness as standing
+use Rattle.abstract_router.specs.Relays.{relay, relayed_by}
+use Rattle.abstract_router.specs.Routing.{route_to}
 use Rattle.abstract_router.specs.Steps as steps
 use Rattle.abstract_router.specs.Steps.{IsEvent}
 use Rattle.abstract_router.specs.Tears.{is_torn_by, leaves_by, left_with, origins_without, passed_on, path_err_arrival, path_tear_arrival, torn}
@@ -65,7 +70,7 @@ use Rattle.abstract_lsr.proofs.Choosing.{each_has}
 use Rattle.abstract_lsr.proofs.Granting.{IsGranted, granted_means, held_granted}
 use Rattle.abstract_lsr.proofs.Holding.{held_where, held_with_facts}
 use Rattle.abstract_lsr.proofs.Settling.{IsDrafted, Leaves, LeavesBy}
-use Rattle.abstract_lsr.specs.Arrivals.{arrival, for_reservations, is_done, labelled_path_arrival, lost, message_arrival, moment_comes, outcome, reading_arrival}
+use Rattle.abstract_lsr.specs.Arrivals.{arrival, arrival_by, for_reservations, is_done, labelled_path_arrival, lost, message_arrival, moment_comes, outcome, reading_arrival}
 use Rattle.abstract_lsr.specs.Choosing.{CanLabel, HasLabel, HasLabelOrIsNew}
 use Rattle.abstract_lsr.specs.Errors.{unknown_style}
 use Rattle.abstract_lsr.specs.Labels.{has_free_label}
@@ -287,11 +292,11 @@ path-leaves r s link p is leaves =
     (λ room. of_paths-leaves r s (path_arrival r s.facts link p) is leaves (path-keeps r s p is (path_arrival r s.facts link p) (puts_path r s.facts link p) room))
 
 -- what the router of paths does with a message that comes over a link that is up
-pub came : (r : Router) (s : Facts) (a : Arrive) → is_none (link_at r a.link) ≡ false → not (is_up s.up a.link) ≡ false → steps.arrival r s a ≡ steps.reading_arrival r s a.link a.reading
+pub came : (r : Router) (s : Facts) (a : Arrive) → is_none (link_at r a.link) ≡ false → not (is_up s.up a.link) ≡ false → steps.arrival r s a ≡ steps.arrival_by r s a.way a.link a.reading
 unfolding steps.arrival
 came r s a there up =
-    ap (λ b. if b then paths.refused s UnknownLink else if not (is_up s.up a.link) then paths.refused s LinkDown else steps.reading_arrival r s a.link a.reading) there
-    ∙ ap (λ b. if b then paths.refused s LinkDown else steps.reading_arrival r s a.link a.reading) up
+    ap (λ b. if b then paths.refused s UnknownLink else if not (is_up s.up a.link) then paths.refused s LinkDown else steps.arrival_by r s a.way a.link a.reading) there
+    ∙ ap (λ b. if b then paths.refused s LinkDown else steps.arrival_by r s a.way a.link a.reading) up
 
 -- a message that is read whole
 message-leaves : (r : Router) (s : State) (link : ℕ) (content : Content) → IsSound r s → IsMessage content → LeavesSound r (steps.message_arrival r s.facts link content) → Leaves r s (message_arrival r s link content)
@@ -314,13 +319,31 @@ reading-leaves r s link (readings.Unknown (contents.ResvErr e) class ctype) is m
 reading-leaves r s link (readings.Unknown (contents.PathTear t) class ctype) is message leaves = message-leaves r s link (contents.PathTear t) is message leaves
 reading-leaves r s link (readings.Unknown (contents.ResvTear t) class ctype) is message leaves = message-leaves r s link (contents.ResvTear t) is message leaves
 
+-- by its way
+way-leaves : (r : Router) (s : State) (way : ArrivalWay) (link : ℕ) (reading : Reading) → IsSound r s → IsMessage (content_in reading) → LeavesSound r (steps.arrival_by r s.facts way link reading) → Leaves r s (arrival_by r s way link reading)
+way-leaves r s ways.Hop link reading is message leaves = reading-leaves r s link reading is message leaves
+way-leaves r s ways.Stack link reading is message leaves = is
+way-leaves r s ways.Routed link reading is message leaves = is
+
+-- a message for another router
+relay-leaves : (r : Router) (s : State) (m : Relay) → IsSound r s → Leaves r s (of_paths s (relay r s.facts m))
+unfolding relay
+relay-leaves r s m is =
+    cond_both (is_none (link_at r m.link)) _ _ (λ o. Leaves r s (of_paths s o)) (λ none. is)
+    (λ there. cond_both (not (is_up s.facts.up m.link)) _ _ (λ o. Leaves r s (of_paths s o)) (λ down. is)
+    (λ up. by (route_to (place_of r s.facts) m.to)))
+  where
+    by : (way : Option ℕ) → Leaves r s (of_paths s (option_map_or (λ link. paths.done (relayed_by m link ∷ []) s.facts) way (paths.refused s.facts NoMatch)))
+    by None = is
+    by (Some link) = unchanged r s is
+
 -- a message that comes
 arrival-leaves : (r : Router) (s : State) (a : Arrive) → IsSound r s → IsMessage (content_in a.reading) → LeavesSound r (steps.arrival r s.facts a) → Leaves r s (arrival r s a)
 unfolding arrival
 arrival-leaves r s a is possible leaves =
     cond_both (is_none (link_at r a.link)) (refused s UnknownLink) _ (Leaves r s) (λ none. is)
     (λ there. cond_both (not (is_up s.facts.up a.link)) (refused s LinkDown) _ (Leaves r s) (λ down. is)
-    (λ up. reading-leaves r s a.link a.reading is possible (subst (LeavesSound r) (came r s.facts a there up) leaves)))
+    (λ up. way-leaves r s a.way a.link a.reading is possible (subst (LeavesSound r) (came r s.facts a there up) leaves)))
 
 -- a moment that comes
 tick-leaves : (r : Router) (s : State) (n : ℕ) → IsSound r s → LeavesSound r (tick r s.facts n) → Leaves r s (moment_comes r s n)
@@ -352,6 +375,7 @@ lost-sound r s is = record {
 pub outcome-leaves : (r : Router) (s : State) (event : Event) → IsRouter r → IsSound r s → IsEvent event → (s.facts.cold ≡ true → event ≡ events.Start) → Leaves r s (outcome r s event)
 unfolding upstream_of
 outcome-leaves r s (events.Arrive a) router is possible awake = arrival-leaves r s a is possible (outcome_sound r s.facts (events.Arrive a) router is.paths possible awake)
+outcome-leaves r s (events.Relay m) router is possible awake = relay-leaves r s m is
 outcome-leaves r s (events.Tick n) router is possible awake = tick-leaves r s n is (outcome_sound r s.facts (events.Tick n) router is.paths possible awake)
 outcome-leaves r s (events.LinkUp number) router is possible awake =
     of_paths-leaves r s (link_change r s.facts number true) is (outcome_sound r s.facts (events.LinkUp number) router is.paths possible awake) (keeps_link r s.labels s.facts (labelled r s is) number true)

@@ -11,7 +11,6 @@ use Rattle.std.proofs.Common.{refl, sym, ap, subst, ◌∙◌, arith}
 use Rattle.std.proofs.lemmas.Bool.{and_parts, cond_both, eqb-true, le-leb}
 use Rattle.std.proofs.lemmas.Cmp.{tied_itself}
 use Rattle.std.proofs.lemmas.List.Elements.{recursion_from_All}
-use Rattle.rsvp_contents.specs.declared.message.Reading.TheVariants as readings
 use Rattle.rsvp_contents.specs.declared.messages.Content.TheVariants as contents
 use Rattle.rsvp_contents.specs.declared.messages.Resv.{Resv}
 use Rattle.rsvp_flows.specs.declared.descriptors.FlowDescriptor.{FlowDescriptor}
@@ -38,7 +37,7 @@ use Rattle.resv_facts.specs.Upstreams.{upstream_cmp}
 use Rattle.resv_facts.specs.declared.claim.Claim.{Claim}
 use Rattle.resv_facts.specs.declared.resv_fact.ResvFact.{ResvFact}
 use Rattle.resv_facts.specs.declared.resv_fact.ResvStyle.{ResvStyle}
-use Rattle.router_events.specs.declared.events.Event.TheVariants as events
+use Rattle.router_events.specs.Arrivals.{comes, hop_arrive}
 use Rattle.router_events.specs.declared.events.Made.{Made}
 use Rattle.router_events.specs.declared.events.Output.{Output}
 use Rattle.abstract_router.specs.Outputs.{between, send_for, tear_for}
@@ -299,7 +298,7 @@ module _ (r : Router) (s : State) (is : IsSound r s) where
       (cond_both all.0 (replied replies.Done [] s) (refused s NoMatch) IsStill (λ some. done-still) (λ none. refused-still (refused s NoMatch) refl refl))
 
   arrival-still : (link : ℕ) (style : ResvStyle) (v : Resv) → style_of v.style ≡ Some style → AllByRecursion (AsksForOwn s link style v) v.descriptors
-      → IsStill (arrival r s (record { link = link; reading = readings.Whole (contents.Resv v) }))
+      → IsStill (arrival r s (hop_arrive link (contents.Resv v)))
   unfolding arrival
   arrival-still link style v is_style found =
       cond_both (is_none (link_at r link)) (refused s UnknownLink) _ IsStill (λ none. refused-still (refused s UnknownLink) refl refl)
@@ -307,7 +306,7 @@ module _ (r : Router) (s : State) (is : IsSound r s) where
 
 -- A Resv that asks for just what stands changes nothing, and nothing is sent for it.
 pub repeated_is_silent : (r : Router) (before after : State) (made : Made) (link : ℕ) (v : Resv) (style : ResvStyle) → IsSound r before → Step r before made after
-    → made.event ≡ events.Arrive (record { link = link; reading = readings.Whole (contents.Resv v) }) → style_of v.style ≡ Some style
+    → made.event ≡ comes link (contents.Resv v) → style_of v.style ≡ Some style
     → All (λ d. find key_cmp (key_in v d) before.resvs ≡ Some (resv_by before.facts.moment link style v d)) v.descriptors
     → (after ≡ before) × (made.outputs ≡ [])
 repeated_is_silent r before after made link v style is step event is_style found =

@@ -1,6 +1,6 @@
 -- An event that is silent changes nothing, but for a restart, and a start of a router that is cold.
 use Rattle.abstract_lsr.proofs.Drafting.{puts_path}
-use Rattle.abstract_lsr.specs.Arrivals.{arrival, for_reservations, is_done, labelled_path_arrival, message_arrival, moment_comes, outcome, reading_arrival}
+use Rattle.abstract_lsr.specs.Arrivals.{arrival, arrival_by, for_reservations, is_done, labelled_path_arrival, message_arrival, moment_comes, outcome, reading_arrival}
 use Rattle.abstract_lsr.specs.Errors.{unknown_style}
 use Rattle.abstract_lsr.specs.Labels.{has_free_label}
 use Rattle.abstract_lsr.specs.Outcomes.{Outcome, of_paths, refused}
@@ -11,7 +11,9 @@ use Rattle.abstract_router.specs.Links.{link_change}
 use Rattle.abstract_router.specs.Outcomes as path_outcomes
 use Rattle.abstract_router.specs.Outcomes.{lsp}
 use Rattle.abstract_router.specs.Paths.{key_of, path_arrival}
-use Rattle.abstract_router.specs.Places.{is_up}
+use Rattle.abstract_router.specs.Places.{is_up, place_of}
+use Rattle.abstract_router.specs.Relays.{relay, relayed_by}
+use Rattle.abstract_router.specs.Routing.{route_to}
 use Rattle.abstract_router.specs.Tears.{is_torn_by, leaves_by, passed_on, path_err_arrival, path_tear_arrival, torn}
 use Rattle.abstract_router.specs.Time.{tick}
 use Rattle.lsr_facts.specs.Orders.{key_cmp}
@@ -23,7 +25,10 @@ use Rattle.lsr_facts.specs.declared.refusal.Refusal.TheVariants.{LinkDown, NoMat
 use Rattle.lsr_facts.specs.declared.router.Router.{Router}
 use Rattle.resv_facts.specs.Reservations.{style_of}
 use Rattle.resv_facts.specs.declared.resv_fact.ResvStyle.{ResvStyle}
-use Rattle.router_events.specs.declared.events.Arrive.{Arrive}
+use Rattle.router_events.specs.declared.ways.ArrivalWay.{ArrivalWay}
+use Rattle.router_events.specs.declared.ways.ArrivalWay.TheVariants as ways
+use Rattle.router_events.specs.declared.ways.Arrive.{Arrive}
+use Rattle.router_events.specs.declared.ways.Relay.{Relay}
 use Rattle.router_events.specs.declared.events.Event.TheVariants as events
 use Rattle.router_events.specs.declared.events.Event.{Event}
 use Rattle.router_events.specs.declared.events.Output.{Output}
@@ -118,11 +123,27 @@ module _ (r : Router) (s : State) where
   reading-keeps link (readings.Unknown (contents.PathTear t) class ctype) = message-keeps link (contents.PathTear t)
   reading-keeps link (readings.Unknown (contents.ResvTear t) class ctype) = message-keeps link (contents.ResvTear t)
 
+  way-keeps : (way : ArrivalWay) (link : ℕ) (reading : Reading) → KeepsSilently s (arrival_by r s way link reading)
+  way-keeps ways.Hop link reading = reading-keeps link reading
+  way-keeps ways.Stack link reading = λ silent. refl
+  way-keeps ways.Routed link reading = λ silent. refl
+
+  relay-keeps : (m : Relay) → KeepsSilently s (of_paths s (relay r s.facts m))
+  unfolding relay
+  relay-keeps m =
+      cond_both (is_none (link_at r m.link)) _ _ (λ o. KeepsSilently s (of_paths s o)) (λ none silent. refl)
+      (λ there. cond_both (not (is_up s.facts.up m.link)) _ _ (λ o. KeepsSilently s (of_paths s o)) (λ down silent. refl)
+      (λ up. by (route_to (place_of r s.facts) m.to)))
+    where
+      by : (way : Option ℕ) → KeepsSilently s (of_paths s (option_map_or (λ link. path_outcomes.done (relayed_by m link ∷ []) s.facts) way (path_outcomes.refused s.facts NoMatch)))
+      by None = λ silent. refl
+      by (Some link) = λ silent. absurd (let f = silent in cc)
+
   arrival-keeps : (a : Arrive) → KeepsSilently s (arrival r s a)
   unfolding arrival
   arrival-keeps a =
       cond_both (is_none (link_at r a.link)) (refused s UnknownLink) _ (KeepsSilently s) (λ none silent. refl)
-      (λ there. cond_both (not (is_up s.facts.up a.link)) (refused s LinkDown) _ (KeepsSilently s) (λ down silent. refl) (λ up. reading-keeps a.link a.reading))
+      (λ there. cond_both (not (is_up s.facts.up a.link)) (refused s LinkDown) _ (KeepsSilently s) (λ down silent. refl) (λ up. way-keeps a.way a.link a.reading))
 
   tick-keeps : (n : ℕ) → KeepsSilently s (moment_comes r s n)
   unfolding moment_comes tick
@@ -133,6 +154,7 @@ module _ (r : Router) (s : State) where
   -- A silent event leaves a running router as it was, but for a restart.
   pub silent_keeps : (event : Event) → s.facts.cold ≡ false → event ≢ events.Restart → KeepsSilently s (outcome r s event)
   silent_keeps (events.Arrive a) runs other = arrival-keeps a
+  silent_keeps (events.Relay m) runs other = relay-keeps m
   silent_keeps (events.Tick n) runs other = tick-keeps n
   silent_keeps (events.LinkUp number) runs other = of_paths-keeps (link_change r s.facts number true) (link-keeps r s.facts number true)
   silent_keeps (events.LinkDown number) runs other = of_paths-keeps (link_change r s.facts number false) (link-keeps r s.facts number false)

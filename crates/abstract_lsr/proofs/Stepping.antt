@@ -20,12 +20,14 @@ use Rattle.lsr_facts.specs.Routers.{IsRouter, link_at}
 use Rattle.lsr_facts.specs.declared.key.Key.{Key}
 use Rattle.lsr_facts.specs.declared.errors.RsvpError.{RsvpError}
 use Rattle.lsr_facts.specs.declared.refusal.Refusal.{Refusal}
-use Rattle.lsr_facts.specs.declared.refusal.Refusal.TheVariants.{LinkDown, NoMatch, UnknownLink}
+use Rattle.lsr_facts.specs.declared.refusal.Refusal.TheVariants.{LinkDown, NoMatch, NoMerge, UnknownLink}
 use Rattle.lsr_facts.specs.declared.reply.Reply.TheVariants as replies
 use Rattle.lsr_facts.specs.declared.router.Router.{Router}
 use Rattle.resv_facts.specs.Reservations.{expire, style_of}
 use Rattle.resv_facts.specs.declared.resv_fact.ResvStyle.{ResvStyle}
-use Rattle.router_events.specs.declared.events.Arrive.{Arrive}
+use Rattle.router_events.specs.declared.ways.ArrivalWay.{ArrivalWay}
+use Rattle.router_events.specs.declared.ways.ArrivalWay.TheVariants as ways
+use Rattle.router_events.specs.declared.ways.Arrive.{Arrive}
 use Rattle.router_events.specs.declared.events.Event.{Event}
 use Rattle.router_events.specs.declared.events.Event.TheVariants as events
 use Rattle.router_events.specs.declared.events.Made.{Made}
@@ -34,6 +36,7 @@ use Rattle.abstract_router.proofs.StepFacts as paths
 use Rattle.abstract_router.specs.Outcomes as path_outcomes
 use Rattle.abstract_router.specs.Paths.{key_of, path_arrival}
 use Rattle.abstract_router.specs.Places.{is_up}
+use Rattle.abstract_router.specs.Relays.{is_spent, relay}
 use Rattle.abstract_router.specs.Steps as steps
 use Rattle.abstract_router.specs.Steps.{IsEvent}
 use Rattle.abstract_router.specs.Tears.{path_err_arrival, path_tear_arrival}
@@ -42,7 +45,7 @@ use Rattle.abstract_lsr.proofs.Choosing.{labels_to_choose}
 use Rattle.abstract_lsr.proofs.Drafting.{came, outcome-leaves}
 use Rattle.abstract_lsr.proofs.Settling.{Leaves, LeavesBy}
 use Rattle.abstract_lsr.specs.Soundness.{IsSound}
-use Rattle.abstract_lsr.specs.Arrivals.{arrival, due_upstream, for_reservations, is_done, labelled_path_arrival, message_arrival, moment_comes, outcome, reading_arrival}
+use Rattle.abstract_lsr.specs.Arrivals.{arrival, arrival_by, due_upstream, for_reservations, is_done, labelled_path_arrival, message_arrival, moment_comes, outcome, reading_arrival}
 use Rattle.abstract_lsr.specs.Errors.{unknown_style}
 use Rattle.abstract_lsr.specs.Labels.{has_free_label}
 use Rattle.abstract_lsr.specs.Outcomes.{Outcome, of_paths, refused}
@@ -119,12 +122,17 @@ module _ (r : Router) (s : State) where
   reading-refuses link (readings.Unknown (contents.PathTear t) class ctype) silently = message-refuses link (contents.PathTear t) silently
   reading-refuses link (readings.Unknown (contents.ResvTear t) class ctype) silently = message-refuses link (contents.ResvTear t) silently
 
+  way-refuses : (way : ArrivalWay) (link : ℕ) (reading : Reading) → paths.RefusesSilently s.facts (steps.arrival_by r s.facts way link reading) → RefusesSilently s (arrival_by r s way link reading)
+  way-refuses ways.Hop link reading silently = reading-refuses link reading silently
+  way-refuses ways.Stack link reading silently = refuses NoMerge
+  way-refuses ways.Routed link reading silently = refuses NoMatch
+
   arrival-refuses : (a : Arrive) → RefusesSilently s (arrival r s a)
   unfolding arrival
   arrival-refuses a =
       cond_both (is_none (link_at r a.link)) (refused s UnknownLink) _ (RefusesSilently s) (λ none. refuses UnknownLink)
       (λ there. cond_both (not (is_up s.facts.up a.link)) (refused s LinkDown) _ (RefusesSilently s) (λ down. refuses LinkDown)
-      (λ up. reading-refuses a.link a.reading (subst (paths.RefusesSilently s.facts) (came r s.facts a there up) (paths.outcome_refuses r s.facts (events.Arrive a)))))
+      (λ up. way-refuses a.way a.link a.reading (subst (paths.RefusesSilently s.facts) (came r s.facts a there up) (paths.outcome_refuses r s.facts (events.Arrive a)))))
 
   -- a moment that comes for reservations too isn't refused
   moment-refuses : (n : ℕ) (o : Outcome) → RefusesSilently s o → RefusesSilently s (for_reservations r s n o)
@@ -143,6 +151,7 @@ module _ (r : Router) (s : State) where
 
   outcome-refuses : (event : Event) → RefusesSilently s (outcome r s event)
   outcome-refuses (events.Arrive a) = arrival-refuses a
+  outcome-refuses (events.Relay m) = of_paths-refuses (relay r s.facts m) (paths.outcome_refuses r s.facts (events.Relay m))
   outcome-refuses (events.Tick n) = tick-refuses n
   outcome-refuses (events.LinkUp number) = of_paths-refuses (steps.outcome r s.facts (events.LinkUp number)) (paths.outcome_refuses r s.facts (events.LinkUp number))
   outcome-refuses (events.LinkDown number) = of_paths-refuses (steps.outcome r s.facts (events.LinkDown number)) (paths.outcome_refuses r s.facts (events.LinkDown number))
@@ -159,16 +168,16 @@ step_refused r before made after refusal x refused =
     )
 
 -- The step of an event, for labels that may be chosen.
-pub step_of : (r : Router) (before : State) (event : Event) (labels : List (Key × ℕ)) → before.facts.cold ≡ false → IsEvent event → MayChoose r before (outcome r before event) labels
+pub step_of : (r : Router) (before : State) (event : Event) (labels : List (Key × ℕ)) → before.facts.cold ≡ false → IsEvent event → is_spent r before.facts event ≡ false → MayChoose r before (outcome r before event) labels
     → (made : Made) × (made.event ≡ event) × (made.labels ≡ labels) × (after : State) × Step r before made after
-step_of r before event labels runs possible chosen =
+step_of r before event labels runs possible passes chosen =
     let o = outcome r before event in
     let after = known_after r before labels o in (
       record { event = event; labels = labels; reply = o.reply; outputs = sent_in r before o after },
       refl,
       refl,
       after,
-      record { possible = possible; awake = λ cold. absurd (let e = sym runs ∙ cold in cc); chosen = chosen; replied = refl; changed = refl; sent = refl },
+      record { possible = possible; awake = λ cold. absurd (let e = sym runs ∙ cold in cc); passes = passes; chosen = chosen; replied = refl; changed = refl; sent = refl },
     )
 
 -- Labels may be chosen for each event that can be: a free one, where an LSP is new.

@@ -8,17 +8,20 @@ use Rattle.rsvp_contents.specs.declared.messages.Content.{Content}
 use Rattle.rsvp_contents.specs.declared.messages.Path.{Path}
 use Rattle.lsr_facts.specs.Orders.{key_cmp}
 use Rattle.lsr_facts.specs.Routers.{link_at}
-use Rattle.lsr_facts.specs.declared.refusal.Refusal.TheVariants.{LinkDown, UnknownLink}
+use Rattle.lsr_facts.specs.declared.refusal.Refusal.TheVariants.{LinkDown, NoMatch, NoMerge, UnknownLink}
 use Rattle.lsr_facts.specs.declared.reply.Reply.TheVariants as replies
 use Rattle.lsr_facts.specs.declared.reply.Reply.{Reply}
 use Rattle.lsr_facts.specs.declared.router.Router.{Router}
 use Rattle.resv_facts.specs.Reservations.{expire}
-use Rattle.router_events.specs.declared.events.Arrive.{Arrive}
+use Rattle.router_events.specs.declared.ways.ArrivalWay.{ArrivalWay}
+use Rattle.router_events.specs.declared.ways.ArrivalWay.TheVariants as ways
+use Rattle.router_events.specs.declared.ways.Arrive.{Arrive}
 use Rattle.router_events.specs.declared.events.Event.TheVariants as events
 use Rattle.router_events.specs.declared.events.Event.{Event}
 use Rattle.abstract_router.specs.Links.{link_change}
 use Rattle.abstract_router.specs.Paths.{failed, key_of, path_arrival, unknown_object}
 use Rattle.abstract_router.specs.Places.{is_up}
+use Rattle.abstract_router.specs.Relays.{relay}
 use Rattle.abstract_router.specs.Stamps.{due_among}
 use Rattle.abstract_router.specs.Steps.{restarted, started}
 use Rattle.abstract_router.specs.Tears.{path_err_arrival, path_tear_arrival}
@@ -65,12 +68,19 @@ abbrev pub reading_arrival : Router → State → ℕ → Reading → Outcome
 reading_arrival r s link (readings.Whole content) = message_arrival r s link content
 reading_arrival r s link (readings.Unknown content class ctype) = unknown_arrival r s link content class ctype
 
+-- What a message does, by the way in which it came. No path has merged here yet for which one comes through a stack of
+-- labels, and no LSP is repaired for which one comes in a Routed frame.
+abbrev pub arrival_by : Router → State → ArrivalWay → ℕ → Reading → Outcome
+arrival_by r s ways.Hop link reading = reading_arrival r s link reading
+arrival_by r s ways.Stack link reading = refused s NoMerge
+arrival_by r s ways.Routed link reading = refused s NoMatch
+
 -- A message that comes over no link of this router, or over one that is down, is refused.
 unfoldable pub arrival : Router → State → Arrive → Outcome
 arrival r s a =
     if is_none (link_at r a.link) then refused s UnknownLink
     else if not (is_up s.facts.up a.link) then refused s LinkDown
-    else reading_arrival r s a.link a.reading
+    else arrival_by r s a.way a.link a.reading
 
 -- the Resvs that were sent last a refresh period ago or longer
 abbrev pub due_upstream : ℕ → List (Upstream × ℕ) → ℕ → List Upstream
@@ -95,6 +105,7 @@ lost s =
 -- What an event does of itself.
 abbrev pub outcome : Router → State → Event → Outcome
 outcome r s (events.Arrive a) = arrival r s a
+outcome r s (events.Relay m) = of_paths s (relay r s.facts m)
 outcome r s (events.Tick n) = moment_comes r s n
 outcome r s (events.LinkUp number) = of_paths s (link_change r s.facts number true)
 outcome r s (events.LinkDown number) = of_paths s (link_change r s.facts number false)

@@ -41,7 +41,9 @@ use Rattle.lsr_facts.specs.declared.router.Router.{Router}
 use Rattle.resv_facts.specs.Reservations.{style_of}
 use Rattle.resv_facts.specs.declared.resv_fact.ResvFact.{ResvFact}
 use Rattle.resv_facts.specs.declared.resv_fact.ResvStyle.{ResvStyle}
-use Rattle.router_events.specs.declared.events.Arrive.{Arrive}
+use Rattle.router_events.specs.declared.ways.ArrivalWay.{ArrivalWay}
+use Rattle.router_events.specs.declared.ways.ArrivalWay.TheVariants as ways
+use Rattle.router_events.specs.declared.ways.Arrive.{Arrive}
 use Rattle.router_events.specs.declared.events.Event.TheVariants as events
 use Rattle.router_events.specs.declared.events.Made.{Made}
 use Rattle.router_events.specs.declared.events.Output.{Output}
@@ -55,7 +57,7 @@ use Rattle.abstract_router.specs.Tears as tears
 use Rattle.abstract_router.specs.Tears.{leaves_by}
 use Rattle.abstract_router.specs.TouchedLaws as touched_rows
 use Rattle.abstract_router.specs.TouchedLaws.{find-made, same_elsewhere}
-use Rattle.abstract_lsr.specs.Arrivals.{arrival, is_done, labelled_path_arrival, message_arrival, outcome, reading_arrival}
+use Rattle.abstract_lsr.specs.Arrivals.{arrival_by, arrival, is_done, labelled_path_arrival, message_arrival, outcome, reading_arrival}
 use Rattle.abstract_lsr.specs.Errors.{unknown_style}
 use Rattle.abstract_lsr.specs.Labels.{has_free_label, labels_after}
 use Rattle.abstract_lsr.specs.Outcomes.{Outcome, of_paths, refused}
@@ -315,11 +317,16 @@ module _ (r : Router) (touched : Key → Bool) (s : State) (is : IsSound r s) wh
   reading-keeps link (readings.Unknown (contents.PathTear t) class ctype) among = message-keeps link (contents.PathTear t) among
   reading-keeps link (readings.Unknown (contents.ResvTear t) class ctype) among = message-keeps link (contents.ResvTear t) among
 
+  way-keeps : (way : ArrivalWay) (link : ℕ) (reading : Reading) → AreTouched touched (touched_by_reading r s link reading) → Keeps touched s (arrival_by r s way link reading).after
+  way-keeps ways.Hop link reading among = reading-keeps link reading among
+  way-keeps ways.Stack link reading among = stays
+  way-keeps ways.Routed link reading among = stays
+
   arrival-keeps : (a : Arrive) → AreTouched touched (touched_by r s a) → Keeps touched s (arrival r s a).after
   unfolding arrival
   arrival-keeps a among =
       cond_both (is_none (link_at r a.link)) (refused s UnknownLink) _ (λ (o : Outcome). Keeps touched s o.after) (λ none. stays)
-      (λ there. cond_both (not (is_up s.facts.up a.link)) (refused s LinkDown) _ (λ (o : Outcome). Keeps touched s o.after) (λ down. stays) (λ up. reading-keeps a.link a.reading among))
+      (λ there. cond_both (not (is_up s.facts.up a.link)) (refused s LinkDown) _ (λ (o : Outcome). Keeps touched s o.after) (λ down. stays) (λ up. way-keeps a.way a.link a.reading among))
 
   -- What follows from it leaves those LSPs as they were.
   module _ (after : State) (keeps : Keeps touched s after) (key : Key) (apart : touched key ≡ false) where

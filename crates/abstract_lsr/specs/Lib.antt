@@ -9,7 +9,6 @@ pub mod Outcomes
 pub mod Outputs
 pub mod Preempting
 pub mod Reserving
-pub mod Serving
 pub mod Soundness
 pub mod States
 pub mod Steps

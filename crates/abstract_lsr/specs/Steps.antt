@@ -1,5 +1,5 @@
 -- One step of the abstract label switching router, and runs of steps.
-use Rattle.std.specs.Prelude.{◌≡◌, ◌≢◌, ◌&&◌, ℕ, true, if◌then◌else◌, Bool, false, List, [], ◌∷◌, ◌⊎◌}
+use Rattle.std.specs.Prelude.{◌≡◌, ◌≢◌, ◌&&◌, ℕ, true, if◌then◌else◌, Bool, false, List, [], ◌∷◌}
 use Rattle.std.specs.FinMap.Entries.{find}
 use Rattle.std.specs.Option.{option_map_or}
 use Rattle.rsvp_routes.specs.declared.prefix.Prefix.{Prefix}
@@ -9,14 +9,14 @@ use Rattle.lsr_facts.specs.declared.key.Key.{Key}
 use Rattle.lsr_facts.specs.declared.path_fact.PathFact.{PathFact}
 use Rattle.lsr_facts.specs.declared.router.Router.{Router}
 use Rattle.resv_facts.specs.declared.resv_fact.ResvFact.{ResvFact}
-use Rattle.lsr_facts.specs.declared.refusal.Refusal.TheVariants.{IsCold}
-use Rattle.lsr_facts.specs.declared.reply.Reply.{Reply}
-use Rattle.lsr_facts.specs.declared.reply.Reply.TheVariants as replies
+use Rattle.lsr_facts.specs.declared.refusal.Refusal.{Refusal}
+use Rattle.lsr_facts.specs.declared.refusal.Refusal.TheVariants.{HopLimit, IsCold}
 use Rattle.router_events.specs.declared.events.Event.TheVariants as events
 use Rattle.router_events.specs.declared.events.Event.{Event}
 use Rattle.router_events.specs.declared.events.Made.{Made}
 use Rattle.router_events.specs.declared.events.Output.{Output}
 use Rattle.abstract_router.specs.Places.{is_up}
+use Rattle.abstract_router.specs.Relays.{is_spent}
 use Rattle.abstract_router.specs.Stamps.{with_stamps}
 use Rattle.abstract_router.specs.Steps as paths
 use Rattle.abstract_router.specs.Steps.{IsEvent}
@@ -78,10 +78,11 @@ abbrev pub MayChoose : Router → State → Outcome → List (Key × ℕ) → Ty
 MayChoose r before o chosen = MayChooseBy o.is_silent r before.labels o.after.facts.paths chosen
 
 -- One step, made: what the event does and what follows from it, its answer, and what is sent. While the router is
--- cold, no event but Start is one.
+-- cold, no event but Start is one; nor is a message for another router whose limit ran out.
 pub record Step (r : Router) (before : State) (made : Made) (after : State) : Type 0 where
   pub possible : IsEvent made.event
   pub awake : before.facts.cold ≡ true → made.event ≡ events.Start
+  pub passes : is_spent r before.facts made.event ≡ false
   pub chosen : MayChoose r before (outcome r before made.event) made.labels
   pub replied : made.reply ≡ (outcome r before made.event).reply
   pub changed : after ≡ known_after r before made.labels (outcome r before made.event)
@@ -92,9 +93,9 @@ abbrev pub Run : Router → State → List Made → State → Type 0
 Run r before [] after = after ≡ before
 Run r before (made ∷ more) after = (between : State) × Step r before made between × Run r between more after
 
--- What an event is answered, and what is sent for it, be the router cold or not: a cold one refuses all but its
--- start, and that leaves no trace; else the event's step is made.
-abbrev pub IsAnswered : Router → State → Event → Reply → List Output → State → Type 0
-IsAnswered r before event reply outputs after =
-    ((before.facts.cold ≡ true) × (event ≢ events.Start) × (reply ≡ replies.Refused IsCold) × (outputs ≡ []) × (after ≡ before))
-    ⊎ ((labels : List (Key × ℕ)) × Step r before (record { event = event; labels = labels; reply = reply; outputs = outputs }) after)
+-- What an event is refused for without a step: a cold router refuses all but its start; a running one drops a message
+-- for another router whose limit ran out.
+abbrev pub IsNoStep : Router → State → Event → Refusal → Type 0
+IsNoStep r before event IsCold = (before.facts.cold ≡ true) × (event ≢ events.Start)
+IsNoStep r before event HopLimit = (before.facts.cold ≡ false) × (is_spent r before.facts event ≡ true)
+IsNoStep r before event refusal = ⊥

@@ -3,7 +3,7 @@
 use Rattle.std.specs.Prelude.{◌≡◌, ◌++◌, ◌≤◌, ℕ, suc, not, Bool, true, false, cond, if◌then◌else◌, T, List, [], ◌∷◌, filter, filter_map, length, Option, Some, None, IfSome}
 use Rattle.std.specs.FinMap.Entries.{below_all, find, is_sorted, is_sorted-where_key, where_key}
 use Rattle.std.specs.List.{AllByRecursion, cons_option, flat_map}
-use Rattle.std.specs.Option.{option_map, option_map_or}
+use Rattle.std.specs.Option.{option_and_then, option_map, option_map_or}
 use Rattle.std.specs.Ordering.{is_lt, nat_cmp, ordering_then}
 use Rattle.std.specs.declared.cmp.Ordering.{Ordering}
 use Rattle.std.specs.declared.cmp.Ordering.TheVariants.{Less, Equal, Greater}
@@ -19,6 +19,7 @@ use Rattle.lsr_facts.specs.OrderLaws.{address_total, key_total}
 use Rattle.lsr_facts.specs.Orders.{address_cmp, key_cmp}
 use Rattle.lsr_facts.specs.Routers.{link_at}
 use Rattle.lsr_facts.specs.declared.key.Key.{Key}
+use Rattle.lsr_facts.specs.Origins.{number_of, via_link}
 use Rattle.lsr_facts.specs.declared.path_fact.Origin.{Origin}
 use Rattle.lsr_facts.specs.declared.path_fact.PathFact.{PathFact}
 use Rattle.lsr_facts.specs.declared.router.Link.{Link}
@@ -35,7 +36,7 @@ use Rattle.abstract_router.specs.TouchedLaws.{find-touched, found_elsewhere}
 use Rattle.abstract_router.specs.WantedLaws.{both, first, second}
 use Rattle.abstract_lsr.specs.States.{State}
 use Rattle.abstract_lsr.specs.Touched.{IsSameElsewhere, at_keys}
-use Rattle.abstract_lsr.specs.Upstreams.{Reserved, reserved_by_end, reserved_by_next, reserved_for, resv_to, upstream_of, upstream_row, upstream_rows_at, upstream_to}
+use Rattle.abstract_lsr.specs.Upstreams.{Reserved, reserved_by_end, reserved_by_next, reserved_for, resv_to, upstream_of, upstream_row, upstream_rows_at, upstream_to, upstream_over}
 
 -- a filter that nothing passes
 filter-none_pass : {A : Type 0} (p : A → Bool) (xs : List A) → AllByRecursion (λ x. p x ≡ false) xs → filter p xs ≡ []
@@ -116,18 +117,22 @@ below_key u w low = by (key_cmp u.key w.key) (ordering_then (address_cmp u.sende
 -- of one LSP, that of a sender below another is below that of the other
 below_sender : (key : Key) (o p : Ipv4Addr × Origin) → address_cmp o.0 p.0 ≡ Less → T (is_lt (upstream_cmp (upstream_to key o) (upstream_to key p)))
 below_sender key o p low =
-    subst (λ a. T (is_lt (ordering_then (key_cmp key key) (ordering_then a (ordering_then (nat_cmp o.1.link p.1.link) (address_cmp o.1.hop.address p.1.hop.address)))))) (sym low)
+    subst (λ a. T (is_lt (ordering_then (key_cmp key key) (ordering_then a (ordering_then (nat_cmp (number_of o.1.via) (number_of p.1.via)) (address_cmp o.1.hop.address p.1.hop.address)))))) (sym low)
     (subst (λ k. T (is_lt (ordering_then k Less))) (sym (tied_itself key_total key)) tt)
 
 module _ (r : Router) (s : State) (path : Key × PathFact) where
   -- what an origin is sent is for its own LSP, sender, link and neighbour
   row-is : (P : Upstream × Output → Type 0) (label : ℕ) (a : Reserved) (origin : Ipv4Addr × Origin) → ((o : Output) → P (upstream_to path.0 origin, o)) → IfSome (upstream_row r s path label a origin) P
-  row-is P label a origin holds = by (is_up s.facts.up origin.1.link) (link_at r origin.1.link)
+  row-is P label a origin holds = over (via_link origin.1.via)
     where
-      by : (b : Bool) (l : Option Link) → IfSome (cond b (option_map (λ link. (upstream_to path.0 origin, sent_by origin.1.link (contents.Resv (resv_to r path.0 path.1 origin.1 link label a)))) l) None) P
-      by true None = tt
-      by true (Some link) = holds _
-      by false l = tt
+      by : (number : ℕ) (b : Bool) (l : Option Link) → IfSome (cond b (option_map (λ link. (upstream_to path.0 origin, sent_by number (contents.Resv (resv_to r path.0 path.1 origin.1 link label a)))) l) None) P
+      by number true None = tt
+      by number true (Some link) = holds _
+      by number false l = tt
+
+      over : (via : Option ℕ) → IfSome (option_and_then (upstream_over r s path label a origin) via) P
+      over None = tt
+      over (Some number) = by number (is_up s.facts.up number) (link_at r number)
 
   -- what holds of no Resvs, and of those that any label and reservation make, holds of those that the path wants
   rows-are : (P : List (Upstream × Output) → Type 0) → P [] → ((label : ℕ) (a : Reserved) → P (filter_map (upstream_row r s path label a) path.1.origins)) → P (upstream_rows_at r s path)

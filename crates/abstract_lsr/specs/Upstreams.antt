@@ -13,6 +13,7 @@ use Rattle.rsvp_routes.specs.declared.trace.Trace.TheVariants as traces
 use Rattle.rsvp_traffic.specs.Traffic.{flowspec_of}
 use Rattle.session_attribute.specs.declared.attr.Attr.{Attr}
 use Rattle.lsr_facts.specs.Orders.{key_cmp}
+use Rattle.lsr_facts.specs.Origins.{number_of, via_link}
 use Rattle.lsr_facts.specs.Routers.{link_at}
 use Rattle.lsr_facts.specs.declared.key.Key.{Key}
 use Rattle.lsr_facts.specs.declared.path_fact.Origin.{Origin}
@@ -93,14 +94,18 @@ resv_to r key path origin link label a = record {
 
 -- the item of an origin
 abbrev pub upstream_to : Key → Ipv4Addr × Origin → Upstream
-upstream_to key origin = record { key = key; sender = origin.0; link = origin.1.link; hop = origin.1.hop.address }
+upstream_to key origin = record { key = key; sender = origin.0; link = number_of origin.1.via; hop = origin.1.hop.address }
 
--- what an origin is sent: nothing where its link is down
-abbrev pub upstream_row : Router → State → Key × PathFact → ℕ → Reserved → Ipv4Addr × Origin → Option (Upstream × Output)
-upstream_row r s path label a origin =
-    if is_up s.facts.up origin.1.link
-    then option_map (λ link. (upstream_to path.0 origin, sent_by origin.1.link (contents.Resv (resv_to r path.0 path.1 origin.1 link label a)))) (link_at r origin.1.link)
+-- what a neighbour is sent over a link: nothing where that is down
+abbrev pub upstream_over : Router → State → Key × PathFact → ℕ → Reserved → Ipv4Addr × Origin → ℕ → Option (Upstream × Output)
+upstream_over r s path label a origin number =
+    if is_up s.facts.up number
+    then option_map (λ link. (upstream_to path.0 origin, sent_by number (contents.Resv (resv_to r path.0 path.1 origin.1 link label a)))) (link_at r number)
     else None
+
+-- what an origin is sent, where it is a neighbour: no path has another yet
+abbrev pub upstream_row : Router → State → Key × PathFact → ℕ → Reserved → Ipv4Addr × Origin → Option (Upstream × Output)
+upstream_row r s path label a origin = option_and_then (upstream_over r s path label a origin) (via_link origin.1.via)
 
 -- what all origins of an LSP are sent, in the order of their senders
 abbrev pub upstream_rows_at : Router → State → Key × PathFact → List (Upstream × Output)

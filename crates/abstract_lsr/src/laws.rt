@@ -2,7 +2,6 @@
 
 ghost use Rattle.std.specs.FinMap.Entries.{find, is_sorted, where_key};
 ghost use Rattle.std.specs.Prelude.{◌≡◌, ◌≢◌, ◌≤◌, ℕ, All, Bool, List, [], Some, T, false, length, not, true};
-ghost use Rattle.rsvp_contents.specs.declared.message.Reading.TheVariants as readings;
 ghost use Rattle.rsvp_contents.specs.declared.messages.Content.TheVariants as contents;
 ghost use Rattle.rsvp_contents.specs.declared.messages.Resv.{Resv};
 ghost use Rattle.rsvp_flows.specs.declared.descriptors.FlowDescriptor.{FlowDescriptor};
@@ -21,10 +20,12 @@ ghost use Rattle.lsr_facts.specs.declared.refusal.Refusal.{Refusal};
 ghost use Rattle.lsr_facts.specs.declared.reply.Reply.TheVariants as replies;
 ghost use Rattle.lsr_facts.specs.declared.router.Router.{Router};
 ghost use Rattle.forwarding_table.specs.declared.action.Action.{Action};
-ghost use Rattle.router_events.specs.declared.events.Arrive.{Arrive};
+ghost use Rattle.router_events.specs.Arrivals.{comes};
+ghost use Rattle.router_events.specs.declared.ways.Arrive.{Arrive};
 ghost use Rattle.router_events.specs.declared.events.Event.{Event};
 ghost use Rattle.router_events.specs.declared.events.Event.TheVariants as events;
 ghost use Rattle.router_events.specs.declared.events.Made.{Made};
+ghost use Rattle.abstract_router.specs.Relays.{is_spent};
 ghost use Rattle.abstract_router.specs.Steps.{IsEvent};
 ghost use Rattle.abstract_lsr.specs.Arrivals.{outcome};
 ghost use Rattle.abstract_lsr.specs.Soundness.{IsSound};
@@ -42,17 +43,20 @@ pub fn one_step()
         Step r before one a → Step r before other b → (one ≡ other) × (a ≡ b) }
 {}
 
-/// A running router has a step for each event that can be, whichever labels are chosen for it that may be; and in a
-/// sound state some may: where a step makes an LSP that needs a label, one is free. A cold router has no step but its
-/// start.
+/// A running router has a step for each event that can be, but for a message for another router whose limit ran out;
+/// whichever labels are chosen for it that may be; and in a sound state some may: where a step makes an LSP that needs a
+/// label, one is free. A cold router has no step but its start.
 pub fn running_routers_take_every_event()
     ensures any { (r : Router) (before : State) (event : Event) (labels : List (Key × ℕ)) →
-        before.facts.cold ≡ false → IsEvent event → MayChoose r before (outcome r before event) labels →
+        before.facts.cold ≡ false → IsEvent event → is_spent r before.facts event ≡ false →
+        MayChoose r before (outcome r before event) labels →
         (made : Made) × (made.event ≡ event) × (made.labels ≡ labels)
         × (after : State) × Step r before made after }
     ensures some { (r : Router) (before : State) (event : Event) →
         IsRouter r → IsSound r before → IsEvent event → (before.facts.cold ≡ true → event ≡ events.Start) →
         (labels : List (Key × ℕ)) × MayChoose r before (outcome r before event) labels }
+    ensures spent { (r : Router) (before : State) (made : Made) (after : State) →
+        Step r before made after → is_spent r before.facts made.event ≡ false }
     ensures cold { (r : Router) (before : State) (made : Made) (after : State) →
         before.facts.cold ≡ true → Step r before made after → made.event ≡ events.Start }
 {}
@@ -108,7 +112,7 @@ pub fn a_message_touches_its_own_lsps()
 pub fn repeated_reservations_are_silent()
     ensures { (r : Router) (before after : State) (made : Made) (link : ℕ) (v : Resv) (style : ResvStyle) →
         IsSound r before → Step r before made after →
-        made.event ≡ events.Arrive (record { link = link; reading = readings.Whole (contents.Resv v) }) →
+        made.event ≡ comes link (contents.Resv v) →
         style_of v.style ≡ Some style →
         All (λ d. find key_cmp (key_in v d) before.resvs ≡ Some (resv_by before.facts.moment link style v d))
         v.descriptors →

@@ -2,6 +2,7 @@
 use Rattle.std.proofs.Common.{refl, ap, sym, subst, ◌∙◌, arith}
 use Rattle.std.proofs.lemmas.Bool.{and_parts, cond_both, eqb-true, ltb-false, not-false}
 use Rattle.std.specs.FinMap.Entries.{find, put, where_key, length-put}
+use Rattle.std.specs.Option.{option_map_or}
 use Rattle.std.specs.Ordering.{is_eq}
 use Rattle.std.specs.Prelude.{◌≡◌, ℕ, ◌+◌, ◌≤◌, Bool, true, false, cond, not, ◌&&◌, ◌==◌, nat_le, nat_lt, ◌^◌, IsTrue, List, [], ◌∷◌, length, Option, Some, None, is_some, is_none, Result, Ok, Err, IfSome}
 use Rattle.std.specs.declared.net.ipv4_addr.Ipv4Addr.{Ipv4Addr}
@@ -9,12 +10,13 @@ use Rattle.abstract_router.proofs.NextHops.{Leads, IsPlace, next_hop-leads}
 use Rattle.abstract_router.proofs.PathTable.{IsTaken, way_of-leads, path_sound, path_left_sound, path_known, put_few}
 use Rattle.abstract_router.proofs.Primitives.{sound_with_path, sound_where, sound_expire, sound_started, sound_restarted, sound_with_link}
 use Rattle.abstract_router.specs.Links.{link_change}
-use Rattle.abstract_router.specs.Outcomes.{Outcome, lsp, refused}
+use Rattle.abstract_router.specs.Outcomes.{Outcome, done, lsp, refused}
 use Rattle.abstract_router.specs.Paths.{key_of, is_same_route, way_of, way_for, path_by, has_loop, failed, taken, path_on_its_way, path_arrival}
 use Rattle.abstract_router.specs.Places.{is_up, place_of}
-use Rattle.abstract_router.specs.Routing.{next_hop}
+use Rattle.abstract_router.specs.Relays.{relay, relayed_by}
+use Rattle.abstract_router.specs.Routing.{next_hop, route_to}
 use Rattle.abstract_router.specs.Soundness.{IsPath, IsStanding, IsSound}
-use Rattle.abstract_router.specs.Steps.{message_arrival, reading_arrival, arrival, outcome, IsEvent}
+use Rattle.abstract_router.specs.Steps.{message_arrival, reading_arrival, arrival, arrival_by, outcome, IsEvent}
 use Rattle.abstract_router.specs.Tears.{is_torn_by, leaves_by, left_with, origins_without, torn, path_tear_arrival, passed_on, path_err_arrival}
 use Rattle.abstract_router.specs.Time.{tick}
 use Rattle.abstract_router.specs.Wanted.{wanted_of}
@@ -30,7 +32,10 @@ use Rattle.lsr_facts.specs.declared.path_fact.Origin.{Origin}
 use Rattle.lsr_facts.specs.declared.path_fact.PathFact.{PathFact}
 use Rattle.lsr_facts.specs.declared.refusal.Refusal.TheVariants.{BadMoment, Late, LinkDown, NoMatch, UnknownLink}
 use Rattle.lsr_facts.specs.declared.router.Router.{Router}
-use Rattle.router_events.specs.declared.events.Arrive.{Arrive}
+use Rattle.router_events.specs.declared.ways.ArrivalWay.{ArrivalWay}
+use Rattle.router_events.specs.declared.ways.ArrivalWay.TheVariants as ways
+use Rattle.router_events.specs.declared.ways.Arrive.{Arrive}
+use Rattle.router_events.specs.declared.ways.Relay.{Relay}
 use Rattle.router_events.specs.declared.events.Event.TheVariants as events
 use Rattle.router_events.specs.declared.events.Event.{Event}
 use Rattle.rsvp_contents.proofs.Fitted.{message_fits}
@@ -146,6 +151,25 @@ reading-sound r s link (readings.Unknown (contents.Resv v) class ctype) router r
 reading-sound r s link (readings.Unknown (contents.ResvErr e) class ctype) router runs is there message = is
 reading-sound r s link (readings.Unknown (contents.ResvTear t) class ctype) router runs is there message = is
 
+-- by its way
+by_way-sound : (r : Router) (s : Facts) (way : ArrivalWay) (link : ℕ) (reading : Reading) → IsRouter r → s.cold ≡ false → IsSound r s → HasLink r link → IsMessage (content_in reading) → LeavesSound r (arrival_by r s way link reading)
+by_way-sound r s ways.Hop link reading router runs is there message = reading-sound r s link reading router runs is there message
+by_way-sound r s ways.Stack link reading router runs is there message = is
+by_way-sound r s ways.Routed link reading router runs is there message = is
+
+-- a message for another router
+relay-sound : (r : Router) (s : Facts) (m : Relay) → IsSound r s → LeavesSound r (relay r s m)
+unfolding relay
+relay-sound r s m is =
+    cond_both (is_none (link_at r m.link)) (refused s UnknownLink) _ (LeavesSound r) (λ none. is)
+    (λ there.
+    cond_both (not (is_up s.up m.link)) (refused s LinkDown) _ (LeavesSound r) (λ down. is)
+    (λ up. by (route_to (place_of r s) m.to)))
+  where
+    by : (way : Option ℕ) → LeavesSound r (option_map_or (λ link. done (relayed_by m link ∷ []) s) way (refused s NoMatch))
+    by None = is
+    by (Some link) = is.standing
+
 -- a message that comes
 arrival-sound : (r : Router) (s : Facts) (a : Arrive) → IsRouter r → s.cold ≡ false → IsSound r s → IsMessage (content_in a.reading) → LeavesSound r (arrival r s a)
 unfolding arrival
@@ -153,7 +177,7 @@ arrival-sound r s a router runs is possible =
     cond_both (is_none (link_at r a.link)) (refused s UnknownLink) _ (LeavesSound r) (λ none. is)
     (λ there.
     cond_both (not (is_up s.up a.link)) (refused s LinkDown) _ (LeavesSound r) (λ down. is)
-    (λ up. reading-sound r s a.link a.reading router runs is (not-false _ there) possible))
+    (λ up. by_way-sound r s a.way a.link a.reading router runs is (not-false _ there) possible))
 
 -- a link that comes up or goes down
 link_change-sound : (r : Router) (s : Facts) (number : ℕ) (up : Bool) → IsRouter r → IsSound r s → LeavesSound r (link_change r s number up)
@@ -182,6 +206,7 @@ runs_for s event other awake = cold_or s.cold awake
 pub outcome_sound : (r : Router) (s : Facts) (event : Event) → IsRouter r → IsSound r s → IsEvent event → (s.cold ≡ true → event ≡ events.Start) → LeavesSound r (outcome r s event)
 unfolding wanted_of
 outcome_sound r s (events.Arrive a) router is possible awake = arrival-sound r s a router (runs_for s (events.Arrive a) (λ e. cc) awake) is possible
+outcome_sound r s (events.Relay m) router is possible awake = relay-sound r s m is
 outcome_sound r s (events.Tick n) router is possible awake = tick-sound r s n is
 outcome_sound r s (events.LinkUp number) router is possible awake = link_change-sound r s number true router is
 outcome_sound r s (events.LinkDown number) router is possible awake = link_change-sound r s number false router is

@@ -1,6 +1,7 @@
 -- What holds of one step: it is determined, each event has one, and what is refused is silent.
-use Rattle.std.specs.Prelude.{◌≡◌, ◌&&◌, ℕ, not, ◌==◌, nat_le, nat_lt, ◌^◌, true, false, if◌then◌else◌, List, [], length, Option, Some, None, is_none, Result, Ok, Err}
+use Rattle.std.specs.Prelude.{◌≡◌, ◌&&◌, ℕ, not, ◌==◌, nat_le, nat_lt, ◌^◌, true, false, if◌then◌else◌, List, [], ◌∷◌, length, Option, Some, None, is_none, Result, Ok, Err}
 use Rattle.std.specs.FinMap.Entries.{find}
+use Rattle.std.specs.Option.{option_map_or}
 use Rattle.std.proofs.Common.{refl, ap, sym, ◌∙◌}
 use Rattle.std.proofs.lemmas.Bool.{cond_both}
 use Rattle.rsvp_contents.specs.declared.message.Reading.{Reading}
@@ -20,18 +21,23 @@ use Rattle.lsr_facts.specs.declared.facts.Facts.{Facts}
 use Rattle.lsr_facts.specs.declared.key.Key.{Key}
 use Rattle.lsr_facts.specs.declared.path_fact.PathFact.{PathFact}
 use Rattle.lsr_facts.specs.declared.refusal.Refusal.{Refusal}
-use Rattle.lsr_facts.specs.declared.refusal.Refusal.TheVariants.{BadMoment, Late, LinkDown, NoMatch, UnknownLink, Unread}
+use Rattle.lsr_facts.specs.declared.refusal.Refusal.TheVariants.{BadMoment, Late, LinkDown, NoMatch, NoMerge, UnknownLink, Unread}
 use Rattle.lsr_facts.specs.declared.reply.Reply.TheVariants as replies
 use Rattle.lsr_facts.specs.declared.router.Router.{Router}
 use Rattle.router_events.specs.declared.events.Event.{Event}
 use Rattle.router_events.specs.declared.events.Event.TheVariants as events
 use Rattle.router_events.specs.declared.events.Made.{Made}
+use Rattle.router_events.specs.declared.ways.ArrivalWay.{ArrivalWay}
+use Rattle.router_events.specs.declared.ways.ArrivalWay.TheVariants as ways
+use Rattle.router_events.specs.declared.ways.Relay.{Relay}
 use Rattle.abstract_router.specs.Links.{link_change}
-use Rattle.abstract_router.specs.Outcomes.{Outcome, lsp, refused}
+use Rattle.abstract_router.specs.Outcomes.{Outcome, done, lsp, refused}
 use Rattle.abstract_router.specs.Paths.{has_loop, key_of, path_arrival, path_on_its_way, way_for}
 use Rattle.abstract_router.specs.Places.{is_up, place_of}
+use Rattle.abstract_router.specs.Relays.{is_spent, relay, relayed_by}
+use Rattle.abstract_router.specs.Routing.{route_to}
 use Rattle.abstract_router.specs.Stamps.{with_stamps}
-use Rattle.abstract_router.specs.Steps.{IsEvent, IsLabelling, Step, arrival, known_after, message_arrival, outcome, reading_arrival, sent_in, settled}
+use Rattle.abstract_router.specs.Steps.{IsEvent, IsLabelling, Step, arrival, arrival_by, known_after, message_arrival, outcome, reading_arrival, sent_in, settled}
 use Rattle.abstract_router.specs.Tears.{is_torn_by, leaves_by, passed_on, path_err_arrival, path_tear_arrival, torn}
 use Rattle.abstract_router.specs.Time.{tick}
 
@@ -44,15 +50,15 @@ same_step r before a b one other event labels x y =
     ((λ i. record { event = event i; labels = labels i; reply = reply i; outputs = outputs i }), after)
 
 -- The step of an event.
-pub step_of : (r : Router) (before : Facts) (event : Event) (labels : List (Key × ℕ)) → before.cold ≡ false → IsEvent event → IsLabelling r before (known_after r before labels (outcome r before event)) labels → (made : Made) × (made.event ≡ event) × (made.labels ≡ labels) × (after : Facts) × Step r before made after
-step_of r before event labels runs possible chosen =
+pub step_of : (r : Router) (before : Facts) (event : Event) (labels : List (Key × ℕ)) → before.cold ≡ false → IsEvent event → is_spent r before event ≡ false → IsLabelling r before (known_after r before labels (outcome r before event)) labels → (made : Made) × (made.event ≡ event) × (made.labels ≡ labels) × (after : Facts) × Step r before made after
+step_of r before event labels runs possible passes chosen =
     let o = outcome r before event in
     let after = known_after r before labels o in (
       record { event = event; labels = labels; reply = o.reply; outputs = sent_in r before o after },
       refl,
       refl,
       after,
-      record { possible = possible; awake = λ cold. absurd (let e = sym runs ∙ cold in cc); chosen = chosen; replied = refl; changed = refl; sent = refl },
+      record { possible = possible; awake = λ cold. absurd (let e = sym runs ∙ cold in cc); passes = passes; chosen = chosen; replied = refl; changed = refl; sent = refl },
     )
 
 -- An outcome that is refused is silent, and leaves the facts as they were.
@@ -101,12 +107,24 @@ module _ (r : Router) (s : Facts) where
   reading_refuses link (readings.Unknown (contents.ResvErr e) class ctype) = refuses (Unread KindUnsupported)
   reading_refuses link (readings.Unknown (contents.ResvTear t) class ctype) = refuses (Unread KindUnsupported)
 
+  way_refuses : (way : ArrivalWay) (link : ℕ) (reading : Reading) → RefusesSilently s (arrival_by r s way link reading)
+  way_refuses ways.Hop link reading = reading_refuses link reading
+  way_refuses ways.Stack link reading = refuses NoMerge
+  way_refuses ways.Routed link reading = refuses NoMatch
+
+  relay_refuses : (m : Relay) (way : Option ℕ) → RefusesSilently s (option_map_or (λ link. done (relayed_by m link ∷ []) s) way (refused s NoMatch))
+  relay_refuses m None = refuses NoMatch
+  relay_refuses m (Some link) = λ refusal is. cc
+
   -- Each event that is refused is silent.
   pub outcome_refuses : (event : Event) → RefusesSilently s (outcome r s event)
-  unfolding arrival tick link_change
+  unfolding arrival relay tick link_change
   outcome_refuses (events.Arrive a) =
       cond_both (is_none (link_at r a.link)) (refused s UnknownLink) _ (RefusesSilently s) (λ none. refuses UnknownLink)
-      (λ there. cond_both (not (is_up s.up a.link)) (refused s LinkDown) _ (RefusesSilently s) (λ down. refuses LinkDown) (λ up. reading_refuses a.link a.reading))
+      (λ there. cond_both (not (is_up s.up a.link)) (refused s LinkDown) _ (RefusesSilently s) (λ down. refuses LinkDown) (λ up. way_refuses a.way a.link a.reading))
+  outcome_refuses (events.Relay m) =
+      cond_both (is_none (link_at r m.link)) (refused s UnknownLink) _ (RefusesSilently s) (λ none. refuses UnknownLink)
+      (λ there. cond_both (not (is_up s.up m.link)) (refused s LinkDown) _ (RefusesSilently s) (λ down. refuses LinkDown) (λ up. relay_refuses m (route_to (place_of r s) m.to)))
   outcome_refuses (events.Tick n) =
       cond_both (nat_lt (2 ^ 62) n) (refused s BadMoment) _ (RefusesSilently s) (λ above. refuses BadMoment)
       (λ most. cond_both (nat_lt n s.moment) (refused s Late) _ (RefusesSilently s) (λ below. refuses Late) (λ later refusal is. cc))

@@ -7,6 +7,7 @@ pub mod Outputs
 pub mod Paths
 pub mod Places
 pub mod Routing
+pub mod Relays
 pub mod RowLaws
 pub mod Soundness
 pub mod StampLaws

@@ -1,5 +1,6 @@
 -- What an event is answered, which errors it meets, and what is known after it.
-use Rattle.std.specs.Prelude.{ℕ, Bool, true, false, List, [], filter_map, Option, Some}
+use Rattle.std.specs.Prelude.{ℕ, Bool, true, false, List, [], filter_map, Option}
+use Rattle.std.specs.Option.{option_map}
 use Rattle.std.specs.declared.net.ipv4_addr.Ipv4Addr.{Ipv4Addr}
 use Rattle.rsvp_objects.specs.declared.values.ErrorSpec.{ErrorSpec}
 use Rattle.rsvp_objects.specs.declared.values.Session.{Session}
@@ -8,6 +9,7 @@ use Rattle.rsvp_contents.specs.declared.messages.Content.{Content}
 use Rattle.rsvp_contents.specs.declared.messages.Content.TheVariants as contents
 use Rattle.rsvp_contents.specs.declared.message.Reading.TheVariants as readings
 use Rattle.router_events.specs.Frame.TheVariants as frames
+use Rattle.lsr_facts.specs.Origins.{via_link}
 use Rattle.lsr_facts.specs.declared.errors.RsvpError.{RsvpError}
 use Rattle.lsr_facts.specs.declared.facts.Facts.{Facts}
 use Rattle.lsr_facts.specs.declared.key.Item.{Item}
@@ -59,10 +61,10 @@ abbrev pub path_err : Session → Template → Option (List ℕ) → ErrorSpec �
 path_err session sender tspec error =
     contents.PathErr (record { session = session; error = error; sender = sender; tspec = tspec })
 
--- An error of a path, told to one of its origins, where there is a way to it (RFC 2205, 3.1.7): to a neighbour there is.
+-- An error of a path, told to one of its origins, where that is a neighbour (RFC 2205, 3.1.7). No path has another yet.
 abbrev pub told_to : Key → Option (List ℕ) → ErrorSpec → Ipv4Addr × Origin → Option Output
 told_to key tspec error origin =
-    Some (sent_by origin.1.link (path_err key.session (record key.sender { sender = origin.0 }) tspec error))
+    option_map (λ link. sent_by link (path_err key.session (record key.sender { sender = origin.0 }) tspec error)) (via_link origin.1.via)
 
 -- and to each of them, in the order of their senders
 abbrev pub told_upstream : Key → PathFact → Option (List ℕ) → ErrorSpec → List Output

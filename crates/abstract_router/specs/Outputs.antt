@@ -12,6 +12,7 @@ use Rattle.rsvp_contents.specs.declared.message.Reading.TheVariants as readings
 use Rattle.router_events.specs.Frames.{frame_bytes}
 use Rattle.router_events.specs.Frame.{Frame}
 use Rattle.router_events.specs.Frame.TheVariants as frames
+use Rattle.router_events.specs.Payload.TheVariants as payloads
 use Rattle.lsr_facts.specs.Orders.{item_cmp}
 use Rattle.lsr_facts.specs.declared.facts.Facts.{Facts}
 use Rattle.lsr_facts.specs.declared.key.Item.{Item}
@@ -30,10 +31,17 @@ tear_of (contents.Resv v) =
     else Some (contents.ResvTear (record { session = v.session; hop = v.hop; style = v.style; filters = map (λ d. d.filter) v.descriptors }))
 tear_of _ = None
 
--- the tear of what was sent in a frame over a link: it goes the same way
+-- The tear of what was sent in a frame over a link: it goes the same way, under the same labels, or to the same router.
+-- What others sent is none of this router's.
 abbrev pub tear_by : ℕ → Frame → Option Output
 tear_by link (frames.Hop (readings.Whole content)) = option_map (sent_by link) (tear_of content)
 tear_by link (frames.Hop (readings.Unknown content class ctype)) = None
+tear_by link (frames.Labelled stack (payloads.Message content)) =
+    option_map (λ tear. record { link = link; frame = frames.Labelled stack (payloads.Message tear) }) (tear_of content)
+tear_by link (frames.Labelled stack payload) = None
+tear_by link (frames.Routed to limit content) =
+    option_map (λ tear. record { link = link; frame = frames.Routed to limit tear }) (tear_of content)
+tear_by link (frames.Relayed to limit message) = None
 
 -- the frames are the same, byte for byte
 abbrev pub is_same_frame : Frame → Frame → Bool

@@ -27,6 +27,7 @@ use Rattle.lsr_facts.specs.declared.key.Key.{Key}
 use Rattle.lsr_facts.specs.declared.path_fact.Origin.{Origin}
 use Rattle.lsr_facts.specs.declared.path_fact.PathFact.{PathFact}
 use Rattle.lsr_facts.specs.declared.path_fact.Role.{Role}
+use Rattle.lsr_facts.specs.declared.path_fact.Via.TheVariants as vias
 use Rattle.lsr_facts.specs.declared.path_fact.Role.TheVariants as roles
 use Rattle.lsr_facts.specs.declared.reply.Reply.TheVariants as replies
 use Rattle.lsr_facts.specs.declared.router.Router.{Router}
@@ -102,7 +103,7 @@ rest_of (Link link rest) = rest
 
 -- the origin that a Path is which comes at a moment: the neighbour that sent it
 abbrev pub origin_of : ℕ → ℕ → Path → Origin
-origin_of moment link p = record { link = link; hop = p.hop; expiry = moment + lifetime p.time.refresh_ms }
+origin_of moment link p = record { via = vias.Link link; hop = p.hop; expiry = moment + lifetime p.time.refresh_ms }
 
 -- the origins of a path that may be known
 abbrev pub origins_of : Option PathFact → List (Ipv4Addr × Origin)

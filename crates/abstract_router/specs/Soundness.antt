@@ -17,13 +17,20 @@ use Rattle.lsr_facts.specs.declared.path_fact.Origin.{Origin}
 use Rattle.lsr_facts.specs.declared.path_fact.PathFact.{PathFact}
 use Rattle.lsr_facts.specs.declared.path_fact.Role.{Role}
 use Rattle.lsr_facts.specs.declared.path_fact.Role.TheVariants as roles
+use Rattle.lsr_facts.specs.declared.path_fact.Via.{Via}
+use Rattle.lsr_facts.specs.declared.path_fact.Via.TheVariants as vias
 use Rattle.lsr_facts.specs.declared.router.Router.{Router}
 use Rattle.abstract_router.specs.Wanted.{wanted_of}
+
+-- The Paths of an origin come over a link of the router. None come through a stack of labels yet.
+abbrev pub IsVia : Router → Via → Type 0
+IsVia r (vias.Link number) = HasLink r number
+IsVia r vias.Stack = ⊥
 
 -- an origin at a moment: over a link of the router, and its expiry isn't below the moment (at refresh 0 they are
 -- equal)
 pub record IsOrigin (r : Router) (moment : ℕ) (origin : Origin) : Type 0 where
-  pub over_link : HasLink r origin.link
+  pub over_link : IsVia r origin.via
   pub live : moment ≤ origin.expiry
 
 -- The origins of a path that begins elsewhere: one, under its own sender.

@@ -5,16 +5,19 @@ use Rattle.abstract_router.specs.Outcomes.{Outcome, refused, silent}
 use Rattle.abstract_router.specs.Outputs.{outputs_of}
 use Rattle.abstract_router.specs.Paths.{path_arrival, failed, unknown_object}
 use Rattle.abstract_router.specs.Places.{is_up}
+use Rattle.abstract_router.specs.Relays.{is_spent, relay}
 use Rattle.abstract_router.specs.Stamps.{with_stamps}
 use Rattle.abstract_router.specs.Tears.{path_tear_arrival, path_err_arrival}
 use Rattle.abstract_router.specs.Time.{tick}
 use Rattle.lsr_facts.specs.Routers.{link_at}
 use Rattle.lsr_facts.specs.declared.facts.Facts.{Facts}
 use Rattle.lsr_facts.specs.declared.key.Key.{Key}
-use Rattle.lsr_facts.specs.declared.refusal.Refusal.TheVariants.{LinkDown, Unread, UnknownLink}
+use Rattle.lsr_facts.specs.declared.refusal.Refusal.TheVariants.{LinkDown, NoMatch, NoMerge, Unread, UnknownLink}
 use Rattle.lsr_facts.specs.declared.reply.Reply.TheVariants as replies
 use Rattle.lsr_facts.specs.declared.router.Router.{Router}
-use Rattle.router_events.specs.declared.events.Arrive.{Arrive}
+use Rattle.router_events.specs.declared.ways.ArrivalWay.{ArrivalWay}
+use Rattle.router_events.specs.declared.ways.ArrivalWay.TheVariants as ways
+use Rattle.router_events.specs.declared.ways.Arrive.{Arrive}
 use Rattle.router_events.specs.declared.events.Event.TheVariants as events
 use Rattle.router_events.specs.declared.events.Event.{Event}
 use Rattle.router_events.specs.declared.events.Made.{Made}
@@ -50,12 +53,19 @@ abbrev pub reading_arrival : Router → Facts → ℕ → Reading → Outcome
 reading_arrival r s link (readings.Whole content) = message_arrival r s link content
 reading_arrival r s link (readings.Unknown content class ctype) = unknown_arrival r s link content class ctype
 
+-- What a message does, by the way in which it came. No path has merged here yet for which one comes through a stack of
+-- labels, and no LSP is repaired for which one comes in a Routed frame.
+abbrev pub arrival_by : Router → Facts → ArrivalWay → ℕ → Reading → Outcome
+arrival_by r s ways.Hop link reading = reading_arrival r s link reading
+arrival_by r s ways.Stack link reading = refused s NoMerge
+arrival_by r s ways.Routed link reading = refused s NoMatch
+
 -- A message that comes over no link of this router, or over one that is down, is refused.
 unfoldable pub arrival : Router → Facts → Arrive → Outcome
 arrival r s a =
     if is_none (link_at r a.link) then refused s UnknownLink
     else if not (is_up s.up a.link) then refused s LinkDown
-    else reading_arrival r s a.link a.reading
+    else arrival_by r s a.way a.link a.reading
 
 -- Start makes a cold router run; a running one stays as it is.
 abbrev pub started : Facts → Outcome
@@ -69,6 +79,7 @@ restarted s = silent replies.Done (record s { cold = true; paths = []; sent = []
 -- What an event does of itself.
 abbrev pub outcome : Router → Facts → Event → Outcome
 outcome r s (events.Arrive a) = arrival r s a
+outcome r s (events.Relay m) = relay r s m
 outcome r s (events.Tick n) = tick r s n
 outcome r s (events.LinkUp number) = link_change r s number true
 outcome r s (events.LinkDown number) = link_change r s number false
@@ -110,10 +121,11 @@ abbrev pub sent_in : Router → Facts → Outcome → Facts → List Output
 sent_in r before o after = if o.is_silent then [] else outputs_of r before o.errors o.due after
 
 -- One step, made: what the event does and what follows from it, its answer, and what is sent. While the router is
--- cold, no event but Start is one.
+-- cold, no event but Start is one; nor is a message for another router whose limit ran out.
 pub record Step (r : Router) (before : Facts) (made : Made) (after : Facts) : Type 0 where
   pub possible : IsEvent made.event
   pub awake : before.cold ≡ true → made.event ≡ events.Start
+  pub passes : is_spent r before made.event ≡ false
   pub chosen : IsLabelling r before after made.labels
   pub replied : made.reply ≡ (outcome r before made.event).reply
   pub changed : after ≡ known_after r before made.labels (outcome r before made.event)

@@ -7,9 +7,11 @@ use Rattle.std.specs.declared.net.ipv4_addr.Ipv4Addr.{Ipv4Addr}
 use Rattle.rsvp_contents.specs.declared.messages.PathErr.{PathErr}
 use Rattle.rsvp_contents.specs.declared.messages.PathTear.{PathTear}
 use Rattle.lsr_facts.specs.Orders.{address_cmp, key_cmp}
+use Rattle.lsr_facts.specs.Origins.{via_link}
 use Rattle.lsr_facts.specs.declared.facts.Facts.{Facts}
 use Rattle.lsr_facts.specs.declared.key.Key.{Key}
 use Rattle.lsr_facts.specs.declared.path_fact.Origin.{Origin}
+use Rattle.lsr_facts.specs.declared.path_fact.Via.{Via}
 use Rattle.lsr_facts.specs.declared.path_fact.PathFact.{PathFact}
 use Rattle.lsr_facts.specs.declared.refusal.Refusal.TheVariants.{NoMatch}
 use Rattle.abstract_router.specs.Changes.{with_path, without_path}
@@ -17,9 +19,13 @@ use Rattle.abstract_router.specs.Outcomes.{Outcome, done, lsp, refused, told_ups
 use Rattle.abstract_router.specs.Paths.{goes_on}
 use Rattle.lsr_facts.specs.Routers.{is_same}
 
+-- the origin is a neighbour over this link
+abbrev pub is_over : ℕ → Via → Bool
+is_over link via = option_map_or (λ number. number == link) (via_link via) false
+
 -- the origin is the neighbour of this address, over this link; its interface handle doesn't count
 abbrev pub is_from : ℕ → Ipv4Addr → Origin → Bool
-is_from link neighbour origin = (origin.link == link) && is_same origin.hop.address neighbour
+is_from link neighbour origin = is_over link origin.via && is_same origin.hop.address neighbour
 
 -- the path has the origin that a PathTear speaks of
 abbrev pub is_torn_by : ℕ → PathTear → PathFact → Bool

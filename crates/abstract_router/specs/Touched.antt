@@ -4,16 +4,11 @@ use Rattle.std.specs.FinMap.Entries.{find, where_key}
 use Rattle.std.specs.Option.{option_map}
 use Rattle.std.specs.declared.cmp.Ordering.{Ordering}
 use Rattle.lsr_facts.specs.Orders.{key_cmp}
+pub use Rattle.lsr_facts.specs.Orders.{key_of_item}
 use Rattle.lsr_facts.specs.declared.facts.Facts.{Facts}
-use Rattle.lsr_facts.specs.declared.key.Item.{Item}
-use Rattle.lsr_facts.specs.declared.key.Item.TheVariants.{Down}
 use Rattle.lsr_facts.specs.declared.key.Key.{Key}
 use Rattle.router_events.specs.declared.events.Output.{Output}
 use Rattle.abstract_router.specs.Outputs.{between, rests}
-
--- the LSP of an item
-abbrev pub key_of_item : Item → Key
-key_of_item (Down key link) = key
 
 -- what is known of the LSPs that are touched
 abbrev pub at_keys : (Key → Bool) → Facts → Facts

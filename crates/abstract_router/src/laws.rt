@@ -11,6 +11,7 @@ ghost use Rattle.router_events.specs.declared.events.Event.{Event};
 ghost use Rattle.router_events.specs.declared.events.Event.TheVariants as events;
 ghost use Rattle.router_events.specs.declared.events.Made.{Made};
 ghost use Rattle.router_events.specs.declared.events.Output.{Output};
+ghost use Rattle.abstract_router.specs.Relays.{is_spent};
 ghost use Rattle.abstract_router.specs.Steps.{IsEvent, IsLabelling, Step, known_after, outcome};
 
 /// A step is determined by the state, the event and the labels that are chosen: its answer, what is sent, and
@@ -21,17 +22,19 @@ pub fn one_step()
         Step r before one a → Step r before other b → (one ≡ other) × (a ≡ b) }
 {}
 
-/// A running router has a step for each event that can be, whichever labels are chosen for it, and some can be;
-/// a cold one has none but for its start.
+/// A running router has a step for each event that can be, but for a message for another router whose limit ran out;
+/// whichever labels are chosen for it, and some can be. A cold one has none but for its start.
 pub fn running_routers_take_every_event()
     ensures any { (r : Router) (before : Facts) (event : Event) (labels : List (Key × ℕ)) →
-        before.cold ≡ false → IsEvent event →
+        before.cold ≡ false → IsEvent event → is_spent r before event ≡ false →
         IsLabelling r before (known_after r before labels (outcome r before event)) labels →
         (made : Made) × (made.event ≡ event) × (made.labels ≡ labels)
         × (after : Facts) × Step r before made after }
     ensures some { (r : Router) (before : Facts) (event : Event) →
         (labels : List (Key × ℕ))
         × IsLabelling r before (known_after r before labels (outcome r before event)) labels }
+    ensures spent { (r : Router) (before : Facts) (made : Made) (after : Facts) →
+        Step r before made after → is_spent r before made.event ≡ false }
     ensures cold { (r : Router) (before : Facts) (made : Made) (after : Facts) →
         before.cold ≡ true → Step r before made after → made.event ≡ events.Start }
 {}

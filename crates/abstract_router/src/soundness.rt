@@ -2,15 +2,14 @@
 //! that does nothing.
 
 ghost use Rattle.std.specs.Prelude.{List, ℕ};
-ghost use Rattle.rsvp_contents.specs.declared.message.Reading.{Reading};
+ghost use Rattle.rsvp_contents.specs.Spelling.{SpellsReading};
 ghost use Rattle.rsvp_routes.specs.declared.prefix.Prefix.{Prefix};
-ghost use Rattle.router_events.specs.Frames.{SpellsFrame};
-ghost use Rattle.router_events.specs.Frame.TheVariants as frames;
 ghost use Rattle.lsr_facts.specs.Routers.{AreRoutes, IsRouter};
 ghost use Rattle.lsr_facts.specs.declared.facts.Facts.{Facts};
 ghost use Rattle.lsr_facts.specs.declared.router.Router.{Router};
 ghost use Rattle.router_events.specs.declared.events.Event.TheVariants as events;
 ghost use Rattle.router_events.specs.declared.events.Made.{Made};
+ghost use Rattle.router_events.specs.declared.ways.Arrive.{Arrive};
 ghost use Rattle.abstract_router.specs.Soundness.{IsSound};
 ghost use Rattle.abstract_router.specs.Steps.{opening, IsEvent, Run, Step};
 
@@ -25,9 +24,8 @@ pub fn every_run_stays_sound()
         Run r (opening r routes) run after → IsSound r after }
 {}
 
-/// What a frame spells can come: no datagram brings a message that steps leave out.
-pub fn what_a_frame_spells_can_come()
-    ensures { (bytes : List ℕ) (link : ℕ) (reading : Reading) →
-        SpellsFrame bytes (frames.Hop reading) →
-        IsEvent (events.Arrive (record { link = link; reading = reading })) }
+/// What bytes spell can come, whatever its way: no datagram brings a message that steps leave out.
+pub fn what_is_spelled_can_come()
+    ensures { (bytes : List ℕ) (arrive : Arrive) →
+        SpellsReading bytes arrive.reading → IsEvent (events.Arrive arrive) }
 {}

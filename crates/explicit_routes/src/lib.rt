@@ -12,6 +12,6 @@ mod routing;
 pub use abstract_router::{Frame, Output, Outputs};
 pub use fault::{RouteError, RouteFault};
 pub use hops::choose_hop;
-pub use places::{is_up, link_at};
+pub use places::{is_own, is_up, link_at};
 pub use records::{has_loop, has_room, push_hop};
 pub use routing::route_to;

@@ -30,7 +30,7 @@ fn is_link_address(router: &Router, address: Ipv4Addr) -> bool
 
 /// Whether an address is the router's own: its id, or its address on a link.
 #[tactic(auto, unfolding(abstract_router::specs::Places::is_own))]
-pub(crate) fn is_own(router: &Router, address: Ipv4Addr) -> bool
+pub fn is_own(router: &Router, address: Ipv4Addr) -> bool
     ensures { result ≡ is_own router.now address }
 {
     address == router.id || is_link_address(router, address)

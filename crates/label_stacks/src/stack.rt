@@ -36,6 +36,17 @@ impl Stack {
         Stack { entries }
     }
 
+    /// A copy of the stack. Takes no memory.
+    pub fn copied(&self) -> Stack
+        ensures { result ≡ self.now }
+    {
+        let mut entries = ArrayVec::new();
+        for entry in self.entries.as_slice() {
+            entries.push(*entry);
+        }
+        Stack::new(entries)
+    }
+
     /// The entries, the top first.
     pub fn as_slice(&self) -> &[StackEntry]
         ensures entries { result.now ≡ self.now }

@@ -36,8 +36,9 @@ pub const REFUSALS: &str = "\
   fault.
   See: RFC 2205, 3.1.3 to 3.1.8; RFC 3209, 3.1 and 3.2
 7 KindUnsupported
-  The message's type is none of 1 to 6, or the frame's or its payload's kind isn't known
-  here. Frames of kind 3, and labelled frames that carry a message, aren't taken yet.
+  The message's type is none of 1 to 6, or the frame doesn't take it; or the frame's or its
+  payload's kind isn't known here. A Routed frame (kind 3) takes Resv, PathErr and ResvTear.
+  A message whose labels end here isn't taken yet.
   What to do: turn off at the neighbour what sends it, such as Hello, Bundle or Srefresh; ResvConf
   (7) does no harm.
   In `frame LINK HEX` begin with 01 before a message, or with 02 before labels.
@@ -53,7 +54,9 @@ pub const REFUSALS: &str = "\
   What to do: shorten the route, or turn off the recording of routes where the tunnel begins.
   See: docs/WIRE.md (Limits); docs/WIRE.md (Frames)
 10 NoMatch
-  Nothing here is what the message speaks of. A PathTear and a ResvErr have to come from the
+  Nothing here is what the message speaks of, or no route leads to the router that a Routed
+  frame is for. One that is for this router would speak of a repair, and there is none yet.
+  A PathTear and a ResvErr have to come from the
   hop that their path comes from, over the same link; a PathErr, a Resv and a ResvTear over the
   link that their path leaves by. A Resv whose record has an address of this router is
   refused so too: it has been here before.
@@ -71,10 +74,10 @@ pub const REFUSALS: &str = "\
   What to do: take the link up first: `up LINK`. `show links` says which links are up.
   See: docs/ROUTER.md (A message comes)
 13 HopLimit
-  The frame would go on, but the TTL of its label is 0 or 1: it was passed on as often as
-  that lets it be, so it may be going round in a loop.
+  The frame would go on, but the TTL of its label, or the limit of a Routed frame, is 0 or 1:
+  it was passed on as often as that lets it be, so it may be going round in a loop.
   What to do: look for a loop in the routes of the routers that it passes; without one, let its
-  sender begin with a greater TTL.
+  sender begin with a greater TTL or limit.
   See: RFC 3032, 2.4; docs/PROGRAM.md (`lsr step`: whole frames)
 14 NoLabel
   Nothing is done here with the frame's top label, or with the next one where those above it

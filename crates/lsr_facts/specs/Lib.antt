@@ -2,5 +2,6 @@ pub mod Errors
 pub mod Lifetimes
 pub mod OrderLaws
 pub mod Orders
+pub mod Origins
 pub mod Refusals
 pub mod Routers

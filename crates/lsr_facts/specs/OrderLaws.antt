@@ -13,8 +13,8 @@ use Rattle.rsvp_contents.specs.Below.objects.declared.values.Template.{Template}
 use Rattle.rsvp_contents.specs.Below.routes.declared.prefix.Prefix.{Prefix}
 use Rattle.lsr_facts.specs.declared.key.Key.{Key}
 use Rattle.lsr_facts.specs.declared.key.Item.{Item}
-use Rattle.lsr_facts.specs.declared.key.Item.TheVariants.{Down}
-use Rattle.lsr_facts.specs.Orders.{address_cmp, session_cmp, template_cmp, key_cmp, item_cmp, prefix_cmp}
+use Rattle.lsr_facts.specs.declared.key.Item.TheVariants.{Down, Backup}
+use Rattle.lsr_facts.specs.Orders.{address_cmp, session_cmp, template_cmp, key_cmp, key_of_item, item_cmp, prefix_cmp}
 
 -- two orders, one after the other, tell pairs apart: so also records, through their parts
 exact_parts : {A B X : Type 0} (P : A → A → Ordering) (Q : B → B → Ordering) (first : X → A) (second : X → B) (whole : A × B → X) → ((x : X) → whole (first x, second x) ≡ x) → CmpEqualImpliesEq P → CmpEqualImpliesEq Q → CmpEqualImpliesEq (λ (x y : X). ordering_then (P (first x) (first y)) (Q (second x) (second y)))
@@ -47,21 +47,29 @@ key_total = then_total (on_total (λ (k : Key). k.session) session_total) (on_to
 pub key_exact : CmpEqualImpliesEq key_cmp
 key_exact = exact_parts session_cmp template_cmp (λ k. k.session) (λ k. k.sender) (λ p. record { session = p.0; sender = p.1 }) (λ k. refl) session_exact template_exact
 
--- an item's parts
-abbrev key_part : Item → Key
-key_part (Down key link) = key
+-- an item's parts: its kind, its key, and its link or bypass
+abbrev kind_part : Item → ℕ
+kind_part (Down key link) = 0
+kind_part (Backup key bypass) = 1
 
-abbrev link_part : Item → ℕ
-link_part (Down key link) = link
+abbrev number_part : Item → ℕ
+number_part (Down key link) = link
+number_part (Backup key bypass) = bypass
 
-cmp_parts : (a b : Item) → ordering_then (key_cmp (key_part a) (key_part b)) (nat_cmp (link_part a) (link_part b)) ≡ item_cmp a b
+cmp_parts : (a b : Item) → ordering_then (nat_cmp (kind_part a) (kind_part b)) (ordering_then (key_cmp (key_of_item a) (key_of_item b)) (nat_cmp (number_part a) (number_part b))) ≡ item_cmp a b
 cmp_parts (Down a link) (Down b other) = refl
+cmp_parts (Down a link) (Backup b other) = refl
+cmp_parts (Backup a bypass) (Down b other) = refl
+cmp_parts (Backup a bypass) (Backup b other) = refl
 
 pub item_total : IsTotalOrder item_cmp
-item_total = subst IsTotalOrder (λ i a b. cmp_parts a b i) (then_total (on_total key_part key_total) (on_total link_part nat_cmp_total))
+item_total = subst IsTotalOrder (λ i a b. cmp_parts a b i) (then_total (on_total kind_part nat_cmp_total) (then_total (on_total key_of_item key_total) (on_total number_part nat_cmp_total)))
 
 pub item_exact : CmpEqualImpliesEq item_cmp
 item_exact (Down a link) (Down b other) e = ap (λ (p : Key × ℕ). Down p.0 p.1) (exact_pairs key_cmp nat_cmp key_exact exact_unsigned (a, link) (b, other) e)
+item_exact (Down a link) (Backup b other) e = cc
+item_exact (Backup a bypass) (Down b other) e = cc
+item_exact (Backup a bypass) (Backup b other) e = ap (λ (p : Key × ℕ). Backup p.0 p.1) (exact_pairs key_cmp nat_cmp key_exact exact_unsigned (a, bypass) (b, other) e)
 
 pub prefix_total : IsTotalOrder prefix_cmp
 prefix_total = then_total (on_total (λ (p : Prefix). p.address) address_total) (on_total (λ (p : Prefix). p.length) nat_cmp_total)

@@ -3,13 +3,14 @@ use Rattle.std.specs.Ordering.{nat_cmp, ordering_then}
 use Rattle.std.specs.Cmp.Lexicographic.{slice_cmp}
 use Rattle.std.specs.Net.Addr.{ipv4_octets}
 use Rattle.std.specs.declared.cmp.Ordering.{Ordering}
+use Rattle.std.specs.declared.cmp.Ordering.TheVariants.{Less, Greater}
 use Rattle.std.specs.declared.net.ipv4_addr.Ipv4Addr.{Ipv4Addr}
 use Rattle.rsvp_contents.specs.Below.objects.declared.values.Session.{Session}
 use Rattle.rsvp_contents.specs.Below.objects.declared.values.Template.{Template}
 use Rattle.rsvp_contents.specs.Below.routes.declared.prefix.Prefix.{Prefix}
 use Rattle.lsr_facts.specs.declared.key.Key.{Key}
 use Rattle.lsr_facts.specs.declared.key.Item.{Item}
-use Rattle.lsr_facts.specs.declared.key.Item.TheVariants.{Down}
+use Rattle.lsr_facts.specs.declared.key.Item.TheVariants.{Down, Backup}
 
 -- addresses by their octets, the highest first
 abbrev pub address_cmp : Ipv4Addr → Ipv4Addr → Ordering
@@ -28,9 +29,17 @@ template_cmp a b = ordering_then (address_cmp a.sender b.sender) (nat_cmp a.lsp 
 abbrev pub key_cmp : Key → Key → Ordering
 key_cmp a b = ordering_then (session_cmp a.session b.session) (template_cmp a.sender b.sender)
 
--- items by key, link
+-- items by kind, key, and then link or bypass
 abbrev pub item_cmp : Item → Item → Ordering
 item_cmp (Down a link) (Down b other) = ordering_then (key_cmp a b) (nat_cmp link other)
+item_cmp (Down a link) (Backup b other) = Less
+item_cmp (Backup a bypass) (Down b other) = Greater
+item_cmp (Backup a bypass) (Backup b other) = ordering_then (key_cmp a b) (nat_cmp bypass other)
+
+-- the LSP of an item
+abbrev pub key_of_item : Item → Key
+key_of_item (Down key link) = key
+key_of_item (Backup key bypass) = key
 
 -- prefixes by address, length
 abbrev pub prefix_cmp : Prefix → Prefix → Ordering

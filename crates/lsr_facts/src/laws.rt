@@ -23,7 +23,7 @@ pub fn keys_are_in_order()
     ensures exact { (a b : Key) → key_cmp a b ≡ Equal → a ≡ b }
 {}
 
-/// Items stand in the order of key and link. It is total, and items that it doesn't tell apart are equal.
+/// Items stand in the order of their kinds, then of key, and then of link or bypass. It is total, and items that it doesn't tell apart are equal.
 pub fn items_are_in_order()
     ensures order { ⟦<Item as Ord>⟧.cmp ≡ item_cmp }
     ensures total { IsTotalOrder item_cmp }

@@ -21,7 +21,7 @@ pub use facts::Facts;
 pub use key::{Item, Key};
 pub use lifetimes::{has_waited, keep_living, lives_on};
 pub use node::Node;
-pub use path_fact::{Origin, PathFact, Role};
+pub use path_fact::{Origin, PathFact, Role, Via};
 pub use refusal::Refusal;
 pub use reply::Reply;
 pub use router::{LabelRange, Link, Router};

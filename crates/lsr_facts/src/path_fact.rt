@@ -16,12 +16,45 @@ pub enum Role {
     Head,
 }
 
-/// Where a path comes from: the neighbour that sent its Path, and until when that counts.
+/// How the Paths of an origin come.
+#[derive(Clone, Copy, Debug, PartialEq, Eq)]
+pub enum Via {
+    /// From a neighbour, over the link of this number.
+    Link(u16),
+    /// Through stacks of labels that end here: over a bypass tunnel (RFC 4090, 6.4.3).
+    Stack,
+}
+
+impl Via {
+    ghost use Rattle.lsr_facts.specs.Origins.{number_of, via_link};
+
+    /// The number of the link to the neighbour; `None` for Paths that come through stacks.
+    pub fn link(self) -> Option<u16>
+        ensures { result ≡ via_link self }
+    {
+        match self {
+            Via::Link(number) => Some(number),
+            Via::Stack => None,
+        }
+    }
+
+    /// The number of that link, 0 where there is none: no link has this number.
+    pub fn number(self) -> u16
+        ensures { result ≡ number_of self }
+    {
+        match self {
+            Via::Link(number) => number,
+            Via::Stack => 0,
+        }
+    }
+}
+
+/// Where a path comes from: who sent its Path, and until when that counts.
 #[derive(Clone, Copy, Debug, PartialEq, Eq)]
 pub struct Origin {
-    /// The number of the link that it came over.
-    pub link: u16,
-    /// The neighbour, as it named itself.
+    /// How its Paths come.
+    pub via: Via,
+    /// The router that sent it, as it named itself.
     pub hop: Hop,
     /// The moment in milliseconds at which it counts no more, unless it is refreshed before.
     pub expiry: u64,

@@ -2,6 +2,8 @@
 use Rattle.std.specs.Prelude.{◌≡◌, ◌-◌, ℕ, List, ◌∷◌, ◌++◌, [], length, drop, map, flat_map, T, Result, Ok, Err}
 use Rattle.std.specs.FinMap.Entries.{is_sorted}
 use Rattle.std.specs.Ordering.{nat_cmp}
+use Rattle.datagrams.specs.declared.datagram.Passed.{Passed}
+use Rattle.datagrams.specs.declared.datagram.Passed.TheVariants as passes
 use Rattle.forwarding_table.specs.declared.action.Action.{Action}
 use Rattle.router_events.specs.declared.events.Made.{Made}
 use Rattle.router_events.specs.declared.events.Event.{Event}
@@ -16,12 +18,9 @@ use Rattle.abstract_lsr.specs.Preempting.{claims_of}
 use Rattle.abstract_lsr.specs.States.{State}
 use Rattle.router_machine.specs.Below.labels.Rows.{IsTableOf}
 use Rattle.router_machine.specs.States.{RouterState}
-use Rattle.router_machine.specs.Machines.{IsDatagramServed, IsEventLeft, IsTaken}
+use Rattle.router_machine.specs.Machines.{IsDatagramServed, IsEventServed}
 use Rattle.router_machine.specs.declared.inputs.Served.{Served}
 use Rattle.router_machine.specs.declared.inputs.Served.TheVariants as serves
-use Rattle.router_machine.specs.declared.passing.Passed.{Passed}
-use Rattle.router_machine.specs.declared.passing.Passed.TheVariants as passes
-use Rattle.wire_frames.specs.Frames.{IsWhole}
 use Rattle.lsr_text.specs.Answers.{answer_text, refusal_line, replies_text}
 use Rattle.lsr_text.specs.FrameLines.{delivery_line, sent_line}
 use Rattle.lsr_text.specs.Rows.{link_line, resvs_text, table_text}
@@ -41,13 +40,13 @@ latest replies = drop (length replies - 32) replies
 -- An event: it makes its step; or it is left out, and leaves the router as it was. Memory may run out only for one that
 -- isn't silent, while the router runs.
 pub record TakesEvent (before : RouterState) (event : Event) (answer : Result Made Refusal) (after : RouterState) : Type 0 where
-  pub taken : IsTaken before.router before.state (λ e. e ≡ event) (IsEventLeft before.router before.state event) after.state answer
+  pub served : IsEventServed before.router before.state event after.state answer
   pub router : after.router ≡ before.router
 
 -- A datagram that came over a link: the event that it is makes its step; or it is a labelled frame, and is passed on or
 -- delivered; or it is left out. Only a step changes the router.
 pub record TakesDatagram (before : RouterState) (link : ℕ) (datagram : List ℕ) (answer : Result Served Refusal) (after : RouterState) : Type 0 where
-  pub taken : IsDatagramServed before.router before.state link datagram after.state answer
+  pub served : IsDatagramServed before.router before.state link datagram after.state answer
   pub router : after.router ≡ before.router
 
 -- what is answered, without what is sent
@@ -72,16 +71,6 @@ abbrev pub served_text : Result Served Refusal → List ℕ
 served_text (Ok (serves.Made made)) = answer_text (Ok made)
 served_text (Ok (serves.Passed passed)) = passed_text passed
 served_text (Err refusal) = refusal_line refusal
-
--- a frame that is sent on can be written
-abbrev pub IsWholePassed : Passed → Type 0
-IsWholePassed (passes.Sent link frame) = IsWhole frame
-IsWholePassed (passes.Delivered payload) = Unit {0}
-
-abbrev pub IsWholeServed : Result Served Refusal → Type 0
-IsWholeServed (Ok (serves.Made made)) = Unit {0}
-IsWholeServed (Ok (serves.Passed passed)) = IsWholePassed passed
-IsWholeServed (Err refusal) = Unit {0}
 
 -- the last replies then: a refusal is one, and a frame that is sent on or delivered has none
 abbrev pub remembered : List Reply → Result Served Refusal → List Reply

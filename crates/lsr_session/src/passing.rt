@@ -1,6 +1,6 @@
 //! What is printed of labelled frames.
 ghost use Rattle.std.specs.Prelude.{◌≡◌, IfOk, string_bytes};
-ghost use Rattle.lsr_session.specs.Requests.{IsWholePassed, passed_text};
+ghost use Rattle.lsr_session.specs.Requests.{passed_text};
 
 use lsr_text::{push_delivery, push_sent};
 use router_machine::Passed;
@@ -8,7 +8,6 @@ use std::alloc::{AllocError, Global};
 
 /// The line of what became of a labelled frame. The only error is that memory ran out.
 pub(crate) fn passed_text(alloc: Global, passed: &Passed) -> Result<String, AllocError>
-    requires { IsWholePassed passed.now }
     ensures { IfOk result (λ text. string_bytes text ≡ passed_text passed.now) }
 {
     let mut text = String::new(alloc);

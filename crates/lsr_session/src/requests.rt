@@ -2,7 +2,7 @@
 ghost use Rattle.std.specs.Prelude.{◌≡◌, ◌∷◌, ◌++◌, ℕ, List, [], IfOk, OnErr, string_bytes};
 ghost use Rattle.lsr_lines.specs.Steps.{IsUntold};
 ghost use Rattle.lsr_text.specs.Answers.{answer_text, replies_text};
-ghost use Rattle.lsr_session.specs.Requests.{IsWholePassed, IsWholeServed, PrintsAnswer, PrintsArrival, PrintsDatagram, PrintsEvent, TakesDatagram, TakesEvent, latest, passed_text, remembered, reply_of, served_text};
+ghost use Rattle.lsr_session.specs.Requests.{PrintsAnswer, PrintsArrival, PrintsDatagram, PrintsEvent, TakesDatagram, TakesEvent, latest, passed_text, remembered, reply_of, served_text};
 
 use crate::passing::passed_text;
 use crate::shown::{show_links, show_paths, show_resvs, show_table};
@@ -117,8 +117,7 @@ fn tell_passed(
     recent: HeapCircularBuffer<Reply>,
     passed: Passed,
 ) -> (Session, Result<String, AllocError>)
-    requires room { recent.capacity ≡ 32 }
-    requires whole { IsWholePassed passed }
+    requires { recent.capacity ≡ 32 }
     ensures session { result.0 ≡ record { router = router; recent = recent.items } }
     ensures text { IfOk result.1 (λ text. string_bytes text ≡ passed_text passed) }
 {
@@ -132,8 +131,7 @@ fn tell_served(
     recent: HeapCircularBuffer<Reply>,
     answer: Result<Served, Refusal>,
 ) -> (Session, Result<String, AllocError>)
-    requires room { recent.capacity ≡ 32 }
-    requires whole { IsWholeServed answer }
+    requires { recent.capacity ≡ 32 }
     ensures session { result.0 ≡ record { router = router; recent = remembered recent.items answer } }
     ensures text { IfOk result.1 (λ text. string_bytes text ≡ served_text answer) }
 {
@@ -160,8 +158,7 @@ fn take_datagram(
     link: u16,
     datagram: &[u8],
 ) -> (Machine, Result<Served, Refusal>)
-    ensures taken { TakesDatagram router link datagram.now result.1 result.0 }
-    ensures whole { IsWholeServed result.1 }
+    ensures { TakesDatagram router link datagram.now result.1 result.0 }
 {
     router.serve_datagram(alloc, link, datagram)
 }

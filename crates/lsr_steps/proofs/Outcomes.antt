@@ -1,6 +1,7 @@
 -- Outcomes of paths: which are silent, for which something is due; and what they are for a label switching router.
-use Rattle.std.specs.Prelude.{◌≡◌, ◌&&◌, ◌==◌, ◌^◌, ℕ, Bool, true, false, not, length, nat_le, nat_lt, is_none, List, [], Option, Some, None, Result, Ok, Err}
+use Rattle.std.specs.Prelude.{◌≡◌, ◌&&◌, ◌==◌, ◌^◌, ℕ, Bool, true, false, not, length, nat_le, nat_lt, is_none, List, [], ◌∷◌, Option, Some, None, Result, Ok, Err}
 use Rattle.std.specs.FinMap.Entries.{find}
+use Rattle.std.specs.Option.{option_map_or}
 use Rattle.std.proofs.Common.{refl, sym, ap, subst, ◌∙◌}
 use Rattle.std.proofs.lemmas.Bool.{cond-false, cond-true, cond_both}
 use Rattle.rsvp_contents.specs.declared.messages.Path.{Path}
@@ -16,15 +17,19 @@ use Rattle.lsr_facts.specs.declared.errors.RsvpError.{RsvpError}
 use Rattle.lsr_facts.specs.declared.facts.Facts.{Facts}
 use Rattle.lsr_facts.specs.declared.key.Key.{Key}
 use Rattle.lsr_facts.specs.declared.path_fact.PathFact.{PathFact}
+use Rattle.lsr_facts.specs.declared.refusal.Refusal.TheVariants.{NoMatch}
 use Rattle.lsr_facts.specs.declared.reply.Reply.{Reply}
 use Rattle.lsr_facts.specs.declared.router.Router.{Router}
+use Rattle.router_events.specs.declared.ways.Relay.{Relay}
 use Rattle.resv_facts.specs.Reservations.{expire}
 use Rattle.resv_facts.specs.declared.resv_fact.ResvFact.{ResvFact}
 use Rattle.abstract_router.specs.Links.{link_change}
 use Rattle.abstract_router.specs.Outcomes as paths
 use Rattle.abstract_router.specs.Outcomes.{lsp}
 use Rattle.abstract_router.specs.Paths.{failed, has_loop, key_of, path_arrival, path_on_its_way, way_for}
-use Rattle.abstract_router.specs.Places.{place_of}
+use Rattle.abstract_router.specs.Places.{is_up, place_of}
+use Rattle.abstract_router.specs.Relays.{relay, relayed_by}
+use Rattle.abstract_router.specs.Routing.{route_to}
 use Rattle.abstract_router.specs.Tears.{is_torn_by, leaves_by, passed_on, path_err_arrival, path_tear_arrival, torn}
 use Rattle.abstract_router.specs.Time.{tick}
 use Rattle.abstract_lsr.specs.Arrivals.{is_done, labelled_path_arrival, moment_comes}
@@ -75,6 +80,17 @@ path_tear_timeless s link t = by (find key_cmp (lsp t.session t.sender) s.paths)
     by : (known : Option PathFact) → IsTimeless (torn s link t known)
     by None = refl
     by (Some fact) = cond_both (is_torn_by link t fact) _ _ IsTimeless (λ is. refl) (λ not. refl)
+
+-- nor for a message for another router,
+pub relay_timeless : (r : Router) (s : Facts) (m : Relay) → (relay r s m).due ≡ []
+unfolding relay
+relay_timeless r s m =
+    cond_both (is_none (link_at r m.link)) _ _ IsTimeless (λ none. refl)
+    (λ there. cond_both (not (is_up s.up m.link)) _ _ IsTimeless (λ down. refl) (λ up. by (route_to (place_of r s) m.to)))
+  where
+    by : (way : Option ℕ) → IsTimeless (option_map_or (λ link. paths.done (relayed_by m link ∷ []) s) way (paths.refused s NoMatch))
+    by None = refl
+    by (Some link) = refl
 
 -- nor for a link.
 pub link_timeless : (r : Router) (s : Facts) (number : ℕ) (is_up : Bool) → (link_change r s number is_up).due ≡ []

@@ -2,10 +2,11 @@
 
 ghost use Rattle.std.specs.Prelude.{◌≡◌, ◌≢◌, IfOk, OnErr, false};
 ghost use Rattle.rsvp_contents.specs.Spelling.{IsMessage};
-ghost use Rattle.abstract_lsr.specs.Arrivals.{arrival, message_arrival, outcome, reading_arrival, unknown_arrival};
+ghost use Rattle.abstract_lsr.specs.Arrivals.{arrival, arrival_by, message_arrival, outcome, reading_arrival, unknown_arrival};
 ghost use Rattle.abstract_lsr.specs.Outcomes.{of_paths};
 ghost use Rattle.abstract_lsr.specs.Soundness.{IsSound};
 ghost use Rattle.abstract_router.specs.Links.{link_change};
+ghost use Rattle.abstract_router.specs.Relays.{relay};
 ghost use Rattle.router_events.specs.declared.events.Event.TheVariants as events;
 ghost use Rattle.state_views.specs.StateDrafts.{IsStateDraft};
 ghost use Rattle.state_views.specs.Views.{known};
@@ -17,12 +18,12 @@ use crate::tears::resv_tear_arrival;
 use lsr_facts::{Refusal, Reply};
 use path_rules::{is_up, link_at};
 use resv_arrivals::{resv_arrival, unknown_resv};
-use router_events::{Arrive, Event, Outputs};
+use router_events::{ArrivalWay, Arrive, Event, Outputs, Relay};
 use router_steps::{
-    Edits, WholeView, link_change, path_err_arrival, path_tear_arrival, unknown_path_arrival,
+    Edits, WholeView, link_change, path_err_arrival, path_tear_arrival, relay, unknown_path_arrival,
 };
 use rsvp_contents::{Content, Reading};
-use state_views::{StateDraft, StateEdits, WholeState, of_paths, refused};
+use state_views::{StateDraft, StateEdits, StateView, WholeState, of_paths, refused};
 use std::alloc::{AllocError, Global};
 
 /// What a message does that is read whole.
@@ -105,6 +106,27 @@ fn reading_arrival<V: WholeView + WholeState>(
     }
 }
 
+/// What a message does that comes over a link which is up, by its way.
+fn arrival_by<V: WholeView + WholeState>(
+    alloc: Global,
+    view: &V,
+    arrive: &Arrive,
+) -> Result<StateDraft, AllocError>
+    requires { IsSound (V.router view.now) (known (V.facts view.now) (V.held view.now)) }
+    ensures draft { IfOk result (λ draft. IsStateDraft draft
+        (arrival_by (V.router view.now) (known (V.facts view.now) (V.held view.now))
+        arrive.now.way arrive.now.link arrive.now.reading)
+        (V.router view.now) (known (V.facts view.now) (V.held view.now))) }
+    ensures memory { OnErr result ((arrival_by (V.router view.now)
+        (known (V.facts view.now) (V.held view.now)) arrive.now.way arrive.now.link arrive.now.reading).is_silent ≡ false) }
+{
+    match arrive.way {
+        ArrivalWay::Hop => reading_arrival(alloc, view, arrive.link, &arrive.reading),
+        ArrivalWay::Stack => Ok(refused(alloc, view, Refusal::NoMerge)),
+        ArrivalWay::Routed => Ok(refused(alloc, view, Refusal::NoMatch)),
+    }
+}
+
 /// What a message does that comes over a link.
 #[tactic(auto, unfolding(abstract_lsr::specs::Arrivals::arrival))]
 fn arrival<V: WholeView + WholeState>(
@@ -126,7 +148,20 @@ fn arrival<V: WholeView + WholeState>(
     if !is_up(node.up, arrive.link) {
         return Ok(refused(alloc, view, Refusal::LinkDown));
     }
-    reading_arrival(alloc, view, arrive.link, &arrive.reading)
+    arrival_by(alloc, view, arrive)
+}
+
+/// What becomes of a message for another router: no reservation and no label changes.
+fn relays<V: StateView>(alloc: Global, view: &V, message: &Relay) -> Result<StateDraft, AllocError>
+    ensures draft { IfOk result (λ draft. IsStateDraft draft
+        (of_paths (known (V.facts view.now) (V.held view.now))
+        (relay (V.router view.now) (V.facts view.now) message.now))
+        (V.router view.now) (known (V.facts view.now) (V.held view.now))) }
+    ensures memory { OnErr result
+        ((relay (V.router view.now) (V.facts view.now) message.now).is_silent ≡ false) }
+{
+    let draft = relay(alloc, view, message)?;
+    Ok(of_paths(alloc, view, draft))
 }
 
 /// What it does that a link comes up or goes down: no reservation and no label changes.
@@ -166,6 +201,7 @@ pub fn draft_of<V: WholeView + WholeState>(
 {
     match event {
         Event::Arrive(arrive) => arrival(alloc, view, arrive),
+        Event::Relay(message) => relays(alloc, view, message),
         Event::Tick(moment) => moment_comes(alloc, view, *moment),
         Event::LinkUp(number) => link_changes(alloc, view, *number, true),
         Event::LinkDown(number) => link_changes(alloc, view, *number, false),

@@ -12,7 +12,7 @@ ghost use Rattle.state_views.specs.StateDrafts.{IsStateDraft};
 ghost use Rattle.state_views.specs.Views.{known};
 
 use lsr_facts::{PathFact, Refusal, Reply};
-use path_rules::{goes_on, lsp};
+use path_rules::{goes_on, is_from, lsp};
 use resv_arrivals::{resv_err_leaves_room, told_downstream};
 use router_events::{Output, Outputs};
 use router_steps::Edits;
@@ -25,8 +25,10 @@ use std::alloc::{AllocError, Global};
 fn is_from_origin(link: u16, error: &ResvErr, path: &PathFact) -> bool
     ensures { result ≡ is_from_origin link error.now path.now }
 {
-    path.origins.as_slice().iter().any(|origin| origin.1.link == link
-        && origin.1.hop.address == error.hop.address)
+    path.origins
+        .as_slice()
+        .iter()
+        .any(|origin| is_from(link, error.hop.address, &origin.1))
 }
 
 /// What comes of a descriptor of a ResvErr: `None` where it matches nothing here; else the ResvErr that goes on for its

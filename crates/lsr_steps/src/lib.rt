@@ -10,3 +10,4 @@ mod paths;
 mod tears;
 
 pub use arrivals::draft_of;
+pub use router_steps::is_spent;

@@ -1,11 +1,11 @@
 //! What is printed for the answer to an event or a datagram.
 ghost use Rattle.std.specs.Prelude.{◌≡◌, ◌++◌, OnOk, IfOk, string_bytes};
-ghost use Rattle.lsr_text.specs.Answers.{answer_text, output_line, refusal_line, replies_text, reply_line};
+ghost use Rattle.lsr_text.specs.Answers.{answer_text, refusal_line, replies_text, reply_line};
 
+use crate::frames::push_sent;
 use crate::names::refusal_name;
 use lsr_facts::{Refusal, Reply};
-use router_events::{Frame, Made, Output};
-use rsvp_messages::{Reading, write_message};
+use router_events::Made;
 use std::alloc::{AllocError, Global};
 use std::fmt::Write;
 
@@ -43,20 +43,6 @@ pub fn push_replies(text: &mut String, replies: &[Reply]) -> Result<(), AllocErr
     Ok(())
 }
 
-/// Appends the line of a frame that is sent: `tx LINK HEX`, the message of a Hop frame. The only error is that memory
-/// ran out.
-fn push_output(alloc: Global, text: &mut String, output: &Output) -> Result<(), AllocError>
-    ensures { OnOk result (string_bytes text.new ≡ string_bytes text.old ++ output_line output.now) }
-{
-    let mut bytes = Vec::new(alloc);
-    if let Frame::Hop(Reading::Whole(message)) = &output.frame {
-        write_message(message, &mut bytes)?;
-    }
-    let digits = hex::encode(alloc, bytes.as_slice())?;
-    let link = output.link;
-    write!(text, "tx {link} {digits}\n")
-}
-
 /// The lines of a step: its reply, and behind it what is sent, in order.
 fn made_text(alloc: Global, made: &Made) -> Result<String, AllocError>
     ensures { IfOk result (λ text. string_bytes text ≡ answer_text (Ok made.now)) }
@@ -64,7 +50,7 @@ fn made_text(alloc: Global, made: &Made) -> Result<String, AllocError>
     let mut text = String::new(alloc);
     push_reply(&mut text, made.reply)?;
     for output in made.outputs.as_slice() {
-        push_output(alloc, &mut text, output)?;
+        push_sent(alloc, &mut text, output.link, &output.frame)?;
     }
     Ok(text)
 }

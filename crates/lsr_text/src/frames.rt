@@ -1,11 +1,12 @@
 //! What is printed of a frame that is sent, and of a payload that is delivered.
-ghost use Rattle.std.specs.Prelude.{◌≡◌, ◌≤◌, ◌++◌, OnOk, length, string_bytes};
-ghost use Rattle.wire_frames.specs.Frames.{IsWhole};
-ghost use Rattle.lsr_text.specs.FrameLines.{content_of, delivery_line, sent_line, sent_word, shown_bytes};
+ghost use Rattle.std.specs.Prelude.{◌≡◌, ◌++◌, IfOk, OnOk, string_bytes};
+ghost use Rattle.lsr_text.specs.FrameLines.{delivery_line, sent_line, sent_word, shown_bytes};
 
+use frame_writer::write_frame;
+use link_frames::{Data, Frame, Reading};
+use rsvp_messages::write_message;
 use std::alloc::{AllocError, Global};
 use std::fmt::Write;
-use wire_frames::{Frame, Payload, write_frame};
 
 /// The word that the line of a frame begins with.
 fn sent_word(frame: &Frame) -> &'static str
@@ -13,52 +14,45 @@ fn sent_word(frame: &Frame) -> &'static str
 {
     match frame {
         Frame::Hop(_) => "tx",
-        Frame::Labelled(..) | Frame::Routed { .. } => "frame",
+        Frame::Labelled(..) | Frame::Routed { .. } | Frame::Relayed { .. } => "frame",
     }
 }
 
-/// What is shown of a frame whose bytes these are: of a Hop frame its message, which stands behind its kind.
-fn shown_bytes<'a>(frame: &Frame, bytes: &'a [u8]) -> &'a [u8]
-    requires { 1 ≤ length bytes.now }
-    ensures { result.now ≡ shown_bytes frame.now bytes.now }
+/// What is shown of a frame: of a Hop frame its message, nothing of one that was read in part; of another the whole.
+fn shown_bytes(alloc: Global, frame: &Frame) -> Result<Vec<u8>, AllocError>
+    ensures { IfOk result (λ bytes. bytes.items ≡ shown_bytes frame.now) }
 {
+    let mut bytes = Vec::new(alloc);
     match frame {
-        Frame::Hop(_) => &bytes[1..],
-        Frame::Labelled(..) | Frame::Routed { .. } => bytes,
+        Frame::Hop(Reading::Whole(message)) => write_message(message, &mut bytes)?,
+        Frame::Hop(Reading::Unknown(..)) => {}
+        Frame::Labelled(..) | Frame::Routed { .. } | Frame::Relayed { .. } => {
+            write_frame(frame, &mut bytes)?;
+        }
     }
+    Ok(bytes)
 }
 
 /// Appends the line of a frame that is sent: `tx LINK HEX`, the message of a Hop frame, or `frame LINK HEX`, the whole
-/// of another frame. The message of a Hop frame is whole. The only error is that memory ran out.
+/// of another frame. The only error is that memory ran out.
 pub fn push_sent(
     alloc: Global,
     text: &mut String,
     link: u16,
     frame: &Frame,
 ) -> Result<(), AllocError>
-    requires { IsWhole frame.now }
     ensures { OnOk result (string_bytes text.new ≡ string_bytes text.old ++ sent_line link frame.now) }
 {
-    let mut bytes = Vec::new(alloc);
-    write_frame(frame, &mut bytes)?;
+    let bytes = shown_bytes(alloc, frame)?;
     let word = sent_word(frame);
-    let digits = hex::encode(alloc, shown_bytes(frame, bytes.as_slice()))?;
+    let digits = hex::encode(alloc, bytes.as_slice())?;
     write!(text, "{word} {link} {digits}\n")
 }
 
-/// The bytes of a payload, of either kind.
-fn content_of(payload: &Payload) -> &[u8]
-    ensures { result.now ≡ content_of payload.now }
-{
-    match payload {
-        Payload::Bytes(content) | Payload::Message(content) => content.as_slice(),
-    }
-}
-
 /// Appends the line of a payload that is delivered: `deliver HEX`. The only error is that memory ran out.
-pub fn push_delivery(alloc: Global, text: &mut String, payload: &Payload) -> Result<(), AllocError>
+pub fn push_delivery(alloc: Global, text: &mut String, payload: &Data) -> Result<(), AllocError>
     ensures { OnOk result (string_bytes text.new ≡ string_bytes text.old ++ delivery_line payload.now) }
 {
-    let digits = hex::encode(alloc, content_of(payload))?;
+    let digits = hex::encode(alloc, payload.as_slice())?;
     write!(text, "deliver {digits}\n")
 }

@@ -40,7 +40,8 @@ newline at the very end begins no further line. Each line is one of these:
   rx LINK HEX       a message came over link LINK, 1 to 65535; HEX is its bytes in
                     hexadecimal digits of either case, two for each, and may be empty
   frame LINK HEX    a whole frame came over link LINK: its first byte is 01 before a message,
-                    02 before a payload under labels
+                    02 before a payload under labels, 03 before the address of the router that a
+                    message is for, how many routers may pass it on, and the message
   tick N            moment N came, in milliseconds, 0 to 18446744073709551615; the router is
                     opened at moment 0, and refuses N above 4611686018427387904
   up LINK           link LINK came up
@@ -62,7 +63,8 @@ What is printed for each of them but `show`:
   error CODE VALUE  it is an error of RSVP, which its sender is told
   refused N NAME    it was refused for the reason of this number and name, and nothing
                     changed: the run goes on with the next line
-  tx LINK HEX       behind that, each message that the router sends
+  tx LINK HEX       after that, each message that the router sends to a neighbour
+  frame LINK HEX    and each other frame, whole: a message for another router goes on
 
 What is printed for a frame under labels, in place of these:
   frame LINK HEX    it goes on over link LINK, as this frame
@@ -74,7 +76,7 @@ What to do next:
                            and of `frame` with what stands behind its first byte, 01
   refused 10 NoMatch       `show paths` and `show resvs` have what a message can speak of
   refused 12 LinkDown      `up LINK` first
-  refused 13 HopLimit      the frame's TTL ran out: look for a loop
+  refused 13 HopLimit      the frame's TTL or limit ran out: look for a loop
   refused 14 NoLabel       `show table` has the labels that frames may come under
   refused 24 UnknownLink   name a link of the configuration: `show links` has them
   refused 29 Late          a moment below the last one: go on from that

@@ -4,17 +4,20 @@ ghost use Rattle.std.specs.Prelude.{◌≡◌, IfOk};
 ghost use Rattle.explicit_routes.specs.Below.router.Tears.{is_from, is_torn_by, leaves_by, origins_without};
 
 use crate::wanted::goes_on;
-use lsr_facts::{Origin, PathFact};
+use lsr_facts::{Origin, PathFact, Via};
 use rsvp_contents::PathTear;
 use sorted_rows::{Table, TryCopy};
 use std::alloc::{AllocError, Global};
 use std::net::Ipv4Addr;
 
-/// Whether the origin is the neighbour of this address, over this link.
-fn is_from(link: u16, neighbour: Ipv4Addr, origin: &Origin) -> bool
+/// Whether the origin is the neighbour of this address, over this link. Its interface handle doesn't count.
+pub fn is_from(link: u16, neighbour: Ipv4Addr, origin: &Origin) -> bool
     ensures { result ≡ is_from link neighbour origin.now }
 {
-    origin.link == link && origin.hop.address == neighbour
+    match origin.via {
+        Via::Link(number) => number == link && origin.hop.address == neighbour,
+        Via::Stack => false,
+    }
 }
 
 /// Whether the path has the origin that a PathTear over this link speaks of: that of its sender, over the same

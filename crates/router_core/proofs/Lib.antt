@@ -1,3 +1,2 @@
 pub mod Planning
-pub mod Serving
 pub mod Starting

@@ -19,6 +19,7 @@ use Rattle.resv_facts.specs.declared.upstream.Upstream.{Upstream}
 use Rattle.router_events.specs.declared.events.Event.{Event}
 use Rattle.router_events.specs.declared.events.Event.TheVariants as events
 use Rattle.router_events.specs.declared.events.Output.{Output}
+use Rattle.abstract_router.specs.Relays.{is_spent}
 use Rattle.abstract_router.specs.Soundness.{ArePaths}
 use Rattle.abstract_router.specs.Stamps.{stamps_of}
 use Rattle.abstract_router.specs.Steps.{IsEvent}
@@ -117,7 +118,7 @@ module _ (r : Router) (s : State) (is : IsSound r s) (draft : StateDraft) (may :
       change = change_is edits claims are;
     }
 
-module _ (r : Router) (s : State) (event : Event) (draft : StateDraft) (runs : s.facts.cold ≡ false) (possible : IsEvent event) (is : IsStateDraft draft (outcome r s event) r s) where
+module _ (r : Router) (s : State) (event : Event) (draft : StateDraft) (runs : s.facts.cold ≡ false) (possible : IsEvent event) (passes : is_spent r s.facts event ≡ false) (is : IsStateDraft draft (outcome r s event) r s) where
   -- The plan of a silent event: nothing changes, and nothing is sent.
   silence : event ≢ events.Restart → draft.is_silent ≡ true → IsPlanOf (record { router = r; state = s }) event (record { reply = draft.reply; outputs = []; chosen = []; change = None })
   silence other silent =
@@ -127,6 +128,7 @@ module _ (r : Router) (s : State) (event : Event) (draft : StateDraft) (runs : s
         step = record {
           possible = possible;
           awake = λ cold. absurd (let e = sym runs ∙ cold in cc);
+          passes = passes;
           chosen = subst (λ b. MayChooseBy b r s.labels o.after.facts.paths []) (sym so) refl;
           replied = is.reply;
           changed = sym (silent_keeps r s event runs other so) ∙ sym (ap (λ b. if b then o.after else with_moments r s o (settled r [] o.after)) so);
@@ -159,6 +161,7 @@ module _ (r : Router) (s : State) (event : Event) (draft : StateDraft) (runs : s
         step = record {
           possible = possible;
           awake = λ cold. absurd (let e = sym runs ∙ cold in cc);
+          passes = passes;
           chosen = subst (λ b. MayChooseBy b r s.labels o.after.facts.paths plan.chosen) (sym so) sent.chosen;
           replied = sent.replied;
           changed = sent.changed ∙ sym (ap (λ b. if b then o.after else with_moments r s o (settled r plan.chosen o.after)) so);

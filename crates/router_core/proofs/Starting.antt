@@ -27,8 +27,8 @@ sound_stopped r s none is = record {
 
 -- a running router is restarted by one step
 pub restarts : (r : Router) (s : State) → s.facts.cold ≡ false → Step r s (quiet events.Restart) (record (emptied s) { facts = record (emptied s).facts { cold = true } })
-restarts r s runs = record { possible = tt; awake = λ cold. absurd (let e = sym runs ∙ cold in cc); chosen = refl; replied = refl; changed = refl; sent = refl }
+restarts r s runs = record { possible = tt; awake = λ cold. absurd (let e = sym runs ∙ cold in cc); passes = refl; chosen = refl; replied = refl; changed = refl; sent = refl }
 
 -- and a cold one is started by one
 pub starts : (r : Router) (s : State) → Step r (record s { facts = record s.facts { cold = true } }) (quiet events.Start) (record s { facts = record s.facts { cold = false } })
-starts r s = record { possible = tt; awake = λ cold. refl; chosen = refl; replied = refl; changed = refl; sent = refl }
+starts r s = record { possible = tt; awake = λ cold. refl; passes = refl; chosen = refl; replied = refl; changed = refl; sent = refl }

@@ -1,4 +1,3 @@
 pub mod Below
 pub mod Plans
-pub mod Serving
 pub mod States

@@ -1,12 +1,13 @@
 -- The plan of a step.
-use Rattle.std.specs.Prelude.{◌≡◌, false, [], IfSome}
+use Rattle.std.specs.Prelude.{◌≡◌, true, false, [], IfSome}
 use Rattle.std.specs.Option.{option_map_or}
 use Rattle.lsr_facts.specs.declared.refusal.Refusal.{Refusal}
-use Rattle.lsr_facts.specs.declared.refusal.Refusal.TheVariants.{NoMemory}
+use Rattle.lsr_facts.specs.declared.refusal.Refusal.TheVariants.{HopLimit, NoMemory}
 use Rattle.lsr_facts.specs.declared.reply.Reply.TheVariants as replies
 use Rattle.lsr_facts.specs.declared.router.Router.{Router}
 use Rattle.router_events.specs.declared.events.Event.{Event}
 use Rattle.router_events.specs.declared.events.Made.{Made}
+use Rattle.abstract_router.specs.Relays.{is_spent}
 use Rattle.abstract_lsr.specs.Arrivals.{outcome}
 use Rattle.abstract_lsr.specs.Labels.{IsLabelling}
 use Rattle.abstract_lsr.specs.Outcomes.{Outcome}
@@ -21,9 +22,12 @@ use Rattle.router_tables.specs.Changes.{IsChange, changed}
 use Rattle.router_tables.specs.States.{RouterState}
 use Rattle.router_core.specs.declared.plan.Plan.{Plan}
 
--- Why an event is left out: out of memory, and the event isn't silent. What is refused, and a start, take none.
+-- Why an event has no step: it is a message for another router whose limit ran out; or memory ran out, and it isn't
+-- silent. What is refused, and a start, take none.
 abbrev pub IsOutFor : RouterState → Event → Refusal → Type 0
-IsOutFor s event refusal = (refusal ≡ NoMemory) × ((outcome s.router s.state event).is_silent ≡ false)
+IsOutFor s event HopLimit = is_spent s.router s.state.facts event ≡ true
+IsOutFor s event NoMemory = (outcome s.router s.state event).is_silent ≡ false
+IsOutFor s event refusal = ⊥
 
 -- a step of this event that is done, and for which nothing is sent
 abbrev pub quiet : Event → Made

@@ -3,9 +3,7 @@
 
 mod plan;
 mod running;
-mod serve;
 
 pub use plan::Plan;
 pub use router_tables::{Tables, WholeState, WholeView};
 pub use running::{Cold, Running};
-pub use serve::read_event;

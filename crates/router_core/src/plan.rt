@@ -1,9 +1,11 @@
 //! A step that is made ready.
 
-ghost use Rattle.std.specs.Prelude.{◌≡◌, ◌≢◌, ◌||◌, Bool, IfOk, OnErr, false};
+ghost use Rattle.std.specs.Prelude.{◌≡◌, ◌≢◌, ◌||◌, Bool, Err, IfErr, IfOk, OnErr, false, true};
 ghost use Rattle.lsr_facts.specs.Orders.{key_cmp};
 ghost use Rattle.lsr_facts.specs.declared.key.Key.{Key};
 ghost use Rattle.router_events.specs.declared.events.Event.TheVariants as events;
+ghost use Rattle.lsr_facts.specs.declared.refusal.Refusal.TheVariants.{HopLimit};
+ghost use Rattle.abstract_router.specs.Relays.{is_spent};
 ghost use Rattle.abstract_router.specs.Soundness.{ArePaths};
 ghost use Rattle.abstract_router.specs.Steps.{IsEvent};
 ghost use Rattle.abstract_router.specs.Touched.{is_among};
@@ -13,12 +15,12 @@ ghost use Rattle.abstract_lsr.specs.Soundness.{AreLabelled, IsResv};
 ghost use Rattle.router_tables.specs.Below.views.Views.{edited};
 ghost use Rattle.std.specs.List.{AllByRecursion};
 ghost use Rattle.router_tables.specs.Below.labels.Rows.{AreTableEdits};
-ghost use Rattle.router_core.specs.Plans.{IsPlanOf, IsSendingPlan, drafted};
+ghost use Rattle.router_core.specs.Plans.{IsOutFor, IsPlanOf, IsSendingPlan, drafted};
 
 use claim_edits::bandwidth_edits;
 use forwarding_table::Action;
-use lsr_facts::{Key, Reply};
-use lsr_steps::draft_of;
+use lsr_facts::{Key, Refusal, Reply};
+use lsr_steps::{draft_of, is_spent};
 use router_events::{Event, Outputs};
 use router_tables::{
     Change, ChangedState, StateDraft, StateEdits, Tables, edits_leave_other_lsps, table_edits,
@@ -130,9 +132,11 @@ fn sending_plan(alloc: Global, tables: &Tables, draft: StateDraft) -> Result<Pla
     })
 }
 
-/// The plan of an event's step. The only error is out of memory, and it comes for no event that is silent.
-pub(crate) fn plan_of(alloc: Global, tables: &Tables, event: &Event) -> Result<Plan, AllocError>
-    requires { event.now ≢ events.Restart }
+/// The plan of the step of an event that has one. The only error is out of memory, and it comes for no event that is
+/// silent.
+fn plan_of_step(alloc: Global, tables: &Tables, event: &Event) -> Result<Plan, AllocError>
+    requires event { event.now ≢ events.Restart }
+    requires passes { is_spent tables.now.router tables.now.state.facts event.now ≡ false }
     ensures planned { IfOk result (IsPlanOf tables.now event.now) }
     ensures memory { OnErr result ((outcome tables.now.router tables.now.state event.now).is_silent ≡ false) }
 {
@@ -148,4 +152,18 @@ pub(crate) fn plan_of(alloc: Global, tables: &Tables, event: &Event) -> Result<P
         });
     }
     sending_plan(alloc, tables, draft)
+}
+
+/// The plan of an event's step. A message for another router whose limit ran out has none ([`Refusal::HopLimit`]); else
+/// the only error is [`Refusal::NoMemory`], and it comes for no event that is silent.
+pub(crate) fn plan_of(alloc: Global, tables: &Tables, event: &Event) -> Result<Plan, Refusal>
+    requires { event.now ≢ events.Restart }
+    ensures planned { IfOk result (IsPlanOf tables.now event.now) }
+    ensures out { IfErr result (IsOutFor tables.now event.now) }
+    ensures spent { is_spent tables.now.router tables.now.state.facts event.now ≡ true → result ≡ Err HopLimit }
+{
+    if is_spent(tables, event) {
+        return Err(Refusal::HopLimit);
+    }
+    Ok(plan_of_step(alloc, tables, event)?)
 }

@@ -1,10 +1,12 @@
 //! A router, cold or running.
 
-ghost use Rattle.std.specs.Prelude.{◌≡◌, ◌≢◌, IfErr, IfOk, false, true};
+ghost use Rattle.std.specs.Prelude.{◌≡◌, ◌≢◌, Err, IfErr, IfOk, OnErr, false, true};
 ghost use Rattle.lsr_facts.specs.Routers.{IsRouter};
 ghost use Rattle.router_events.specs.declared.events.Event.{Event};
 ghost use Rattle.router_events.specs.declared.events.Event.TheVariants as events;
 ghost use Rattle.resv_facts.specs.Claims.{reserved_of};
+ghost use Rattle.lsr_facts.specs.declared.refusal.Refusal.TheVariants.{HopLimit};
+ghost use Rattle.abstract_router.specs.Relays.{is_spent};
 ghost use Rattle.abstract_lsr.specs.Preempting.{claims_of};
 ghost use Rattle.abstract_lsr.specs.Soundness.{IsSound};
 ghost use Rattle.abstract_lsr.specs.Steps.{Step};
@@ -16,7 +18,7 @@ use crate::plan::{Plan, plan_of};
 use forwarding_table::Action;
 use lsr_config::Config;
 use lsr_facts::{Key, Refusal};
-use router_events::{Event, Outputs};
+use router_events::{Event, Made, Outputs};
 use router_tables::Tables;
 use sorted_rows::Table;
 use std::alloc::{AllocError, Global};
@@ -95,14 +97,16 @@ impl Cold {
 
 impl Running {
     /// The plan of an event's step, with all the memory that it takes. It changes nothing. It asks for an event that is no
-    /// restart ([`Running::restart`]). The only error is [`Refusal::NoMemory`]; a start, and an event that is refused,
-    /// always have their plan.
+    /// restart ([`Running::restart`]). A message for another router whose limit ran out has no step
+    /// ([`Refusal::HopLimit`]); else the only error is [`Refusal::NoMemory`]: a start, and an event that is refused, always
+    /// have their plan.
     pub fn plan(&self, alloc: Global, event: &Event) -> Result<Plan, Refusal>
         requires { event.now ≢ events.Restart }
         ensures planned { IfOk result (IsPlanOf self.now event.now) }
-        ensures memory { IfErr result (IsOutFor self.now event.now) }
+        ensures out { IfErr result (IsOutFor self.now event.now) }
+        ensures spent { is_spent self.now.router self.now.state.facts event.now ≡ true → result ≡ Err HopLimit }
     {
-        Ok(plan_of(alloc, &self.tables, event)?)
+        plan_of(alloc, &self.tables, event)
     }
 
     /// Makes the plan's own step: gives the labels that the plan chose and what it sends, and what is known then is what
@@ -126,6 +130,28 @@ impl Running {
             self.tables.make(change);
         }
         (chosen, outputs)
+    }
+
+    /// Serves an event: the step as it was made, with what the event is answered and what is sent. It asks for an
+    /// event that is no restart ([`Running::restart`]). What has no step is refused as [`Running::plan`] refuses it, and
+    /// then nothing changed.
+    pub fn serve_event(&mut self, alloc: Global, event: Event) -> Result<Made, Refusal>
+        requires { event ≢ events.Restart }
+        ensures event { IfOk result (λ made. made.event ≡ event) }
+        ensures step { IfOk result (λ made. Step self.old.router self.old.state made self.new.state) }
+        ensures router { self.new.router ≡ self.old.router }
+        ensures out { IfErr result (IsOutFor self.old event) }
+        ensures kept { OnErr result (self.new ≡ self.old) }
+    {
+        let plan = self.plan(alloc, &event)?;
+        let reply = plan.reply;
+        let (labels, outputs) = self.commit(plan);
+        Ok(Made {
+            event,
+            labels,
+            reply,
+            outputs,
+        })
     }
 
     /// The router loses what messages had set up in it, and is cold until it is started: links, static routes and

@@ -2,26 +2,20 @@
 
 ghost use Rattle.std.specs.Prelude.{◌≡◌, ◌∷◌, ◌++◌, [], OnOk, OnErr};
 
-use link_frames::{Frame, Reading};
+use crate::ways::{Arrive, Relay};
+use link_frames::Frame;
 use lsr_facts::{Key, Reply};
 use sorted_rows::{Table, TryCopy};
 use std::alloc::{AllocError, Global};
 use std::marker::Model;
 
-/// A message that came from a neighbour in a Hop frame.
-#[derive(Debug, Drop)]
-pub struct Arrive {
-    /// The number of the link that it came over.
-    pub link: u16,
-    /// What it was read as.
-    pub reading: Reading,
-}
-
 /// What happens to a router.
 #[derive(Debug, Drop)]
 pub enum Event {
-    /// A message came.
+    /// A message for this router came.
     Arrive(Arrive),
+    /// A message for another router came.
+    Relay(Relay),
     /// This moment came, in milliseconds.
     Tick(u64),
     /// The link of this number came up.
@@ -83,7 +77,7 @@ impl Outputs {
         items
     }
 
-    /// Puts a frame behind the others. The only error is out of memory, and then nothing changed.
+    /// Puts a frame after the others. The only error is out of memory, and then nothing changed.
     pub fn push(&mut self, output: Output) -> Result<(), AllocError>
         ensures ok { OnOk result (self.new ≡ self.old ++ output ∷ []) }
         ensures err { OnErr result (self.new ≡ self.old) }
@@ -114,12 +108,10 @@ pub struct Made {
 }
 
 impl TryCopy for Event {
-    fn try_copy(&self, _alloc: Global) -> Result<Event, AllocError> {
+    fn try_copy(&self, alloc: Global) -> Result<Event, AllocError> {
         match self {
-            Event::Arrive(arrive) => Ok(Event::Arrive(Arrive {
-                link: arrive.link,
-                reading: arrive.reading.clone()?,
-            })),
+            Event::Arrive(arrive) => Ok(Event::Arrive(arrive.try_copy(alloc)?)),
+            Event::Relay(relay) => Ok(Event::Relay(relay.try_copy(alloc)?)),
             Event::Tick(moment) => Ok(Event::Tick(*moment)),
             Event::LinkUp(number) => Ok(Event::LinkUp(*number)),
             Event::LinkDown(number) => Ok(Event::LinkDown(*number)),

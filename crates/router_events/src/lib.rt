@@ -2,6 +2,8 @@
 #![tactic(auto)]
 
 mod events;
+mod ways;
 
-pub use events::{Arrive, Event, Made, Output, Outputs};
-pub use link_frames::{Frame, KIND_HOP};
+pub use events::{Event, Made, Output, Outputs};
+pub use link_frames::{Data, Frame, KIND_HOP, Payload, Unread};
+pub use ways::{ArrivalWay, Arrive, Relay, takes};

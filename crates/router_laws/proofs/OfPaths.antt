@@ -48,6 +48,7 @@ module _ (r : Router) (s : State) where
   -- and each event that is no message
   outcome_agrees : (event : Event) → IsNoMessage event → Agrees (outcome r s event) (paths.outcome r s.facts event)
   outcome_agrees (events.Arrive a) is = absurd is
+  outcome_agrees (events.Relay m) is = agrees s (paths.outcome r s.facts (events.Relay m))
   outcome_agrees (events.Tick n) is = moment_agrees n
   outcome_agrees (events.LinkUp number) is = agrees s (paths.outcome r s.facts (events.LinkUp number))
   outcome_agrees (events.LinkDown number) is = agrees s (paths.outcome r s.facts (events.LinkDown number))
@@ -87,6 +88,7 @@ module _ (r : Router) (s : State) where
     record {
       possible = step.possible;
       awake = step.awake;
+      passes = step.passes;
       chosen = refl;
       replied = step.replied ∙ are.reply;
       changed = ap (λ (t : State). t.facts) step.changed ∙ known_agrees made.labels (outcome r s made.event) (paths.outcome r s.facts made.event) are;

@@ -13,7 +13,6 @@ use Rattle.rsvp_routes.specs.Steps.{route_bytes}
 use Rattle.rsvp_routes.specs.Traces.{record_bytes}
 use Rattle.rsvp_contents.specs.declared.messages.Content.TheVariants as contents
 use Rattle.rsvp_contents.specs.declared.messages.Path.{Path}
-use Rattle.rsvp_contents.specs.declared.message.Reading.TheVariants as readings
 use Rattle.rsvp_traffic.specs.TokenBuckets.{token_rate}
 use Rattle.sorted_rows.specs.RowsLaws.{find-put_same}
 use Rattle.lsr_facts.specs.Errors.{bad_tspec, system_error, routing_loop, unsupported_l3pid, record_too_long}
@@ -30,7 +29,8 @@ use Rattle.lsr_facts.specs.declared.path_fact.PathFact.{PathFact}
 use Rattle.lsr_facts.specs.declared.refusal.Refusal.TheVariants.{LinkDown, UnknownLink}
 use Rattle.lsr_facts.specs.declared.reply.Reply.TheVariants as replies
 use Rattle.lsr_facts.specs.declared.router.Router.{Router}
-use Rattle.router_events.specs.declared.events.Arrive.{Arrive}
+use Rattle.router_events.specs.Arrivals.{hop_arrive}
+use Rattle.router_events.specs.declared.ways.Arrive.{Arrive}
 use Rattle.router_events.specs.declared.events.Made.{Made}
 use Rattle.abstract_router.specs.Changes.{with_path}
 use Rattle.abstract_router.specs.Outcomes.{Outcome, done, found_here, refused, told_upstream}
@@ -40,7 +40,7 @@ use Rattle.abstract_router.specs.Places.{is_up, place_of}
 use Rattle.abstract_router.specs.Routing.{next_hop}
 use Rattle.abstract_router.specs.StampLaws.{keys-stamps_of}
 use Rattle.abstract_router.specs.Stamps.{stamps_of}
-use Rattle.abstract_router.specs.Steps.{Step, arrival, outcome, reading_arrival}
+use Rattle.abstract_router.specs.Steps.{Step, arrival, arrival_by, outcome}
 use Rattle.abstract_router.specs.Wanted.{wanted_of}
 use Rattle.router_laws.specs.Words.{comes}
 use Rattle.router_laws.proofs.Led.{answered, led, sends}
@@ -54,7 +54,7 @@ record IsOpen (r : Router) (s : Facts) (link : ℕ) : Type 0 where
 arrival_open : (r : Router) (s : Facts) (a : Arrive) → replies.Done ≡ (arrival r s a).reply → IsOpen r s a.link
 unfolding arrival
 arrival_open r s a done =
-    let tests = by (is_none (link_at r a.link)) (not (is_up s.up a.link)) (reading_arrival r s a.link a.reading) done in
+    let tests = by (is_none (link_at r a.link)) (not (is_up s.up a.link)) (arrival_by r s a.way a.link a.reading) done in
     record { known = tests.0; up = tests.1 }
   where
     by : (b c : Bool) (read : Outcome) → replies.Done ≡ (cond b (refused s UnknownLink) (cond c (refused s LinkDown) read)).reply → (b ≡ false) × (c ≡ false)
@@ -62,10 +62,10 @@ arrival_open r s a done =
     by false true read d = absurd (let e = d in cc)
     by false false read d = (refl, refl)
 
-arrival_read : (r : Router) (s : Facts) (a : Arrive) → IsOpen r s a.link → arrival r s a ≡ reading_arrival r s a.link a.reading
+arrival_read : (r : Router) (s : Facts) (a : Arrive) → IsOpen r s a.link → arrival r s a ≡ arrival_by r s a.way a.link a.reading
 unfolding arrival
 arrival_read r s a open_link =
-    let read = reading_arrival r s a.link a.reading in
+    let read = arrival_by r s a.way a.link a.reading in
     ap (λ b. cond b (refused s UnknownLink) (cond (not (is_up s.up a.link)) (refused s LinkDown) read)) open_link.known
     ∙ ap (λ b. cond b (refused s LinkDown) read) open_link.up
 
@@ -186,7 +186,7 @@ record IsMet (r : Router) (s : Facts) (link : ℕ) (p : Path) (o : Outcome) : Ty
 
 met : (r : Router) (s : Facts) (link : ℕ) (p : Path) → replies.Done ≡ (outcome r s (comes link (contents.Path p))).reply → IsMet r s link p (outcome r s (comes link (contents.Path p)))
 met r s link p is_done =
-    let event : Arrive = record { link = link; reading = readings.Whole (contents.Path p) } in
+    let event : Arrive = hop_arrive link (contents.Path p) in
     let was_open = arrival_open r s event is_done in
     let read = arrival_read r s event was_open in
     let t = path_taken r s link p (is_done ∙ ap (λ (o : Outcome). o.reply) read) in
@@ -196,7 +196,7 @@ met r s link p is_done =
 pub path_repeats : (r : Router) (a b c : Facts) (one other : Made) (link : ℕ) (p : Path) → T (is_sorted key_cmp a.paths) → one.event ≡ comes link (contents.Path p) → other.event ≡ comes link (contents.Path p) → one.reply ≡ replies.Done → Step r a one b → Step r b other c → (other.reply ≡ replies.Done) × (other.outputs ≡ []) × (c ≡ b)
 unfolding after_path wanted_of
 path_repeats r a b c one other link p h is again is_done x y =
-    let event : Arrive = record { link = link; reading = readings.Whole (contents.Path p) } in
+    let event : Arrive = hop_arrive link (contents.Path p) in
     let known = find key_cmp (key_of p) a.paths in
     let m = met r a link p (sym is_done ∙ answered r a b one (comes link (contents.Path p)) (outcome r a (comes link (contents.Path p))) x is refl) in
     let sent = stamps_of r a [] (after_path a known link p m.way) in

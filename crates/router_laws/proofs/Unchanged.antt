@@ -1,10 +1,11 @@
 -- What stays as it was, where an event changes nothing or is silent.
-use Rattle.std.specs.Prelude.{◌≡◌, ℕ, not, Bool, true, false, cond, T, List, [], ◌∷◌, filter, Option, Some, None, Ok, is_some}
+use Rattle.std.specs.Prelude.{◌≡◌, ℕ, not, Bool, true, false, cond, T, List, [], ◌∷◌, filter, Option, Some, None, Ok, is_none, is_some}
 use Rattle.std.specs.Cmp.{nat_cmp_total}
 use Rattle.std.specs.FinMap.Entries.{find, is_sorted, same_entries}
 use Rattle.std.specs.Option.{option_map_or}
 use Rattle.std.specs.Ordering.{nat_cmp}
 use Rattle.std.proofs.Common.{refl, sym, ap, subst, ◌∙◌}
+use Rattle.std.proofs.lemmas.Bool.{cond_both}
 use Rattle.rsvp_contents.specs.declared.messages.Path.{Path}
 use Rattle.sorted_rows.specs.Rows.{keys_of}
 use Rattle.sorted_rows.specs.RowsLaws.{is_some-find_both, is_sorted-both, put-found}
@@ -12,24 +13,27 @@ use Rattle.lsr_facts.specs.OrderLaws.{item_exact, item_total}
 use Rattle.lsr_facts.specs.Orders.{item_cmp, key_cmp}
 use Rattle.lsr_facts.specs.Routers.{HasLink, IsRouter, link_at}
 use Rattle.lsr_facts.specs.declared.facts.Facts.{Facts}
+use Rattle.lsr_facts.specs.declared.key.Key.{Key}
 use Rattle.lsr_facts.specs.declared.path_fact.PathFact.{PathFact}
-use Rattle.lsr_facts.specs.declared.refusal.Refusal.TheVariants.{UnknownLink}
+use Rattle.lsr_facts.specs.declared.refusal.Refusal.TheVariants.{LinkDown, NoMatch, UnknownLink}
 use Rattle.lsr_facts.specs.declared.reply.Reply.TheVariants as replies
 use Rattle.lsr_facts.specs.declared.router.Router.{Router}
 use Rattle.router_events.specs.declared.events.Event.TheVariants as events
 use Rattle.router_events.specs.declared.events.Made.{Made}
+use Rattle.router_events.specs.declared.ways.Relay.{Relay}
 use Rattle.abstract_router.specs.Changes.{with_link}
 use Rattle.abstract_router.specs.Links.{link_change}
 use Rattle.abstract_router.specs.LocalityLaws.{outputs_of-touched, stamps_of-elsewhere}
-use Rattle.abstract_router.specs.Outcomes.{done, refused}
+use Rattle.abstract_router.specs.Outcomes.{Outcome, done, refused}
 use Rattle.abstract_router.specs.Outputs.{outputs_of}
 use Rattle.abstract_router.specs.Paths.{is_same_route, way_for, way_of}
-use Rattle.abstract_router.specs.Places.{Place, is_up}
-use Rattle.abstract_router.specs.Routing.{next_hop}
+use Rattle.abstract_router.specs.Places.{Place, is_up, place_of}
+use Rattle.abstract_router.specs.Relays.{relay, relayed_by}
+use Rattle.abstract_router.specs.Routing.{next_hop, route_to}
 use Rattle.abstract_router.specs.Soundness.{IsSound, IsStanding}
 use Rattle.abstract_router.specs.StampLaws.{is_sorted-stamped, keys-stamps_of}
 use Rattle.abstract_router.specs.Stamps.{stamps_of}
-use Rattle.abstract_router.specs.Steps.{Step, outcome, restarted, started}
+use Rattle.abstract_router.specs.Steps.{Step, known_after, outcome, restarted, started}
 use Rattle.abstract_router.specs.Wanted.{wanted_of}
 use Rattle.router_laws.specs.Words.{link_event}
 use Rattle.router_laws.proofs.Led.{answered, led, sends}
@@ -102,3 +106,21 @@ pub start_rest : (r : Router) (before after : Facts) (made : Made) → Step r be
 start_rest r before after made x is =
     let o = started before in
     (answered r before after made events.Start o x is refl, sends r before after made events.Start o x is refl, led r before after made events.Start o x is refl)
+
+-- A message for another router.
+relay_kept : (r : Router) (s : Facts) (labels : List (Key × ℕ)) (m : Relay) → IsSound r s → known_after r s labels (relay r s m) ≡ s
+unfolding relay
+relay_kept r s labels m sound =
+    cond_both (is_none (link_at r m.link)) _ _ Kept (λ none. refl)
+    (λ there. cond_both (not (is_up s.up m.link)) _ _ Kept (λ down. refl) (λ up. by (route_to (place_of r s) m.to)))
+  where
+    Kept : Outcome → Type 0
+    Kept o = known_after r s labels o ≡ s
+
+    by : (way : Option ℕ) → Kept (option_map_or (λ link. done (relayed_by m link ∷ []) s) way (refused s NoMatch))
+    by None = refl
+    by (Some link) = λ i. record s { sent = moments_stay r s sound.standing.paths.in_order sound.sent i }
+
+pub relay_rest : (r : Router) (before after : Facts) (made : Made) (m : Relay) → IsSound r before → Step r before made after → made.event ≡ events.Relay m → after ≡ before
+relay_rest r before after made m sound x is =
+    x.changed ∙ ap (λ e. known_after r before made.labels (outcome r before e)) is ∙ relay_kept r before made.labels m sound

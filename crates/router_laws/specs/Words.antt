@@ -2,17 +2,12 @@
 use Rattle.std.specs.Prelude.{◌<◌, ℕ, Bool, true, false}
 use Rattle.std.specs.List.{AllByRecursion}
 use Rattle.std.specs.declared.net.ipv4_addr.Ipv4Addr.{Ipv4Addr}
-use Rattle.rsvp_contents.specs.declared.message.Reading.TheVariants as readings
-use Rattle.rsvp_contents.specs.declared.messages.Content.{Content}
 use Rattle.lsr_facts.specs.declared.key.Key.{Key}
 use Rattle.lsr_facts.specs.declared.path_fact.Origin.{Origin}
 use Rattle.lsr_facts.specs.declared.path_fact.PathFact.{PathFact}
+pub use Rattle.router_events.specs.Arrivals.{comes}
 use Rattle.router_events.specs.declared.events.Event.{Event}
 use Rattle.router_events.specs.declared.events.Event.TheVariants as events
-
--- a message that is read whole comes over a link
-abbrev pub comes : ℕ → Content → Event
-comes link content = events.Arrive (record { link = link; reading = readings.Whole content })
 
 -- a link comes up, or it goes down
 abbrev pub link_event : ℕ → Bool → Event
@@ -23,7 +18,7 @@ link_event number false = events.LinkDown number
 abbrev pub IsUnexpired : ℕ → Key × PathFact → Type 0
 IsUnexpired moment path = AllByRecursion (λ (origin : Ipv4Addr × Origin). moment < origin.1.expiry) path.1.origins
 
--- the event is no message that came
+-- the event is no message for this router
 abbrev pub IsNoMessage : Event → Type 0
 IsNoMessage (events.Arrive a) = ⊥
 IsNoMessage _ = Unit {0}

@@ -13,6 +13,7 @@ ghost use Rattle.lsr_facts.specs.declared.key.Item.{Item};
 ghost use Rattle.lsr_facts.specs.declared.key.Key.{Key};
 ghost use Rattle.lsr_facts.specs.declared.path_fact.Origin.{Origin};
 ghost use Rattle.lsr_facts.specs.declared.path_fact.PathFact.{PathFact};
+ghost use Rattle.lsr_facts.specs.declared.path_fact.Via.TheVariants.{Link};
 ghost use Rattle.lsr_facts.specs.declared.refusal.Refusal.TheVariants.{BadMoment, Late};
 ghost use Rattle.lsr_facts.specs.declared.reply.Reply.TheVariants as replies;
 ghost use Rattle.lsr_facts.specs.declared.router.Router.{Router};
@@ -33,7 +34,7 @@ pub fn paths_live_for_their_lifetime()
         made.reply ≡ replies.Done →
         (fact : PathFact) × (find key_cmp (key_of p) after.paths ≡ Some fact)
         × (find address_cmp p.sender.sender fact.origins ≡ Some (record {
-          link = link;
+          via = Link link;
           hop = p.hop;
           expiry = before.moment + lifetime p.time.refresh_ms;
         })) }

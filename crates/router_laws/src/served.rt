@@ -12,7 +12,7 @@ ghost use Rattle.abstract_lsr.specs.States.{State};
 ghost use Rattle.abstract_lsr.specs.Steps.{Step};
 ghost use Rattle.router_laws.specs.Words.{IsNoMessage, comes};
 
-/// A moment, a link that comes up or goes down, a restart, a start, and a Path that is done: of paths, links and the
+/// A message for another router, a moment, a link that comes up or goes down, a restart, a start, and a Path that is done: of paths, links and the
 /// moment the label switching router knows afterwards what the router of paths knows after the same event, with the
 /// same answer, and so it is of when Paths were sent last. So what the laws of the router of paths say of such an event
 /// holds of it. What is sent for reservations is no part of that.

@@ -12,6 +12,7 @@ ghost use Rattle.lsr_facts.specs.declared.reply.Reply.TheVariants as replies;
 ghost use Rattle.lsr_facts.specs.declared.router.Router.{Router};
 ghost use Rattle.router_events.specs.declared.events.Event.TheVariants as events;
 ghost use Rattle.router_events.specs.declared.events.Made.{Made};
+ghost use Rattle.router_events.specs.declared.ways.Relay.{Relay};
 ghost use Rattle.abstract_router.specs.Paths.{is_same_route, way_for, way_of};
 ghost use Rattle.abstract_router.specs.Places.{Place, is_up};
 ghost use Rattle.abstract_router.specs.Soundness.{IsSound};
@@ -58,4 +59,10 @@ pub fn starts_change_nothing_else()
     ensures { (r : Router) (before after : Facts) (made : Made) →
         Step r before made after → made.event ≡ events.Start →
         (made.reply ≡ replies.Done) × (made.outputs ≡ []) × (after ≡ record before { cold = false }) }
+{}
+
+/// A message for another router changes nothing that is known of paths, be it passed on or refused.
+pub fn relays_change_nothing()
+    ensures { (r : Router) (before after : Facts) (made : Made) (message : Relay) →
+        IsSound r before → Step r before made after → made.event ≡ events.Relay message → after ≡ before }
 {}

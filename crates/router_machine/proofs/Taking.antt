@@ -1,75 +1,49 @@
 -- Inputs that are served one after the other.
 use Rattle.std.proofs.Common.{◌≡◌, ◌≢◌, ◌+◌, ◌++◌, ◌∷◌, ℕ, List, [], Result, Ok, Err, IfOk, OnErr, append-nil, ap, inl, inr, refl, subst, sym, take, Bool, false, true, ◌∙◌}
-use Rattle.std.specs.Bool.{MatchBool}
-use Rattle.router_events.specs.Frames.{SpellsFrame}
 use Rattle.lsr_facts.specs.declared.refusal.Refusal.{Refusal}
 use Rattle.lsr_facts.specs.declared.refusal.Refusal.TheVariants as refusals
 use Rattle.lsr_facts.specs.declared.router.Router.{Router}
 use Rattle.router_events.specs.declared.events.Made.{Made}
-use Rattle.router_events.specs.Frame.{Frame}
-use Rattle.router_events.specs.Frame.TheVariants as frames
-use Rattle.lsr_facts.specs.declared.reply.Reply.TheVariants as replies
-use Rattle.abstract_lsr.specs.Serving.{IsServed}
 use Rattle.abstract_lsr.specs.States.{State}
 use Rattle.abstract_lsr.specs.Steps.{Run, Step}
-use Rattle.router_core.proofs.Serving.{drop_answered}
-use Rattle.router_core.specs.Serving.{IsDatagramAnswered}
-use Rattle.router_machine.specs.Machines.{AreServed, IsDatagramLeft, IsInputServed, IsMessageLeft, IsRefusedCold, steps_in}
-use Rattle.router_machine.specs.Passing.{IsPassed, is_labelled}
+use Rattle.datagrams.specs.declared.datagram.Datagram.{Datagram}
+use Rattle.datagrams.specs.declared.datagram.Datagram.TheVariants as kinds
+use Rattle.datagrams.specs.declared.datagram.Passed.{Passed}
+use Rattle.router_machine.specs.Machines.{AreServed, IsInputServed, IsServedFor, steps_in}
 use Rattle.router_machine.specs.declared.inputs.Input.{Input}
-use Rattle.router_machine.specs.declared.inputs.Input.TheVariants as kinds
+use Rattle.router_machine.specs.declared.inputs.Input.TheVariants as inputs
 use Rattle.router_machine.specs.declared.inputs.Served.{Served}
 use Rattle.router_machine.specs.declared.inputs.Served.TheVariants as serves
-use Rattle.router_machine.specs.declared.passing.Passed.{Passed}
-
--- why a cold router leaves a datagram out as no message
-pub left_while_cold : (before : State) (bytes : List ℕ) (refusal : Refusal) → before.facts.cold ≡ true → IsRefusedCold bytes refusal → IsMessageLeft before bytes refusal
-left_while_cold before bytes refusals.IsCold cold why = inr (inr (refl, cold, why.0, why.1))
-left_while_cold before bytes (refusals.Unread fault) cold why = inr (inl (fault, why, refl))
-left_while_cold before bytes refusals.NoMemory cold why = inl (refl, why)
-left_while_cold before bytes _ cold why = absurd why
-
--- that is what such a datagram is answered
-pub answered_while_cold : (r : Router) (before : State) (link : ℕ) (bytes : List ℕ) (refusal : Refusal) → before.facts.cold ≡ true → IsRefusedCold bytes refusal → IsDatagramAnswered r before link bytes before (Err refusal)
-answered_while_cold r before link bytes refusals.IsCold cold why = inr (cold_answered r before link bytes why.0 cold why.1)
-  where
-    cold_answered : (r : Router) (before : State) (link : ℕ) (bytes : List ℕ) (frame : Frame) → before.facts.cold ≡ true → SpellsFrame bytes frame → IsServed r before link bytes (replies.Refused refusals.IsCold) [] before
-    cold_answered r before link bytes (frames.Hop reading) cold spelled = inr (reading, spelled, inl (cold, (λ e. absurd cc), refl, refl, refl))
-answered_while_cold r before link bytes (refusals.Unread fault) cold why = drop_answered r before link bytes (refusals.Unread fault) why
-answered_while_cold r before link bytes refusals.NoMemory cold why = drop_answered r before link bytes refusals.NoMemory why
-answered_while_cold r before link bytes _ cold why = absurd why
-
--- why a datagram is left out that is no labelled frame
-pub message_left : (before : State) (bytes : List ℕ) (refusal : Refusal) → is_labelled bytes ≡ false → IsMessageLeft before bytes refusal → IsDatagramLeft before bytes refusal
-message_left before bytes refusal other left =
-    subst (λ (b : Bool). MatchBool b (IsPassed before bytes (Err refusal)) (IsMessageLeft before bytes refusal)) (sym other) left
 
 -- an event makes its step
+made_for : (r : Router) (before : State) (datagram : Result Datagram Refusal) (made : Made) (after : State) → IsServedFor r before datagram after (Ok (serves.Made made)) → Step r before made after
+made_for r before (Ok (kinds.Event event)) made after is = is.1
+made_for r before (Ok (kinds.Passed passed)) made after is = absurd (let e = is.0 in cc)
+made_for r before (Err refusal) made after is = absurd (let e = is.0 in cc)
+
 step_made : (r : Router) (before : State) (input : Input) (made : Made) (after : State) → IsInputServed r before input after (Ok (serves.Made made)) → Step r before made after
-step_made r before (kinds.Datagram d) made after is = is.1
-step_made r before (kinds.Tick moment) made after is = is.1
-step_made r before (kinds.LinkUp number) made after is = is.1
-step_made r before (kinds.LinkDown number) made after is = is.1
-step_made r before kinds.Restart made after is = is.1
-step_made r before kinds.Start made after is = is.1
+step_made r before (inputs.Datagram link bytes) made after is = made_for r before is.0 made after is.2
+step_made r before (inputs.Event event) made after is = elim is [ inl one ↦ one.1 | inr left ↦ absurd (let e = left.1 in cc) ]
 
 -- a labelled frame changes nothing
+passed_for : (r : Router) (before : State) (datagram : Result Datagram Refusal) (passed : Passed) (after : State) → IsServedFor r before datagram after (Ok (serves.Passed passed)) → after ≡ before
+passed_for r before (Ok (kinds.Event event)) passed after is = absurd is
+passed_for r before (Ok (kinds.Passed was)) passed after is = is.1
+passed_for r before (Err refusal) passed after is = is.1
+
 kept_passed : (r : Router) (before : State) (input : Input) (passed : Passed) (after : State) → IsInputServed r before input after (Ok (serves.Passed passed)) → after ≡ before
-kept_passed r before (kinds.Datagram d) passed after is = is.1
-kept_passed r before (kinds.Tick moment) passed after is = is.1
-kept_passed r before (kinds.LinkUp number) passed after is = is.1
-kept_passed r before (kinds.LinkDown number) passed after is = is.1
-kept_passed r before kinds.Restart passed after is = is.1
-kept_passed r before kinds.Start passed after is = is.1
+kept_passed r before (inputs.Datagram link bytes) passed after is = passed_for r before is.0 passed after is.2
+kept_passed r before (inputs.Event event) passed after is = elim is [ inl one ↦ absurd one | inr left ↦ left.2 ]
 
 -- and neither does what is left out
+left_for : (r : Router) (before : State) (datagram : Result Datagram Refusal) (refusal : Refusal) (after : State) → IsServedFor r before datagram after (Err refusal) → after ≡ before
+left_for r before (Ok (kinds.Event event)) refusal after is = is.1
+left_for r before (Ok (kinds.Passed passed)) refusal after is = is.1
+left_for r before (Err why) refusal after is = is.1
+
 kept_left : (r : Router) (before : State) (input : Input) (refusal : Refusal) (after : State) → IsInputServed r before input after (Err refusal) → after ≡ before
-kept_left r before (kinds.Datagram d) refusal after is = is.1
-kept_left r before (kinds.Tick moment) refusal after is = is.1
-kept_left r before (kinds.LinkUp number) refusal after is = is.1
-kept_left r before (kinds.LinkDown number) refusal after is = is.1
-kept_left r before kinds.Restart refusal after is = is.1
-kept_left r before kinds.Start refusal after is = is.1
+kept_left r before (inputs.Datagram link bytes) refusal after is = left_for r before is.0 refusal after is.2
+kept_left r before (inputs.Event event) refusal after is = elim is [ inl one ↦ one.1 | inr left ↦ left.2 ]
 
 -- what comes of an input goes on a run
 run_on : (r : Router) (before : State) (input : Input) (one : Served) (later : List Served) (between after : State) → IsInputServed r before input between (Ok one) → Run r between (steps_in later) after → Run r before (steps_in (one ∷ later)) after

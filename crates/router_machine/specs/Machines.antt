@@ -1,96 +1,77 @@
 -- What a router, cold or running, does with what comes to it.
-use Rattle.std.specs.Prelude.{◌≡◌, ◌≢◌, ℕ, List, [], ◌∷◌, None, Result, Ok, Err, false, true, ◌⊎◌}
-use Rattle.std.specs.Bool.{MatchBool}
-use Rattle.router_events.specs.Frames.{SpellsFrame, IsFirstFrameFault, head_fault}
-use Rattle.router_events.specs.Frame.{Frame}
-use Rattle.rsvp_contents.specs.declared.dropped.Dropped.{Dropped}
+use Rattle.std.specs.Prelude.{◌≡◌, ◌≢◌, ◌⊎◌, ℕ, Bool, List, [], ◌∷◌, Result, Ok, Err, false, true}
 use Rattle.lsr_facts.specs.declared.refusal.Refusal.{Refusal}
-use Rattle.lsr_facts.specs.declared.refusal.Refusal.TheVariants.{IsCold, NoMemory, Unread}
+use Rattle.lsr_facts.specs.declared.refusal.Refusal.TheVariants.{NoMemory}
 use Rattle.lsr_facts.specs.declared.router.Router.{Router}
 use Rattle.router_events.specs.declared.events.Event.{Event}
 use Rattle.router_events.specs.declared.events.Event.TheVariants as events
 use Rattle.router_events.specs.declared.events.Made.{Made}
 use Rattle.abstract_lsr.specs.Arrivals.{outcome}
 use Rattle.abstract_lsr.specs.States.{State}
-use Rattle.abstract_lsr.specs.Steps.{Step}
-use Rattle.router_core.specs.Serving.{IsDatagramAnswered, IsEventOf}
+use Rattle.abstract_lsr.specs.Steps.{IsNoStep, Step}
+use Rattle.abstract_lsr.specs.Tables.{forwarded}
+use Rattle.datagrams.specs.Datagrams.{IsDatagram}
+use Rattle.datagrams.specs.declared.datagram.Datagram.{Datagram}
+use Rattle.datagrams.specs.declared.datagram.Datagram.TheVariants as kinds
+use Rattle.datagrams.specs.declared.datagram.Passed.{Passed}
 use Rattle.router_core.specs.States.{RouterState}
-use Rattle.router_machine.specs.Passing.{IsPassed, is_labelled}
 use Rattle.router_machine.specs.declared.inputs.Input.{Input}
 use Rattle.router_machine.specs.declared.inputs.Input.TheVariants as inputs
 use Rattle.router_machine.specs.declared.inputs.Served.{Served}
 use Rattle.router_machine.specs.declared.inputs.Served.TheVariants as serves
 use Rattle.router_machine.specs.declared.machine.Inside.{Inside}
 use Rattle.router_machine.specs.declared.machine.Inside.TheVariants as insides
-use Rattle.router_machine.specs.declared.passing.Passed.{Passed}
 
 -- what a router is and knows, cold or running
 abbrev pub state_in : Inside → RouterState
 state_in (insides.Running router) = router
 state_in (insides.Cold router) = router
 
--- What came makes the step of the event that it is; or it is left out, as `left` says why, and changes nothing.
-abbrev pub IsTaken : Router → State → (Event → Type 0) → (Refusal → Type 0) → State → Result Made Refusal → Type 0
-IsTaken r before comes left after (Ok made) = comes made.event × Step r before made after
-IsTaken r before comes left after (Err refusal) = left refusal × (after ≡ before)
-
--- Why an event is left out. Memory may run out for one that isn't silent, while the router runs: what is refused, and a
--- start, take none. A cold router leaves out each but its start.
+-- Why an event is left out: it has no step; or memory ran out for one that isn't silent, while the router runs. What is
+-- refused, and a start, take no memory.
 abbrev pub IsEventLeft : Router → State → Event → Refusal → Type 0
-IsEventLeft r before event refusal =
-    ((refusal ≡ NoMemory) × (before.facts.cold ≡ false) × ((outcome r before event).is_silent ≡ false))
-    ⊎ ((refusal ≡ IsCold) × (before.facts.cold ≡ true) × (event ≢ events.Start))
+IsEventLeft r before event NoMemory = (before.facts.cold ≡ false) × ((outcome r before event).is_silent ≡ false)
+IsEventLeft r before event refusal = IsNoStep r before event refusal
 
--- Why a datagram is left out as no message: memory ran out, and its head has no fault; it spells no frame, and this is
--- its first fault; or it spells one, and the router is cold.
-abbrev pub IsMessageLeft : State → List ℕ → Refusal → Type 0
-IsMessageLeft before bytes refusal =
-    ((refusal ≡ NoMemory) × (head_fault bytes ≡ None))
-    ⊎ ((fault : Dropped) × IsFirstFrameFault bytes fault × (refusal ≡ Unread fault))
-    ⊎ ((refusal ≡ IsCold) × (before.facts.cold ≡ true) × (frame : Frame) × SpellsFrame bytes frame)
+-- An event makes its step; or it is left out, and changes nothing.
+abbrev pub IsEventServed : Router → State → Event → State → Result Made Refusal → Type 0
+IsEventServed r before event after (Ok made) = (made.event ≡ event) × Step r before made after
+IsEventServed r before event after (Err refusal) = IsEventLeft r before event refusal × (after ≡ before)
 
--- why a cold router leaves a datagram out as no message; out of memory only where its head has no fault
-abbrev pub IsRefusedCold : List ℕ → Refusal → Type 0
-IsRefusedCold bytes IsCold = (frame : Frame) × SpellsFrame bytes frame
-IsRefusedCold bytes (Unread fault) = IsFirstFrameFault bytes fault
-IsRefusedCold bytes NoMemory = head_fault bytes ≡ None
-IsRefusedCold bytes refusal = ⊥
+-- the same, told as of any input
+abbrev pub IsMadeFor : Router → State → Event → State → Result Served Refusal → Type 0
+IsMadeFor r before event after (Ok (serves.Made made)) = IsEventServed r before event after (Ok made)
+IsMadeFor r before event after (Ok (serves.Passed passed)) = ⊥
+IsMadeFor r before event after (Err refusal) = IsEventServed r before event after (Err refusal)
 
--- why a datagram is left out: a labelled frame as what becomes of it says, and any other as no message
-abbrev pub IsDatagramLeft : State → List ℕ → Refusal → Type 0
-IsDatagramLeft before bytes refusal = MatchBool (is_labelled bytes) (IsPassed before bytes (Err refusal)) (IsMessageLeft before bytes refusal)
+-- What comes of what a datagram is: of an event its step; a labelled frame is passed on or delivered, and what is refused
+-- is left out, and neither changes anything.
+abbrev pub IsServedFor : Router → State → Result Datagram Refusal → State → Result Served Refusal → Type 0
+IsServedFor r before (Ok (kinds.Event event)) after answer = IsMadeFor r before event after answer
+IsServedFor r before (Ok (kinds.Passed passed)) after answer = (answer ≡ Ok (serves.Passed passed)) × (after ≡ before)
+IsServedFor r before (Err refusal) after answer = (answer ≡ Err refusal) × (after ≡ before)
 
--- What came makes the step of the event that it is; or it is a labelled frame, of which that becomes; or it is left out.
--- Only a step changes anything.
-abbrev pub IsServedAs : Router → State → (Event → Type 0) → (Passed → Type 0) → (Refusal → Type 0) → State → Result Served Refusal → Type 0
-IsServedAs r before comes passes left after (Ok (serves.Made made)) = comes made.event × Step r before made after
-IsServedAs r before comes passes left after (Ok (serves.Passed passed)) = passes passed × (after ≡ before)
-IsServedAs r before comes passes left after (Err refusal) = left refusal × (after ≡ before)
-
--- what comes of an event
-abbrev pub IsEventServed : Router → State → Event → State → Result Served Refusal → Type 0
-IsEventServed r before event after answer = IsServedAs r before (λ e. e ≡ event) (λ passed. ⊥) (IsEventLeft r before event) after answer
-
--- What comes of a datagram that came over a link: the message of a Hop frame is an event, and a labelled frame goes where
--- the label table says (RFC 3031, 3.10).
+-- What comes of a datagram that came over a link: what it is, by the router's addresses and its label table, and what comes
+-- of that.
 abbrev pub IsDatagramServed : Router → State → ℕ → List ℕ → State → Result Served Refusal → Type 0
 IsDatagramServed r before link bytes after answer =
-    IsServedAs r before (IsEventOf link bytes) (λ passed. IsPassed before bytes (Ok passed)) (IsDatagramLeft before bytes) after answer
+    (datagram : Result Datagram Refusal) × IsDatagram r (forwarded before) link bytes datagram × IsServedFor r before datagram after answer
 
--- what a datagram is answered that is no labelled frame
-abbrev pub IsMessageAnswered : Router → State → ℕ → List ℕ → State → Result Served Refusal → Type 0
-IsMessageAnswered r before link bytes after (Ok (serves.Made made)) = IsDatagramAnswered r before link bytes after (Ok made)
-IsMessageAnswered r before link bytes after (Ok (serves.Passed passed)) = ⊥
-IsMessageAnswered r before link bytes after (Err refusal) = IsDatagramAnswered r before link bytes after (Err refusal)
+-- the event is a message that came
+abbrev pub is_message : Event → Bool
+is_message (events.Arrive a) = true
+is_message (events.Relay m) = true
+is_message event = false
+
+-- What comes of an event that is copied first: memory may run out for the copy of a message.
+abbrev pub IsCopyServed : Router → State → Event → State → Result Served Refusal → Type 0
+IsCopyServed r before event after answer =
+    IsMadeFor r before event after answer ⊎ ((is_message event ≡ true) × (answer ≡ Err NoMemory) × (after ≡ before))
 
 -- what comes of an input
 abbrev pub IsInputServed : Router → State → Input → State → Result Served Refusal → Type 0
-IsInputServed r before (inputs.Datagram d) after answer = IsDatagramServed r before d.link d.bytes.items after answer
-IsInputServed r before (inputs.Tick moment) after answer = IsEventServed r before (events.Tick moment) after answer
-IsInputServed r before (inputs.LinkUp number) after answer = IsEventServed r before (events.LinkUp number) after answer
-IsInputServed r before (inputs.LinkDown number) after answer = IsEventServed r before (events.LinkDown number) after answer
-IsInputServed r before inputs.Restart after answer = IsEventServed r before events.Restart after answer
-IsInputServed r before inputs.Start after answer = IsEventServed r before events.Start after answer
+IsInputServed r before (inputs.Datagram link bytes) after answer = IsDatagramServed r before link bytes.items after answer
+IsInputServed r before (inputs.Event event) after answer = IsCopyServed r before event after answer
 
 -- Inputs, one after the other: of each comes its step, or what becomes of its labelled frame at that moment, in this order
 -- and nothing else; or it is left out for a refusal that isn't out of memory. Only a step changes anything.

@@ -1,32 +1,20 @@
 //! What comes to a router, and what comes of it.
 
-use crate::passing::Passed;
-use router_events::Made;
-
-/// A datagram that came over a link: one frame.
-#[derive(Debug, Drop)]
-pub struct Datagram {
-    /// The number of the link.
-    pub link: u16,
-    /// Its bytes.
-    pub bytes: Vec<u8>,
-}
+use datagrams::Passed;
+use router_events::{Event, Made};
 
 /// What comes to a router.
 #[derive(Debug, Drop)]
 pub enum Input {
-    /// A datagram.
-    Datagram(Datagram),
-    /// This moment, in milliseconds.
-    Tick(u64),
-    /// The link of this number comes up.
-    LinkUp(u16),
-    /// The link of this number goes down.
-    LinkDown(u16),
-    /// The router loses what messages had set up in it.
-    Restart,
-    /// The router is started.
-    Start,
+    /// A datagram: one frame.
+    Datagram {
+        /// The number of the link that it came over.
+        link: u16,
+        /// Its bytes.
+        bytes: Vec<u8>,
+    },
+    /// An event.
+    Event(Event),
 }
 
 /// What came of an input that wasn't left out.

@@ -5,20 +5,21 @@ ghost use Rattle.lsr_facts.specs.Routers.{IsRouter};
 ghost use Rattle.lsr_facts.specs.declared.refusal.Refusal.TheVariants.{NoMemory};
 ghost use Rattle.abstract_lsr.specs.Soundness.{IsSound};
 ghost use Rattle.abstract_lsr.specs.Steps.{Run, opening};
+ghost use Rattle.abstract_lsr.specs.Tables.{forwarded};
+ghost use Rattle.datagrams.specs.Datagrams.{IsDatagram};
 ghost use Rattle.router_core.specs.Plans.{quiet};
-ghost use Rattle.router_core.specs.Serving.{IsDatagramAnswered, IsEventOf};
 ghost use Rattle.router_core.specs.States.{opened};
-ghost use Rattle.router_machine.specs.Machines.{AreServed, IsDatagramServed, IsEventLeft, IsEventServed, IsInputServed, IsMessageAnswered, IsMessageLeft, IsRefusedCold, IsTaken, state_in, steps_in};
-ghost use Rattle.router_machine.specs.Passing.{IsPassed, is_labelled};
+ghost use Rattle.router_machine.specs.Machines.{AreServed, IsCopyServed, IsDatagramServed, IsEventServed, IsInputServed, IsMadeFor, is_message, state_in, steps_in};
 ghost use Rattle.router_machine.specs.declared.inputs.Served.{Served};
 
+use crate::forwarding::Labels;
 use crate::inputs::{Input, Report, Served};
-use crate::passing::{Passed, is_labelled, pass};
+use datagrams::{Datagram, read_datagram};
 use lsr_config::Config;
 use lsr_facts::{Refusal, Reply};
-use router_core::{Cold, Running, Tables, read_event};
+use router_core::{Cold, Running, Tables};
 use router_events::{Event, Made, Outputs};
-use sorted_rows::Table;
+use sorted_rows::{Table, TryCopy};
 use std::alloc::{AllocError, Global};
 use std::marker::Model;
 
@@ -39,7 +40,7 @@ pub struct Machine {
 
 impl Model for Machine {
     ghost use Rattle.router_core.specs.States.{RouterState};
-    ghost use Rattle.router_machine.specs.Machines.{state_in};
+    ghost use Rattle.router_machine.specs.Machines.{AreServed, IsCopyServed, IsDatagramServed, IsEventServed, IsInputServed, IsMadeFor, is_message, state_in, steps_in};
 
     ghost Value = { RouterState };
 
@@ -64,8 +65,7 @@ fn serve_running(
     alloc: Global,
     event: Event,
 ) -> (Inside, Result<Made, Refusal>)
-    ensures taken { IsTaken router.router router.state (λ e. e ≡ event) (IsEventLeft router.router router.state event)
-        (state_in result.0).state result.1 }
+    ensures served { IsEventServed router.router router.state event (state_in result.0).state result.1 }
     ensures router { (state_in result.0).router ≡ router.router }
 {
     router.soundness();
@@ -83,8 +83,7 @@ fn serve_running(
 
 /// Serves an event by a cold router.
 fn serve_cold(router: Cold, alloc: Global, event: Event) -> (Inside, Result<Made, Refusal>)
-    ensures taken { IsTaken router.router router.state (λ e. e ≡ event) (IsEventLeft router.router router.state event)
-        (state_in result.0).state result.1 }
+    ensures served { IsEventServed router.router router.state event (state_in result.0).state result.1 }
     ensures router { (state_in result.0).router ≡ router.router }
 {
     router.soundness();
@@ -97,47 +96,19 @@ fn serve_cold(router: Cold, alloc: Global, event: Event) -> (Inside, Result<Made
     }
 }
 
-/// Serves a datagram as a message by a running router.
-fn serve_message_running(
-    mut router: Running,
-    alloc: Global,
-    link: u16,
-    datagram: &[u8],
-) -> (Inside, Result<Made, Refusal>)
-    ensures taken { IsTaken router.router router.state (IsEventOf link datagram.now) (IsMessageLeft router.state datagram.now)
-        (state_in result.0).state result.1 }
-    ensures served { IsDatagramAnswered router.router router.state link datagram.now (state_in result.0).state result.1 }
-    ensures router { (state_in result.0).router ≡ router.router }
+/// A copy of an event. Memory may run out for a message.
+fn copy_of(alloc: Global, event: &Event) -> Result<Event, AllocError>
+    ensures ok { IfOk result (λ copy. copy ≡ event.now) }
+    ensures memory { OnErr result (is_message event.now ≡ true) }
 {
-    let answer = router.serve_datagram(alloc, link, datagram);
-    (Inside::Running(router), answer)
-}
-
-/// Why a cold router leaves a datagram out as no message: its first fault, else that the router is cold.
-fn refusal_while_cold(alloc: Global, link: u16, datagram: &[u8]) -> Refusal
-    ensures { IsRefusedCold datagram.now result }
-{
-    match read_event(alloc, link, datagram) {
-        Ok(_event) => Refusal::IsCold,
-        Err(refusal) => refusal,
+    match event {
+        Event::Arrive(_) | Event::Relay(_) => event.try_copy(alloc),
+        Event::Tick(moment) => Ok(Event::Tick(*moment)),
+        Event::LinkUp(number) => Ok(Event::LinkUp(*number)),
+        Event::LinkDown(number) => Ok(Event::LinkDown(*number)),
+        Event::Restart => Ok(Event::Restart),
+        Event::Start => Ok(Event::Start),
     }
-}
-
-/// Serves a datagram as a message by a cold router: it leaves it out.
-fn serve_message_cold(
-    router: Cold,
-    alloc: Global,
-    link: u16,
-    datagram: &[u8],
-) -> (Inside, Result<Made, Refusal>)
-    ensures taken { IsTaken router.router router.state (IsEventOf link datagram.now) (IsMessageLeft router.state datagram.now)
-        (state_in result.0).state result.1 }
-    ensures served { IsDatagramAnswered router.router router.state link datagram.now (state_in result.0).state result.1 }
-    ensures router { (state_in result.0).router ≡ router.router }
-{
-    router.soundness();
-    let refusal = refusal_while_cold(alloc, link, datagram);
-    (Inside::Cold(router), Err(refusal))
 }
 
 /// Out of memory is passed on as the error; what is left out for another reason is passed over.
@@ -164,11 +135,10 @@ impl Machine {
     }
 
     /// Serves an event: the router as it is then, and the step that was made. A cold router refuses each event but
-    /// [`Event::Start`] ([`Refusal::IsCold`]); else the only error is [`Refusal::NoMemory`]. What is refused changes
-    /// nothing.
+    /// [`Event::Start`] ([`Refusal::IsCold`]). A message for another router whose limit ran out, over a link that is up, is
+    /// dropped ([`Refusal::HopLimit`]). Else the only error is [`Refusal::NoMemory`]. What is refused changes nothing.
     pub fn serve_event(self, alloc: Global, event: Event) -> (Machine, Result<Made, Refusal>)
-        ensures taken { IsTaken self.router self.state (λ e. e ≡ event) (IsEventLeft self.router self.state event)
-            result.0.state result.1 }
+        ensures served { IsEventServed self.router self.state event result.0.state result.1 }
         ensures router { result.0.router ≡ self.router }
     {
         let (inside, answer) = match self.inside {
@@ -178,59 +148,9 @@ impl Machine {
         (Machine { inside }, answer)
     }
 
-    /// Serves a datagram as a message: the router as it is then, and the step of the event that the datagram is.
-    fn serve_message(
-        self,
-        alloc: Global,
-        link: u16,
-        datagram: &[u8],
-    ) -> (Machine, Result<Made, Refusal>)
-        ensures taken { IsTaken self.router self.state (IsEventOf link datagram.now) (IsMessageLeft self.state datagram.now)
-            result.0.state result.1 }
-        ensures served { IsDatagramAnswered self.router self.state link datagram.now result.0.state result.1 }
-        ensures router { result.0.router ≡ self.router }
-    {
-        let (inside, answer) = match self.inside {
-            Inside::Running(router) => serve_message_running(router, alloc, link, datagram),
-            Inside::Cold(router) => serve_message_cold(router, alloc, link, datagram),
-        };
-        (Machine { inside }, answer)
-    }
-
-    /// Serves a datagram that came over a link, whatever it is: the router as it is then, and what came of the datagram.
-    ///
-    /// A labelled frame is passed on or delivered, or refused as [`Machine::pass`] says (RFC 3031, 3.10), and changes
-    /// nothing. Any other datagram is an event, whose step is made. One that spells no frame is refused for its first
-    /// fault ([`Refusal::Unread`]), and behind that a cold router refuses each ([`Refusal::IsCold`]); else the only error
-    /// is [`Refusal::NoMemory`]. What is refused changes nothing.
-    pub fn serve_datagram(
-        self,
-        alloc: Global,
-        link: u16,
-        datagram: &[u8],
-    ) -> (Machine, Result<Served, Refusal>)
-        ensures taken { IsDatagramServed self.router self.state link datagram.now result.0.state result.1 }
-        ensures served { is_labelled datagram.now ≡ false
-            → IsMessageAnswered self.router self.state link datagram.now result.0.state result.1 }
-        ensures router { result.0.router ≡ self.router }
-    {
-        if is_labelled(datagram) {
-            match self.pass(alloc, datagram) {
-                Ok(passed) => (self, Ok(Served::Passed(passed))),
-                Err(refusal) => (self, Err(refusal)),
-            }
-        } else {
-            let (machine, answer) = self.serve_message(alloc, link, datagram);
-            match answer {
-                Ok(made) => (machine, Ok(Served::Made(made))),
-                Err(refusal) => (machine, Err(refusal)),
-            }
-        }
-    }
-
     /// Serves an event, and tells what came of it as of any input.
-    fn serve_input(self, alloc: Global, event: Event) -> (Machine, Result<Served, Refusal>)
-        ensures taken { IsEventServed self.router self.state event result.0.state result.1 }
+    fn serve_made(self, alloc: Global, event: Event) -> (Machine, Result<Served, Refusal>)
+        ensures served { IsMadeFor self.router self.state event result.0.state result.1 }
         ensures router { result.0.router ≡ self.router }
     {
         let (machine, answer) = self.serve_event(alloc, event);
@@ -240,18 +160,58 @@ impl Machine {
         }
     }
 
+    /// What a datagram is that came over a link, by what the router knows.
+    fn read(&self, alloc: Global, link: u16, bytes: &[u8]) -> Result<Datagram, Refusal>
+        ensures { IsDatagram self.now.router (forwarded self.now.state) link bytes.now result }
+    {
+        let tables = self.tables();
+        read_datagram(alloc, tables.router(), &Labels { tables }, link, bytes)
+    }
+
+    /// Serves a datagram that came over a link, whatever it is: the router as it is then, and what came of the datagram.
+    ///
+    /// A labelled frame is passed on or delivered, and changes nothing: the label table alone says where it goes
+    /// (RFC 3031, 3.10), and that of a cold router is empty. A message is an event, whose step is made. Any other datagram
+    /// is refused for its first fault, in this order: of its frame ([`Refusal::Unread`]); while its labels are followed, a
+    /// label that nothing is done with ([`Refusal::NoLabel`]), a TTL that ran out ([`Refusal::HopLimit`]), a ninth label; of
+    /// a message for this router its own, and then that its frame doesn't take its type. After that an event is refused as
+    /// [`Machine::serve_event`] refuses it. [`Refusal::NoMemory`] can come in place of any answer but a fault of the
+    /// datagram's head. What is refused changes nothing.
+    pub fn serve_datagram(
+        self,
+        alloc: Global,
+        link: u16,
+        bytes: &[u8],
+    ) -> (Machine, Result<Served, Refusal>)
+        ensures served { IsDatagramServed self.router self.state link bytes.now result.0.state result.1 }
+        ensures router { result.0.router ≡ self.router }
+    {
+        match self.read(alloc, link, bytes) {
+            Ok(Datagram::Event(event)) => self.serve_made(alloc, event),
+            Ok(Datagram::Passed(passed)) => (self, Ok(Served::Passed(passed))),
+            Err(refusal) => (self, Err(refusal)),
+        }
+    }
+
+    /// Serves an event that stays the caller's: it is copied, where it is a message.
+    fn serve_copy(self, alloc: Global, event: &Event) -> (Machine, Result<Served, Refusal>)
+        ensures served { IsCopyServed self.router self.state event.now result.0.state result.1 }
+        ensures router { result.0.router ≡ self.router }
+    {
+        match copy_of(alloc, event) {
+            Ok(event) => self.serve_made(alloc, event),
+            Err(_no_memory) => (self, Err(Refusal::NoMemory)),
+        }
+    }
+
     /// Serves whatever comes, as [`Machine::serve_datagram`] and [`Machine::serve_event`] do.
     pub fn serve(self, alloc: Global, input: &Input) -> (Machine, Result<Served, Refusal>)
-        ensures taken { IsInputServed self.router self.state input.now result.0.state result.1 }
+        ensures served { IsInputServed self.router self.state input.now result.0.state result.1 }
         ensures router { result.0.router ≡ self.router }
     {
         match input {
-            Input::Datagram(datagram) => self.serve_datagram(alloc, datagram.link, &datagram.bytes),
-            Input::Tick(moment) => self.serve_input(alloc, Event::Tick(*moment)),
-            Input::LinkUp(number) => self.serve_input(alloc, Event::LinkUp(*number)),
-            Input::LinkDown(number) => self.serve_input(alloc, Event::LinkDown(*number)),
-            Input::Restart => self.serve_input(alloc, Event::Restart),
-            Input::Start => self.serve_input(alloc, Event::Start),
+            Input::Datagram { link, bytes } => self.serve_datagram(alloc, *link, bytes),
+            Input::Event(event) => self.serve_copy(alloc, event),
         }
     }
 
@@ -342,22 +302,6 @@ impl Machine {
         ensures router { IfOk result (λ after. after.0.router ≡ config.router) }
     {
         Ok(Machine::open(alloc, config)?.serve_all(alloc, inputs))
-    }
-
-    /// What becomes of a datagram that holds a labelled frame, be the router cold or running. It is no event, and changes
-    /// nothing: the label table alone says where a frame goes (RFC 3031, 3.10), and that of a cold router is empty. A
-    /// frame is dropped for its first fault ([`Refusal::Unread`]), for a label that nothing is done with
-    /// ([`Refusal::NoLabel`]), for a TTL that ran out ([`Refusal::HopLimit`]), or where it would leave with more than
-    /// eight labels ([`Refusal::Unread`]). One that isn't labelled, or carries a message, is dropped
-    /// ([`Refusal::Unread`]). [`Refusal::NoMemory`] can come in place of any answer but a fault of the frame before its
-    /// message.
-    pub fn pass(&self, alloc: Global, datagram: &[u8]) -> Result<Passed, Refusal>
-        ensures { IsPassed self.now.state datagram.now result }
-    {
-        match &self.inside {
-            Inside::Running(router) => pass(alloc, router.tables(), datagram),
-            Inside::Cold(router) => pass(alloc, router.tables(), datagram),
-        }
     }
 
     /// The tables of the router: what it knows, and what is reserved. They say nothing of whether it is cold.

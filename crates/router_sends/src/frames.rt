@@ -6,9 +6,9 @@ ghost use Rattle.rsvp_contents.specs.declared.messages.Content.TheVariants as co
 ghost use Rattle.router_events.specs.Frames.{frame_bytes};
 ghost use Rattle.abstract_router.specs.Outputs.{is_same_frame, tear_by, tear_of};
 
-use hop_frames::write_frame;
+use frame_writer::write_frame;
 use path_rules::sent_by;
-use router_events::{Frame, Output};
+use router_events::{Frame, Output, Payload};
 use rsvp_contents::{Content, Message, Path, PathTear, Reading, Resv, ResvTear};
 use rsvp_flows::{Filters, FlowDescriptor};
 use std::alloc::{AllocError, Global};
@@ -67,7 +67,7 @@ fn tear_of(alloc: Global, message: &Message) -> Result<Option<Message>, AllocErr
     }
 }
 
-/// The tear of what was sent: it goes the same way, over the same link. The only error is out of memory.
+/// The tear of what was sent: it goes the same way, over the same link. What others sent has none. The only error is out of memory.
 pub(crate) fn tear_by(alloc: Global, was: &Output) -> Result<Option<Output>, AllocError>
     ensures { IfOk result (λ tear. tear ≡ tear_by was.now.link was.now.frame) }
 {
@@ -76,7 +76,25 @@ pub(crate) fn tear_by(alloc: Global, was: &Output) -> Result<Option<Output>, All
             Some(tear) => Ok(Some(sent_by(was.link, tear))),
             None => Ok(None),
         },
-        Frame::Hop(Reading::Unknown(..)) => Ok(None),
+        Frame::Labelled(stack, Payload::Message(message)) => match tear_of(alloc, message)? {
+            Some(tear) => Ok(Some(Output {
+                link: was.link,
+                frame: Frame::Labelled(stack.copied(), Payload::Message(tear)),
+            })),
+            None => Ok(None),
+        },
+        Frame::Routed { to, limit, message } => match tear_of(alloc, message)? {
+            Some(tear) => Ok(Some(Output {
+                link: was.link,
+                frame: Frame::Routed {
+                    to: *to,
+                    limit: *limit,
+                    message: tear,
+                },
+            })),
+            None => Ok(None),
+        },
+        _ => Ok(None),
     }
 }
 
@@ -85,13 +103,11 @@ fn bytes_of(alloc: Global, frame: &Frame) -> Result<Vec<u8>, AllocError>
     ensures { IfOk result (λ bytes. bytes.items ≡ frame_bytes frame.now) }
 {
     let mut bytes = Vec::new(alloc);
-    match frame {
-        Frame::Hop(Reading::Whole(_)) => {
-            write_frame(frame, &mut bytes)?;
-            Ok(bytes)
-        }
-        Frame::Hop(Reading::Unknown(..)) => Ok(bytes),
+    if let Frame::Hop(Reading::Unknown(..)) = frame {
+        return Ok(bytes);
     }
+    write_frame(frame, &mut bytes)?;
+    Ok(bytes)
 }
 
 /// Whether the frames are the same, byte for byte.

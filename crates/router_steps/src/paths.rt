@@ -15,7 +15,7 @@ use crate::draft::Draft;
 use crate::edits::Edits;
 use crate::told::{failed, record_errors};
 use crate::view::{WholeView, is_full, node_of};
-use lsr_facts::{Choice, FactsView, Origin, PathFact, Reply, RsvpError};
+use lsr_facts::{Choice, FactsView, Origin, PathFact, Reply, RsvpError, Via};
 use path_rules::{
     RouteFault, carries_ipv4, has_been_here, has_no_rate, lifetime, link_of, lsp, origins_of,
     rest_of, role_of, unknown_object, way_for,
@@ -32,7 +32,7 @@ fn origin_of(moment: u64, link: u16, path: &Path) -> Origin
     ensures { result ≡ origin_of moment link path.now }
 {
     Origin {
-        link,
+        via: Via::Link(link),
         hop: path.hop,
         expiry: moment + lifetime(path.time.refresh_ms),
     }

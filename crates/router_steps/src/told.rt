@@ -34,7 +34,7 @@ fn path_err(session: Session, sender: Template, tspec: Option<Tspec>, error: Err
     Message::checked(content).unwrap()
 }
 
-/// An error of a path, told to one of its origins, where there is a way to it.
+/// An error of a path, told to one of its origins, where that is a neighbour.
 fn told_to(
     key: &Key,
     tspec: &Option<Tspec>,
@@ -44,12 +44,15 @@ fn told_to(
     requires { LeavesRoom tspec.now }
     ensures { IfOk result (λ told. told ≡ told_to key.now tspec.now error origin.now) }
 {
+    let Some(link) = origin.1.via.link() else {
+        return Ok(None);
+    };
     let sender = Template {
         sender: origin.0,
         lsp: key.sender.lsp,
     };
     let message = path_err(key.session, sender, tspec.clone()?, error);
-    Ok(Some(sent_by(origin.1.link, message)))
+    Ok(Some(sent_by(link, message)))
 }
 
 /// An error of a path, told to each of its origins.

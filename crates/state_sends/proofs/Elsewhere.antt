@@ -17,7 +17,7 @@ use Rattle.lsr_facts.specs.OrderLaws.{key_exact, key_total}
 use Rattle.lsr_facts.specs.Orders.{address_cmp, item_cmp, key_cmp}
 use Rattle.lsr_facts.specs.declared.facts.Facts.{Facts}
 use Rattle.lsr_facts.specs.declared.key.Item.{Item}
-use Rattle.lsr_facts.specs.declared.key.Item.TheVariants.{Down}
+use Rattle.lsr_facts.specs.declared.key.Item.TheVariants.{Backup, Down}
 use Rattle.lsr_facts.specs.declared.key.Key.{Key}
 use Rattle.lsr_facts.specs.declared.path_fact.PathFact.{PathFact}
 use Rattle.lsr_facts.specs.declared.router.Router.{Router}
@@ -59,6 +59,9 @@ first_apart Greater rest e = refl
 
 pub apart_items : (item x : Item) → eq_by_cmp key_cmp (key_of_item item) (key_of_item x) ≡ false → eq_by_cmp item_cmp item x ≡ false
 apart_items (Down k l) (Down q m) apart = first_apart (key_cmp k q) (nat_cmp l m) apart
+apart_items (Down k l) (Backup q m) apart = refl
+apart_items (Backup k l) (Down q m) apart = refl
+apart_items (Backup k l) (Backup q m) apart = first_apart (key_cmp k q) (nat_cmp l m) apart
 
 pub apart_upstreams : (u x : Upstream) → eq_by_cmp key_cmp u.key x.key ≡ false → eq_by_cmp upstream_cmp u x ≡ false
 apart_upstreams u x apart = first_apart (key_cmp u.key x.key) (ordering_then (address_cmp u.sender x.sender) (ordering_then (nat_cmp u.link x.link) (address_cmp u.hop x.hop))) apart

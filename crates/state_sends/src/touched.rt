@@ -33,8 +33,7 @@ impl OfLsp for Item {
     ghost of = { key_of_item };
 
     fn lsp(&self) -> Key {
-        let Item::Down(key, _) = self;
-        *key
+        *self.key()
     }
 }
 

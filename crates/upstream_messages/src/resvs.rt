@@ -3,7 +3,7 @@
 ghost use Rattle.std.specs.Prelude.{◌≡◌, IfOk};
 ghost use Rattle.rsvp_objects.specs.Ranges.{IsAddress};
 ghost use Rattle.abstract_lsr.specs.Errors.{style_word};
-ghost use Rattle.abstract_lsr.specs.Upstreams.{record_upstream, resv_to, upstream_row, upstream_to};
+ghost use Rattle.abstract_lsr.specs.Upstreams.{record_upstream, resv_to, upstream_over, upstream_row, upstream_to};
 ghost use Rattle.state_views.specs.Views.{known};
 ghost use Rattle.upstream_messages.specs.Telling.{IsFitting, said};
 
@@ -115,12 +115,41 @@ fn upstream_to(key: &Key, sender: Ipv4Addr, origin: &Origin) -> Upstream
     Upstream {
         key: *key,
         sender,
-        link: origin.link,
+        link: origin.via.number(),
         hop: origin.hop.address,
     }
 }
 
-/// What an origin is sent: nothing where its link is down. The only error is out of memory.
+/// What a neighbour is sent over the link of this number: nothing where that is down. The only error is out of memory.
+fn upstream_over<V: StateView>(
+    alloc: Global,
+    view: &V,
+    lsp: &ToldLsp,
+    origin: &(Ipv4Addr, Origin),
+    number: u16,
+) -> Result<Option<WantedUpstream>, AllocError>
+    requires { IsFitting (said lsp.now.reserved) }
+    ensures { IfOk result (λ row. row ≡ upstream_over (V.router view.now)
+        (known (V.facts view.now) (V.held view.now)) (lsp.now.key.now, lsp.now.path.now) lsp.now.label
+        (said lsp.now.reserved) origin.now number) }
+{
+    let node = node_of(view);
+    if !is_up(node.up, number) {
+        return Ok(None);
+    }
+    let Some(link) = link_at(node.router, number) else {
+        return Ok(None);
+    };
+    let resv = resv_to(alloc, node.router, lsp, &origin.1, link)?;
+    has_address(&lsp.key.sender);
+    let message = Message::checked(Content::Resv(resv)).unwrap();
+    Ok(Some((
+        upstream_to(lsp.key, origin.0, &origin.1),
+        sent_by(number, message),
+    )))
+}
+
+/// What an origin is sent, where it is a neighbour. The only error is out of memory.
 pub(crate) fn upstream_row<V: StateView>(
     alloc: Global,
     view: &V,
@@ -132,19 +161,8 @@ pub(crate) fn upstream_row<V: StateView>(
         (known (V.facts view.now) (V.held view.now)) (lsp.now.key.now, lsp.now.path.now) lsp.now.label
         (said lsp.now.reserved) origin.now) }
 {
-    let node = node_of(view);
-    let over = origin.1.link;
-    if !is_up(node.up, over) {
-        return Ok(None);
+    match origin.1.via.link() {
+        Some(number) => upstream_over(alloc, view, lsp, origin, number),
+        None => Ok(None),
     }
-    let Some(link) = link_at(node.router, over) else {
-        return Ok(None);
-    };
-    let resv = resv_to(alloc, node.router, lsp, &origin.1, link)?;
-    has_address(&lsp.key.sender);
-    let message = Message::checked(Content::Resv(resv)).unwrap();
-    Ok(Some((
-        upstream_to(lsp.key, origin.0, &origin.1),
-        sent_by(over, message),
-    )))
 }

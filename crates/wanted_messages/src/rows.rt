@@ -21,7 +21,7 @@ pub type Wanted = (Item, Output);
 
 /// What a path wants downstream: its Path goes on by its link, where the path doesn't end here and the link is up.
 /// The only error is out of memory.
-pub(crate) fn downstream_row(
+fn downstream_row(
     alloc: Global,
     node: &Node,
     key: &Key,

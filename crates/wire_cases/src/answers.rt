@@ -1,10 +1,14 @@
 use crate::changes::{cut, mutated, repeated, sealed, turned};
+use crate::outcomes::Form;
 use crate::pieces::Pieces;
 use anyhow::{Context, Error, Result, anyhow, bail};
-use rsvp_messages::{Dropped, Reading, checksum, has_good_checksum, read_message, write_message};
+use frame_reader::{Frame, Payload, read_frame};
+use frame_writer::write_frame;
+use rsvp_messages::{
+    Dropped, Message, Reading, checksum, has_good_checksum, read_message, write_message,
+};
 use rsvp_objects::{Object, RateWord, read_object, write_object};
 use std::alloc::{AllocError, Global};
-use wire_frames::{Frame, read_frame, write_frame};
 
 /// What is said of the input, and the bytes that are written of what was read.
 type Answer = (String, Option<Vec<u8>>);
@@ -39,7 +43,9 @@ fn framed(alloc: Global, frame: &Frame) -> Result<Answer, AllocError> {
         }
         Frame::Hop(Reading::Whole(_)) => format!(in alloc; "whole")?,
         Frame::Labelled(stack, _) => format!(in alloc; "labelled {:?}", stack.as_slice())?,
-        Frame::Routed { to, limit, .. } => format!(in alloc; "routed {to} {limit}")?,
+        Frame::Routed { to, limit, .. } | Frame::Relayed { to, limit, .. } => {
+            format!(in alloc; "routed {to} {limit}")?
+        }
     };
     let mut written = Vec::new(alloc);
     write_frame(frame, &mut written)?;
@@ -49,6 +55,43 @@ fn framed(alloc: Global, frame: &Frame) -> Result<Answer, AllocError> {
 /// How the frame is read, and how it is written.
 fn frame(alloc: Global, bytes: &[u8]) -> Result<Answer> {
     let frame = read_frame(alloc, bytes).map_err(refusal)?;
+    Ok(framed(alloc, &frame)?)
+}
+
+/// The payload with the message in it read.
+fn made_payload(alloc: Global, payload: Payload) -> Result<Payload> {
+    match payload {
+        Payload::Unread(data) => Ok(Payload::Message(whole(alloc, data.as_slice())?)),
+        payload => Ok(payload),
+    }
+}
+
+/// The frame with the message in it read, as the router has it that makes the message.
+fn made(alloc: Global, frame: Frame) -> Result<Frame> {
+    match frame {
+        Frame::Labelled(stack, payload) => {
+            Ok(Frame::Labelled(stack, made_payload(alloc, payload)?))
+        }
+        Frame::Relayed { to, limit, message } => {
+            let message = whole(alloc, message.as_slice())?;
+            Ok(Frame::Routed { to, limit, message })
+        }
+        frame => Ok(frame),
+    }
+}
+
+/// The message that the bytes are, if each of its objects is known.
+fn whole(alloc: Global, bytes: &[u8]) -> Result<Message> {
+    match read_message(alloc, bytes).map_err(refusal)? {
+        Reading::Whole(message) => Ok(message),
+        Reading::Unknown(_, class, ctype) => bail!("unknown {class}/{ctype}"),
+    }
+}
+
+/// How the frame is read, and how it is written by the router that makes the message in it.
+fn made_frame(alloc: Global, bytes: &[u8]) -> Result<Answer> {
+    let frame = read_frame(alloc, bytes).map_err(refusal)?;
+    let frame = made(alloc, frame)?;
     Ok(framed(alloc, &frame)?)
 }
 
@@ -95,7 +138,7 @@ fn sum(alloc: Global, bytes: &[u8]) -> Result<String, AllocError> {
     format!(in alloc; "{:04x} {word}", checksum(bytes))
 }
 
-/// The bytes that the text means behind the verb.
+/// The bytes that the text means after the verb.
 pub fn input(alloc: Global, pieces: &Pieces, verb: &str, text: &str) -> Result<Vec<u8>> {
     let bytes = pieces.spell(text)?;
     match verb {
@@ -110,9 +153,11 @@ fn said(alloc: Global, verb: &str, bytes: &[u8]) -> Result<String> {
         "rate" => rate_of_word(alloc, bytes),
         "traffic" => rate_of_object(alloc, bytes),
         "checksum" => Ok(sum(alloc, bytes)?),
-        "turn" => Ok(turned(alloc, bytes)?),
-        "cut" => Ok(cut(alloc, bytes, false)?),
-        "shorten" => Ok(cut(alloc, bytes, true)?),
+        "turn" => Ok(turned(alloc, Form::Message, bytes)?),
+        "turn_frame" => Ok(turned(alloc, Form::Frame, bytes)?),
+        "cut" => Ok(cut(alloc, Form::Message, bytes, false)?),
+        "cut_frame" => Ok(cut(alloc, Form::Frame, bytes, false)?),
+        "shorten" => Ok(cut(alloc, Form::Message, bytes, true)?),
         _ => bail!("no such verb"),
     }
 }
@@ -123,23 +168,24 @@ fn answer_to(alloc: Global, verb: &str, bytes: &[u8]) -> Result<Answer> {
         "message" | "objects" => message(alloc, bytes, false),
         "show" => message(alloc, bytes, true),
         "frame" => frame(alloc, bytes),
+        "make" => made_frame(alloc, bytes),
         "object" => object(alloc, bytes),
         _ => Ok((said(alloc, verb, bytes)?, None)),
     }
 }
 
-/// What the verb that counts says of the bytes that stand behind how many times it does.
+/// What the verb that counts says of the bytes that stand after how many times it does.
 fn counted(alloc: Global, pieces: &Pieces, verb: &str, text: &str) -> Result<String> {
-    let (times, behind) = text.split_once(' ').context("no count")?;
+    let (times, after) = text.split_once(' ').context("no count")?;
     let times = times.parse::<u32>()?;
-    let bytes = pieces.spell(behind)?;
+    let bytes = pieces.spell(after)?;
     if verb == "mutate" {
         return Ok(mutated(alloc, bytes.as_slice(), times)?);
     }
     Ok(repeated(alloc, bytes.as_slice(), times)?)
 }
 
-/// What the verb answers to the text behind it. What is refused is an error, whose text says why.
+/// What the verb answers to the text after it. What is refused is an error, whose text says why.
 pub fn answer(alloc: Global, pieces: &Pieces, verb: &str, text: &str) -> Result<Answer> {
     if verb == "mutate" || verb == "repeat" {
         return Ok((counted(alloc, pieces, verb, text)?, None));

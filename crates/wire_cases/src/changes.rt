@@ -1,4 +1,5 @@
-use crate::outcomes::{Counts, Outcome};
+use crate::outcomes::{Counts, Form, Outcome};
+use frame_reader::{KIND_HOP, KIND_LABELLED, KIND_ROUTED};
 use rsvp_messages::checksum;
 use std::alloc::{AllocError, Global};
 
@@ -39,14 +40,30 @@ pub fn sealed(alloc: Global, kind_and_objects: &[u8]) -> Result<Vec<u8>, AllocEr
     Ok(message)
 }
 
-/// How the message is read with one bit turned, bit by bit.
-pub fn turned(alloc: Global, message: &[u8]) -> Result<String, AllocError> {
+/// How many bytes the frame's head has: in a Hop frame its kind and its message's common header; in a Labelled frame all
+/// before what it carries; in a Routed frame its kind, an address and a limit.
+fn head_len(frame: &[u8]) -> usize {
+    let len = match frame {
+        [KIND_HOP, ..] => 1 + HEADER_LEN,
+        [KIND_LABELLED, count, ..] => 3 + 4 * usize::from(*count),
+        [KIND_ROUTED, ..] => 6,
+        _ => 1,
+    };
+    len.min(frame.len())
+}
+
+/// How the bytes are read with one bit turned, bit by bit: of a message each bit, of a frame those of its head.
+pub fn turned(alloc: Global, form: Form, bytes: &[u8]) -> Result<String, AllocError> {
     let mut counts = Counts::new(alloc);
-    let mut changed = Vec::from_slice(alloc, message)?;
-    for at in 0..message.len() {
+    let mut changed = Vec::from_slice(alloc, bytes)?;
+    let len = match form {
+        Form::Message => bytes.len(),
+        Form::Frame => head_len(bytes),
+    };
+    for at in 0..len {
         for bit in (0..8u32).rev() {
             turn(changed.as_mut_slice(), at, 1 << bit);
-            counts.follow(Outcome::of(alloc, changed.as_slice()))?;
+            counts.follow(Outcome::of(alloc, form, changed.as_slice()))?;
             turn(changed.as_mut_slice(), at, 1 << bit);
         }
     }
@@ -60,15 +77,15 @@ fn turn(bytes: &mut [u8], at: usize, bits: u8) {
     }
 }
 
-/// How the message is read cut short, at each length, with the length field that it came with or one put right.
-pub fn cut(alloc: Global, message: &[u8], is_mended: bool) -> Result<String, AllocError> {
+/// How the bytes are read cut short, at each length. A message has the length field that it came with, or one put right.
+pub fn cut(alloc: Global, form: Form, bytes: &[u8], is_mended: bool) -> Result<String, AllocError> {
     let mut counts = Counts::new(alloc);
-    for len in 0..message.len() {
-        let mut start = Vec::from_slice(alloc, &message[..len])?;
+    for len in 0..bytes.len() {
+        let mut start = Vec::from_slice(alloc, &bytes[..len])?;
         if is_mended {
             mend(start.as_mut_slice());
         }
-        counts.follow(Outcome::of(alloc, start.as_slice()))?;
+        counts.follow(Outcome::of(alloc, form, start.as_slice()))?;
     }
     counts.text(alloc)
 }
@@ -77,7 +94,7 @@ pub fn cut(alloc: Global, message: &[u8], is_mended: bool) -> Result<String, All
 pub fn repeated(alloc: Global, message: &[u8], times: u32) -> Result<String, AllocError> {
     let mut counts = Counts::new(alloc);
     for _ in 0..times {
-        counts.add(Outcome::of(alloc, message))?;
+        counts.add(Outcome::of(alloc, Form::Message, message))?;
     }
     counts.text(alloc)
 }
@@ -88,7 +105,7 @@ pub fn mutated(alloc: Global, message: &[u8], times: u32) -> Result<String, Allo
     let mut chance = Chance(SEED);
     for _ in 0..times {
         let bytes = mutant(alloc, message, &mut chance)?;
-        counts.add(Outcome::of(alloc, bytes.as_slice()))?;
+        counts.add(Outcome::of(alloc, Form::Message, bytes.as_slice()))?;
     }
     counts.text(alloc)
 }
@@ -118,9 +135,9 @@ fn parts(alloc: Global, message: &[u8]) -> Result<Vec<&[u8]>, AllocError> {
     let mut parts = vec![in alloc; header]?;
     'objects: while let [high, low, ..] = rest {
         let len = usize::from(u16::from_be_bytes([*high, *low])).max(OBJECT_HEADER_LEN);
-        let (object, behind) = rest.split_at(len.min(rest.len()));
+        let (object, after) = rest.split_at(len.min(rest.len()));
         parts.push(object)?;
-        rest = behind;
+        rest = after;
     }
     Ok(parts)
 }

@@ -4,14 +4,15 @@
 //! - `NAME = PIECES` names bytes, for all lines that follow. PIECES are words: hexadecimal digits or names, each with
 //!   `N*` before it where it stands N times.
 //! - `VERB PIECES -> ANSWER` is a case. Where something is read, it is written again too, and the bytes are those of
-//!   the line, or those that stand as PIECES behind ` as `.
+//!   the line, or those that stand as PIECES after ` as `.
 //! - `#` begins a comment.
 //!
 //! The verbs: `message` reads a message, `show` says what it says, `objects` reads a message of the type in the first
-//! byte with the objects that follow; `object` reads an object, `frame` a frame; `rate` is the rate of a word,
+//! byte with the objects that follow; `object` reads an object, `frame` a frame, `make` a frame and the message in it; `rate` is the rate of a word,
 //! `traffic` that of a Tspec or a FLOWSPEC, `checksum` the checksum of a message; `turn` reads the message with each
-//! bit turned, `cut` with each length, `shorten` with each length in its length field and no checksum; `mutate N` reads
-//! N messages that chance made of this one, `repeat N` this one N times. The last five count what came.
+//! bit turned, `cut` with each length, `shorten` with each length in its length field and no checksum; `turn_frame`
+//! reads the frame with each bit of its head turned, `cut_frame` with each length; `mutate N` reads N messages that
+//! chance made of this one, `repeat N` this one N times. The last seven count what came.
 #![tactic(auto)]
 
 mod answers;

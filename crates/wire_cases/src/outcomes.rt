@@ -1,25 +1,68 @@
+use frame_reader::{Frame, Payload, read_frame};
 use rsvp_messages::{Dropped, Reading, read_message};
 use std::alloc::{AllocError, Global};
 use std::fmt;
 
-/// How the reading of a message ended.
+/// What bytes are read as.
+#[derive(Clone, Copy, Debug, PartialEq, Eq)]
+pub enum Form {
+    /// A message.
+    Message,
+    /// A frame.
+    Frame,
+}
+
+/// How the reading of a message or of a frame ended.
 #[derive(Clone, Copy, Debug, PartialEq, Eq)]
 pub enum Outcome {
-    /// It was read whole.
+    /// The message, in a Hop frame or alone, was read whole.
     Whole,
     /// It was read, but for an object that it is to be refused for.
     Unknown,
+    /// A Labelled frame of bytes was read, with so many labels.
+    Bytes(usize),
+    /// A Labelled frame of a message was read, with so many labels.
+    Message(usize),
+    /// A Routed frame was read.
+    Routed,
     /// It was dropped.
     Refused(Dropped),
 }
 
 impl Outcome {
     /// How the reading of these bytes ends.
-    pub fn of(alloc: Global, bytes: &[u8]) -> Outcome {
+    pub fn of(alloc: Global, form: Form, bytes: &[u8]) -> Outcome {
+        match form {
+            Form::Message => Outcome::of_message(alloc, bytes),
+            Form::Frame => Outcome::of_frame(alloc, bytes),
+        }
+    }
+
+    /// How they are read as a message.
+    fn of_message(alloc: Global, bytes: &[u8]) -> Outcome {
         match read_message(alloc, bytes) {
             Ok(Reading::Whole(_)) => Outcome::Whole,
             Ok(Reading::Unknown(..)) => Outcome::Unknown,
             Err(fault) => Outcome::Refused(fault),
+        }
+    }
+
+    /// How they are read as a frame.
+    fn of_frame(alloc: Global, bytes: &[u8]) -> Outcome {
+        match read_frame(alloc, bytes) {
+            Ok(frame) => Outcome::said(&frame),
+            Err(fault) => Outcome::Refused(fault),
+        }
+    }
+
+    /// What this frame was read as.
+    fn said(frame: &Frame) -> Outcome {
+        match frame {
+            Frame::Hop(Reading::Whole(_)) => Outcome::Whole,
+            Frame::Hop(Reading::Unknown(..)) => Outcome::Unknown,
+            Frame::Labelled(stack, Payload::Bytes(_)) => Outcome::Bytes(stack.as_slice().len()),
+            Frame::Labelled(stack, _) => Outcome::Message(stack.as_slice().len()),
+            Frame::Routed { .. } | Frame::Relayed { .. } => Outcome::Routed,
         }
     }
 }
@@ -29,6 +72,9 @@ impl fmt::Display for Outcome {
         match self {
             Outcome::Whole => write!(f, "whole"),
             Outcome::Unknown => write!(f, "unknown"),
+            Outcome::Bytes(labels) => write!(f, "labelled/{labels} bytes"),
+            Outcome::Message(labels) => write!(f, "labelled/{labels} message"),
+            Outcome::Routed => write!(f, "routed"),
             Outcome::Refused(fault) => write!(f, "{fault:?}"),
         }
     }

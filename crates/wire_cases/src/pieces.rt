@@ -26,7 +26,7 @@ impl Pieces {
         Ok(())
     }
 
-    /// The bytes that the text's words spell, one behind the other. A word is a name or hexadecimal digits; with `N*`
+    /// The bytes that the text's words spell, one after the other. A word is a name or hexadecimal digits; with `N*`
     /// before it, it stands N times.
     pub fn spell(&self, text: &str) -> Result<Vec<u8>> {
         let mut bytes = Vec::new(self.alloc);

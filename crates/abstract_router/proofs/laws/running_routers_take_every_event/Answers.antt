@@ -9,5 +9,8 @@ returns-clause-any c = step_of
 pub returns-clause-some : goal.returns-clause-some
 returns-clause-some c = λ r before event. ([], refl)
 
+pub returns-clause-spent : goal.returns-clause-spent
+returns-clause-spent c = λ r before made after x. x.passes
+
 pub returns-clause-cold : goal.returns-clause-cold
 returns-clause-cold c = λ r before made after cold x. x.awake cold

@@ -2,4 +2,4 @@
 use Rattle.lsr_session.proofs.requests.take_event.Goals as goal
 
 pub returns : goal.returns
-returns c = record { taken = c.serve_event.ensures.taken; router = c.serve_event.ensures.router }
+returns c = record { served = c.serve_event.ensures.served; router = c.serve_event.ensures.router }

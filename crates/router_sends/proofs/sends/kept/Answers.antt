@@ -1,11 +1,13 @@
 -- One row more is sent and renewed, where it doesn't rest.
-use Rattle.std.proofs.Common.{Option, None, Some, ap, cond, refl, true, false, Bool, ◌∙◌, ◌≡◌, ℕ}
+use Rattle.std.proofs.Common.{Option, None, Some, ap, arith, cond, filter_map, length, refl, take, true, false, Bool, ◌∙◌, ◌≡◌, ℕ}
+use Rattle.std.proofs.Math.Seq.{take-length}
 use Rattle.std.specs.FinMap.Entries.{find}
 use Rattle.std.specs.Option.{option_map}
 use Rattle.router_events.specs.declared.events.Output.{Output}
 use Rattle.abstract_router.specs.Outputs.{rests, send_for}
 use Rattle.abstract_router.specs.Stamps.{due_at}
 use Rattle.abstract_router.specs.Touched.{renewed}
+use Rattle.router_sends.specs.Placing.{placed}
 use Rattle.router_sends.proofs.Asking.{one_behind, one_placed}
 use Rattle.router_sends.proofs.sends.kept.Goals as goal
 
@@ -31,3 +33,15 @@ loop-wants-preserved g c =
       one_behind (λ row. send_for cmp due (find cmp row.0 was) row) rows at wants c.loop-wants-test.true c.wants-item.is _ _ _ _ c.loop-wants.invariant.0 (c.output_of.ensures ∙ ap (option_map (λ row. row.1)) c.in_ok-going.ensures.fresh ∙ output_then so wants) c.in_ok-sends.ensures,
       one_placed cmp (λ row. renewed cmp due moment (find cmp row.0 was) row) rows at wants c.loop-wants-test.true c.wants-item.is _ _ _ _ c.loop-wants.invariant.1 (c.renewed.ensures ∙ ap (option_map (λ row. (row.0, Some moment))) c.in_ok-going.ensures.fresh ∙ moment_then so moment wants) c.in_ok-moments.ensures,
     )
+
+-- all rows
+pub returns-clause-moments : goal.returns-clause-moments
+returns-clause-moments g c =
+    let cmp = g.I.Ord.cmp in
+    let due = due_at c.args.timing.now.refresh_ms c.args.sent.now c.args.timing.now.due_at in
+    let told = λ (row : _ × Output). renewed cmp due c.args.timing.now.moment (find cmp row.0 c.args.was.now) row in
+    let rows = c.args.is.now in
+    let at_end : c.loop-wants.wants-index ≡ length rows = omega arith in
+    c.loop-wants.invariant.1
+    ∙ ap (λ n. placed cmp c.args.torn.moments (filter_map told (take n rows))) at_end
+    ∙ ap (λ rest. placed cmp c.args.torn.moments (filter_map told rest)) (take-length rows)

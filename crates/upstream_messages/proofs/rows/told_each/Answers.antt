@@ -3,6 +3,7 @@ use Rattle.std.proofs.Common.{Some, None, [], append-nil, get_or, sym, ◌∙◌
 use Rattle.std.proofs.lemmas.List.{get_or_default}
 use Rattle.std.specs.declared.net.ipv4_addr.Ipv4Addr.{Ipv4Addr}
 use Rattle.lsr_facts.specs.declared.path_fact.Origin.{Origin}
+use Rattle.lsr_facts.specs.declared.path_fact.Via.TheVariants.{Link}
 use Rattle.abstract_router.specs.RowLaws.{one_more}
 use Rattle.abstract_lsr.specs.Upstreams.{upstream_row}
 use Rattle.state_views.specs.Views.{known}
@@ -12,7 +13,7 @@ use Rattle.upstream_messages.proofs.rows.told_each.Goals.{in-Some+in_ok-push, in
 
 -- what a read past the end gives
 abbrev no_origin : Ipv4Addr × Origin
-no_origin = (record { octets = [] }, record { link = 0; hop = record { address = record { octets = [] }; interface = 0 }; expiry = 0 })
+no_origin = (record { octets = [] }, record { via = Link 0; hop = record { address = record { octets = [] }; interface = 0 }; expiry = 0 })
 
 pub loop-origin-preserved : goal.loop-origin-preserved
 loop-origin-preserved g c =

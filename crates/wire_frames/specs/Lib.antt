@@ -1,3 +1,0 @@
-pub mod Dropping
-pub mod Frames
-pub mod Payloads
