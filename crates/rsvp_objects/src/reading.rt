@@ -20,7 +20,7 @@ use std::alloc::Global;
 
 /// The parts of an object where it lies.
 #[derive(Clone, Copy)]
-pub struct Frame<'a> {
+pub struct ObjectParts<'a> {
     /// The Class-Num.
     pub class: u8,
     /// The C-Type.
@@ -31,7 +31,7 @@ pub struct Frame<'a> {
 
 /// The first object's parts, where its length is good.
 #[tactic(auto, unfolding(crate::specs::Framing::frame_in))]
-pub fn frame_of(bytes: &[u8]) -> Option<Frame<'_>>
+pub fn frame_of(bytes: &[u8]) -> Option<ObjectParts<'_>>
     ensures { option_map (λ f. record { class = f.class; ctype = f.ctype; body = f.body.now }) result
         ≡ frame_in bytes.now }
 {
@@ -42,7 +42,7 @@ pub fn frame_of(bytes: &[u8]) -> Option<Frame<'_>>
     if len < HEADER_LEN || len % WORD_LEN != 0 || len > bytes.len() {
         return None;
     }
-    Some(Frame {
+    Some(ObjectParts {
         class: bytes[2],
         ctype: bytes[3],
         body: &bytes[HEADER_LEN..len],
