@@ -1,71 +1,61 @@
--- What an event is answered, which errors it meets, and what is known after it.
-use Rattle.std.specs.Prelude.{ℕ, Bool, true, false, List, [], filter_map, Option}
-use Rattle.std.specs.Option.{option_map}
-use Rattle.std.specs.declared.net.ipv4_addr.Ipv4Addr.{Ipv4Addr}
+-- What an event does of itself: its reply, the errors that it meets, and what is known after it.
+use Rattle.std.specs.Prelude.{ℕ, Bool, true, false, if◌then◌else◌, List, [], ◌∷◌, Option}
+use Rattle.std.specs.Option.{option_map, option_map_or}
+use Rattle.rsvp_contents.specs.declared.messages.Content.TheVariants as contents
+use Rattle.rsvp_flows.specs.declared.descriptors.ErrorDescriptor.{ErrorDescriptor}
 use Rattle.rsvp_objects.specs.declared.values.ErrorSpec.{ErrorSpec}
 use Rattle.rsvp_objects.specs.declared.values.Session.{Session}
-use Rattle.rsvp_objects.specs.declared.values.Template.{Template}
-use Rattle.rsvp_contents.specs.declared.messages.Content.{Content}
-use Rattle.rsvp_contents.specs.declared.messages.Content.TheVariants as contents
-use Rattle.rsvp_contents.specs.declared.message.Reading.TheVariants as readings
-use Rattle.router_events.specs.Frame.TheVariants as frames
-use Rattle.lsr_facts.specs.Origins.{via_link}
+use Rattle.rsvp_objects.specs.declared.values.Style.{Style}
+use Rattle.lsr_facts.specs.Routers.{link_at}
 use Rattle.lsr_facts.specs.declared.errors.RsvpError.{RsvpError}
-use Rattle.lsr_facts.specs.declared.facts.Facts.{Facts}
 use Rattle.lsr_facts.specs.declared.key.Item.{Item}
-use Rattle.lsr_facts.specs.declared.key.Key.{Key}
-use Rattle.lsr_facts.specs.declared.path_fact.Origin.{Origin}
-use Rattle.lsr_facts.specs.declared.path_fact.PathFact.{PathFact}
 use Rattle.lsr_facts.specs.declared.refusal.Refusal.{Refusal}
 use Rattle.lsr_facts.specs.declared.reply.Reply.{Reply}
 use Rattle.lsr_facts.specs.declared.reply.Reply.TheVariants as replies
 use Rattle.lsr_facts.specs.declared.router.Router.{Router}
 use Rattle.router_events.specs.declared.events.Output.{Output}
+use Rattle.abstract_paths.specs.Outcomes as paths
+use Rattle.abstract_paths.specs.Outcomes.{sent_by}
+use Rattle.resv_facts.specs.declared.upstream.Upstream.{Upstream}
+use Rattle.abstract_router.specs.States.{State, with_facts}
 
--- the LSP of a session that has this head and LSP ID
-abbrev pub lsp : Session → Template → Key
-lsp session sender = record { session = session; sender = sender }
-
--- What an event does of itself: the answer, the errors in the order found, the items that are due again though
--- nothing about them changed, the facts after, and whether it is silent. A silent event sends nothing, and the
--- moments at which messages were sent stay.
+-- The reply, the errors in the order found, the Paths and the Resvs that are due again though nothing about them
+-- changed, what is known after, and whether the event is silent: then nothing is sent for it.
 pub record Outcome : Type 0 where
   pub reply : Reply
   pub errors : List Output
   pub due : List Item
-  pub after : Facts
+  pub upstream_due : List Upstream
+  pub after : State
   pub is_silent : Bool
 
--- done, with these errors told to others
-abbrev pub done : List Output → Facts → Outcome
-done errors after = record { reply = replies.Done; errors = errors; due = []; after = after; is_silent = false }
-
--- answered, and silent
-abbrev pub silent : Reply → Facts → Outcome
-silent reply after = record { reply = reply; errors = []; due = []; after = after; is_silent = true }
+-- this reply, and these errors told to others
+abbrev pub replied : Reply → List Output → State → Outcome
+replied reply errors after = record { reply = reply; errors = errors; due = []; upstream_due = []; after = after; is_silent = false }
 
 -- refused: nothing changes
-abbrev pub refused : Facts → Refusal → Outcome
-refused s refusal = silent (replies.Refused refusal) s
+abbrev pub refused : State → Refusal → Outcome
+refused s refusal = record { reply = replies.Refused refusal; errors = []; due = []; upstream_due = []; after = s; is_silent = true }
 
--- a message that goes out by a link
-abbrev pub sent_by : ℕ → Content → Output
-sent_by link content = record { link = link; frame = frames.Hop (readings.Whole content) }
+-- what the event does to paths, links and time, and no more
+abbrev pub of_paths : State → paths.Outcome → Outcome
+of_paths s o = record { reply = o.reply; errors = o.errors; due = o.due; upstream_due = []; after = with_facts o.after s; is_silent = o.is_silent }
 
--- an error that this router found (RFC 2205, A.5)
-abbrev pub found_here : Router → RsvpError → ErrorSpec
-found_here r e = record { node = r.id; flags = 0; code = e.code; value = e.value }
+-- A reservation that stands as it was in spite of an error is said to be in place (RFC 2205, A.5).
+abbrev pub in_place : ℕ
+in_place = 0x01
 
--- a PathErr (RFC 2205, 3.1.7)
-abbrev pub path_err : Session → Template → Option (List ℕ) → ErrorSpec → Content
-path_err session sender tspec error =
-    contents.PathErr (record { session = session; error = error; sender = sender; tspec = tspec })
+-- an error that this router found, of an LSP that is reserved still, or isn't
+abbrev pub found_here : Router → Bool → RsvpError → ErrorSpec
+found_here r is_reserved e = record (paths.found_here r e) { flags = if is_reserved then in_place else 0 }
 
--- An error of a path, told to one of its origins, where that is a neighbour (RFC 2205, 3.1.7). No path has another yet.
-abbrev pub told_to : Key → Option (List ℕ) → ErrorSpec → Ipv4Addr × Origin → Option Output
-told_to key tspec error origin =
-    option_map (λ link. sent_by link (path_err key.session (record key.sender { sender = origin.0 }) tspec error)) (via_link origin.1.via)
+-- A ResvErr that goes downstream by a link, from this router's address there (RFC 2205, 3.1.8).
+abbrev pub told_downstream : Router → ℕ → Session → ErrorSpec → Style → List ErrorDescriptor → Option Output
+told_downstream r link session error style descriptors =
+    option_map (λ l.
+    sent_by link (contents.ResvErr (record { session = session; hop = record { address = l.address; interface = link }; error = error; style = style; descriptors = descriptors })))
+    (link_at r link)
 
--- and to each of them, in the order of their senders
-abbrev pub told_upstream : Key → PathFact → Option (List ℕ) → ErrorSpec → List Output
-told_upstream key fact tspec error = filter_map (told_to key tspec error) fact.origins
+-- what may be told, as a list
+abbrev pub listed : Option Output → List Output
+listed told = option_map_or (λ o. o ∷ []) told []

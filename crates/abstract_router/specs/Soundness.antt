@@ -1,90 +1,66 @@
--- What holds of every state that a router comes to: of each table by itself, and of those that belong together.
-use Rattle.std.specs.Prelude.{◌≡◌, ◌≢◌, ℕ, ◌^◌, ◌≤◌, true, List, [], length, Option, None, is_some, IsTrue, T}
-use Rattle.std.specs.FinMap.Entries.{is_sorted}
-use Rattle.std.specs.List.{AllByRecursion}
+-- What holds of every state that a label switching router comes to.
+use Rattle.std.specs.Prelude.{◌≡◌, ℕ, ◌≤◌, true, List, Some, IsOk, IsTrue, T, nat_eq}
+use Rattle.std.specs.FinMap.Entries.{find, is_sorted}
+use Rattle.std.specs.List.{AllByRecursion, IsDistinct}
 use Rattle.std.specs.Option.{option_map_or}
-use Rattle.std.specs.declared.net.ipv4_addr.Ipv4Addr.{Ipv4Addr}
-use Rattle.rsvp_routes.specs.declared.step.Step.{Step}
-use Rattle.rsvp_traffic.specs.TokenBuckets.{token_rate}
-use Rattle.rsvp_contents.specs.Fitting.{are_passed_on, has_adspec_last, has_one_fast_reroute}
-use Rattle.rsvp_contents.specs.Limits.{is_short_route, is_short_record, is_short_passing}
-use Rattle.sorted_rows.specs.Rows.{keys_of}
-use Rattle.lsr_facts.specs.Orders.{address_cmp, key_cmp}
-use Rattle.lsr_facts.specs.Routers.{AreRoutes, HasLink}
-use Rattle.lsr_facts.specs.declared.facts.Facts.{Facts}
+use Rattle.rsvp_contents.specs.Fitting.{are_passed_by, has_adspec_last}
+use Rattle.rsvp_contents.specs.Limits.{is_short_passing, is_short_record}
+use Rattle.rsvp_traffic.specs.Traffic.{flowspec_rate}
+use Rattle.sorted_rows.specs.Rows.{keys_of, values_of}
+use Rattle.lsr_facts.specs.Orders.{key_cmp}
 use Rattle.lsr_facts.specs.declared.key.Key.{Key}
-use Rattle.lsr_facts.specs.declared.path_fact.Origin.{Origin}
-use Rattle.lsr_facts.specs.declared.path_fact.PathFact.{PathFact}
-use Rattle.lsr_facts.specs.declared.path_fact.Role.{Role}
-use Rattle.lsr_facts.specs.declared.path_fact.Role.TheVariants as roles
-use Rattle.lsr_facts.specs.declared.path_fact.Via.{Via}
-use Rattle.lsr_facts.specs.declared.path_fact.Via.TheVariants as vias
 use Rattle.lsr_facts.specs.declared.router.Router.{Router}
-use Rattle.abstract_router.specs.Wanted.{wanted_of}
+use Rattle.resv_facts.specs.Claims.{is_same_session, reserved_of}
+use Rattle.resv_facts.specs.declared.resv_fact.ResvFact.{ResvFact}
+use Rattle.abstract_paths.specs.Soundness.{IsStanding}
+use Rattle.abstract_router.specs.Wanted.{items_of}
+use Rattle.abstract_router.specs.Upstreams.{upstream_of}
+use Rattle.abstract_router.specs.Labels.{labelled_keys}
+use Rattle.abstract_router.specs.Preempting.{claims_of, limit_of}
+use Rattle.forwarding_table.specs.Labels.{is_label}
+use Rattle.abstract_router.specs.Reserving.{is_same_style}
+use Rattle.abstract_router.specs.States.{State}
+use Rattle.abstract_router.specs.Steps.{stands}
 
--- The Paths of an origin come over a link of the router. None come through a stack of labels yet.
-abbrev pub IsVia : Router → Via → Type 0
-IsVia r (vias.Link number) = HasLink r number
-IsVia r vias.Stack = ⊥
+-- What a reservation says of itself is as it should be: its rate is defined; its label can be written; its expiry
+-- isn't below the moment (with a refresh period of 0 they are equal); and what it carries fits a Resv, type 2.
+pub record IsResv (moment : ℕ) (resv : Key × ResvFact) : Type 0 where
+  pub has_rate : IsOk (flowspec_rate resv.1.flowspec)
+  pub label : is_label resv.1.label ≡ true
+  pub live : moment ≤ resv.1.expiry
+  pub recorded : IsTrue (option_map_or is_short_record resv.1.recorded true)
+  pub passing : IsTrue (is_short_passing resv.1.passing)
+  pub passed_on : IsTrue (are_passed_by 2 resv.1.passing)
+  pub adspec_last : IsTrue (has_adspec_last resv.1.passing)
 
--- an origin at a moment: over a link of the router, and its expiry isn't below the moment (at refresh 0 they are
--- equal)
-pub record IsOrigin (r : Router) (moment : ℕ) (origin : Origin) : Type 0 where
-  pub over_link : IsVia r origin.via
-  pub live : moment ≤ origin.expiry
+-- the LSPs of one session on one link are reserved in one style (RFC 2205, 1.3)
+abbrev pub AreOfOneStyle : List (Key × ResvFact) → Type 0
+AreOfOneStyle resvs =
+    (a b : Key) (x y : ResvFact) → find key_cmp a resvs ≡ Some x → find key_cmp b resvs ≡ Some y
+    → is_same_session a.session b.session ≡ true → x.link ≡ y.link → is_same_style x.style y.style ≡ true
 
--- The origins of a path that begins elsewhere: one, under its own sender.
-pub record AreOrigins (r : Router) (moment : ℕ) (key : Key) (origins : List (Ipv4Addr × Origin)) : Type 0 where
-  pub in_order : T (is_sorted address_cmp origins)
-  pub some : 1 ≤ length origins
-  pub own : AllByRecursion (λ o. o.0 ≡ key.sender.sender) origins
-  pub each : AllByRecursion (λ o. IsOrigin r moment o.1) origins
+-- The table of reservations: in the order of keys, each as it should be, one style for a session on a link, and on each
+-- link, at each priority, no more than its limit (RFC 3209, 4.7.3).
+pub record AreHeld (r : Router) (s : State) : Type 0 where
+  pub in_order : T (is_sorted key_cmp s.resvs)
+  pub each : AllByRecursion (IsResv s.facts.moment) s.resvs
+  pub one_style : AreOfOneStyle s.resvs
+  pub within : (link priority : ℕ) → priority ≤ 7 → reserved_of link priority (claims_of s.facts.paths s.resvs) ≤ limit_of r link
 
--- The way of a path, by its role: one that ends here has none, another leaves by a link of the router.
-abbrev pub IsWayAs : Router → Role → ℕ → Option (List Step) → Type 0
-IsWayAs r roles.Tail link rest = (link ≡ 0) × (rest ≡ None)
-IsWayAs r roles.Transit link rest = HasLink r link
-IsWayAs r roles.Head link rest = HasLink r link
+-- The labels: held by exactly the LSPs that don't begin here, each by one, all of the router's range (RFC 3031, 3.1 and 3.14).
+pub record AreLabelled (r : Router) (s : State) : Type 0 where
+  pub of_lsps : keys_of s.labels ≡ labelled_keys s.facts.paths
+  pub from_first : AllByRecursion (λ row. r.labels.first ≤ row.1) s.labels
+  pub to_last : AllByRecursion (λ row. row.1 ≤ r.labels.last) s.labels
+  pub apart : IsDistinct nat_eq (values_of s.labels)
 
--- and that of a path that is known
-abbrev pub IsWay : Router → PathFact → Type 0
-IsWay r fact = IsWayAs r fact.role fact.out_link fact.rest
-
--- what a path carries fits a message
-pub record IsWithinLimits (fact : PathFact) : Type 0 where
-  pub given : IsTrue (option_map_or is_short_route fact.given true)
-  pub rest : IsTrue (option_map_or is_short_route fact.rest true)
-  pub recorded : IsTrue (option_map_or is_short_record fact.recorded true)
-  pub passing : IsTrue (is_short_passing fact.passing)
-  pub passed_on : IsTrue (are_passed_on fact.passing)
-  pub adspec_last : IsTrue (has_adspec_last fact.passing)
-  pub one_fast_reroute : IsTrue (has_one_fast_reroute fact.fast_reroute fact.passing)
-
--- A path at a moment: it carries IPv4, its rate is defined, and it stands as said above. No path begins here yet.
-pub record IsPath (r : Router) (moment : ℕ) (path : Key × PathFact) : Type 0 where
-  pub from_elsewhere : path.1.role ≢ roles.Head
-  pub origins : AreOrigins r moment path.0 path.1.origins
-  pub way : IsWay r path.1
-  pub carries_ipv4 : path.1.label_request.l3pid ≡ 0x0800
-  pub has_rate : IsTrue (is_some (token_rate 1 path.1.tspec))
-  pub limits : IsWithinLimits path.1
-
--- the paths: one of each LSP, in the order of keys, at most 1,024
-pub record ArePaths (r : Router) (moment : ℕ) (paths : List (Key × PathFact)) : Type 0 where
-  pub in_order : T (is_sorted key_cmp paths)
-  pub few : length paths ≤ 1024
-  pub each : AllByRecursion (IsPath r moment) paths
-
--- What holds of every state, but for the moments at which items were sent. A cold router knows no path.
-pub record IsStanding (r : Router) (s : Facts) : Type 0 where
-  pub moment : s.moment ≤ 2 ^ 62
-  pub links : keys_of s.up ≡ keys_of r.links
-  pub routes : AreRoutes r s.routes
-  pub paths : ArePaths r s.moment s.paths
-  pub cold : s.cold ≡ true → s.paths ≡ []
-
--- What holds of every state. Those moments are known of exactly the items that are wanted: so a cold router has
--- sent nothing.
-pub record IsSound (r : Router) (s : Facts) : Type 0 where
-  pub standing : IsStanding r s
-  pub sent : keys_of s.sent ≡ keys_of (wanted_of r s)
+-- What holds of every state: links, routes, time and paths are as they should be; reservations are within the limits of
+-- their links, and each stands on its path; each LSP that doesn't begin here has a label of its own; and the moments are
+-- known of exactly the Paths and the Resvs that are wanted.
+pub record IsSound (r : Router) (s : State) : Type 0 where
+  pub paths : IsStanding r s.facts
+  pub held : AreHeld r s
+  pub standing : AllByRecursion (λ resv. stands s.facts resv ≡ true) s.resvs
+  pub labels : AreLabelled r s
+  pub sent : keys_of s.facts.sent ≡ keys_of (items_of r s)
+  pub sent_upstream : keys_of s.sent_upstream ≡ keys_of (upstream_of r s)

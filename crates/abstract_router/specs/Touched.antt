@@ -1,40 +1,11 @@
--- The part of what is known that belongs to the LSPs that a step touches, and what becomes of the moments there.
-use Rattle.std.specs.Prelude.{◌≡◌, ◌++◌, ℕ, not, Bool, if◌then◌else◌, List, filter_map, Option, Some, None, is_none, is_some}
-use Rattle.std.specs.FinMap.Entries.{find, where_key}
-use Rattle.std.specs.Option.{option_map}
-use Rattle.std.specs.declared.cmp.Ordering.{Ordering}
-use Rattle.lsr_facts.specs.Orders.{key_cmp}
-pub use Rattle.lsr_facts.specs.Orders.{key_of_item}
-use Rattle.lsr_facts.specs.declared.facts.Facts.{Facts}
+-- Of the LSPs that a step doesn't touch the same is known before and after.
+use Rattle.std.specs.Prelude.{◌≡◌, Bool, false}
 use Rattle.lsr_facts.specs.declared.key.Key.{Key}
-use Rattle.router_events.specs.declared.events.Output.{Output}
-use Rattle.abstract_router.specs.Outputs.{between, rests}
+use Rattle.lsr_facts.specs.declared.router.Router.{Router}
+use Rattle.abstract_router.specs.Lsps.{around_of, lsp_at}
+use Rattle.abstract_router.specs.States.{State}
 
--- what is known of the LSPs that are touched
-abbrev pub at_keys : (Key → Bool) → Facts → Facts
-at_keys touched s = record s { paths = where_key key_cmp touched s.paths }
-
--- Of the LSPs that aren't touched the same is known before and after, and the same links are up.
-pub record IsSameElsewhere (touched : Key → Bool) (before after : Facts) : Type 0 where
-  pub up : before.up ≡ after.up
-  pub paths : where_key key_cmp (λ key. not (touched key)) before.paths ≡ where_key key_cmp (λ key. not (touched key)) after.paths
-
--- the key is one of these rows'
-abbrev pub is_among : {K E : Type 0} → (K → K → Ordering) → List (K × E) → K → Bool
-is_among cmp es key = is_some (find cmp key es)
-
--- what rows have under the keys of others, one look-up after the other
-abbrev pub found_rows : {K E X : Type 0} → (K → K → Ordering) → List (K × E) → List (K × X) → List (K × X)
-found_rows cmp es rows = filter_map (λ e. option_map (λ x. (e.0, x)) (find cmp e.0 rows)) es
-
--- the moment goes of an item that was wanted and is no more
-abbrev pub forgotten : {I : Type 0} → Option Output → I × Output → Option (I × Option ℕ)
-forgotten now was = if is_none now then Some (was.0, None) else None
-
--- an item that is sent has this moment from then on
-abbrev pub renewed : {I : Type 0} → (I → I → Ordering) → List I → ℕ → Option Output → I × Output → Option (I × Option ℕ)
-renewed cmp due moment was wants = if rests cmp due was wants then None else Some (wants.0, Some moment)
-
--- what becomes of the moments between what was wanted and what is: no other moment changes
-abbrev pub moments_between : {I : Type 0} → (I → I → Ordering) → List I → ℕ → List (I × Output) → List (I × Output) → List (I × Option ℕ)
-moments_between cmp due moment was is = between cmp (renewed cmp due moment) is was ++ between cmp forgotten was is
+-- All LSPs share the same before and after; and of each that isn't touched the same is known, but for when it expires.
+pub record IsSameElsewhere (r : Router) (touched : Key → Bool) (before after : State) : Type 0 where
+  pub around : around_of r before ≡ around_of r after
+  pub lsps : (key : Key) → touched key ≡ false → lsp_at before key ≡ lsp_at after key

@@ -1,8 +1,3 @@
-//! The abstract router: what the machine is.
+//! The abstract router: what a label switching router knows of paths, reservations and labels, and what events do to it.
+//! One state, one step, one run. That every state is sound is proved in `router_soundness`.
 #![tactic(auto)]
-
-pub mod laws;
-pub mod locality;
-pub mod soundness;
-
-pub use router_events::{Frame, Output, Outputs};

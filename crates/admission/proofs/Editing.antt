@@ -6,9 +6,9 @@ use Rattle.std.specs.Option.{is_none, option_map}
 use Rattle.std.proofs.lemmas.List.{drop_more}
 use Rattle.sorted_rows.specs.Rows.{keys_of}
 use Rattle.sorted_rows.specs.RowsLaws.{is_sorted-both}
-use Rattle.row_edits.proofs.Passes.{both_passes}
-use Rattle.row_edits.specs.Edits.{edited}
-use Rattle.row_edits.specs.InTurn.{given, in_turn, taken}
+use Rattle.sorted_rows.proofs.Passes.{both_passes}
+use Rattle.sorted_rows.specs.Edits.{edited}
+use Rattle.sorted_rows.specs.InTurn.{given, in_turn, taken}
 use Rattle.lsr_facts.specs.Orders.{key_cmp}
 use Rattle.lsr_facts.specs.OrderLaws.{key_exact, key_total}
 use Rattle.lsr_facts.specs.declared.key.Key.{Key}

@@ -6,7 +6,7 @@ use Rattle.std.specs.Ordering.{is_eq}
 use Rattle.std.proofs.lemmas.List.{append-nil, append_assoc, drop_all, drop_more, map-append, reverse-append, take_all, take_more}
 use Rattle.std.proofs.lemmas.List.Elements.{filter-append, filter_agree}
 use Rattle.std.proofs.lemmas.List.Sums.{count_by-le-length, length-filter}
-use Rattle.sorted_rows.specs.ListLaws.{all-always, all-filter, filter-all_pass}
+use Rattle.sorted_rows.specs.ListLaws.{all-filter}
 use Rattle.lsr_facts.specs.Orders.{key_cmp}
 use Rattle.lsr_facts.specs.declared.key.Key.{Key}
 use Rattle.resv_facts.specs.Admission.{by_worst, can_give_way, held_at, shortest, without}
@@ -66,18 +66,9 @@ held_next keys now all holding claims some is before =
     ∙ ap (λ ks. keys ++ ks) (sym (map-append key (held_at holding claims) (below holding claims)))
     ∙ before
 
--- a beginning that is enough is the shortest
-pub shortest_enough : (enough : List Key → Bool) (gone rest : List Key) → enough gone ≡ true → shortest enough gone rest ≡ gone
-shortest_enough enough gone [] is = refl
-shortest_enough enough gone (next ∷ rest) is = ap (λ b. cond b gone (shortest enough (gone ++ next ∷ []) rest)) is
-
--- and one that isn't needs the next one
+-- a beginning that isn't enough needs the next one
 pub shortest_more : (enough : List Key → Bool) (gone : List Key) (next : Key) (rest : List Key) → enough gone ≡ false → shortest enough gone (next ∷ rest) ≡ shortest enough (gone ++ next ∷ []) rest
 shortest_more enough gone next rest is = ap (λ b. cond b gone (shortest enough (gone ++ next ∷ []) rest)) is
-
--- nobody is gone
-pub without_none : (claims : List (Key × Claim)) → claims ≡ without [] claims
-without_none claims = sym (filter-all_pass (λ claim. true) claims (all-always (λ claim. true ≡ true) (λ claim. refl) claims))
 
 any_push : {A : Type 0} (p : A → Bool) (xs : List A) (x : A) → list_any p (xs ++ x ∷ []) ≡ (list_any p xs || p x)
 any_push p [] x = elim (p x) as (λ b. (b || false) ≡ b) [ true ↦ refl | false ↦ refl ]
@@ -87,7 +78,7 @@ neither : (a b : Bool) → (not a && not b) ≡ not (a || b)
 neither true b = refl
 neither false b = refl
 
--- and one more is gone
+-- one more is gone
 pub without_more : (keys : List Key) (key : Key) (claims : List (Key × Claim)) → where_key key_cmp (λ other. not (is_eq (key_cmp key other))) (without keys claims) ≡ without (keys ++ key ∷ []) claims
 without_more keys key claims =
     filter-both (λ claim. not (list_any (λ gone. is_eq (key_cmp gone claim.0)) keys)) (λ claim. not (is_eq (key_cmp key claim.0))) claims

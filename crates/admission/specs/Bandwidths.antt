@@ -5,7 +5,7 @@ use Rattle.std.specs.List.{AllByRecursion, AllZip}
 use Rattle.std.specs.Option.{option_map, option_map_or}
 use Rattle.std.specs.Ordering.{is_eq}
 use Rattle.rsvp_traffic.specs.Traffic.{flowspec_rate}
-use Rattle.row_edits.specs.Edits.{edited}
+use Rattle.sorted_rows.specs.Edits.{edited}
 use Rattle.lsr_facts.specs.Orders.{key_cmp}
 use Rattle.lsr_facts.specs.declared.key.Key.{Key}
 use Rattle.resv_facts.specs.Claims.{claim_of}

@@ -1,2 +1,4 @@
 pub mod Bandwidths
+pub mod RoomLaws
+pub mod Rooms
 pub mod Sums

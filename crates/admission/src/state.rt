@@ -1,21 +1,26 @@
 ghost use Rattle.std.specs.FinMap.Entries.{find, is_sorted, put};
-ghost use Rattle.std.specs.Option.{option_copied, option_map_or};
+ghost use Rattle.std.specs.Option.{option_copied, option_map, option_map_or};
 ghost use Rattle.std.specs.Ordering.{nat_cmp};
-ghost use Rattle.std.specs.Prelude.{◌≡◌, ◌^◌, ◌≤◌, T, [], false, IfOk, IsOk, length};
+ghost use Rattle.std.specs.Prelude.{◌≡◌, ◌^◌, ◌≤◌, T, [], false, IfOk, IsOk, filter, find as find_first, length, not, slice_get};
 ghost use Rattle.rsvp_traffic.specs.Traffic.{flowspec_rate};
 ghost use Rattle.lsr_facts.specs.Orders.{key_cmp};
 ghost use Rattle.resv_facts.specs.Admission.{fits, victims_of};
 ghost use Rattle.resv_facts.specs.Claims.{claim_of, reserved_of};
-ghost use Rattle.row_edits.specs.Edits.{edited};
-ghost use Rattle.row_edits.specs.InTurn.{given, in_turn, taken};
-ghost use Rattle.admission.specs.Bandwidths.{AreEdits, AreMatched, claim_edits, left_at, resv_edits, with_edits, with_holding, with_resv, without_resv};
+ghost use Rattle.resv_facts.specs.Conflicts.{conflicts};
+ghost use Rattle.resv_facts.specs.Reservations.{lives_past};
+ghost use Rattle.sorted_rows.specs.Edits.{edited};
+ghost use Rattle.sorted_rows.specs.InTurn.{given, in_turn, taken};
+ghost use Rattle.sorted_rows.specs.Rows.{keys_of};
+ghost use Rattle.admission.specs.Rooms.{room_of};
+ghost use Rattle.admission.specs.Bandwidths.{AreEdits, AreMatched, AreRated, claim_edits, left_at, resv_edits, with_edits, with_holding, with_resv, without_resv};
 
 use crate::reserved::{reserved, reserved_with};
+use crate::resv_state::ResvState;
+use crate::room::{Room, room_of};
 use crate::victims::victims_of;
 use lsr_facts::Key;
 use lsr_facts::limits::MAX_LSPS;
-use resv_facts::{Claim, Request, ResvFact};
-use resv_state::ResvState;
+use resv_facts::{Claim, Request, ResvFact, ResvStyle};
 use sorted_rows::{ReservedTable, Sweep, Table};
 use std::alloc::{AllocError, Global};
 use std::marker::Model;
@@ -89,21 +94,70 @@ impl Admission {
         })
     }
 
-    /// The reservations, in the order of their keys. Beside each stands what it takes.
-    pub fn as_slice(&self) -> &[(Key, ResvFact)]
-        ensures rows { result.now ≡ self.now.resvs }
+    /// How many LSPs have a reservation.
+    pub fn len(&self) -> usize
+        ensures { result ≡ length self.now.resvs }
+    {
+        self.resvs.len()
+    }
+
+    /// The reservation at a place, in the order of the keys, from 0 on; `None` past the last.
+    pub fn row(&self, place: usize) -> Option<&(Key, ResvFact)>
+        ensures { option_copied result ≡ slice_get self.now.resvs place }
+    {
+        self.resvs.row(place)
+    }
+
+    /// The keys rise, there are at most 1,024 reservations, and beside each stands what it takes. It does nothing when
+    /// it runs.
+    pub fn rows_are_in_order(&self)
         ensures sorted { T (is_sorted key_cmp self.now.resvs) }
         ensures few { length self.now.resvs ≤ 1024 }
         ensures matched { AreMatched self.now.resvs self.now.claims }
     {
-        self.resvs.as_slice()
+        self.resvs.rows_are_in_order();
+    }
+
+    /// The LSPs whose reservations expire at a moment, in milliseconds (RFC 2205, 2.3), in the order of their keys.
+    /// The only error is out of memory.
+    pub fn expiring(&self, alloc: Global, moment: u64) -> Result<Vec<Key>, AllocError>
+        ensures { IfOk result (λ keys. keys.items
+            ≡ keys_of (filter (λ resv. not (lives_past moment resv.1)) self.now.resvs)) }
+    {
+        self.resvs.expiring(alloc, moment)
+    }
+
+    /// How another LSP of the session is reserved on a link, where that is in the other style: the first of them
+    /// (RFC 2205, B, 5).
+    pub fn conflicting_style(&self, link: u16, style: ResvStyle, key: &Key) -> Option<ResvStyle>
+        ensures { result ≡ option_map (λ other. other.1.style)
+            (find_first (conflicts link style key.now) self.now.resvs) }
+    {
+        self.resvs.conflicting_style(link, style, key)
     }
 
     /// What the reservations take, in the order of the keys.
-    pub fn claims(&self) -> &[(Key, Claim)]
+    fn claims(&self) -> &[(Key, Claim)]
         ensures claims { result.now ≡ self.now.claims }
+        ensures sorted { T (is_sorted key_cmp result.now) }
+        ensures rated { AreRated result.now }
+        ensures few { length result.now ≤ 1024 }
     {
         self.claims.as_slice()
+    }
+
+    /// The reservations as a table of their own: a copy. The only error is out of memory.
+    pub fn resvs_copied(&self, alloc: Global) -> Result<Table<Key, ResvFact>, AllocError>
+        ensures { IfOk result (λ resvs. resvs ≡ self.now.resvs) }
+    {
+        self.resvs.copied(alloc)
+    }
+
+    /// What the reservations take, to be changed: a copy. The only error is out of memory.
+    pub fn claims_copied(&self, alloc: Global) -> Result<Table<Key, Claim>, AllocError>
+        ensures { IfOk result (λ claims. claims ≡ self.now.claims) }
+    {
+        Ok(Table::from_rows(Vec::from_slice(alloc, self.claims())?))
     }
 
     /// What is known of an LSP's reservation, or `None` where the LSP has none.
@@ -148,8 +202,8 @@ impl Admission {
     pub fn expire(&mut self, moment: u64)
         ensures { self.new ≡ left_at moment self.old }
     {
-        // That the reservations are in order: those claims are left that belong to what is left for this reason.
-        let _ = self.resvs.as_slice();
+        // Those claims are left that belong to what is left, because the reservations are in order.
+        self.resvs.rows_are_in_order();
         self.resvs.expire(moment);
         self.claims.sweep(&Reserving { resvs: &self.resvs });
     }
@@ -160,8 +214,8 @@ impl Admission {
         requires { holding ≤ 7 }
         ensures { self.new ≡ with_holding key.now holding self.old }
     {
-        // That the reservations are in order: they stay matched for this reason.
-        let _ = self.resvs.as_slice();
+        // They stay matched, because the reservations are in order.
+        self.resvs.rows_are_in_order();
         if let Some(claim) = self.claims.get(key).copied() {
             self.claims.set(*key, Claim { holding, ..claim });
         }
@@ -203,9 +257,9 @@ impl Admission {
         requires edits { AreEdits edits }
         ensures { self.new ≡ with_edits edits self.old }
     {
-        // That all rows are in order: the two passes make the edits for this reason.
-        let _ = self.resvs.as_slice();
-        let _ = self.claims.as_slice();
+        // The two passes make the edits, because all rows are in order.
+        self.resvs.rows_are_in_order();
+        self.claims.rows_are_in_order();
         let edits = edits.into_rows();
         self.take(&edits);
         self.give(edits);
@@ -216,36 +270,70 @@ impl Admission {
     pub fn reserved(&self, link: u16, priority: u8) -> u64
         ensures { result ≡ reserved_of link priority self.now.claims }
     {
-        reserved(self.claims.as_slice(), link, priority)
+        reserved(self.claims(), link, priority)
     }
 
-    /// Whether a request fits its link's limit: what is reserved at its setup priority, itself with it, is within that
-    /// (RFC 3209, 4.7.3). On a link that has no limit nothing fits. It asks for a rate of at most 2^50 bytes per
-    /// second. It goes over all reservations, and takes no memory.
+    /// Whether a request fits a limit of its link, in bytes per second: what is reserved at its setup priority, itself
+    /// with it, is within that (RFC 3209, 4.7.3). It asks for a rate of at most 2^50 bytes per second. It goes over all
+    /// reservations, and takes no memory.
     #[tactic(auto, unfolding(resv_facts::specs::Admission::fits))]
+    pub fn fits_within(&self, limit: u64, request: &Request) -> bool
+        requires { request.now.claim.rate ≤ 2 ^ 50 }
+        ensures { result ≡ fits limit request.now self.now.claims }
+    {
+        reserved_with(request, self.claims(), request.setup) <= limit
+    }
+
+    /// Those who give way to a request on a link with this limit, in bytes per second, in the order in which they are
+    /// taken: the worst priority first, and of one priority the greater key, until what is reserved then is within the
+    /// limit. Where that never is, all who can: [`Admission::fits_within`] tells that before. It asks for a rate of at
+    /// most 2^50 bytes per second; the only error is out of memory. It goes over all reservations once for each victim,
+    /// and copies them once.
+    pub fn victims_within(
+        &self,
+        alloc: Global,
+        limit: u64,
+        request: &Request,
+    ) -> Result<Vec<Key>, AllocError>
+        requires { request.now.claim.rate ≤ 2 ^ 50 }
+        ensures { IfOk result (λ keys. keys.items ≡ victims_of limit request.now self.now.claims) }
+    {
+        victims_of(alloc, limit, request, self.claims())
+    }
+
+    /// What room a link with this limit, in bytes per second, has for a request. It asks for a rate of at most 2^50
+    /// bytes per second and for a setup priority of 0 to 7. It goes over all reservations once where the room is free,
+    /// and else twice, and takes no memory.
+    pub fn room_within(&self, limit: u64, request: &Request) -> Room
+        requires most { request.now.claim.rate ≤ 2 ^ 50 }
+        requires setup { request.now.setup ≤ 7 }
+        ensures { result ≡ room_of limit request.now self.now.claims }
+    {
+        room_of(limit, request, self.claims())
+    }
+
+    /// Whether a request fits its link's limit, as [`Admission::fits_within`] says it. On a link that has no limit
+    /// nothing fits.
     pub fn fits(&self, request: &Request) -> bool
         requires { request.now.claim.rate ≤ 2 ^ 50 }
         ensures { result ≡ option_map_or (λ limit. fits limit request.now self.now.claims)
             (find nat_cmp request.now.claim.link self.now.limits) false }
     {
         match self.limits.get(&request.claim.link) {
-            Some(limit) => reserved_with(request, self.claims.as_slice(), request.setup) <= *limit,
+            Some(limit) => self.fits_within(*limit, request),
             None => false,
         }
     }
 
-    /// Those who give way to a request, in the order in which they are taken: the worst priority first, and of one
-    /// priority the greater key, until what is reserved then is within the link's limit. Where that never is, all who
-    /// can: [`Admission::fits`] tells that before. On a link that has no limit nobody gives way. It asks for a rate of
-    /// at most 2^50 bytes per second; the only error is out of memory. It goes over all reservations once for each
-    /// victim, and copies them once.
+    /// Those who give way to a request by its link's limit, as [`Admission::victims_within`] says it. On a link that has
+    /// no limit nobody gives way.
     pub fn victims(&self, alloc: Global, request: &Request) -> Result<Vec<Key>, AllocError>
         requires { request.now.claim.rate ≤ 2 ^ 50 }
         ensures { IfOk result (λ keys. keys.items ≡ option_map_or (λ limit. victims_of limit request.now self.now.claims)
             (find nat_cmp request.now.claim.link self.now.limits) []) }
     {
         match self.limits.get(&request.claim.link) {
-            Some(limit) => victims_of(alloc, *limit, request, self.claims.as_slice()),
+            Some(limit) => self.victims_within(alloc, *limit, request),
             None => Ok(Vec::new(alloc)),
         }
     }

@@ -59,7 +59,7 @@ fn put(alloc: Global, admission: &mut Admission, words: &mut SplitWhitespace<'_>
         expiry: EXPIRY,
     };
     let holding = priority(words)?;
-    if fact.flowspec.rate().is_err() || holding > 7 || admission.as_slice().len() >= MAX_LSPS {
+    if fact.flowspec.rate().is_err() || holding > 7 || admission.len() >= MAX_LSPS {
         bail!("no room");
     }
     admission.put(key, fact, holding);

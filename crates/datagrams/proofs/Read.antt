@@ -14,7 +14,7 @@ use Rattle.router_events.specs.declared.events.Event.TheVariants as events
 use Rattle.router_events.specs.declared.ways.ArrivalWay.{ArrivalWay}
 use Rattle.router_events.specs.declared.ways.ArrivalWay.TheVariants as ways
 use Rattle.router_events.specs.declared.ways.Arrive.{Arrive}
-use Rattle.abstract_router.specs.Places.{is_own}
+use Rattle.abstract_paths.specs.Places.{is_own}
 use Rattle.datagrams.specs.declared.datagram.Datagram.{Datagram}
 use Rattle.datagrams.specs.declared.datagram.Datagram.TheVariants as kinds
 use Rattle.datagrams.specs.Datagrams.{IsArrival, IsDelivered, IsMessage, IsReading, IsRouted, is_event}

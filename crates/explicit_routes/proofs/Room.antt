@@ -6,7 +6,7 @@ use Rattle.rsvp_routes.specs.Steps.{route_bytes, step_bytes}
 use Rattle.rsvp_routes.specs.declared.prefix.Prefix.{Prefix}
 use Rattle.rsvp_routes.specs.declared.step.Step.{Step}
 use Rattle.rsvp_routes.specs.declared.step.Step.TheVariants.{Ipv4, Other}
-use Rattle.abstract_router.specs.Routing.{nodes_of}
+use Rattle.abstract_paths.specs.Routing.{nodes_of}
 
 -- the last items are written in no more bytes than all
 length-last : {X : Type 0} (f : X → List ℕ) (n : ℕ) (xs : List X) → length (flat_map f (drop n xs)) ≤ length (flat_map f xs)

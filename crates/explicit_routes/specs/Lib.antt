@@ -1,5 +1,4 @@
 pub mod Below
 pub mod Choosing
 pub mod Entries
-pub mod Nodes
 pub mod Unfolded

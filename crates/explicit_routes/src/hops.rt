@@ -3,9 +3,9 @@
 ghost use Rattle.std.specs.List.{prefix_len};
 ghost use Rattle.std.specs.Prelude.{◌≡◌, ◌+◌, ◌≤◌, drop, length, IfOk, option_copied};
 ghost use Rattle.rsvp_routes.specs.Steps.{route_bytes};
-ghost use Rattle.abstract_router.specs.Routing.{hop_by_rest, hop_by_route, hop_to_endpoint, hop_to_step, is_loose, leads_here, next_hop, nodes_of, step_to, with_neighbour};
+ghost use Rattle.abstract_paths.specs.Routing.{hop_by_rest, hop_by_route, hop_to_endpoint, hop_to_step, is_loose, leads_here, next_hop, nodes_of, step_to, with_neighbour};
 ghost use Rattle.explicit_routes.specs.Choosing.{IsChosen};
-ghost use Rattle.explicit_routes.specs.Nodes.{place_at};
+ghost use Rattle.abstract_paths.specs.Places.{place_at};
 
 use crate::copies::{copy_behind, copy_of};
 use crate::fault::{RouteError, RouteFault};
@@ -84,7 +84,7 @@ fn with_neighbour(
 }
 
 /// The next hop where no steps are left: the path ends here, or goes on towards its endpoint.
-#[tactic(auto, unfolding(abstract_router::specs::Routing::hop_to_endpoint))]
+#[tactic(auto, unfolding(abstract_paths::specs::Routing::hop_to_endpoint))]
 fn hop_to_endpoint(node: &Node, endpoint: Ipv4Addr) -> Result<Choice, RouteFault>
     ensures { IsChosen (hop_to_endpoint (place_at node.now) endpoint) result }
 {
@@ -97,7 +97,7 @@ fn hop_to_endpoint(node: &Node, endpoint: Ipv4Addr) -> Result<Choice, RouteFault
 
 /// The next hop where the first of these steps leads to other nodes: to a neighbour, and if the step is loose
 /// also on towards it.
-#[tactic(auto, unfolding(abstract_router::specs::Routing::hop_to_step))]
+#[tactic(auto, unfolding(abstract_paths::specs::Routing::hop_to_step))]
 fn hop_to_step(
     alloc: Global,
     node: &Node,
@@ -121,7 +121,7 @@ fn hop_to_step(
 }
 
 /// The next hop by the steps behind those that lead here.
-#[tactic(auto, unfolding(abstract_router::specs::Routing::hop_by_rest))]
+#[tactic(auto, unfolding(abstract_paths::specs::Routing::hop_by_rest))]
 fn hop_by_rest(
     alloc: Global,
     node: &Node,
@@ -139,7 +139,7 @@ fn hop_by_rest(
 }
 
 /// The next hop by an explicit route.
-#[tactic(auto, unfolding(abstract_router::specs::Routing::hop_by_route))]
+#[tactic(auto, unfolding(abstract_paths::specs::Routing::hop_by_route))]
 fn hop_by_route(
     alloc: Global,
     node: &Node,
@@ -159,7 +159,7 @@ fn hop_by_route(
 
 /// The next hop of a path: by its explicit route, and without one towards its endpoint (RFC 3209, 4.3.4). The
 /// fault is an error of RFC 3209, 7.3, or out of memory for what is left of the route.
-#[tactic(auto, unfolding(abstract_router::specs::Routing::next_hop))]
+#[tactic(auto, unfolding(abstract_paths::specs::Routing::next_hop))]
 pub fn choose_hop(
     alloc: Global,
     node: &Node,

@@ -9,7 +9,7 @@ mod places;
 mod records;
 mod routing;
 
-pub use abstract_router::{Frame, Output, Outputs};
+pub use abstract_paths::{Frame, Output, Outputs};
 pub use fault::{RouteError, RouteFault};
 pub use hops::choose_hop;
 pub use places::{is_own, is_up, link_at};

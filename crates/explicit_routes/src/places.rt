@@ -5,8 +5,8 @@ ghost use Rattle.std.specs.List.{list_any};
 ghost use Rattle.std.specs.Prelude.{map, ◌≡◌, ◌/◌, ◌-◌, ◌^◌};
 ghost use Rattle.std.specs.Net.Addr.{ipv4_bits};
 ghost use Rattle.lsr_facts.specs.Routers.{is_same, link_at};
-ghost use Rattle.abstract_router.specs.Places.{contains, is_here, is_own, is_up, neighbour};
-ghost use Rattle.explicit_routes.specs.Nodes.{place_at};
+ghost use Rattle.abstract_paths.specs.Places.{contains, is_here, is_own, is_up, neighbour};
+ghost use Rattle.abstract_paths.specs.Places.{place_at};
 
 use lsr_facts::{Link, Node, Router};
 use rsvp_routes::Prefix;
@@ -29,7 +29,7 @@ fn is_link_address(router: &Router, address: Ipv4Addr) -> bool
 }
 
 /// Whether an address is the router's own: its id, or its address on a link.
-#[tactic(auto, unfolding(abstract_router::specs::Places::is_own))]
+#[tactic(auto, unfolding(abstract_paths::specs::Places::is_own))]
 pub fn is_own(router: &Router, address: Ipv4Addr) -> bool
     ensures { result ≡ is_own router.now address }
 {
@@ -54,7 +54,7 @@ fn first_bits(address: Ipv4Addr, count: u8) -> u64
 }
 
 /// Whether a prefix contains an address (RFC 3209, 4.3.3.2).
-#[tactic(auto, unfolding(abstract_router::specs::Places::contains))]
+#[tactic(auto, unfolding(abstract_paths::specs::Places::contains))]
 pub(crate) fn contains(prefix: Prefix, address: Ipv4Addr) -> bool
     ensures { result ≡ contains prefix address }
 {
@@ -74,7 +74,7 @@ fn has_link_address_in(router: &Router, nodes: Prefix) -> bool
 }
 
 /// Whether the router is one of a prefix's nodes.
-#[tactic(auto, unfolding(abstract_router::specs::Places::is_here))]
+#[tactic(auto, unfolding(abstract_paths::specs::Places::is_here))]
 pub(crate) fn is_here(router: &Router, nodes: Prefix) -> bool
     ensures { result ≡ is_here router.now nodes }
 {
@@ -90,7 +90,7 @@ pub fn link_at(router: &Router, number: u16) -> Option<&Link>
 }
 
 /// Whether the link of this number is up, by what is known of each link. An unknown link isn't.
-#[tactic(auto, unfolding(abstract_router::specs::Places::is_up))]
+#[tactic(auto, unfolding(abstract_paths::specs::Places::is_up))]
 pub fn is_up(up: &Table<u16, bool>, number: u16) -> bool
     ensures up { result ≡ is_up up.now number }
 {
@@ -98,7 +98,7 @@ pub fn is_up(up: &Table<u16, bool>, number: u16) -> bool
 }
 
 /// The least-numbered link that is up and leads to the neighbour of this address.
-#[tactic(auto, unfolding(abstract_router::specs::Places::neighbour))]
+#[tactic(auto, unfolding(abstract_paths::specs::Places::neighbour))]
 pub(crate) fn neighbour_at(node: &Node, address: Ipv4Addr) -> Option<u16>
     ensures { result ≡ option_map (λ l. l.0) (neighbour (is_same address) (place_at node.now)) }
 {
@@ -112,7 +112,7 @@ pub(crate) fn neighbour_at(node: &Node, address: Ipv4Addr) -> Option<u16>
 }
 
 /// The least-numbered link that is up and leads to a neighbour that is one of a prefix's nodes.
-#[tactic(auto, unfolding(abstract_router::specs::Places::neighbour))]
+#[tactic(auto, unfolding(abstract_paths::specs::Places::neighbour))]
 pub(crate) fn neighbour_in(node: &Node, nodes: Prefix) -> Option<u16>
     ensures { result ≡ option_map (λ l. l.0) (neighbour (contains nodes) (place_at node.now)) }
 {

@@ -2,7 +2,7 @@
 
 ghost use Rattle.std.specs.Prelude.{◌≡◌, ◌∷◌, Some, is_some, IfOk};
 ghost use Rattle.rsvp_contents.specs.Limits.{is_short_record};
-ghost use Rattle.abstract_router.specs.Paths.{grown, has_loop, names_here};
+ghost use Rattle.abstract_paths.specs.Paths.{grown, has_loop, names_here};
 ghost use Rattle.explicit_routes.specs.Entries.{entry_of};
 
 use crate::copies::copy_behind;
@@ -23,7 +23,7 @@ fn names_here(router: &Router, entry: &Trace) -> bool
 }
 
 /// Whether a path that recorded this has been here before.
-#[tactic(auto, unfolding(abstract_router::specs::Paths::has_loop))]
+#[tactic(auto, unfolding(abstract_paths::specs::Paths::has_loop))]
 pub fn has_loop(node: &Node, recorded: &Record) -> bool
     ensures loop_found { result ≡ has_loop node.now.router.now (Some recorded.now) }
 {
@@ -52,7 +52,7 @@ fn is_short_behind(router: &Router, recorded: &Record) -> bool
 }
 
 /// Whether a record has room for this router before the others.
-#[tactic(auto, unfolding(abstract_router::specs::Paths::grown))]
+#[tactic(auto, unfolding(abstract_paths::specs::Paths::grown))]
 pub fn has_room(node: &Node, recorded: &Record) -> bool
     ensures room { result ≡ is_some (grown node.now.router.now recorded.now) }
 {
@@ -61,7 +61,7 @@ pub fn has_room(node: &Node, recorded: &Record) -> bool
 
 /// The record that a path goes on with: this router before the others, or `None` where there is no room for it
 /// ([`has_room`]). The only error is out of memory.
-#[tactic(auto, unfolding(abstract_router::specs::Paths::grown))]
+#[tactic(auto, unfolding(abstract_paths::specs::Paths::grown))]
 pub fn push_hop(alloc: Global, node: &Node, recorded: &Record) -> Result<Option<Record>, AllocError>
     ensures grown { IfOk result (λ r. r ≡ grown node.now.router.now recorded.now) }
 {

@@ -3,8 +3,8 @@
 ghost use Rattle.std.specs.List.{reduce};
 ghost use Rattle.std.specs.Option.{option_map};
 ghost use Rattle.std.specs.Prelude.{◌≡◌};
-ghost use Rattle.abstract_router.specs.Routing.{longer, route_to, routes_to};
-ghost use Rattle.explicit_routes.specs.Nodes.{place_at};
+ghost use Rattle.abstract_paths.specs.Routing.{longer, route_to, routes_to};
+ghost use Rattle.abstract_paths.specs.Places.{place_at};
 
 use crate::places::{contains, is_up, neighbour_at};
 use lsr_facts::Node;
@@ -36,7 +36,7 @@ fn longest_route(node: &Node, address: Ipv4Addr) -> Option<u16>
 }
 
 /// The link that leads to an address: to the neighbour of this address, and else by the longest static route.
-#[tactic(auto, unfolding(abstract_router::specs::Routing::route_to))]
+#[tactic(auto, unfolding(abstract_paths::specs::Routing::route_to))]
 pub fn route_to(node: &Node, address: Ipv4Addr) -> Option<u16>
     ensures way { result ≡ route_to (place_at node.now) address }
 {

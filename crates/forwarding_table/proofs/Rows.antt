@@ -5,7 +5,7 @@ use Rattle.std.specs.List.{All}
 use Rattle.std.specs.Ordering.{is_eq, nat_cmp}
 use Rattle.std.proofs.lemmas.List.Elements.{All-filter, All-from_recursion, All-head, All-tail, recursion_from_All}
 use Rattle.sorted_rows.specs.RowsLaws.{all-put, find-all}
-use Rattle.row_edits.specs.Edits.{at_key, edited}
+use Rattle.sorted_rows.specs.Edits.{at_key, edited}
 use Rattle.forwarding_table.specs.declared.action.Action.{Action}
 use Rattle.forwarding_table.specs.Actions.{AllWriteLabels, WritesLabels}
 

@@ -6,7 +6,7 @@ ghost use Rattle.std.specs.Ordering.{nat_cmp};
 ghost use Rattle.std.specs.Prelude.{◌≡◌, ◌≢◌, ◌↔◌, ◌∷◌, ℕ, All, IfSome, List, [], Option, Some, None};
 ghost use Rattle.label_stacks.specs.declared.entry.StackEntry.{StackEntry};
 ghost use Rattle.label_stacks.specs.Stacks.{IsStack};
-ghost use Rattle.row_edits.specs.Edits.{at_key};
+ghost use Rattle.sorted_rows.specs.Edits.{at_key};
 ghost use Rattle.forwarding_table.specs.declared.action.Action.{Action};
 ghost use Rattle.forwarding_table.specs.declared.action.Action.TheVariants.{Pop, Swap, SwapPush};
 ghost use Rattle.forwarding_table.specs.declared.forwarding.Fault.TheVariants.{HopLimit, NoLabel};

@@ -1,15 +1,15 @@
 ghost use Rattle.std.specs.FinMap.Entries.{find, is_sorted, put};
+ghost use Rattle.std.specs.Option.{option_copied};
 ghost use Rattle.std.specs.Ordering.{nat_cmp};
-ghost use Rattle.std.specs.Prelude.{◌≡◌, ◌≤◌, T, [], All, IfOk, IfSome, length};
-ghost use Rattle.row_edits.specs.Edits.{at_key, edited};
+ghost use Rattle.std.specs.Prelude.{◌≡◌, ◌≤◌, T, [], All, IfOk, IfSome, length, slice_get};
+ghost use Rattle.sorted_rows.specs.Edits.{at_key, edited};
 ghost use Rattle.forwarding_table.specs.Actions.{AllWriteLabels, WritesLabels};
 ghost use Rattle.forwarding_table.specs.Forwarding.{action_at, forward_of};
 
 use crate::action::{Action, EXPLICIT_NULL};
 use crate::forwarding::{Fault, Forwarding, pass_on};
 use label_stacks::{Stack, StackEntry};
-use row_edits::make_edits;
-use sorted_rows::{ReservedTable, Table, TryCopy};
+use sorted_rows::{ReservedTable, Table, TryCopy, copy_plain_rows, make_edits};
 use std::alloc::{AllocError, Global};
 use std::marker::Model;
 
@@ -48,24 +48,53 @@ impl ForwardingTable {
         })
     }
 
-    /// The labels and their actions, in the order of the labels.
-    pub fn label_rows(&self) -> &[(u32, Action)]
-        ensures rows { result.now ≡ self.now.labels }
-        ensures sorted { T (is_sorted nat_cmp self.now.labels) }
-        ensures few { length self.now.labels ≤ 1024 }
-        ensures labels { AllWriteLabels self.now.labels }
+    /// The labels and what is done with them, as a table of their own: a copy. The only error is out of memory.
+    pub fn labels_copied(&self, alloc: Global) -> Result<Table<u32, Action>, AllocError>
+        ensures { IfOk result (λ labels. labels ≡ self.now.labels) }
     {
-        self.labels.as_slice()
+        Ok(Table::from_rows(copy_plain_rows(alloc, self.labels.as_slice())?))
     }
 
-    /// The tunnels and their actions, in the order of the tunnels' numbers.
-    pub fn tunnel_rows(&self) -> &[(u16, Action)]
-        ensures rows { result.now ≡ self.now.tunnels }
-        ensures sorted { T (is_sorted nat_cmp self.now.tunnels) }
-        ensures few { length self.now.tunnels ≤ 256 }
-        ensures labels { AllWriteLabels self.now.tunnels }
+    /// How many labels have an action.
+    pub fn label_count(&self) -> usize
+        ensures { result ≡ length self.now.labels }
     {
-        self.tunnels.as_slice()
+        self.labels.len()
+    }
+
+    /// The label at a place, in the order of the labels, from 0 on, and its action; `None` past the last.
+    pub fn label_row(&self, place: usize) -> Option<&(u32, Action)>
+        ensures { option_copied result ≡ slice_get self.now.labels place }
+    {
+        self.labels.row(place)
+    }
+
+    /// How many tunnels have an action.
+    pub fn tunnel_count(&self) -> usize
+        ensures { result ≡ length self.now.tunnels }
+    {
+        self.tunnels.len()
+    }
+
+    /// The tunnel at a place, in the order of the tunnels' numbers, from 0 on, and its action; `None` past the last.
+    pub fn tunnel_row(&self, place: usize) -> Option<&(u16, Action)>
+        ensures { option_copied result ≡ slice_get self.now.tunnels place }
+    {
+        self.tunnels.row(place)
+    }
+
+    /// Labels and tunnels rise, there are at most [`MAX_LABEL_ROWS`] and [`MAX_TUNNEL_ROWS`] of them, and what their
+    /// actions write for labels are labels. It does nothing when it runs.
+    pub fn rows_are_in_order(&self)
+        ensures labels_sorted { T (is_sorted nat_cmp self.now.labels) }
+        ensures few_labels { length self.now.labels ≤ 1024 }
+        ensures labels { AllWriteLabels self.now.labels }
+        ensures tunnels_sorted { T (is_sorted nat_cmp self.now.tunnels) }
+        ensures few_tunnels { length self.now.tunnels ≤ 256 }
+        ensures tunnels { AllWriteLabels self.now.tunnels }
+    {
+        self.labels.rows_are_in_order();
+        self.tunnels.rows_are_in_order();
     }
 
     /// The action of a label, or `None` where it has none.

@@ -1,5 +1,9 @@
+pub mod BindingLaws
+pub mod Bindings
 pub mod Changes
+pub mod FreeLabels
 pub mod LabelLaws
 pub mod Labels
 pub mod LineLaws
 pub mod Lines
+pub mod Turns

@@ -1,15 +1,14 @@
 -- The edits of the LSPs that changed make of one state's label table the other's.
-use Rattle.std.proofs.Common.{◌≡◌, ◌⊎◌, ◌≤◌, ℕ, T, Bool, true, false, if◌then◌else◌, not, filter, List, [], length, Option, Some, None, IfSome, refl, sym, ap, subst, ◌∙◌, inl, inr, arith}
+use Rattle.std.proofs.Common.{◌≡◌, ◌≢◌, ◌⊎◌, ◌≤◌, ℕ, T, Bool, true, false, if◌then◌else◌, List, [], ◌∷◌, length, Option, Some, None, IfSome, refl, sym, ap, subst, ◌∙◌, inl, inr, arith}
 use Rattle.std.specs.FinMap.Entries.{find, is_sorted}
 use Rattle.std.specs.List.{AllByRecursion}
-use Rattle.std.specs.Option.{option_and_then, option_map, unwrap_or}
+use Rattle.std.specs.Option.{option_and_then, option_map}
 use Rattle.std.specs.Ordering.{nat_cmp}
 use Rattle.std.proofs.lemmas.Cmp.{nat_cmp_total}
 use Rattle.std.proofs.lemmas.List.Elements.{All-from_recursion}
-use Rattle.sorted_rows.specs.RowsLaws.{find-all_row, is_sorted-both, is_sorted-filter}
-use Rattle.row_edits.specs.EditLaws.{find-edited, is_sorted-edited}
-use Rattle.row_edits.specs.Edits.{edited, over}
-use Rattle.lsr_facts.specs.Lifetimes.{begins_here}
+use Rattle.sorted_rows.specs.EditLaws.{find-edited, is_sorted-edited}
+use Rattle.sorted_rows.specs.Edits.{edited, over}
+use Rattle.sorted_rows.specs.RowsLaws.{all-from_find, find-all, find-all_row}
 use Rattle.lsr_facts.specs.OrderLaws.{key_exact}
 use Rattle.lsr_facts.specs.Orders.{key_cmp}
 use Rattle.lsr_facts.specs.declared.key.Key.{Key}
@@ -19,54 +18,85 @@ use Rattle.forwarding_table.specs.Actions.{WritesLabels}
 use Rattle.forwarding_table.specs.declared.action.Action.{Action}
 use Rattle.forwarding_table.specs.declared.action.Action.TheVariants.{Pop, Swap}
 use Rattle.resv_facts.specs.declared.resv_fact.ResvFact.{ResvFact}
-use Rattle.abstract_router.specs.Paths.{goes_on}
-use Rattle.abstract_router.specs.Touched.{is_among}
-use Rattle.abstract_lsr.specs.Labels.{is_free}
-use Rattle.abstract_lsr.specs.Soundness.{AreLabelled, IsResv}
-use Rattle.abstract_lsr.specs.States.{State}
-use Rattle.abstract_lsr.specs.Tables.{look}
-use Rattle.label_bindings.specs.BindingLaws.{cases_free, free-not_found, one_key}
+use Rattle.abstract_paths.specs.Paths.{goes_on}
+use Rattle.abstract_paths.specs.Touched.{is_among}
+use Rattle.abstract_router.specs.Soundness.{AreLabelled, IsResv}
+use Rattle.abstract_router.specs.States.{State}
+use Rattle.abstract_router.specs.Tables.{look}
+use Rattle.state_views.specs.EditLaws.{labels_in_order}
+use Rattle.label_space.specs.BindingLaws.{cases_free, free-not_found, one_key}
+use Rattle.label_table.proofs.Changing.{changes_something, found_changes, over_change}
 use Rattle.label_table.proofs.Rooms.{table_few}
-use Rattle.label_table.proofs.Setting.{AreWritten, each_apart, each_said, each_writes}
+use Rattle.label_table.proofs.Setting.{each_apart, each_holds, each_said, each_sorted}
 use Rattle.label_table.specs.RowLaws.{look-free, look-held}
 use Rattle.label_table.specs.Rows.{AreAlikeElsewhere, AreTableEdits, IsTableOf, action_at}
-use Rattle.label_table.specs.Turns.{Edit, emptied_at, set_each, written_at}
+use Rattle.label_table.specs.Turns.{Edit, change, change_at, put_each, row_at, rows_of}
 
 -- a test answers yes or no
 cases_bool : (b : Bool) → (b ≡ true) ⊎ (b ≡ false)
 cases_bool true = inl refl
 cases_bool false = inr refl
 
--- labels are in the order of their keys, as paths are
-labels_sorted : (r : Router) (s : State) → T (is_sorted key_cmp s.facts.paths) → AreLabelled r s → T (is_sorted key_cmp s.labels)
-labels_sorted r s sorted are =
-    let kept = λ (path : Key × PathFact). not (begins_here path.1.role) in
-    subst T (sym (is_sorted-both key_cmp s.labels (filter kept s.facts.paths) are.of_lsps)) (is_sorted-filter key_cmp kept s.facts.paths sorted)
+-- a row of an LSP is one of the label that it holds, and says the LSP's action
+of_row : (held : Option ℕ) (acts : Option Action) (label : ℕ) (now : Action) → option_and_then (λ (l : ℕ). option_map {U = ℕ × Action} (λ (a : Action). (l, a)) acts) held ≡ Some (label, now) → (held ≡ Some label) × (acts ≡ Some now)
+of_row None acts label now e = absurd (let h = e in cc)
+of_row (Some l) None label now e = absurd (let h = e in cc)
+of_row (Some l) (Some a) label now e =
+    let same : ◌≡◌ {A = ℕ × Action} (l, a) (label, now) = let h = e in cc in
+    (λ i. Some (same i).0, λ i. Some (same i).1)
 
--- an edit of an LSP's label is one of the label that it holds
-of_label : (action : Option Action) (held : Option ℕ) (label : ℕ) (now : Option Action) → option_map {U = Edit} (λ (l : ℕ). (l, action)) held ≡ Some (label, now) → (held ≡ Some label) × (now ≡ action)
-of_label action None label now e = absurd (let h = e in cc)
-of_label action (Some l) label now e =
-    (ap Some (ap (λ (o : Option Edit). (unwrap_or o (0, None)).0) e), sym (ap (λ (o : Option Edit). (unwrap_or o (0, None)).1) e))
+module _ {E : Type 0} (touched : List (Key × E)) (r : Router) (s : State) (sorted : T (is_sorted key_cmp s.facts.paths)) (held : AreLabelled r s) (label : ℕ) where
+  -- where none of these LSPs holds the label, it has no row
+  none_of_them : ((key : Key) → is_among key_cmp touched key ≡ true → find key_cmp key s.labels ≡ Some label → ⊥) → find nat_cmp label (rows_of s touched) ≡ None
+  none_of_them absent =
+      each_apart (row_at s) label touched [] (λ key among now is. absent key among (of_row (find key_cmp key s.labels) (action_at s key) label now is).0)
+
+  -- where one of them holds it, it has that one's action
+  one_of_them : (key : Key) → is_among key_cmp touched key ≡ true → find key_cmp key s.labels ≡ Some label → find nat_cmp label (rows_of s touched) ≡ action_at s key
+  one_of_them key among at = by (action_at s key) refl
+    where
+      alike : (other : Key) → find key_cmp other s.labels ≡ Some label → action_at s other ≡ action_at s key
+      alike other is = ap (action_at s) (one_key s.labels held.apart other key label is at)
+
+      by : (o : Option Action) → action_at s key ≡ o → find nat_cmp label (rows_of s touched) ≡ o
+      by None acts =
+          each_apart (row_at s) label touched [] (λ other _ now is.
+          let of = of_row (find key_cmp other s.labels) (action_at s other) label now is in
+          absurd (let e = sym of.1 ∙ alike other of.0 ∙ acts in cc))
+      by (Some action) acts =
+          each_said (row_at s) label action (λ other now is.
+          let of = of_row (find key_cmp other s.labels) (action_at s other) label now is in
+          let e : Some now ≡ Some action = sym of.1 ∙ alike other of.0 ∙ acts in
+          cc) key
+          ((λ i. option_and_then (λ (l : ℕ). option_map {U = ℕ × Action} (λ (a : Action). (l, a)) (acts i)) (at i))) touched [] among
+
+  -- So a label has the state's action among their rows; or another LSP holds it, and it has none there.
+  abbrev IsElsewhere : Type 0
+  IsElsewhere = (key : Key) × (is_among key_cmp touched key ≡ false) × (find key_cmp key s.labels ≡ Some label)
+
+  sides : (find nat_cmp label (rows_of s touched) ≡ look s label) ⊎ IsElsewhere
+  sides = elim (cases_free s.labels label (labels_in_order s.labels s.facts.paths sorted held.of_lsps)) [
+    | inl free ↦ inl (none_of_them (λ key among is. free-not_found s.labels label free key is) ∙ sym (look-free s label free))
+    | inr holder ↦ elim (cases_bool (is_among key_cmp touched holder.0)) [
+      | inl among ↦ inl (one_of_them holder.0 among holder.1 ∙ sym (look-held s sorted held.apart holder.0 label holder.1))
+      | inr apart ↦ inr (holder.0, apart, holder.1)
+    ]
+  ]
+
+  -- an LSP that isn't one of them holds the label
+  none_there : IsElsewhere → find nat_cmp label (rows_of s touched) ≡ None
+  none_there at = none_of_them (λ other among is. absurd (let e = ap (is_among key_cmp touched) (one_key s.labels held.apart other at.0 label is at.2) in let no = at.1 in let yes = among in cc))
 
 module _ {E : Type 0} (r t : Router) (before after : State) (touched : List (Key × E)) (sorted_before : T (is_sorted key_cmp before.facts.paths)) (sorted_after : T (is_sorted key_cmp after.facts.paths)) (held_before : AreLabelled r before) (held_after : AreLabelled t after) (elsewhere : AreAlikeElsewhere (is_among key_cmp touched) before after) where
-  -- the labels that these LSPs had have no action
-  abbrev gone : List Edit
-  gone = set_each (emptied_at before) touched []
+  -- the rows of these LSPs before and after, and the edits between them
+  abbrev was : List (ℕ × Action)
+  was = rows_of before touched
 
-  -- and then those that they have have theirs
+  abbrev now : List (ℕ × Action)
+  now = rows_of after touched
+
   abbrev all : List Edit
-  all = set_each (written_at after) touched gone
-
-  -- no LSP that changed has the label after
-  not_written : (label : ℕ) → ((key : Key) → is_among key_cmp touched key ≡ true → find key_cmp key after.labels ≡ Some label → ⊥) → find nat_cmp label all ≡ find nat_cmp label gone
-  not_written label absent =
-      each_apart (written_at after) label touched gone (λ key among now is. absent key among (of_label (action_at after key) (find key_cmp key after.labels) label now is).0)
-
-  -- and none had it before
-  not_emptied : (label : ℕ) → ((key : Key) → is_among key_cmp touched key ≡ true → find key_cmp key before.labels ≡ Some label → ⊥) → find nat_cmp label gone ≡ None
-  not_emptied label absent =
-      each_apart (emptied_at before) label touched [] (λ key among now is. absent key among (of_label None (find key_cmp key before.labels) label now is).0)
+  all = put_each (change_at was now) now (put_each (change_at was now) was [])
 
   -- the action of an LSP that didn't change
   same_action : (key : Key) → is_among key_cmp touched key ≡ false → action_at before key ≡ action_at after key
@@ -75,54 +105,52 @@ module _ {E : Type 0} (r t : Router) (before after : State) (touched : List (Key
       let paths = elsewhere.paths key apart in
       λ i. option_and_then (λ (path : PathFact). if goes_on path.role then option_map (λ (resv : ResvFact). Swap resv.label resv.link) (resvs i) else Some Pop) (paths i)
 
-  -- a label that an LSP has after
-  at_held : (label : ℕ) (key : Key) → find key_cmp key after.labels ≡ Some label → over (find nat_cmp label all) (look before label) ≡ look after label
-  at_held label key at =
-      let own = look-held after sorted_after held_after.apart key label at in
-      elim (cases_bool (is_among key_cmp touched key)) [
-        | inl among ↦
-            let said = each_said (written_at after) label (action_at after key) (λ other now is.
-            let of = of_label (action_at after other) (find key_cmp other after.labels) label now is in
-            of.1 ∙ ap (action_at after) (one_key after.labels held_after.apart other key label of.0 at)) key (ap (option_map (λ l. (l, action_at after key))) at) touched gone among in
-            ap (λ o. over o (look before label)) said ∙ sym own
-        | inr apart ↦
-            let at_before = elsewhere.labels key apart ∙ at in
-            let not_among : (other : Key) → other ≡ key → is_among key_cmp touched other ≡ true → ⊥ =
-            λ other same among. absurd (let e = subst (λ k. is_among key_cmp touched k ≡ true) same among in let a = apart in cc) in
-            let none =
-            not_written label (λ other among is. not_among other (one_key after.labels held_after.apart other key label is at) among)
-            ∙ not_emptied label (λ other among is. not_among other (one_key before.labels held_before.apart other key label is at_before) among) in
-            ap (λ o. over o (look before label)) none
-            ∙ look-held before sorted_before held_before.apart key label at_before
-            ∙ same_action key apart
-            ∙ sym own
-      ]
+  -- of each label: it has among these rows the actions that it has; or it has none among them, and keeps its action
+  abbrev IsPlaced : ℕ → Type 0
+  IsPlaced label =
+      ((find nat_cmp label was ≡ look before label) × (find nat_cmp label now ≡ look after label))
+      ⊎ ((find nat_cmp label was ≡ None) × (find nat_cmp label now ≡ None) × (look before label ≡ look after label))
 
-  -- a label that is free after
-  at_free : (label : ℕ) → is_free after.labels label ≡ true → over (find nat_cmp label all) (look before label) ≡ None
-  at_free label free =
-      let written = not_written label (λ key among is. free-not_found after.labels label free key is) in
-      elim (cases_free before.labels label (labels_sorted r before sorted_before held_before)) [
-        | inl was_free ↦
-            ap (λ o. over o (look before label)) (written ∙ not_emptied label (λ key among is. free-not_found before.labels label was_free key is))
-            ∙ look-free before label was_free
-        | inr holder ↦ elim (cases_bool (is_among key_cmp touched holder.0)) [
-          | inl among ↦
-              let said = each_said (emptied_at before) label None (λ other now is. (of_label None (find key_cmp other before.labels) label now is).1) holder.0 (ap (option_map (λ (l : ℕ). (l, None))) holder.1) touched [] among in
-              ap (λ o. over o (look before label)) (written ∙ said)
-          | inr apart ↦ absurd (free-not_found after.labels label free holder.0 (sym (elsewhere.labels holder.0 apart) ∙ holder.1))
-        ]
+  kept : (label : ℕ) (key : Key) → is_among key_cmp touched key ≡ false → find key_cmp key before.labels ≡ Some label → find key_cmp key after.labels ≡ Some label → IsPlaced label
+  kept label key apart at_before at_after = inr (
+    none_there touched r before sorted_before held_before label (key, apart, at_before),
+    none_there touched t after sorted_after held_after label (key, apart, at_after),
+    look-held before sorted_before held_before.apart key label at_before ∙ same_action key apart ∙ sym (look-held after sorted_after held_after.apart key label at_after),
+  )
+
+  placed : (label : ℕ) → IsPlaced label
+  placed label = elim (sides touched r before sorted_before held_before label) [
+    | inl is_was ↦ elim (sides touched t after sorted_after held_after label) [
+      | inl is_now ↦ inl (is_was, is_now)
+      | inr at ↦ kept label at.0 at.1 (elsewhere.labels at.0 at.1 ∙ at.2) at.2
+    ]
+    | inr at ↦ kept label at.0 at.1 at.2 (sym (elsewhere.labels at.0 at.1) ∙ at.2)
+  ]
+
+  -- what there is of a label once its edit, if it has one, is made
+  made : (label : ℕ) → over (find nat_cmp label all) (look before label) ≡ look after label
+  made label =
+      ap (λ o. over o (look before label)) (found_changes was now label)
+      ∙ elim (placed label) [
+        | inl at ↦ ap (over (change (find nat_cmp label was) (find nat_cmp label now))) (sym at.0) ∙ over_change (find nat_cmp label was) (find nat_cmp label now) ∙ at.1
+        | inr at ↦ (λ i. over (change (at.0 i) (at.1 i)) (look before label)) ∙ at.2
       ]
 
   -- The edits make the one table of the other.
   table_made : (rows : List (ℕ × Action)) → IsTableOf before rows → IsTableOf after (edited nat_cmp all rows)
-  table_made rows is label =
-      find-edited nat_cmp nat_cmp_total label all rows
-      ∙ ap (over (find nat_cmp label all)) (is label)
-      ∙ elim (cases_free after.labels label (labels_sorted t after sorted_after held_after)) [
-        | inl free ↦ at_free label free ∙ sym (look-free after label free)
-        | inr holder ↦ at_held label holder.0 holder.1
+  table_made rows is label = find-edited nat_cmp nat_cmp_total label all rows ∙ ap (over (find nat_cmp label all)) (is label) ∙ made label
+
+  -- an edit changes the action of its label, and says the one that is to be
+  changing : (label : ℕ) (edit : Option Action) → find nat_cmp label all ≡ Some edit → (look before label ≢ look after label) × (edit ≡ find nat_cmp label now)
+  changing label edit found =
+      let of = changes_something (find nat_cmp label was) (find nat_cmp label now) edit (sym (found_changes was now label) ∙ found) in
+      elim (placed label) [
+        | inl at ↦ (λ same. of.0 (at.0 ∙ same ∙ sym at.1), of.1)
+        | inr at ↦ absurd (of.0 (at.0 ∙ sym at.1))
       ]
+
+  all_sorted : T (is_sorted nat_cmp all)
+  all_sorted = each_sorted (change_at was now) now (put_each (change_at was now) was []) (each_sorted (change_at was now) was [] tt)
 
   -- what the action of an LSP writes for a label is one
   action_writes : AllByRecursion (IsResv after.facts.moment) after.resvs → (key : Key) → IfSome (action_at after key) WritesLabels
@@ -139,27 +167,38 @@ module _ {E : Type 0} (r t : Router) (before after : State) (touched : List (Key
         | false ↦ tt
       ]
 
-  all_written : AllByRecursion (IsResv after.facts.moment) after.resvs → AreWritten all
-  all_written resvs =
-      each_writes (written_at after) (λ key. by (action_at after key) (action_writes resvs key) (find key_cmp key after.labels)) touched gone (each_writes (emptied_at before) (λ key. none (find key_cmp key before.labels)) touched [] tt)
+  now_writes : AllByRecursion (IsResv after.facts.moment) after.resvs → AllByRecursion (λ (row : ℕ × Action). WritesLabels row.1) now
+  now_writes resvs = each_holds (row_at after) WritesLabels (λ key. by (action_at after key) (action_writes resvs key) (find key_cmp key after.labels)) touched [] tt
     where
-      by : (action : Option Action) → IfSome action WritesLabels → (o : Option ℕ) → IfSome (option_map {U = Edit} (λ (l : ℕ). (l, action)) o) (λ (edit : Edit). IfSome edit.1 WritesLabels)
-      by action writes None = tt
-      by action writes (Some label) = writes
+      by : (acts : Option Action) → IfSome acts WritesLabels → (o : Option ℕ) → IfSome (option_and_then (λ (l : ℕ). option_map {U = ℕ × Action} (λ (a : Action). (l, a)) acts) o) (λ (row : ℕ × Action). WritesLabels row.1)
+      by acts writes None = tt
+      by None writes (Some label) = tt
+      by (Some action) writes (Some label) = writes
 
-      none : (o : Option ℕ) → IfSome (option_map {U = Edit} (λ (l : ℕ). (l, None)) o) (λ (edit : Edit). IfSome edit.1 WritesLabels)
-      none None = tt
-      none (Some label) = tt
+  all_change : AllByRecursion (λ (edit : Edit). look before edit.0 ≢ look after edit.0) all
+  all_change = all-from_find nat_cmp nat_cmp_total (λ (edit : Edit). look before edit.0 ≢ look after edit.0) all all_sorted (λ label edit found. (changing label edit found).0)
+
+  -- where no label's action changes there is none
+  none_changes : (edits : List Edit) → AllByRecursion (λ (edit : Edit). look before edit.0 ≢ look after edit.0) edits → ((label : ℕ) → look before label ≡ look after label) → edits ≡ []
+  none_changes [] change same = refl
+  none_changes (edit ∷ edits) change same = absurd (change.0 (same edit.0))
 
   -- So they are edits of the table.
   are_edits : length after.facts.paths ≤ 1024 → AllByRecursion (IsResv after.facts.moment) after.resvs → AreTableEdits before after all
   are_edits few resvs = record {
     table = table_made;
     room = λ rows h is. omega (arith, table_few after (edited nat_cmp all rows) (is_sorted-edited nat_cmp nat_cmp_total all rows h) (table_made rows is), few);
-    labels = All-from_recursion (λ (edit : Edit). IfSome edit.1 WritesLabels) all (all_written resvs);
+    labels = All-from_recursion (λ (edit : Edit). IfSome edit.1 WritesLabels) all
+        (all-from_find nat_cmp nat_cmp_total (λ (edit : Edit). IfSome edit.1 WritesLabels) all all_sorted (λ label edit found.
+        subst (λ o. IfSome o WritesLabels) (sym (changing label edit found).1) (find-all nat_cmp WritesLabels label now (now_writes resvs))));
+    changes = All-from_recursion (λ (edit : Edit). look before edit.0 ≢ look after edit.0) all all_change;
+    none = none_changes all all_change;
   }
 
-  -- They are where they were made in two passes.
-  pub passes_edit : length after.facts.paths ≤ 1024 → AllByRecursion (IsResv after.facts.moment) after.resvs → (none emptied written : List Edit) → none ≡ [] → emptied ≡ set_each (emptied_at before) touched none → written ≡ set_each (written_at after) touched emptied → AreTableEdits before after written
-  passes_edit few resvs none emptied written is_none is_emptied is_written =
-      subst (AreTableEdits before after) (sym (is_written ∙ ap (set_each (written_at after) touched) (is_emptied ∙ ap (set_each (emptied_at before) touched) is_none))) (are_edits few resvs)
+  -- They are where they were made of the rows before and after.
+  pub changes_edit : length after.facts.paths ≤ 1024 → AllByRecursion (IsResv after.facts.moment) after.resvs → (before_rows after_rows : List (ℕ × Action)) → before_rows ≡ was → after_rows ≡ now
+      → (asked more : List (ℕ × Action)) → asked ≡ before_rows → more ≡ after_rows → (none first edits : List Edit) → none ≡ [] → first ≡ put_each (change_at before_rows after_rows) asked none → edits ≡ put_each (change_at before_rows after_rows) more first → AreTableEdits before after edits
+  changes_edit few resvs before_rows after_rows is_was is_now asked more is_asked is_more none first edits is_none is_first is_edits =
+      subst (AreTableEdits before after) (sym (
+      is_edits
+      ∙ (λ i. put_each (change_at (is_was i) (is_now i)) ((is_more ∙ is_now) i) ((is_first ∙ (λ j. put_each (change_at (is_was j) (is_now j)) ((is_asked ∙ is_was) j) (is_none j))) i)))) (are_edits few resvs)

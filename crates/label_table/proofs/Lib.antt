@@ -1,3 +1,4 @@
+pub mod Changing
 pub mod Keeping
 pub mod Rooms
 pub mod Setting

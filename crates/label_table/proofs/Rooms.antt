@@ -10,8 +10,8 @@ use Rattle.std.proofs.lemmas.Cmp.{nat_cmp_total, tied_itself}
 use Rattle.sorted_rows.specs.ListLaws.{all-both, all-weaker}
 use Rattle.sorted_rows.specs.RowsLaws.{all-below, all_found, first, second}
 use Rattle.forwarding_table.specs.declared.action.Action.{Action}
-use Rattle.abstract_lsr.specs.States.{State}
-use Rattle.abstract_lsr.specs.Tables.{table_of}
+use Rattle.abstract_router.specs.States.{State}
+use Rattle.abstract_router.specs.Tables.{table_of}
 use Rattle.label_table.specs.RowLaws.{length_table, look-entry}
 use Rattle.label_table.specs.Rows.{IsTableOf}
 

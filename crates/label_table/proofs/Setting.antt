@@ -1,8 +1,7 @@
--- What is found among edits that are set in turn, one LSP after the other.
-use Rattle.std.proofs.Common.{◌≡◌, ◌+◌, ◌<◌, ℕ, Bool, true, false, cond, List, [], ◌∷◌, length, drop, get_or, Option, Some, None, IfSome, is_some, refl, sym, ap, ◌∙◌}
-use Rattle.std.specs.FinMap.Entries.{find, find-put}
+-- What is found among rows that are put in turn, one LSP after the other.
+use Rattle.std.proofs.Common.{◌≡◌, ◌+◌, ◌<◌, ℕ, T, Bool, true, false, cond, List, [], ◌∷◌, length, drop, get_or, Option, Some, None, IfSome, is_some, refl, sym, ap, ◌∙◌}
+use Rattle.std.specs.FinMap.Entries.{find, find-put, is_sorted, is_sorted-put}
 use Rattle.std.specs.List.{AllByRecursion}
-use Rattle.std.specs.Option.{option_map}
 use Rattle.std.specs.Ordering.{eq_by_cmp, is_eq, nat_cmp}
 use Rattle.std.proofs.lemmas.Cmp.{nat_cmp_total, tied_itself}
 use Rattle.std.proofs.lemmas.List.{drop_more}
@@ -11,89 +10,83 @@ use Rattle.sorted_rows.specs.RowsLaws.{all-put, find-put_same, ties}
 use Rattle.lsr_facts.specs.OrderLaws.{key_exact, key_total}
 use Rattle.lsr_facts.specs.Orders.{key_cmp}
 use Rattle.lsr_facts.specs.declared.key.Key.{Key}
-use Rattle.forwarding_table.specs.Actions.{WritesLabels}
-use Rattle.forwarding_table.specs.declared.action.Action.{Action}
-use Rattle.abstract_router.specs.Touched.{is_among}
-use Rattle.abstract_lsr.specs.States.{State}
-use Rattle.label_table.specs.Rows.{action_at}
-use Rattle.label_table.specs.Turns.{Edit, emptied_at, set_each, set_row, written_at}
+use Rattle.abstract_paths.specs.Touched.{is_among}
+use Rattle.label_table.specs.Turns.{put_each, put_row}
 
--- one edit of another label changes nothing of this one
-set_apart : (label : ℕ) (o : Option Edit) (edits : List Edit) → ((now : Option Action) → o ≡ Some (label, now) → ⊥) → find nat_cmp label (set_row o edits) ≡ find nat_cmp label edits
-set_apart label None edits other = refl
-set_apart label (Some edit) edits other = find-put nat_cmp nat_cmp_total label edit.0 edit.1 edits ∙ by (eq_by_cmp nat_cmp label edit.0) refl
-  where
-    by : (b : Bool) → eq_by_cmp nat_cmp label edit.0 ≡ b → cond b (Some edit.1) (find nat_cmp label edits) ≡ find nat_cmp label edits
-    by true tie = let same = sym (exact_unsigned label edit.0 (ties _ tie)) in absurd (other edit.1 (λ i. Some (same i, edit.1)))
-    by false apart = refl
-
--- and one of this label that says the same as before changes nothing either
-set_alike : (label : ℕ) (now : Option Action) (o : Option Edit) (edits : List Edit) → ((other : Option Action) → o ≡ Some (label, other) → other ≡ now) → find nat_cmp label edits ≡ Some now → find nat_cmp label (set_row o edits) ≡ Some now
-set_alike label now None edits alike before = before
-set_alike label now (Some edit) edits alike before = find-put nat_cmp nat_cmp_total label edit.0 edit.1 edits ∙ by (eq_by_cmp nat_cmp label edit.0) refl
-  where
-    by : (b : Bool) → eq_by_cmp nat_cmp label edit.0 ≡ b → cond b (Some edit.1) (find nat_cmp label edits) ≡ Some now
-    by true tie = let same = sym (exact_unsigned label edit.0 (ties _ tie)) in ap Some (alike edit.1 (λ i. Some (same i, edit.1)))
-    by false apart = before
-
-module _ (f : Key → Option Edit) (label : ℕ) where
-  -- whichever LSP has an edit of the label, that edit says this
-  abbrev pub SaysOnly : Option Action → Type 0
-  SaysOnly now = (key : Key) (other : Option Action) → f key ≡ Some (label, other) → other ≡ now
-
-  -- what is found stays, where all edits of the label say it
-  each_alike : {E : Type 0} (now : Option Action) → SaysOnly now → (touched : List (Key × E)) (edits : List Edit) → find nat_cmp label edits ≡ Some now → find nat_cmp label (set_each f touched edits) ≡ Some now
-  each_alike now only [] edits before = before
-  each_alike now only (lsp ∷ touched) edits before =
-      each_alike now only touched (set_row (f lsp.0) edits) (set_alike label now (f lsp.0) edits (only lsp.0) before)
-
-  -- The edit of an LSP is found, where no other one says anything else of its label.
-  pub each_said : {E : Type 0} (now : Option Action) → SaysOnly now → (key : Key) → f key ≡ Some (label, now) → (touched : List (Key × E)) (edits : List Edit) → is_among key_cmp touched key ≡ true → find nat_cmp label (set_each f touched edits) ≡ Some now
-  each_said now only key said [] edits = λ among. absurd (let e = among in cc)
-  each_said now only key said (lsp ∷ touched) edits =
-      elim (eq_by_cmp key_cmp key lsp.0) as (λ b. eq_by_cmp key_cmp key lsp.0 ≡ b → is_some (cond b (Some lsp.1) (find key_cmp key touched)) ≡ true → find nat_cmp label (set_each f touched (set_row (f lsp.0) edits)) ≡ Some now) [
-        | true ↦ λ tie among. each_alike now only touched (set_row (f lsp.0) edits) (
-            ap (λ o. find nat_cmp label (set_row o edits)) (ap f (sym (key_exact key lsp.0 (ties _ tie))) ∙ said) ∙ find-put_same nat_cmp nat_cmp_total label now edits)
-        | false ↦ λ apart among. each_said now only key said touched (set_row (f lsp.0) edits) among
-      ] refl
-
-  -- A label that none of the LSPs has an edit of stays as it was.
-  pub each_apart : {E : Type 0} (touched : List (Key × E)) (edits : List Edit) → ((key : Key) → is_among key_cmp touched key ≡ true → (now : Option Action) → f key ≡ Some (label, now) → ⊥) → find nat_cmp label (set_each f touched edits) ≡ find nat_cmp label edits
-  each_apart [] edits other = refl
-  each_apart (lsp ∷ touched) edits other =
-      each_apart touched (set_row (f lsp.0) edits) (λ key among. other key (later (eq_by_cmp key_cmp key lsp.0) lsp.1 (find key_cmp key touched) among))
-      ∙ set_apart label (f lsp.0) edits (other lsp.0 (ap (λ r. is_some (cond (is_eq r) (Some lsp.1) (find key_cmp lsp.0 touched))) (tied_itself key_total lsp.0)))
+module _ {X : Type 0} where
+  -- one row of another label changes nothing of this one
+  put_apart : (label : ℕ) (o : Option (ℕ × X)) (rows : List (ℕ × X)) → ((now : X) → o ≡ Some (label, now) → ⊥) → find nat_cmp label (put_row o rows) ≡ find nat_cmp label rows
+  put_apart label None rows other = refl
+  put_apart label (Some row) rows other = find-put nat_cmp nat_cmp_total label row.0 row.1 rows ∙ by (eq_by_cmp nat_cmp label row.0) refl
     where
-      later : {X : Type 0} (b : Bool) (x : X) (o : Option X) → is_some o ≡ true → is_some (cond b (Some x) o) ≡ true
-      later true x o among = refl
-      later false x o among = among
+      by : (b : Bool) → eq_by_cmp nat_cmp label row.0 ≡ b → cond b (Some row.1) (find nat_cmp label rows) ≡ find nat_cmp label rows
+      by true tie = let same = sym (exact_unsigned label row.0 (ties _ tie)) in absurd (other row.1 (λ i. Some (same i, row.1)))
+      by false apart = refl
 
--- what edits write for labels are labels
-abbrev pub AreWritten : List Edit → Type 0
-AreWritten edits = AllByRecursion (λ (edit : Edit). IfSome edit.1 WritesLabels) edits
+  -- and one of this label that says the same as before changes nothing either
+  put_alike : (label : ℕ) (now : X) (o : Option (ℕ × X)) (rows : List (ℕ × X)) → ((other : X) → o ≡ Some (label, other) → other ≡ now) → find nat_cmp label rows ≡ Some now → find nat_cmp label (put_row o rows) ≡ Some now
+  put_alike label now None rows alike before = before
+  put_alike label now (Some row) rows alike before = find-put nat_cmp nat_cmp_total label row.0 row.1 rows ∙ by (eq_by_cmp nat_cmp label row.0) refl
+    where
+      by : (b : Bool) → eq_by_cmp nat_cmp label row.0 ≡ b → cond b (Some row.1) (find nat_cmp label rows) ≡ Some now
+      by true tie = let same = sym (exact_unsigned label row.0 (ties _ tie)) in ap Some (alike row.1 (λ i. Some (same i, row.1)))
+      by false apart = before
 
-set_writes : (o : Option Edit) (edits : List Edit) → IfSome o (λ (edit : Edit). IfSome edit.1 WritesLabels) → AreWritten edits → AreWritten (set_row o edits)
-set_writes None edits writes are = are
-set_writes (Some edit) edits writes are = all-put nat_cmp (λ now. IfSome now WritesLabels) edit.0 edit.1 writes edits are
+  module _ (f : Key → Option (ℕ × X)) (label : ℕ) where
+    -- whichever LSP has a row of the label, that row says this
+    abbrev pub SaysOnly : X → Type 0
+    SaysOnly now = (key : Key) (other : X) → f key ≡ Some (label, other) → other ≡ now
 
--- They are where it is so of each edit.
-pub each_writes : {E : Type 0} (f : Key → Option Edit) → ((key : Key) → IfSome (f key) (λ (edit : Edit). IfSome edit.1 WritesLabels)) → (touched : List (Key × E)) (edits : List Edit) → AreWritten edits → AreWritten (set_each f touched edits)
-each_writes f writes [] edits are = are
-each_writes f writes (lsp ∷ touched) edits are =
-    each_writes f writes touched (set_row (f lsp.0) edits) (set_writes (f lsp.0) edits (writes lsp.0) are)
+    -- what is found stays, where all rows of the label say it
+    each_alike : {E : Type 0} (now : X) → SaysOnly now → (touched : List (Key × E)) (rows : List (ℕ × X)) → find nat_cmp label rows ≡ Some now → find nat_cmp label (put_each f touched rows) ≡ Some now
+    each_alike now only [] rows before = before
+    each_alike now only (lsp ∷ touched) rows before =
+        each_alike now only touched (put_row (f lsp.0) rows) (put_alike label now (f lsp.0) rows (only lsp.0) before)
 
--- One LSP after the other has its edit.
-module _ {E : Type 0} (touched : List (Key × E)) (i : ℕ) (lsp : Key × E) (within : i < length touched) (is : lsp ≡ get_or touched i lsp) (edits now all : List Edit) where
-  each_next : (f : Key → Option Edit) → now ≡ set_row (f lsp.0) edits → set_each f (drop i touched) edits ≡ all → set_each f (drop (i + 1) touched) now ≡ all
-  each_next f set before =
-      ap (set_each f (drop (i + 1) touched)) set
-      ∙ sym (ap (λ (lsps : List (Key × E)). set_each f lsps edits) (drop_more touched i lsp within ∙ ap (λ l. l ∷ drop (i + 1) touched) (sym is)))
-      ∙ before
+    -- The row of an LSP is found, where no other one says anything else of its label.
+    pub each_said : {E : Type 0} (now : X) → SaysOnly now → (key : Key) → f key ≡ Some (label, now) → (touched : List (Key × E)) (rows : List (ℕ × X)) → is_among key_cmp touched key ≡ true → find nat_cmp label (put_each f touched rows) ≡ Some now
+    each_said now only key said [] rows = λ among. absurd (let e = among in cc)
+    each_said now only key said (lsp ∷ touched) rows =
+        elim (eq_by_cmp key_cmp key lsp.0) as (λ b. eq_by_cmp key_cmp key lsp.0 ≡ b → is_some (cond b (Some lsp.1) (find key_cmp key touched)) ≡ true → find nat_cmp label (put_each f touched (put_row (f lsp.0) rows)) ≡ Some now) [
+          | true ↦ λ tie among. each_alike now only touched (put_row (f lsp.0) rows) (
+              ap (λ o. find nat_cmp label (put_row o rows)) (ap f (sym (key_exact key lsp.0 (ties _ tie))) ∙ said) ∙ find-put_same nat_cmp nat_cmp_total label now rows)
+          | false ↦ λ apart among. each_said now only key said touched (put_row (f lsp.0) rows) among
+        ] refl
 
-  pub emptied_next : (s : State) (label : Option ℕ) → label ≡ find key_cmp lsp.0 s.labels → now ≡ set_row (option_map (λ l. (l, None)) label) edits → set_each (emptied_at s) (drop i touched) edits ≡ all → set_each (emptied_at s) (drop (i + 1) touched) now ≡ all
-  emptied_next s label held set before =
-      each_next (emptied_at s) (set ∙ ap (λ o. set_row (option_map {U = Edit} (λ (l : ℕ). (l, None)) o) edits) held) before
+    -- A label that none of the LSPs has a row of stays as it was.
+    pub each_apart : {E : Type 0} (touched : List (Key × E)) (rows : List (ℕ × X)) → ((key : Key) → is_among key_cmp touched key ≡ true → (now : X) → f key ≡ Some (label, now) → ⊥) → find nat_cmp label (put_each f touched rows) ≡ find nat_cmp label rows
+    each_apart [] rows other = refl
+    each_apart (lsp ∷ touched) rows other =
+        each_apart touched (put_row (f lsp.0) rows) (λ key among. other key (later (eq_by_cmp key_cmp key lsp.0) lsp.1 (find key_cmp key touched) among))
+        ∙ put_apart label (f lsp.0) rows (other lsp.0 (ap (λ r. is_some (cond (is_eq r) (Some lsp.1) (find key_cmp lsp.0 touched))) (tied_itself key_total lsp.0)))
+      where
+        later : {A : Type 0} (b : Bool) (x : A) (o : Option A) → is_some o ≡ true → is_some (cond b (Some x) o) ≡ true
+        later true x o among = refl
+        later false x o among = among
 
-  pub written_next : (s : State) (label : Option ℕ) (action : Option Action) → label ≡ find key_cmp lsp.0 s.labels → action ≡ action_at s lsp.0 → now ≡ set_row (option_map (λ l. (l, action)) label) edits → set_each (written_at s) (drop i touched) edits ≡ all → set_each (written_at s) (drop (i + 1) touched) now ≡ all
-  written_next s label action held acts set before =
-      each_next (written_at s) (set ∙ (λ i. set_row (option_map {U = Edit} (λ (l : ℕ). (l, acts i)) (held i)) edits)) before
+  -- what holds of what stands in each row
+  put_holds : (P : X → Type 0) (o : Option (ℕ × X)) (rows : List (ℕ × X)) → IfSome o (λ row. P row.1) → AllByRecursion (λ (row : ℕ × X). P row.1) rows → AllByRecursion (λ (row : ℕ × X). P row.1) (put_row o rows)
+  put_holds P None rows holds all = all
+  put_holds P (Some row) rows holds all = all-put nat_cmp P row.0 row.1 holds rows all
+
+  put_sorted : (o : Option (ℕ × X)) (rows : List (ℕ × X)) → T (is_sorted nat_cmp rows) → T (is_sorted nat_cmp (put_row o rows))
+  put_sorted None rows h = h
+  put_sorted (Some row) rows h = is_sorted-put nat_cmp nat_cmp_total row.0 row.1 rows h
+
+  module _ {K E : Type 0} (f : K → Option (ℕ × X)) where
+    -- What is so of what each puts is so of all that is there.
+    pub each_holds : (P : X → Type 0) → ((key : K) → IfSome (f key) (λ row. P row.1)) → (touched : List (K × E)) (rows : List (ℕ × X)) → AllByRecursion (λ (row : ℕ × X). P row.1) rows → AllByRecursion (λ (row : ℕ × X). P row.1) (put_each f touched rows)
+    each_holds P holds [] rows all = all
+    each_holds P holds (lsp ∷ touched) rows all = each_holds P holds touched (put_row (f lsp.0) rows) (put_holds P (f lsp.0) rows (holds lsp.0) all)
+
+    -- Rows stay in the order of their labels.
+    pub each_sorted : (touched : List (K × E)) (rows : List (ℕ × X)) → T (is_sorted nat_cmp rows) → T (is_sorted nat_cmp (put_each f touched rows))
+    each_sorted [] rows h = h
+    each_sorted (lsp ∷ touched) rows h = each_sorted touched (put_row (f lsp.0) rows) (put_sorted (f lsp.0) rows h)
+
+    -- One after the other puts its row.
+    pub each_next : (touched : List (K × E)) (i : ℕ) (lsp : K × E) → i < length touched → lsp ≡ get_or touched i lsp → (rows now all : List (ℕ × X)) → now ≡ put_row (f lsp.0) rows → put_each f (drop i touched) rows ≡ all → put_each f (drop (i + 1) touched) now ≡ all
+    each_next touched i lsp within is rows now all put before =
+        ap (put_each f (drop (i + 1) touched)) put
+        ∙ sym (ap (λ (lsps : List (K × E)). put_each f lsps rows) (drop_more touched i lsp within ∙ ap (λ l. l ∷ drop (i + 1) touched) (sym is)))
+        ∙ before

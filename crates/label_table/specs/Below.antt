@@ -1,3 +1,2 @@
 -- The words of crates further down, as the crates above this one name them.
 pub use Rattle.state_views.specs as views
-pub use Rattle.state_views.specs.Below.steps as steps

@@ -2,15 +2,15 @@
 use Rattle.std.specs.Prelude.{◌≡◌, ◌||◌, Bool, true, false, List, Option, Some, None, is_some}
 use Rattle.std.specs.FinMap.Entries.{find}
 use Rattle.std.proofs.Common.{refl, sym, ap, ◌∙◌}
-use Rattle.row_edits.specs.EditLaws.{find-edited}
-use Rattle.row_edits.specs.Edits as rows
+use Rattle.sorted_rows.specs.EditLaws.{find-edited}
+use Rattle.sorted_rows.specs.Edits as rows
 use Rattle.lsr_facts.specs.OrderLaws.{key_total}
 use Rattle.lsr_facts.specs.Orders.{key_cmp}
 use Rattle.lsr_facts.specs.declared.key.Key.{Key}
-use Rattle.abstract_router.specs.Touched.{is_among}
-use Rattle.abstract_lsr.specs.States.{State}
-use Rattle.state_views.specs.Views.{edited}
-use Rattle.state_views.specs.declared.edits.StateEdits.{StateEdits}
+use Rattle.abstract_paths.specs.Touched.{is_among}
+use Rattle.abstract_router.specs.States.{State}
+use Rattle.state_views.specs.Edits.{edited}
+use Rattle.state_views.specs.declared.edits.Edits.{Edits}
 use Rattle.label_table.specs.Rows.{AreAlikeElsewhere}
 
 -- where neither of two tests passes
@@ -32,9 +32,9 @@ unedited edits table key none =
     absent (Some x) fails = absurd (let e = fails in cc)
 
 -- Edits leave what they don't name: each LSP that has one is touched.
-pub alike-edited : (touched : Key → Bool) (e : StateEdits) (s : State) → ((key : Key) → touched key ≡ false → (is_among key_cmp e.labels key || (is_among key_cmp e.resvs key || is_among key_cmp e.facts.paths key)) ≡ false) → AreAlikeElsewhere touched s (edited e s)
+pub alike-edited : (touched : Key → Bool) (e : Edits) (s : State) → ((key : Key) → touched key ≡ false → (is_among key_cmp e.labels key || (is_among key_cmp e.resvs key || is_among key_cmp e.paths key)) ≡ false) → AreAlikeElsewhere touched s (edited e s)
 alike-edited touched e s none = record {
-  paths = λ key apart. unedited e.facts.paths s.facts.paths key (second_fails (is_among key_cmp e.resvs key) (is_among key_cmp e.facts.paths key) (second_fails (is_among key_cmp e.labels key) (is_among key_cmp e.resvs key || is_among key_cmp e.facts.paths key) (none key apart)));
-  resvs = λ key apart. unedited e.resvs s.resvs key (first_fails (is_among key_cmp e.resvs key) (is_among key_cmp e.facts.paths key) (second_fails (is_among key_cmp e.labels key) (is_among key_cmp e.resvs key || is_among key_cmp e.facts.paths key) (none key apart)));
-  labels = λ key apart. unedited e.labels s.labels key (first_fails (is_among key_cmp e.labels key) (is_among key_cmp e.resvs key || is_among key_cmp e.facts.paths key) (none key apart));
+  paths = λ key apart. unedited e.paths s.facts.paths key (second_fails (is_among key_cmp e.resvs key) (is_among key_cmp e.paths key) (second_fails (is_among key_cmp e.labels key) (is_among key_cmp e.resvs key || is_among key_cmp e.paths key) (none key apart)));
+  resvs = λ key apart. unedited e.resvs s.resvs key (first_fails (is_among key_cmp e.resvs key) (is_among key_cmp e.paths key) (second_fails (is_among key_cmp e.labels key) (is_among key_cmp e.resvs key || is_among key_cmp e.paths key) (none key apart)));
+  labels = λ key apart. unedited e.labels s.labels key (first_fails (is_among key_cmp e.labels key) (is_among key_cmp e.resvs key || is_among key_cmp e.paths key) (none key apart));
 }

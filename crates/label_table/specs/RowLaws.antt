@@ -15,10 +15,10 @@ use Rattle.lsr_facts.specs.declared.key.Key.{Key}
 use Rattle.lsr_facts.specs.declared.path_fact.PathFact.{PathFact}
 use Rattle.forwarding_table.specs.declared.action.Action.{Action}
 use Rattle.forwarding_table.specs.declared.action.Action.TheVariants.{Pop}
-use Rattle.abstract_lsr.specs.Labels.{is_free}
-use Rattle.abstract_lsr.specs.States.{State}
-use Rattle.abstract_lsr.specs.Tables.{action_of, entry_of, look, table_of}
-use Rattle.label_bindings.specs.BindingLaws.{free-not_found, one_key}
+use Rattle.abstract_router.specs.Labels.{is_free}
+use Rattle.abstract_router.specs.States.{State}
+use Rattle.abstract_router.specs.Tables.{action_of, entry_of, look, table_of}
+use Rattle.label_space.specs.BindingLaws.{free-not_found, one_key}
 use Rattle.label_table.specs.Rows.{IsTableOf, action_at}
 
 -- the action of the first entry of a label

@@ -1,15 +1,15 @@
 -- The rows that a label table has for a state, and edits of them.
-use Rattle.std.specs.Prelude.{◌≡◌, ◌≤◌, ℕ, false, Bool, T, List, All, IfSome, Option, length}
+use Rattle.std.specs.Prelude.{◌≡◌, ◌≢◌, ◌≤◌, ℕ, false, Bool, T, List, [], All, IfSome, Option, length}
 use Rattle.std.specs.FinMap.Entries.{find, is_sorted}
 use Rattle.std.specs.Option.{option_and_then}
 use Rattle.std.specs.Ordering.{nat_cmp}
-use Rattle.row_edits.specs.Edits.{edited}
+use Rattle.sorted_rows.specs.Edits.{edited}
 use Rattle.forwarding_table.specs.Actions.{WritesLabels}
 use Rattle.forwarding_table.specs.declared.action.Action.{Action}
 use Rattle.lsr_facts.specs.Orders.{key_cmp}
 use Rattle.lsr_facts.specs.declared.key.Key.{Key}
-use Rattle.abstract_lsr.specs.States.{State}
-use Rattle.abstract_lsr.specs.Tables.{action_of, look}
+use Rattle.abstract_router.specs.States.{State}
+use Rattle.abstract_router.specs.Tables.{action_of, look}
 
 -- what is done with a frame of an LSP, if its path is known
 abbrev pub action_at : State → Key → Option Action
@@ -26,8 +26,11 @@ pub record AreAlikeElsewhere (touched : Key → Bool) (before after : State) : T
   pub labels : (key : Key) → touched key ≡ false → find key_cmp key before.labels ≡ find key_cmp key after.labels
 
 -- The edits make of the rows of one state's label table those of the other's. These are few, and what the edits write
--- for labels are labels.
+-- for labels are labels. Each changes the action of its label: so where all labels have the actions that they had, there
+-- is none.
 pub record AreTableEdits (before after : State) (edits : List (ℕ × Option Action)) : Type 0 where
   pub table : (rows : List (ℕ × Action)) → IsTableOf before rows → IsTableOf after (edited nat_cmp edits rows)
   pub room : (rows : List (ℕ × Action)) → T (is_sorted nat_cmp rows) → IsTableOf before rows → length (edited nat_cmp edits rows) ≤ 1024
   pub labels : All (λ edit. IfSome edit.1 WritesLabels) edits
+  pub changes : All (λ edit. look before edit.0 ≢ look after edit.0) edits
+  pub none : ((label : ℕ) → look before label ≡ look after label) → edits ≡ []

@@ -1,32 +1,53 @@
--- Edits of labels that are set in turn, one LSP after the other.
-use Rattle.std.specs.Prelude.{ℕ, List, [], ◌∷◌, Option, Some, None}
+-- The rows that LSPs have in the label table, and what changes between rows and others.
+use Rattle.std.specs.Prelude.{ℕ, ◌==◌, ◌&&◌, nat_eq, Bool, true, false, if◌then◌else◌, List, [], ◌∷◌, Option, Some, None}
 use Rattle.std.specs.FinMap.Entries.{find, put}
-use Rattle.std.specs.Option.{option_map}
+use Rattle.std.specs.Option.{option_and_then, option_eq, option_map}
 use Rattle.std.specs.Ordering.{nat_cmp}
 use Rattle.forwarding_table.specs.declared.action.Action.{Action}
+use Rattle.forwarding_table.specs.declared.action.Action.TheVariants.{Pop, PushHead, Swap, SwapPush}
 use Rattle.lsr_facts.specs.Orders.{key_cmp}
 use Rattle.lsr_facts.specs.declared.key.Key.{Key}
-use Rattle.abstract_lsr.specs.States.{State}
+use Rattle.abstract_router.specs.States.{State}
 use Rattle.label_table.specs.Rows.{action_at}
 
 -- what becomes of a label: it has this action, or none
 abbrev pub Edit : Type 0
 Edit = ℕ × Option Action
 
--- one more edit, if there is one
-abbrev pub set_row : Option Edit → List Edit → List Edit
-set_row None edits = edits
-set_row (Some edit) edits = put nat_cmp edit.0 edit.1 edits
+-- one more row, if there is one
+abbrev pub put_row : {X : Type 0} → Option (ℕ × X) → List (ℕ × X) → List (ℕ × X)
+put_row None rows = rows
+put_row (Some row) rows = put nat_cmp row.0 row.1 rows
 
--- one more edit for each LSP
-abbrev pub set_each : {E : Type 0} → (Key → Option Edit) → List (Key × E) → List Edit → List Edit
-set_each f [] edits = edits
-set_each f (lsp ∷ touched) edits = set_each f touched (set_row (f lsp.0) edits)
+-- one more for each of these, in turn
+abbrev pub put_each : {K E X : Type 0} → (K → Option (ℕ × X)) → List (K × E) → List (ℕ × X) → List (ℕ × X)
+put_each f [] rows = rows
+put_each f (touched ∷ more) rows = put_each f more (put_row (f touched.0) rows)
 
--- the label of an LSP has no action any more
-abbrev pub emptied_at : State → Key → Option Edit
-emptied_at s key = option_map (λ label. (label, None)) (find key_cmp key s.labels)
+-- the row of an LSP: its action, under its label
+abbrev pub row_at : State → Key → Option (ℕ × Action)
+row_at s key = option_and_then (λ label. option_map (λ action. (label, action)) (action_at s key)) (find key_cmp key s.labels)
 
--- the label of an LSP has the LSP's action
-abbrev pub written_at : State → Key → Option Edit
-written_at s key = option_map (λ label. (label, action_at s key)) (find key_cmp key s.labels)
+-- the rows of these LSPs
+abbrev pub rows_of : {E : Type 0} → State → List (Key × E) → List (ℕ × Action)
+rows_of s touched = put_each (row_at s) touched []
+
+-- the actions are the same
+abbrev pub is_same_action : Action → Action → Bool
+is_same_action (Swap label link) (Swap other out) = (label == other) && (link == out)
+is_same_action (SwapPush inner outer link) (SwapPush below above out) = (inner == below) && (outer == above) && (link == out)
+is_same_action Pop Pop = true
+is_same_action (PushHead inner label link) (PushHead below other out) = option_eq nat_eq inner below && (label == other) && (link == out)
+is_same_action _ _ = false
+
+-- and so of what may be there
+abbrev pub is_same : Option Action → Option Action → Bool
+is_same was now = option_eq is_same_action was now
+
+-- what becomes of a label that had this action, or none, and has that: nothing where they are the same
+abbrev pub change : Option Action → Option Action → Option (Option Action)
+change was now = if is_same was now then None else Some now
+
+-- what becomes of a label between rows and others
+abbrev pub change_at : List (ℕ × Action) → List (ℕ × Action) → ℕ → Option Edit
+change_at was now label = option_map (λ action. (label, action)) (change (find nat_cmp label was) (find nat_cmp label now))

@@ -4,12 +4,11 @@ ghost use Rattle.std.specs.List.{AllByRecursion};
 ghost use Rattle.std.specs.Option.{option_map};
 ghost use Rattle.std.specs.Prelude.{◌≡◌, IfOk, OnOk};
 ghost use Rattle.lsr_facts.specs.Orders.{key_cmp};
-ghost use Rattle.abstract_router.specs.Soundness.{ArePaths};
-ghost use Rattle.abstract_router.specs.Touched.{is_among};
-ghost use Rattle.abstract_lsr.specs.Soundness.{AreLabelled, IsResv};
-ghost use Rattle.state_views.specs.Views.{known};
+ghost use Rattle.abstract_paths.specs.Soundness.{ArePaths};
+ghost use Rattle.abstract_paths.specs.Touched.{is_among};
+ghost use Rattle.abstract_router.specs.Soundness.{AreLabelled, IsResv};
 ghost use Rattle.label_table.specs.Rows.{AreAlikeElsewhere, AreTableEdits, action_at};
-ghost use Rattle.label_table.specs.Turns.{emptied_at, set_each, set_row, written_at};
+ghost use Rattle.label_table.specs.Turns.{change, change_at, is_same, put_each, put_row, row_at, rows_of};
 
 use forwarding_table::Action;
 use lsr_facts::Key;
@@ -21,7 +20,7 @@ use std::alloc::{AllocError, Global};
 /// What is done with a frame of an LSP (RFC 3031, 3.10): where the LSP ends here its label is taken away; where it goes
 /// on, and is reserved, the label is replaced by the next hop's. Else there is no action.
 fn action_at<V: StateView>(view: &V, key: &Key) -> Option<Action>
-    ensures { result ≡ action_at (known (V.facts view.now) (V.held view.now)) key.now }
+    ensures { result ≡ action_at (V.state view.now) key.now }
 {
     let path = view.path(key)?;
     if !goes_on(path.role) {
@@ -34,52 +33,77 @@ fn action_at<V: StateView>(view: &V, key: &Key) -> Option<Action>
     })
 }
 
-/// A label, if there is one, has this action from now on, or none. The only error is out of memory.
-fn set_action(
-    edits: &mut Table<u32, Option<Action>>,
-    label: Option<u32>,
-    action: Option<Action>,
-) -> Result<(), AllocError>
-    ensures { OnOk result (edits.new ≡ set_row (option_map (λ label. (label, action)) label) edits.old) }
+/// The row of an LSP in the label table: its action, under its label.
+fn row_at<V: StateView>(view: &V, key: &Key) -> Option<(u32, Action)>
+    ensures { result ≡ row_at (V.state view.now) key.now }
 {
-    if let Some(label) = label {
-        edits.set(label, action)?;
-    }
-    Ok(())
+    let label = view.label(key)?;
+    let action = action_at(view, key)?;
+    Some((label, action))
 }
 
-/// The labels that these LSPs have have no action from now on. The only error is out of memory.
-fn empty_each<V: StateView, E>(
+/// The rows of these LSPs. The only error is out of memory.
+fn rows_of<V: StateView, E>(
+    alloc: Global,
     view: &V,
     touched: &[(Key, E)],
-    edits: &mut Table<u32, Option<Action>>,
-) -> Result<(), AllocError>
-    ensures { OnOk result (edits.new
-        ≡ set_each (emptied_at (known (V.facts view.now) (V.held view.now))) touched.now edits.old) }
+) -> Result<Table<u32, Action>, AllocError>
+    ensures { IfOk result (λ rows. rows ≡ rows_of (V.state view.now) touched.now) }
 {
+    let mut rows = Table::new(alloc);
     for lsp in touched {
-        set_action(edits, view.label(&lsp.0), None)?;
+        if let Some((label, action)) = row_at(view, &lsp.0) {
+            rows.set(label, action)?;
+        }
+    }
+    Ok(rows)
+}
+
+/// Whether what is done with a label is the same.
+fn is_same(was: Option<Action>, now: Option<Action>) -> bool
+    ensures { result ≡ is_same was now }
+{
+    was == now
+}
+
+/// A label that had this action, or none, has that one from now on, where it is another. The only error is out of memory.
+fn put_change(
+    edits: &mut Table<u32, Option<Action>>,
+    label: u32,
+    was: Option<Action>,
+    now: Option<Action>,
+) -> Result<(), AllocError>
+    ensures { OnOk result (edits.new ≡ put_row (option_map (λ action. (label, action)) (change was now)) edits.old) }
+{
+    if !is_same(was, now) {
+        edits.set(label, now)?;
     }
     Ok(())
 }
 
-/// The label of each of these LSPs has the LSP's action from now on. The only error is out of memory.
-fn write_each<V: StateView, E>(
-    view: &V,
-    touched: &[(Key, E)],
+/// Those of these labels whose action is another in the one table than in the other have that from now on. The only error
+/// is out of memory.
+fn put_changes(
     edits: &mut Table<u32, Option<Action>>,
+    was: &Table<u32, Action>,
+    now: &Table<u32, Action>,
+    rows: &[(u32, Action)],
 ) -> Result<(), AllocError>
-    ensures { OnOk result (edits.new
-        ≡ set_each (written_at (known (V.facts view.now) (V.held view.now))) touched.now edits.old) }
+    ensures { OnOk result (edits.new ≡ put_each (change_at was.now now.now) rows.now edits.old) }
 {
-    for lsp in touched {
-        set_action(edits, view.label(&lsp.0), action_at(view, &lsp.0))?;
+    for row in rows {
+        put_change(
+            edits,
+            row.0,
+            was.get(&row.0).copied(),
+            now.get(&row.0).copied(),
+        )?;
     }
     Ok(())
 }
 
-/// What becomes of the label table where these LSPs alone changed: each label that one of them had before or has after
-/// has the action that it has in the state after, or none. It asks that in both states each label is held by one LSP,
+/// What becomes of the label table where these LSPs alone changed: each label that one of them had before or has after, and
+/// whose action is another in the state after, has that action, or none. It asks that in both states each label is held by one LSP,
 /// that what reservations take for labels are labels, and that of all other LSPs the same is known before and after.
 /// The only error is out of memory.
 pub fn table_edits<B: StateView, A: StateView, E>(
@@ -88,18 +112,20 @@ pub fn table_edits<B: StateView, A: StateView, E>(
     after: &A,
     touched: &[(Key, E)],
 ) -> Result<Table<u32, Option<Action>>, AllocError>
-    requires paths_before { ArePaths (B.router before.now) (B.facts before.now).moment (B.facts before.now).paths }
-    requires paths_after { ArePaths (A.router after.now) (A.facts after.now).moment (A.facts after.now).paths }
-    requires labels_before { AreLabelled (B.router before.now) (known (B.facts before.now) (B.held before.now)) }
-    requires labels_after { AreLabelled (A.router after.now) (known (A.facts after.now) (A.held after.now)) }
-    requires resvs_after { AllByRecursion (IsResv (A.facts after.now).moment) (A.held after.now).resvs }
+    requires paths_before { ArePaths (B.router before.now) (B.state before.now).facts.moment (B.state before.now).facts.paths }
+    requires paths_after { ArePaths (A.router after.now) (A.state after.now).facts.moment (A.state after.now).facts.paths }
+    requires labels_before { AreLabelled (B.router before.now) (B.state before.now) }
+    requires labels_after { AreLabelled (A.router after.now) (A.state after.now) }
+    requires resvs_after { AllByRecursion (IsResv (A.state after.now).facts.moment) (A.state after.now).resvs }
     requires elsewhere { AreAlikeElsewhere (is_among key_cmp touched.now)
-        (known (B.facts before.now) (B.held before.now)) (known (A.facts after.now) (A.held after.now)) }
-    ensures { IfOk result (AreTableEdits (known (B.facts before.now) (B.held before.now))
-        (known (A.facts after.now) (A.held after.now))) }
+        (B.state before.now) (A.state after.now) }
+    ensures { IfOk result (AreTableEdits (B.state before.now)
+        (A.state after.now)) }
 {
+    let was = rows_of(alloc, before, touched)?;
+    let now = rows_of(alloc, after, touched)?;
     let mut edits = Table::new(alloc);
-    empty_each(before, touched, &mut edits)?;
-    write_each(after, touched, &mut edits)?;
+    put_changes(&mut edits, &was, &now, was.as_slice())?;
+    put_changes(&mut edits, &was, &now, now.as_slice())?;
     Ok(edits)
 }

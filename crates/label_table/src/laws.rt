@@ -10,16 +10,16 @@ ghost use Rattle.lsr_facts.specs.declared.router.Router.{Router};
 ghost use Rattle.forwarding_table.specs.Forwarding.{forward_of};
 ghost use Rattle.forwarding_table.specs.declared.action.Action.{Action};
 ghost use Rattle.forwarding_table.specs.declared.action.Action.TheVariants as actions;
-ghost use Rattle.abstract_router.specs.Places.{is_up};
-ghost use Rattle.abstract_router.specs.Touched.{is_among};
-ghost use Rattle.abstract_lsr.specs.Soundness.{IsSound};
-ghost use Rattle.abstract_lsr.specs.States.{State};
-ghost use Rattle.abstract_lsr.specs.Tables.{forwarded};
-ghost use Rattle.state_views.specs.Views.{edited};
-ghost use Rattle.state_views.specs.declared.edits.StateEdits.{StateEdits};
+ghost use Rattle.abstract_paths.specs.Places.{is_up};
+ghost use Rattle.abstract_paths.specs.Touched.{is_among};
+ghost use Rattle.abstract_router.specs.Soundness.{IsSound};
+ghost use Rattle.abstract_router.specs.States.{State};
+ghost use Rattle.abstract_router.specs.Tables.{forwarded};
+ghost use Rattle.state_views.specs.Edits.{edited};
+ghost use Rattle.state_views.specs.declared.edits.Edits.{Edits};
 ghost use Rattle.label_table.specs.Rows.{AreAlikeElsewhere, IsTableOf};
 
-use abstract_lsr::laws::entries_stand_on_live_state;
+use router_soundness::laws::entries_stand_on_live_state;
 
 /// A router that knows no path has no actions.
 pub fn no_path_has_no_action()
@@ -28,9 +28,9 @@ pub fn no_path_has_no_action()
 
 /// Of an LSP that has no edit the same is known after edits.
 pub fn edits_leave_other_lsps()
-    ensures { (touched : Key → Bool) (e : StateEdits) (s : State) →
+    ensures { (touched : Key → Bool) (e : Edits) (s : State) →
         ((key : Key) → touched key ≡ false → (is_among key_cmp e.labels key
-        || (is_among key_cmp e.resvs key || is_among key_cmp e.facts.paths key)) ≡ false) →
+        || (is_among key_cmp e.resvs key || is_among key_cmp e.paths key)) ≡ false) →
         AreAlikeElsewhere touched s (edited e s) }
 {}
 

@@ -5,4 +5,4 @@ mod edits;
 pub mod laws;
 
 pub use edits::table_edits;
-pub use state_views::{ChangedState, StateDraft, StateEdits, StateView, WholeState, WholeView};
+pub use state_views::{Changed, Draft, Edits, StateView, WholeState};

@@ -6,6 +6,7 @@ use Rattle.rsvp_bodies.specs.Addresses.{address_at}
 use Rattle.rsvp_contents.specs.declared.dropped.Dropped.{Dropped}
 use Rattle.rsvp_contents.specs.declared.dropped.Dropped.TheVariants as dropped
 use Rattle.rsvp_contents.specs.declared.message.Reading.TheVariants as readings
+use Rattle.rsvp_contents.specs.declared.messages.Content.{Content}
 use Rattle.rsvp_contents.specs.Spelling.{SpellsReading, IsFirstFault, header_fault}
 use Rattle.rsvp_contents.specs.Answers.{ReadsOrDrops}
 use Rattle.rsvp_contents.specs.Written.{message_bytes}
@@ -127,8 +128,17 @@ unread (frames.Labelled stack payload) = frames.Labelled stack (unread_payload p
 unread (frames.Routed to limit message) = frames.Relayed to limit (message_bytes message)
 unread (frames.Relayed to limit message) = frames.Relayed to limit message
 
+-- what is written of a message is read as the same message
+abbrev pub IsReadAgain : Content → Type 0
+IsReadAgain message = SpellsReading (message_bytes message) (readings.Whole message)
+
+-- so it is of a message in a payload
+abbrev pub HoldsAgain : Payload → Type 0
+HoldsAgain (payloads.Message message) = IsReadAgain message
+HoldsAgain payload = Unit {0}
+
 -- The message that others may pass on is read again where it is to go.
 abbrev pub CarriesAgain : Frame → Type 0
-CarriesAgain (frames.Labelled stack (payloads.Message message)) = SpellsReading (message_bytes message) (readings.Whole message)
-CarriesAgain (frames.Routed to limit message) = SpellsReading (message_bytes message) (readings.Whole message)
+CarriesAgain (frames.Labelled stack payload) = HoldsAgain payload
+CarriesAgain (frames.Routed to limit message) = IsReadAgain message
 CarriesAgain frame = Unit {0}

@@ -108,7 +108,7 @@ pub const ERRORS: &str = "\
 24/2 BadStrictNode
   The next step of the explicit route is strict, and none of its nodes is a neighbour over
   a link that is up.
-  What to do: take that link up, or mend the step: a strict step is a neighbour; where it lies
+  What to do: take that link up, or fix the step: a strict step is a neighbour; where it lies
   further away, make it loose or put the steps between before it.
   See: RFC 3209, 7.3 and 4.3.4.1
 24/3 BadLooseNode

@@ -44,7 +44,7 @@ pub const ENDINGS: &str = "\
 bad line N
   Line N has none of the forms that `lsr step --help` tells. It ended the run; what the
   lines before it asked for is done.
-  What to do: mend the line, and run the whole again.
+  What to do: fix the line, and run the whole again.
   See: README.md (A short tour)
 unreadable
   The file or the input can't be opened or read, isn't UTF-8, or has more than 16777216

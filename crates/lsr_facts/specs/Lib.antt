@@ -5,3 +5,4 @@ pub mod Orders
 pub mod Origins
 pub mod Refusals
 pub mod Routers
+pub mod Timeless

@@ -1,5 +1,5 @@
 -- How long what a router knows lives, and when a message is due again.
-use Rattle.std.specs.Prelude.{ℕ, ◌+◌, ◌||◌, nat_le, nat_lt, Bool, true, false, List, map, filter}
+use Rattle.std.specs.Prelude.{ℕ, ◌+◌, ◌||◌, nat_le, nat_lt, not, Bool, true, false, List, map, filter}
 use Rattle.std.specs.List.{list_any}
 use Rattle.std.specs.declared.net.ipv4_addr.Ipv4Addr.{Ipv4Addr}
 use Rattle.sorted_rows.specs.Rows.{keys_of}
@@ -23,6 +23,10 @@ begins_here roles.Head = true
 -- a path lives on where one of its origins does, or where it begins here
 abbrev pub lives_on : ℕ → Key × PathFact → Bool
 lives_on moment path = begins_here path.1.role || list_any (lives_past moment) path.1.origins
+
+-- the moment takes something away from the path: it goes, or one of its origins does
+abbrev pub expires : ℕ → Key × PathFact → Bool
+expires moment path = not (lives_on moment path) || list_any (λ origin. not (lives_past moment origin)) path.1.origins
 
 -- what is known of a path, with those of its origins that live past the moment
 abbrev pub living : ℕ → PathFact → PathFact

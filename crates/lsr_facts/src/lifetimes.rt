@@ -1,8 +1,8 @@
 //! How long what a router knows lives, and when a message is due again (RFC 2205, 2.3 and 3.7).
 
 ghost use Rattle.std.specs.List.{list_any};
-ghost use Rattle.std.specs.Prelude.{◌≡◌, nat_lt};
-ghost use Rattle.lsr_facts.specs.Lifetimes.{begins_here, has_waited, lives_on, lives_past, living};
+ghost use Rattle.std.specs.Prelude.{◌≡◌, nat_lt, not};
+ghost use Rattle.lsr_facts.specs.Lifetimes.{begins_here, expires, has_waited, lives_on, lives_past, living};
 
 use crate::key::Key;
 use crate::path_fact::{Origin, PathFact, Role};
@@ -43,6 +43,25 @@ pub fn lives_on(moment: u64, path: &(Key, PathFact)) -> bool
     ensures { result ≡ lives_on moment path.now }
 {
     begins_here(path.1.role) || has_living(moment, path.1.origins.as_slice())
+}
+
+/// Whether one of the origins has expired at a moment.
+fn has_expired(moment: u64, origins: &[(Ipv4Addr, Origin)]) -> bool
+    ensures { result ≡ list_any (λ origin. not (lives_past moment origin)) origins.now }
+{
+    for origin in origins {
+        if !outlives(&origin.1, moment) {
+            return true;
+        }
+    }
+    false
+}
+
+/// Whether a moment, in milliseconds, takes something away from the path: it goes, or one of its origins does.
+pub fn expires(moment: u64, path: &(Key, PathFact)) -> bool
+    ensures { result ≡ expires moment path.now }
+{
+    !lives_on(moment, path) || has_expired(moment, path.1.origins.as_slice())
 }
 
 /// The path loses the origins that don't live past a moment, in milliseconds. Takes no memory.

@@ -1,5 +1,7 @@
-ghost use Rattle.std.specs.Prelude.{◌≡◌};
+ghost use Rattle.std.specs.Prelude.{◌≡◌, map, true};
+ghost use Rattle.lsr_facts.specs.Timeless.{timeless_origin, timeless_path};
 
+use crate::same::Same;
 use rsvp_contents::{Attr, FastReroute, Hop, LabelRequest, Passing, Record, Route, Tspec};
 use sorted_rows::{Table, TryCopy};
 use std::alloc::{AllocError, Global};
@@ -85,6 +87,47 @@ pub struct PathFact {
     pub fast_reroute: Option<FastReroute>,
     /// Objects that are passed on unread.
     pub passing: Passing,
+}
+
+/// Whether these are the same origins, but for when they expire.
+fn is_same_origin(origin: &(Ipv4Addr, Origin), other: &(Ipv4Addr, Origin)) -> bool
+    ensures { result ≡ true → timeless_origin origin.now ≡ timeless_origin other.now }
+{
+    origin.0 == other.0 && origin.1.via == other.1.via && origin.1.hop == other.1.hop
+}
+
+/// Whether these are the same origins in the same order, but for when they expire.
+fn are_same_origins(origins: &[(Ipv4Addr, Origin)], others: &[(Ipv4Addr, Origin)]) -> bool
+    ensures { result ≡ true → map timeless_origin origins.now ≡ map timeless_origin others.now }
+{
+    if origins.len() != others.len() {
+        return false;
+    }
+    for i in 0..origins.len() {
+        if !is_same_origin(&origins[i], &others[i]) {
+            return false;
+        }
+    }
+    true
+}
+
+impl PathFact {
+    /// Whether another path is the same, but for when its origins expire.
+    pub fn is_same_but_expiry(&self, other: &PathFact) -> bool
+        ensures { result ≡ true → timeless_path self.now ≡ timeless_path other.now }
+    {
+        self.role == other.role
+            && self.out_link == other.out_link
+            && self.label_request == other.label_request
+            && self.fast_reroute == other.fast_reroute
+            && are_same_origins(self.origins.as_slice(), other.origins.as_slice())
+            && self.tspec.is_same(&other.tspec)
+            && self.attr.is_same(&other.attr)
+            && self.rest.is_same(&other.rest)
+            && self.given.is_same(&other.given)
+            && self.recorded.is_same(&other.recorded)
+            && self.passing.is_same(&other.passing)
+    }
 }
 
 impl TryCopy for PathFact {

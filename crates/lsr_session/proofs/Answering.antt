@@ -1,58 +1,36 @@
--- What is printed for the label table, and answers for whose text there is no memory.
-use Rattle.std.proofs.Common.{◌≡◌, ◌++◌, ◌∷◌, [], ℕ, List, Result, Ok, Err, ap, inl, inr, refl, sym, subst, false}
-use Rattle.std.specs.Prelude.{IfOk, OnErr, T}
-use Rattle.std.specs.FinMap.Entries.{is_sorted}
-use Rattle.std.specs.Ordering.{nat_cmp}
-use Rattle.abstract_lsr.specs.States.{State}
-use Rattle.forwarding_table.specs.declared.action.Action.{Action}
-use Rattle.lsr_facts.specs.declared.facts.Facts.{Facts}
-use Rattle.lsr_facts.specs.declared.refusal.Refusal.{Refusal}
-use Rattle.lsr_text.specs.Answers.{answer_text}
-use Rattle.lsr_text.specs.Rows.{table_text}
-use Rattle.lsr_lines.specs.Steps.{IsUntold}
-use Rattle.router_machine.specs.Below.labels.RowLaws.{table-alike}
-use Rattle.router_machine.specs.Below.labels.Rows.{IsTableOf}
+-- What is printed of an event and of a datagram, be there memory for its text or not.
+use Rattle.std.proofs.Common.{◌≡◌, ◌++◌, ◌∷◌, [], ℕ, List, Result, Ok, Err, inr, refl, sym, subst}
+use Rattle.std.specs.Prelude.{IfOk, OnErr}
 use Rattle.router_events.specs.declared.events.Event.{Event}
 use Rattle.router_events.specs.declared.events.Made.{Made}
-use Rattle.router_machine.specs.States.{RouterState}
+use Rattle.lsr_facts.specs.declared.refusal.Refusal.{Refusal}
+use Rattle.lsr_lines.specs.Steps.{IsUntold}
+use Rattle.lsr_text.specs.Answers.{answer_text}
+use Rattle.router_machine.specs.Machines.{IsDatagramServed, IsEventServed}
 use Rattle.router_machine.specs.declared.inputs.Served.{Served}
-use Rattle.lsr_session.specs.Requests.{PrintsDatagram, PrintsEvent, PrintsTable, SessionState, TakesDatagram, TakesEvent, latest, remembered, reply_of, served_text}
+use Rattle.lsr_session.specs.Requests.{PrintsDatagram, PrintsEvent, SessionState, latest, remembered, reply_of, served_text}
 
--- what is printed for the label table, which says nothing of whether the router is cold
-pub prints_table : {A E : Type 0} (bytes : A → List ℕ) (r : Result A E) (state shown : State) (rows : List (ℕ × Action))
-    → shown.facts ≡ record state.facts { cold = false } → shown.resvs ≡ state.resvs → shown.labels ≡ state.labels → IsTableOf shown rows → T (is_sorted nat_cmp rows)
-    → IfOk r (λ text. bytes text ≡ table_text rows) → IfOk r (λ text. PrintsTable state (bytes text))
-prints_table bytes (Ok text) state shown rows facts resvs labels table sorted told =
-    record { rows = rows; table = table-alike shown state rows (ap (λ (f : Facts). f.paths) facts) resvs labels table; sorted = sorted; shown = told }
-prints_table bytes (Err error) state shown rows facts resvs labels table sorted told = told
+-- the text of an event's answer
+pub event_printed : (before after : SessionState) (event : Event) (answer : Result Made Refusal)
+    → IsEventServed before.router.router before.router.state event after.router.state answer → after.router.router ≡ before.router.router → after.recent ≡ latest (before.recent ++ reply_of answer ∷ [])
+    → PrintsEvent before event (answer_text answer) after
+event_printed before after event answer served router recent = (answer, record { served = served; router = router }, record { shown = refl; recent = recent })
 
--- the step of an event was made, be there memory for its text or not
-pub event_untold : {A E : Type 0} (r : Result A E) (before after : SessionState) (event : Event) (answer : Result Made Refusal) (router : RouterState)
-    → TakesEvent before.router event answer router → after ≡ record { router = router; recent = latest (before.recent ++ reply_of answer ∷ []) }
-    → OnErr r ((text : List ℕ) × PrintsEvent before event text after)
-event_untold (Ok text) before after event answer router taken is = tt
-event_untold (Err error) before after event answer router taken is = (
-  answer_text answer,
-  (
-    answer,
-    subst (TakesEvent before.router event answer) (ap (λ (s : SessionState). s.router) (sym is)) taken,
-    record { shown = refl; recent = ap (λ (s : SessionState). s.recent) is },
-  ),
-)
+-- the text of what came of a datagram
+pub datagram_printed : (before after : SessionState) (link : ℕ) (datagram : List ℕ) (answer : Result Served Refusal)
+    → IsDatagramServed before.router.router before.router.state link datagram after.router.state answer → after.router.router ≡ before.router.router → after.recent ≡ remembered before.recent answer
+    → PrintsDatagram before link datagram (served_text answer) after
+datagram_printed before after link datagram answer served router recent = (answer, record { served = served; router = router }, record { shown = refl; recent = recent })
 
--- a datagram was served, be there memory for its text or not
-pub datagram_untold : {A E : Type 0} (r : Result A E) (before after : SessionState) (link : ℕ) (datagram : List ℕ) (answer : Result Served Refusal) (router : RouterState)
-    → TakesDatagram before.router link datagram answer router → after ≡ record { router = router; recent = remembered before.recent answer }
-    → OnErr r ((text : List ℕ) × PrintsDatagram before link datagram text after)
-datagram_untold (Ok text) before after link datagram answer router taken is = tt
-datagram_untold (Err error) before after link datagram answer router taken is = (
-  served_text answer,
-  (
-    answer,
-    subst (TakesDatagram before.router link datagram answer) (ap (λ (s : SessionState). s.router) (sym is)) taken,
-    record { shown = refl; recent = ap (λ (s : SessionState). s.recent) is },
-  ),
-)
+-- a text is told where there is memory for it
+pub told : {A E : Type 0} (bytes : A → List ℕ) (r : Result A E) (text : List ℕ) (prints : List ℕ → Type 0) → prints text → IfOk r (λ x. bytes x ≡ text) → IfOk r (λ x. prints (bytes x))
+told bytes (Ok x) text prints is shown = subst prints (sym shown) is
+told bytes (Err error) text prints is shown = tt
+
+-- and else it is one that would be
+pub untold : {A E : Type 0} (r : Result A E) (text : List ℕ) (prints : List ℕ → Type 0) → prints text → OnErr r ((t : List ℕ) × prints t)
+untold (Ok x) text prints is = tt
+untold (Err error) text prints is = (text, is)
 
 -- an answer that was given is one whose text there may be no memory for
 pub given_untold : {A E S : Type 0} (r : Result A E) (prints : List ℕ → S → Type 0) (before after : S)

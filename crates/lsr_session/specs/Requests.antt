@@ -13,9 +13,9 @@ use Rattle.lsr_facts.specs.declared.reply.Reply.{Reply}
 use Rattle.lsr_facts.specs.declared.reply.Reply.TheVariants as replies
 use Rattle.lsr_facts.specs.declared.router.Link.{Link}
 use Rattle.resv_facts.specs.Claims.{reserved_of}
-use Rattle.abstract_router.specs.Places.{is_up}
-use Rattle.abstract_lsr.specs.Preempting.{claims_of}
-use Rattle.abstract_lsr.specs.States.{State}
+use Rattle.abstract_paths.specs.Places.{is_up}
+use Rattle.abstract_router.specs.Preempting.{claims_of}
+use Rattle.abstract_router.specs.States.{State}
 use Rattle.router_machine.specs.Below.labels.Rows.{IsTableOf}
 use Rattle.router_machine.specs.States.{RouterState}
 use Rattle.router_machine.specs.Machines.{IsDatagramServed, IsEventServed}

@@ -114,7 +114,7 @@ standard error; 2 where the words of the command aren't taken:
                     what the lines before it asked for is done. Mend it, and run the whole
                     again
   config FAULT KEY  the first fault of FILE, and the key that it is about (none for Text
-                    and Memory); mend that, and run again for the next. docs/CONFIGURATION.md says what each FAULT is
+                    and Memory); fix that, and run again for the next. docs/CONFIGURATION.md says what each FAULT is
   unreadable        FILE or the input can't be opened or read, isn't UTF-8, or has more than
                     16777216 bytes
   memory            there is no memory; what was printed before is done

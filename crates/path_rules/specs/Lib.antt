@@ -1,3 +1,2 @@
 pub use Rattle.explicit_routes.specs.Choosing
-pub use Rattle.explicit_routes.specs.Nodes
 pub use Rattle.explicit_routes.specs.declared.fault.RouteFault

@@ -5,7 +5,7 @@ ghost use Rattle.std.specs.Prelude.{◌≡◌, ◌==◌, IfOk, false, is_none, o
 ghost use Rattle.explicit_routes.specs.Below.router.Paths.{drops_record, has_loop, is_same_record, lifetime, link_of, origins_of, rest_of, role_of, unknown_code, unknown_object, way_for, way_of};
 ghost use Rattle.rsvp_traffic.specs.TokenBuckets.{token_rate};
 ghost use Rattle.explicit_routes.specs.Choosing.{IsChosen};
-ghost use Rattle.explicit_routes.specs.Nodes.{place_at};
+ghost use Rattle.explicit_routes.specs.Below.router.Places.{place_at};
 
 use crate::spelling::is_same;
 use crate::wanted::goes_on;

@@ -3,7 +3,7 @@
 ghost use Rattle.std.specs.Option.{option_and_then};
 ghost use Rattle.std.specs.Prelude.{◌≡◌, IfOk};
 ghost use Rattle.explicit_routes.specs.Below.router.Paths.{goes_on, grown};
-ghost use Rattle.explicit_routes.specs.Below.router.Wanted.{path_onward};
+ghost use Rattle.explicit_routes.specs.Below.router.Onward.{path_onward};
 
 use explicit_routes::push_hop;
 use lsr_facts::{Key, Link, Node, PathFact, Role};

@@ -1,16 +1,19 @@
 ghost use Rattle.std.specs.FinMap.Entries.{find, is_sorted, put, where_key};
+ghost use Rattle.std.specs.List.{list_any};
 ghost use Rattle.std.specs.Option.{option_copied};
 ghost use Rattle.std.specs.Ordering.{is_eq};
-ghost use Rattle.std.specs.Prelude.{◌≡◌, ◌≤◌, T, [], IfOk, length, not};
-ghost use Rattle.lsr_facts.specs.Lifetimes.{expire};
+ghost use Rattle.std.specs.Prelude.{◌≡◌, ◌≤◌, T, [], IfOk, filter, length, not, slice_get};
+ghost use Rattle.lsr_facts.specs.Lifetimes.{expire, expires};
 ghost use Rattle.lsr_facts.specs.Orders.{key_cmp};
-ghost use Rattle.row_edits.specs.Edits.{edited};
+ghost use Rattle.resv_facts.specs.Claims.{is_same_session};
+ghost use Rattle.sorted_rows.specs.Edits.{edited};
+ghost use Rattle.sorted_rows.specs.Rows.{keys_of};
 ghost use Rattle.path_state.specs.Origins.{origins_of};
 
 use lsr_facts::limits::MAX_LSPS;
-use lsr_facts::{Key, Origin, PathFact, keep_living, lives_on};
-use row_edits::make_edits;
-use sorted_rows::{ReservedTable, Sweep, Table, TryCopy};
+use lsr_facts::{Key, Origin, PathFact, expires, keep_living, lives_on};
+use rsvp_objects::Session;
+use sorted_rows::{ReservedTable, Sweep, Table, TryCopy, copy_rows, make_edits};
 use std::alloc::{AllocError, Global};
 use std::marker::Model;
 use std::net::Ipv4Addr;
@@ -65,13 +68,56 @@ impl PathState {
         })
     }
 
-    /// The paths, in the order of their keys.
-    pub fn as_slice(&self) -> &[(Key, PathFact)]
-        ensures rows { result.now ≡ self.now }
+    /// How many paths are known.
+    pub fn len(&self) -> usize
+        ensures { result ≡ length self.now }
+    {
+        self.rows.len()
+    }
+
+    /// The path at a place, in the order of the keys, from 0 on; `None` past the last.
+    pub fn row(&self, place: usize) -> Option<&(Key, PathFact)>
+        ensures { option_copied result ≡ slice_get self.now place }
+    {
+        self.rows.row(place)
+    }
+
+    /// The keys rise, and there are at most 1,024 paths. It does nothing when it runs.
+    pub fn rows_are_in_order(&self)
         ensures sorted { T (is_sorted key_cmp self.now) }
         ensures few { length self.now ≤ 1024 }
     {
-        self.rows.as_slice()
+        self.rows.rows_are_in_order();
+    }
+
+    /// The paths as a table of their own: a copy. The only error is out of memory.
+    pub fn copied(&self, alloc: Global) -> Result<Table<Key, PathFact>, AllocError>
+        ensures { IfOk result (λ paths. paths ≡ self.now) }
+    {
+        Ok(Table::from_rows(copy_rows(alloc, self.rows.as_slice())?))
+    }
+
+    /// The LSPs of whose paths a moment, in milliseconds, takes anything away (RFC 2205, 2.3), in the order of their
+    /// keys. The only error is out of memory.
+    pub fn expiring(&self, alloc: Global, moment: u64) -> Result<Vec<Key>, AllocError>
+        ensures { IfOk result (λ keys. keys.items ≡ keys_of (filter (expires moment) self.now)) }
+    {
+        self.rows
+            .as_slice()
+            .iter()
+            .filter(|path| expires(moment, path))
+            .map(|path| path.0)
+            .collect(alloc)
+    }
+
+    /// Whether a path of the session is known.
+    pub fn knows_session(&self, session: &Session) -> bool
+        ensures { result ≡ list_any (λ path. is_same_session session.now path.0.session) self.now }
+    {
+        self.rows
+            .as_slice()
+            .binary_search_by(|path| path.0.session.cmp(session))
+            .is_ok()
     }
 
     /// What is known of an LSP's path, or `None` where the LSP isn't known.

@@ -1,7 +1,6 @@
 //! When each message that a router keeps alive at a neighbour was last sent, and which are due again.
 #![tactic(auto)]
 
-pub mod laws;
 mod timers;
 
 pub use timers::RefreshTimers;

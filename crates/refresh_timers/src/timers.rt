@@ -1,13 +1,13 @@
 ghost use Rattle.std.specs.FinMap.Entries.{find, is_sorted, put, where_key};
+ghost use Rattle.std.specs.Option.{option_copied};
 ghost use Rattle.std.specs.Ordering.{is_eq};
 ghost use Rattle.std.specs.declared.cmp.Ordering.TheVariants.{Equal};
-ghost use Rattle.std.specs.Prelude.{◌≡◌, ◌≤◌, T, [], IfOk, length, not};
-ghost use Rattle.row_edits.specs.Edits.{edited};
-ghost use Rattle.refresh_timers.specs.Timers.{due_then, is_due};
+ghost use Rattle.std.specs.Prelude.{◌≡◌, ◌≤◌, T, [], IfOk, length, not, slice_get};
+ghost use Rattle.sorted_rows.specs.Edits.{edited};
+ghost use Rattle.refresh_timers.specs.Timers.{due_then};
 
 use lsr_facts::has_waited;
-use row_edits::make_edits;
-use sorted_rows::{ReservedTable, Table, TryCopy};
+use sorted_rows::{ReservedTable, Table, TryCopy, copy_plain_rows, make_edits};
 use std::alloc::{AllocError, Global};
 use std::marker::Model;
 
@@ -39,13 +39,35 @@ impl<I: Ord + Copy + Drop, const MOST: usize> RefreshTimers<I, MOST> {
         })
     }
 
-    /// The messages and the moments at which they were last sent, in the order of the items.
-    pub fn as_slice(&self) -> &[(I, u64)]
-        ensures rows { result.now ≡ self.now.sent }
+    /// How many messages are kept.
+    pub fn len(&self) -> usize
+        ensures { result ≡ length self.now.sent }
+    {
+        self.rows.len()
+    }
+
+    /// The message at a place, in the order of the items, from 0 on, and the moment at which it was last sent; `None`
+    /// past the last.
+    pub fn row(&self, place: usize) -> Option<&(I, u64)>
+        ensures { option_copied result ≡ slice_get self.now.sent place }
+    {
+        self.rows.row(place)
+    }
+
+    /// The items rise, and there are at most `MOST` messages. It does nothing when it runs.
+    pub fn rows_are_in_order(&self)
         ensures sorted { T (is_sorted I.cmp self.now.sent) }
         ensures few { length self.now.sent ≤ MOST }
     {
-        self.rows.as_slice()
+        self.rows.rows_are_in_order();
+    }
+
+    /// The messages and the moments at which they were last sent, as a table of their own: a copy. The only error is out
+    /// of memory.
+    pub fn copied(&self, alloc: Global) -> Result<Table<I, u64>, AllocError>
+        ensures { IfOk result (λ sent. sent ≡ self.now.sent) }
+    {
+        Ok(Table::from_rows(copy_plain_rows(alloc, self.rows.as_slice())?))
     }
 
     /// The moment at which a message was last sent, or `None` where it isn't kept.
@@ -83,24 +105,11 @@ impl<I: Ord + Copy + Drop, const MOST: usize> RefreshTimers<I, MOST> {
         make_edits(&mut self.rows, edits);
     }
 
-    /// These messages were sent last at these moments, and no others are kept. It asks for at most `MOST`
-    /// messages in the order of their items, none twice. Takes no memory.
-    pub fn set_all(&mut self, moments: &[(I, u64)])
-        requires sorted { T (is_sorted I.cmp moments.now) }
-        requires few { length moments.now ≤ MOST }
-        ensures { self.new ≡ record self.old { sent = moments.now } }
+    /// No message is kept any more. Takes no memory.
+    pub fn clear_all(&mut self)
+        ensures { self.new ≡ record self.old { sent = [] } }
     {
-        self.rows.set_all(moments);
-    }
-
-    /// Whether a message is due at this moment: it is kept, and was last sent a refresh period ago or longer.
-    pub fn is_due(&self, item: &I, now: u64) -> bool
-        ensures { result ≡ is_due I.cmp now self.now item.now }
-    {
-        match self.sent_at(item) {
-            Some(at) => has_waited(self.refresh_ms, at, now),
-            None => false,
-        }
+        self.rows.clear();
     }
 
     /// The messages that were last sent a refresh period ago or longer, in the order of the items. The only error

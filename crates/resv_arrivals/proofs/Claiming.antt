@@ -1,7 +1,8 @@
 -- The claims of reservations: they can be added up, and change as these do.
-use Rattle.std.specs.Prelude.{◌≡◌, ℕ, ◌+◌, ◌^◌, ◌≤◌, suc, Bool, true, false, cond, not, T, List, [], ◌∷◌, length, map, is_some, Result, Ok, Err}
+use Rattle.std.specs.Prelude.{◌≡◌, ℕ, ◌+◌, ◌^◌, ◌≤◌, suc, Bool, true, false, cond, not, T, List, [], ◌∷◌, length, map, Some, None, is_some, Result, Ok, Err}
 use Rattle.std.specs.FinMap.Entries.{by_order, find, is_sorted, is_sorted-where_key, length_without, put, where_key}
 use Rattle.std.specs.List.{AllByRecursion}
+use Rattle.std.specs.Option.{option_map}
 use Rattle.std.specs.Ordering.{eq_by_cmp, is_eq}
 use Rattle.std.specs.Result.{result_unwrap_or}
 use Rattle.std.specs.declared.cmp.Ordering.TheVariants.{Less, Equal, Greater}
@@ -10,22 +11,23 @@ use Rattle.rsvp_traffic.specs.Traffic.{flowspec_rate}
 use Rattle.rsvp_traffic.specs.declared.fault.TrafficFault.{TrafficFault}
 use Rattle.sorted_rows.specs.ListLaws.{all-both}
 use Rattle.sorted_rows.specs.Rows.{keys_of}
-use Rattle.sorted_rows.specs.RowsLaws.{all-below, find-removed_other, first, is_sorted-both, second}
+use Rattle.sorted_rows.specs.RowsLaws.{all-below, find-removed_other, first, is_sorted-both, second, ties}
 use Rattle.lsr_facts.specs.OrderLaws.{key_exact, key_total}
 use Rattle.lsr_facts.specs.Orders.{key_cmp}
 use Rattle.lsr_facts.specs.declared.key.Key.{Key}
 use Rattle.lsr_facts.specs.declared.path_fact.PathFact.{PathFact}
+use Rattle.lsr_facts.specs.declared.router.Router.{Router}
 use Rattle.resv_facts.specs.ClaimLaws.{flowspec_rate-most}
 use Rattle.resv_facts.specs.Claims.{claim_of}
 use Rattle.resv_facts.specs.Priorities.{holding_of}
 use Rattle.resv_facts.specs.declared.claim.Claim.{Claim}
 use Rattle.resv_facts.specs.declared.resv_fact.ResvFact.{ResvFact}
-use Rattle.abstract_lsr.specs.Preempting.{attr_at, claims_of}
+use Rattle.abstract_router.specs.Preempting.{attr_at, claims_of}
 use Rattle.admission.specs.Bandwidths.{AreRated}
-use Rattle.resv_arrivals.specs.Progresses.{IsReached, claims_at, resvs_at}
+use Rattle.resv_arrivals.specs.Progresses.{AreClaimed, IsReached, claims_at, resvs_at}
 use Rattle.resv_arrivals.specs.declared.progress.Progress.{Progress}
-use Rattle.abstract_lsr.specs.States.{State}
-use Rattle.row_edits.specs.EditLaws.{is_sorted-edited}
+use Rattle.abstract_router.specs.States.{State}
+use Rattle.sorted_rows.specs.EditLaws.{is_sorted-edited}
 
 -- no rate that is claimed is above the greatest
 pub rate_most : (flowspec : List ℕ) → result_unwrap_or (flowspec_rate flowspec) 0 ≤ 2 ^ 50
@@ -85,6 +87,24 @@ claims_put paths key fact (v ∷ vs) =
       | Greater ↦ λ o. ap (λ l. claim_at paths v ∷ l) rest
     ] refl
 
+-- what an LSP claims
+pub find_claims : (paths : List (Key × PathFact)) (key : Key) (resvs : List (Key × ResvFact)) → find key_cmp key (claims_of paths resvs) ≡ option_map (λ fact. claim_of fact (holding_of (attr_at paths key))) (find key_cmp key resvs)
+unfolding claims_of
+find_claims paths key [] = refl
+find_claims paths key (v ∷ vs) =
+    elim (eq_by_cmp key_cmp key v.0) as (λ b. eq_by_cmp key_cmp key v.0 ≡ b → cond b (Some (claim_of v.1 (holding_of (attr_at paths v.0)))) (find key_cmp key (map (claim_at paths) vs)) ≡ option_map (λ fact. claim_of fact (holding_of (attr_at paths key))) (cond b (Some v.1) (find key_cmp key vs))) [
+      | true ↦ λ tie. ap (λ k. Some (claim_of v.1 (holding_of (attr_at paths k)))) (sym (key_exact key v.0 (ties _ tie)))
+      | false ↦ λ apart. find_claims paths key vs
+    ] refl
+
+-- by the reservation that it has, or hasn't
+pub claimed_as : (paths : List (Key × PathFact)) (resvs : List (Key × ResvFact)) (key : Key) (fact : ResvFact) (claim : Claim) → find key_cmp key resvs ≡ Some fact → claim.holding ≡ holding_of (attr_at paths key) → find key_cmp key (claims_of paths resvs) ≡ Some (claim_of fact claim.holding)
+claimed_as paths resvs key fact claim found kept =
+    find_claims paths key resvs ∙ ap (option_map (λ f. claim_of f (holding_of (attr_at paths key)))) found ∙ ap (λ n. Some (claim_of fact n)) (sym kept)
+
+pub claimed_none : (paths : List (Key × PathFact)) (resvs : List (Key × ResvFact)) (key : Key) → find key_cmp key resvs ≡ None → find key_cmp key (claims_of paths resvs) ≡ None
+claimed_none paths resvs key none = find_claims paths key resvs ∙ ap (option_map (λ f. claim_of f (holding_of (attr_at paths key)))) none
+
 -- Rows in order, each of whose keys is among those of others in order, are no more than these.
 no_more : {X Y : Type 0} (xs : List (Key × X)) (ys : List (Key × Y)) → T (is_sorted key_cmp xs) → T (is_sorted key_cmp ys) → AllByRecursion (λ x. is_some (find key_cmp x.0 ys) ≡ true) xs → length xs ≤ length ys
 no_more [] ys hx hy each = omega arith
@@ -96,10 +116,10 @@ no_more {X} {Y} (x ∷ xs) ys hx hy each =
     let rest : length xs ≤ length left = no_more xs left (second _ _ hx) (is_sorted-where_key key_cmp (λ k. not (eq_by_cmp key_cmp x.0 k)) ys hy) others in
     omega (arith, less, rest)
 
-module _ (s : State) (p : Progress) (is : IsReached s p) where
+module _ (r : Router) (s : State) (p : Progress) (is : IsReached r s p) where
   -- what is reserved is in order
   pub resvs_sorted : T (is_sorted key_cmp (resvs_at s p))
-  resvs_sorted = is_sorted-edited key_cmp key_total p.edits s.resvs is.in_order
+  resvs_sorted = is_sorted-edited key_cmp key_total p.edits s.resvs is.held.in_order
 
   pub claims_sorted : T (is_sorted key_cmp (claims_at s p))
   claims_sorted = claims_in_order s.facts.paths (resvs_at s p) resvs_sorted
@@ -107,3 +127,12 @@ module _ (s : State) (p : Progress) (is : IsReached s p) where
   -- and there is no more of it than there are paths
   pub claims_few : length (claims_at s p) ≤ 1024
   claims_few = omega (arith, length-claims s.facts.paths (resvs_at s p), no_more (resvs_at s p) s.facts.paths resvs_sorted is.paths_in_order is.on_paths, is.few)
+
+  -- So the claims that are kept can be added up.
+  pub are_claimed : (claims : List (Key × Claim)) → claims ≡ claims_at s p → AreClaimed s p claims
+  are_claimed claims same = record {
+    claimed = same;
+    sorted = subst (λ (rows : List (Key × Claim)). T (is_sorted key_cmp rows)) (sym same) claims_sorted;
+    rated = subst AreRated (sym same) (claims_rated s.facts.paths (resvs_at s p));
+    few = subst (λ (rows : List (Key × Claim)). length rows ≤ 1024) (sym same) claims_few;
+  }

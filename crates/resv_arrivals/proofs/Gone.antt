@@ -3,15 +3,15 @@ use Rattle.std.specs.Prelude.{◌≡◌, ◌||◌, not, true, false, cond, fold,
 use Rattle.std.specs.FinMap.Entries.{is_sorted, where_key}
 use Rattle.std.specs.Ordering.{is_eq}
 use Rattle.std.proofs.Common.{refl, sym, ap, ◌∙◌}
-use Rattle.row_edits.specs.EditLaws.{edited-put}
-use Rattle.row_edits.specs.Edits.{edited}
+use Rattle.sorted_rows.specs.EditLaws.{edited-put}
+use Rattle.sorted_rows.specs.Edits.{edited}
 use Rattle.lsr_facts.specs.OrderLaws.{key_exact, key_total}
 use Rattle.lsr_facts.specs.Orders.{key_cmp}
 use Rattle.lsr_facts.specs.declared.key.Key.{Key}
 use Rattle.resv_facts.specs.Admission.{without}
 use Rattle.resv_facts.specs.declared.claim.Claim.{Claim}
 use Rattle.resv_facts.specs.declared.resv_fact.ResvFact.{ResvFact}
-use Rattle.abstract_lsr.specs.States.{is_among}
+use Rattle.abstract_router.specs.States.{is_among}
 use Rattle.resv_arrivals.specs.Progresses.{without_edit, without_row}
 
 -- all are kept

@@ -9,8 +9,8 @@ use Rattle.lsr_facts.specs.declared.errors.RsvpError.{RsvpError}
 use Rattle.lsr_facts.specs.declared.router.Router.{Router}
 use Rattle.resv_facts.specs.declared.resv_fact.ResvFact.{ResvFact}
 use Rattle.resv_facts.specs.declared.resv_fact.ResvStyle.{ResvStyle}
-use Rattle.abstract_lsr.specs.Reserving.{Progress, Verdict, Failed, PassedOver, Granted, carried_on, key_in, next_descriptor, resv_by, resv_replied, verdict_of}
-use Rattle.abstract_lsr.specs.States.{State}
+use Rattle.abstract_router.specs.Reserving.{Progress, Verdict, Failed, PassedOver, Granted, carried_on, key_in, next_descriptor, resv_by, resv_replied, verdict_of}
+use Rattle.abstract_router.specs.States.{State}
 use Rattle.resv_arrivals.specs.Progresses.{is_heard}
 
 -- what holds anyway holds where there is an error

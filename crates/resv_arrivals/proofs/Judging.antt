@@ -1,8 +1,8 @@
 -- The verdicts on a flow descriptor, by what the code finds.
-use Rattle.std.specs.Prelude.{◌≡◌, ℕ, ◌||◌, not, Bool, true, false, cond, List, [], ◌∷◌, Option, Some, None, Result, Ok, Err, IsOk, is_some, find as find_first}
+use Rattle.std.specs.Prelude.{◌≡◌, ℕ, ◌≤◌, ◌||◌, if◌then◌else◌, not, Bool, true, false, cond, List, [], ◌∷◌, Option, Some, None, Result, Ok, Err, IsOk, is_some, find as find_first}
 use Rattle.std.specs.FinMap.Entries.{find}
 use Rattle.std.specs.List.{list_any}
-use Rattle.std.specs.Option.{option_and_then, option_map, option_map_or}
+use Rattle.std.specs.Option.{option_and_then, option_map, option_map_or, unwrap_or}
 use Rattle.std.specs.Ordering.{eq_by_cmp, is_eq}
 use Rattle.std.specs.Result.{result_unwrap_or}
 use Rattle.std.proofs.Common.{refl, sym, ap, subst, ◌∙◌}
@@ -17,18 +17,26 @@ use Rattle.lsr_facts.specs.Orders.{key_cmp}
 use Rattle.lsr_facts.specs.declared.key.Key.{Key}
 use Rattle.lsr_facts.specs.declared.path_fact.PathFact.{PathFact}
 use Rattle.lsr_facts.specs.declared.router.Router.{Router}
-use Rattle.resv_facts.specs.Claims.{is_same_session}
+use Rattle.resv_facts.specs.Admission as admission
+use Rattle.resv_facts.specs.Admission.{victims_of}
+use Rattle.resv_facts.specs.Claims.{is_same_session, reserved_of}
 use Rattle.resv_facts.specs.Priorities.{holding_of, setup_of}
 use Rattle.resv_facts.specs.declared.claim.Request.{Request}
 use Rattle.resv_facts.specs.declared.resv_fact.ResvFact.{ResvFact}
 use Rattle.resv_facts.specs.declared.resv_fact.ResvStyle.{ResvStyle}
-use Rattle.abstract_lsr.specs.Errors.{no_path, no_sender, style_conflict}
-use Rattle.abstract_lsr.specs.Preempting.{claims_of, request_of}
-use Rattle.abstract_router.specs.Tears.{leaves_by}
-use Rattle.abstract_lsr.specs.Reserving.{Verdict, Failed, PassedOver, Granted, conflicts, verdict_by_rate, verdict_of, verdict_on_path}
-use Rattle.abstract_lsr.specs.States.{State}
+use Rattle.abstract_router.specs.Errors.{no_bandwidth, no_path, no_sender, style_conflict, unacceptable_label}
+use Rattle.abstract_router.specs.Preempting.{claims_of, fits, giving_way, limit_of, request_of}
+use Rattle.abstract_paths.specs.Paths.{has_loop}
+use Rattle.abstract_paths.specs.Tears.{leaves_by}
+use Rattle.abstract_router.specs.Reserving.{Verdict, Failed, PassedOver, Granted, conflicts, verdict_by_rate, verdict_of, verdict_on_path}
+use Rattle.abstract_router.specs.States.{State}
+use Rattle.forwarding_table.specs.Labels.{is_label}
 use Rattle.resv_facts.specs.declared.claim.Claim.{Claim}
-use Rattle.resv_rules.specs.Conflicts.{conflicting_style, conflicts as claim_conflicts}
+use Rattle.resv_arrivals.proofs.Claiming.{claims_sorted}
+use Rattle.resv_arrivals.proofs.Renewing.{fits_again, none_gives_way}
+use Rattle.resv_arrivals.specs.Progresses.{IsReached, IsRenewed, claims_at, fact_at, reached}
+use Rattle.resv_arrivals.specs.declared.asked.Asked.{Asked}
+use Rattle.resv_arrivals.specs.declared.progress.Progress.{Progress}
 
 -- what the code asks for is what the LSP does
 pub request_is : (paths : List (Key × PathFact)) (key : Key) (fact : ResvFact) (path : PathFact) (rate : ℕ) → find key_cmp key paths ≡ Some path → flowspec_rate fact.flowspec ≡ Ok rate
@@ -55,17 +63,15 @@ has_own_path key path (row ∷ rows) =
     either true b h = refl
     either false b h = h
 
--- So the verdict on a path that leaves by the link is told by the first claim in the way.
-pub on_path_is : (r : Router) (s : State) (key own : Key) (fact : ResvFact) (path : PathFact) (claims : List (Key × Claim)) (found : Option ResvStyle) → leaves_by fact.link path ≡ true → own ≡ key → claims ≡ claims_of s.facts.paths s.resvs
-    → found ≡ option_map (λ claim. claim.1.style) (find_first (claim_conflicts fact.link fact.style own) claims)
+-- So the verdict on a path that leaves by the link is told by the style of the first that stands against it.
+pub on_path_is : (r : Router) (s : State) (key : Key) (fact : ResvFact) (path : PathFact) (found : Option ResvStyle) → leaves_by fact.link path ≡ true
+    → found ≡ option_map (λ other. other.1.style) (find_first (conflicts fact.link fact.style key) s.resvs)
     → verdict_on_path r s key fact path ≡ option_map_or (λ style. Failed (style_conflict style)) found (verdict_by_rate r s key fact (flowspec_rate fact.flowspec))
-on_path_is r s key own fact path claims found leaves own_is claims_are found_is =
+on_path_is r s key fact path found leaves found_is =
     let rest = verdict_by_rate r s key fact (flowspec_rate fact.flowspec) in
-    let first = λ (k : Key) (cs : List (Key × Claim)). option_map (λ (claim : Key × Claim). claim.1.style) (find_first (claim_conflicts fact.link fact.style k) cs) in
-    let told : found ≡ option_map (λ (resv : Key × ResvFact). resv.1.style) (find_first (conflicts fact.link fact.style key) s.resvs) = found_is ∙ (λ i. first (own_is i) (claims_are i)) ∙ conflicting_style fact.link fact.style key s.facts.paths s.resvs in
     ap (λ b. cond (not b) PassedOver (option_map_or (λ (other : Key × ResvFact). Failed (style_conflict other.1.style)) (find_first (conflicts fact.link fact.style key) s.resvs) rest)) leaves
     ∙ by_style (find_first (conflicts fact.link fact.style key) s.resvs) rest
-    ∙ ap (λ (o : Option ResvStyle). option_map_or (λ style. Failed (style_conflict style)) o rest) (sym told)
+    ∙ ap (λ (o : Option ResvStyle). option_map_or (λ style. Failed (style_conflict style)) o rest) (sym found_is)
 
 -- An LSP that has a path is judged by it.
 pub own_path_is : (r : Router) (s : State) (key : Key) (fact : ResvFact) (path : PathFact) → find key_cmp key s.facts.paths ≡ Some path → verdict_of r s key fact ≡ verdict_on_path r s key fact path
@@ -106,3 +112,28 @@ module _ (r : Router) (s : State) (key : Key) (fact : ResvFact) where
       by : (o : Option PathFact) → find key_cmp key s.facts.paths ≡ o → option_map_or (verdict_on_path r s key fact) o (Failed no_sender) ≡ Granted → MayBePut s key fact
       by None is = λ e. absurd (let h = e in cc)
       by (Some path) is = λ e. record { path = ap is_some is; rate = rated_on_path path e }
+
+module _ (r : Router) (s : State) (p : Progress) (asked : Asked) (rate : ℕ) (request : Request) (is : IsReached r s p) (none : is_some p.claims ≡ false) where
+  -- what is claimed is what was claimed, within the limits
+  was_claimed : claims_of s.facts.paths s.resvs ≡ claims_at s p
+  was_claimed = sym (ap (λ o. unwrap_or o (claims_of s.facts.paths s.resvs)) (by p.claims none)) ∙ is.claimed
+    where
+      by : (o : Option (List (Key × Claim))) → is_some o ≡ false → o ≡ None
+      by None h = refl
+      by (Some claims) h = absurd (let e = h in cc)
+
+  within : (priority : ℕ) → priority ≤ 7 → reserved_of request.claim.link priority (claims_at s p) ≤ limit_of r request.claim.link
+  within priority most = subst (λ cs. reserved_of request.claim.link priority cs ≤ limit_of r request.claim.link) was_claimed (is.held.within request.claim.link priority most)
+
+  -- An LSP that asks for what it claims already is granted it, and nobody gives way.
+  pub renewed_is : not (is_label asked.descriptor.now.label.number) ≡ false → has_loop r asked.descriptor.now.recorded ≡ false
+      → request ≡ request_of s.facts.paths asked.key (fact_at s.facts.moment asked) → request.setup ≤ 7 → find key_cmp request.key (claims_at s p) ≡ Some request.claim
+      → (verdict_by_rate r (reached s p).state asked.key (fact_at s.facts.moment asked) (Ok rate) ≡ Granted) × IsRenewed r s p asked
+  renewed_is label loop asks most found =
+      let fact = fact_at s.facts.moment asked in
+      let sorted = claims_sorted r s p is in
+      let room : fits r (reached s p).state asked.key fact ≡ true = sym (ap (λ (q : Request). admission.fits (limit_of r q.claim.link) q (claims_at s p)) asks) ∙ fits_again request (claims_at s p) sorted found (limit_of r request.claim.link) within most in
+      let alone : giving_way r (reached s p).state asked.key fact ≡ [] = sym (ap (λ (q : Request). victims_of (limit_of r q.claim.link) q (claims_at s p)) asks) ∙ none_gives_way request (claims_at s p) sorted found (limit_of r request.claim.link) within in (
+        (λ i. if label i then Failed unacceptable_label else if loop i then PassedOver else if not (room i) then Failed no_bandwidth else Granted),
+        record { claimed = subst (λ (q : Request). find key_cmp q.key (claims_at s p) ≡ Some q.claim) asks found; alone = alone },
+      )

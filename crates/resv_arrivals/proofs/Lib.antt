@@ -3,4 +3,5 @@ pub mod Gone
 pub mod Hearing
 pub mod Judging
 pub mod Reaching
+pub mod Renewing
 pub mod Telling

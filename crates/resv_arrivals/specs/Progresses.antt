@@ -1,31 +1,32 @@
 -- What some of a Resv's flow descriptors have led to, as it is kept.
-use Rattle.std.specs.Prelude.{◌≡◌, ℕ, ◌^◌, ◌≤◌, ◌++◌, ◌||◌, not, Bool, true, T, List, length, Option, None, is_some, IsOk}
+use Rattle.std.specs.Prelude.{◌≡◌, ℕ, ◌^◌, ◌≤◌, ◌++◌, ◌||◌, [], not, Bool, true, T, List, length, Option, Some, None, is_some, IsOk}
 use Rattle.std.specs.FinMap.Entries.{find, is_sorted, put, where_key}
 use Rattle.std.specs.List.{AllByRecursion}
 use Rattle.std.specs.Option.{option_and_then, unwrap_or}
 use Rattle.std.specs.Ordering.{is_eq}
 use Rattle.rsvp_traffic.specs.Traffic.{flowspec_rate}
-use Rattle.row_edits.specs.Edits.{edited}
+use Rattle.sorted_rows.specs.Edits.{edited}
 use Rattle.lsr_facts.specs.Orders.{key_cmp}
 use Rattle.lsr_facts.specs.declared.key.Key.{Key}
-use Rattle.lsr_facts.specs.declared.path_fact.PathFact.{PathFact}
 use Rattle.resv_facts.specs.declared.claim.Claim.{Claim}
 use Rattle.resv_facts.specs.declared.resv_fact.ResvFact.{ResvFact}
 use Rattle.lsr_facts.specs.declared.router.Router.{Router}
 use Rattle.router_events.specs.declared.events.Output.{Output}
-use Rattle.abstract_lsr.specs.Outcomes.{listed}
-use Rattle.abstract_lsr.specs.Preempting.{claims_of, request_of, told_preempted}
-use Rattle.abstract_lsr.specs.Reserving as reserving
-use Rattle.abstract_lsr.specs.Reserving.{key_in, resv_by}
-use Rattle.abstract_lsr.specs.States.{State}
+use Rattle.admission.specs.Bandwidths.{AreRated}
+use Rattle.abstract_router.specs.Outcomes.{listed}
+use Rattle.abstract_router.specs.Preempting.{claims_of, giving_way, request_of, told_preempted}
+use Rattle.abstract_router.specs.Reserving as reserving
+use Rattle.abstract_router.specs.Reserving.{key_in, resv_by}
+use Rattle.abstract_router.specs.Soundness.{AreHeld}
+use Rattle.abstract_router.specs.States.{State}
 use Rattle.resv_arrivals.specs.declared.asked.Asked.{Asked}
 use Rattle.resv_arrivals.specs.declared.progress.Progress.{Progress}
 use Rattle.resv_arrivals.specs.declared.verdicts.Verdict.{Verdict}
 use Rattle.resv_arrivals.specs.declared.verdicts.Verdict.TheVariants as verdicts
 
--- the LSP of a flow descriptor
-abbrev pub key_of : Asked → Key
-key_of asked = key_in asked.resv.now asked.descriptor.now
+-- the LSP is that of the flow descriptor
+abbrev pub IsOwn : Asked → Type 0
+IsOwn asked = asked.key ≡ key_in asked.resv.now asked.descriptor.now
 
 -- the reservation that it asks for at a moment
 abbrev pub fact_at : ℕ → Asked → ResvFact
@@ -59,18 +60,32 @@ told_of r resvs errors key = errors ++ listed (option_and_then (told_preempted r
 abbrev pub is_heard : reserving.Progress → Bool
 is_heard p = is_some p.first || p.has_granted
 
--- What is kept is as it should be: the claims are those of the reservations, of which each has a rate, and a path.
-pub record IsReached (s : State) (p : Progress) : Type 0 where
+-- What is kept is as it should be: reservations were held as they should be, the claims are those of the reservations
+-- now, and each of these has a rate, and a path.
+pub record IsReached (r : Router) (s : State) (p : Progress) : Type 0 where
   pub moment : s.facts.moment ≤ 2 ^ 62
   pub paths_in_order : T (is_sorted key_cmp s.facts.paths)
   pub few : length s.facts.paths ≤ 1024
-  pub in_order : T (is_sorted key_cmp s.resvs)
+  pub held : AreHeld r s
   pub claimed : unwrap_or p.claims (claims_of s.facts.paths s.resvs) ≡ claims_at s p
   pub rated : AllByRecursion (λ resv. IsOk (flowspec_rate resv.1.flowspec)) (resvs_at s p)
   pub on_paths : AllByRecursion (λ resv. is_some (find key_cmp resv.0 s.facts.paths) ≡ true) (resvs_at s p)
 
+-- These are the claims now: they are in order, and can be added up.
+pub record AreClaimed (s : State) (p : Progress) (claims : List (Key × Claim)) : Type 0 where
+  pub claimed : claims ≡ claims_at s p
+  pub sorted : T (is_sorted key_cmp claims)
+  pub rated : AreRated claims
+  pub few : length claims ≤ 1024
+
+-- What the LSP asks for it claims already: so nobody gives way to it.
+pub record IsRenewed (r : Router) (s : State) (p : Progress) (asked : Asked) : Type 0 where
+  pub claimed : find key_cmp asked.key (claims_at s p) ≡ Some (request_of s.facts.paths asked.key (fact_at s.facts.moment asked)).claim
+  pub alone : giving_way r (reached s p).state asked.key (fact_at s.facts.moment asked) ≡ []
+
 -- The verdict is this one of the abstract router's; what is granted is what the LSP asks for.
-abbrev pub IsVerdict : List (Key × PathFact) → Key → ResvFact → Verdict → reserving.Verdict → Type 0
-IsVerdict paths key fact (verdicts.Failed e) verdict = verdict ≡ reserving.Failed e
-IsVerdict paths key fact verdicts.PassedOver verdict = verdict ≡ reserving.PassedOver
-IsVerdict paths key fact (verdicts.Granted request) verdict = (verdict ≡ reserving.Granted) × (request ≡ request_of paths key fact)
+abbrev pub IsVerdict : Router → State → Progress → Asked → Verdict → reserving.Verdict → Type 0
+IsVerdict r s p asked (verdicts.Failed e) verdict = verdict ≡ reserving.Failed e
+IsVerdict r s p asked verdicts.PassedOver verdict = verdict ≡ reserving.PassedOver
+IsVerdict r s p asked verdicts.Renewed verdict = (verdict ≡ reserving.Granted) × IsRenewed r s p asked
+IsVerdict r s p asked (verdicts.Granted request) verdict = (verdict ≡ reserving.Granted) × (request ≡ request_of s.facts.paths asked.key (fact_at s.facts.moment asked))

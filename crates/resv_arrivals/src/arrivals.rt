@@ -4,13 +4,12 @@ ghost use Rattle.std.specs.List.{AllByRecursion};
 ghost use Rattle.std.specs.Prelude.{◌≡◌, ◌^◌, ◌≤◌, IfOk, OnErr, false, true};
 ghost use Rattle.rsvp_contents.specs.Spelling.{IsMessage};
 ghost use Rattle.rsvp_contents.specs.declared.messages.Content.TheVariants as contents;
-ghost use Rattle.abstract_router.specs.Soundness.{ArePaths};
-ghost use Rattle.abstract_lsr.specs.Reserving.{all_descriptors, resv_arrival, resv_failed, resv_replied, unknown_resv};
-ghost use Rattle.abstract_lsr.specs.Soundness.{AreHeld};
-ghost use Rattle.abstract_lsr.specs.Steps.{stands};
+ghost use Rattle.abstract_paths.specs.Soundness.{ArePaths};
+ghost use Rattle.abstract_router.specs.Reserving.{all_descriptors, resv_arrival, resv_failed, resv_replied, unknown_resv};
+ghost use Rattle.abstract_router.specs.Soundness.{AreHeld};
+ghost use Rattle.abstract_router.specs.Steps.{stands};
 ghost use Rattle.resv_rules.specs.Rooms.{HaveRoom, as_list};
-ghost use Rattle.state_views.specs.StateDrafts.{IsStateDraft};
-ghost use Rattle.state_views.specs.Views.{known};
+ghost use Rattle.state_views.specs.Drafts.{IsDraft};
 ghost use Rattle.resv_arrivals.specs.Progresses.{is_heard, reached};
 
 use crate::asked::Asked;
@@ -23,7 +22,7 @@ use resv_rules::{UNKNOWN_STYLE, found_here, key_in, named, resv_leaves_room, tol
 use router_events::Outputs;
 use rsvp_contents::Resv;
 use rsvp_flows::ErrorDescriptor;
-use state_views::{Edits, StateDraft, StateEdits, StateView, WholeState, refused};
+use state_views::{Draft, Edits, StateView, WholeState, refused};
 use std::alloc::{AllocError, Global};
 
 /// A Resv that is in error as a whole: that is told back, and changes nothing.
@@ -35,11 +34,11 @@ fn resv_failed<V: StateView>(
     is_reserved: bool,
     descriptor: Option<ErrorDescriptor>,
     error: RsvpError,
-) -> Result<StateDraft, AllocError>
+) -> Result<Draft, AllocError>
     requires { HaveRoom (as_list descriptor) }
-    ensures { IfOk result (λ draft. IsStateDraft draft
-        (resv_failed (V.router view.now) (known (V.facts view.now) (V.held view.now)) link resv.now is_reserved
-        (as_list descriptor) error) (V.router view.now) (known (V.facts view.now) (V.held view.now))) }
+    ensures { IfOk result (λ draft. IsDraft draft
+        (resv_failed (V.router view.now) (V.state view.now) link resv.now is_reserved
+        (as_list descriptor) error) (V.router view.now) (V.state view.now)) }
 {
     let router = view.node().router;
     let found = found_here(router, is_reserved, error);
@@ -52,12 +51,12 @@ fn resv_failed<V: StateView>(
         resv.style,
         descriptor,
     )?;
-    Ok(StateDraft {
+    Ok(Draft {
         reply: Reply::Error(error),
         errors: with_told(Outputs::new(alloc), told)?,
         due: None,
         is_silent: false,
-        edits: StateEdits::of_facts(alloc, Edits::none(alloc)),
+        edits: Edits::none(alloc),
     })
 }
 
@@ -69,24 +68,27 @@ fn all_descriptors<V: WholeState>(
     style: ResvStyle,
     resv: &Resv,
 ) -> Result<Progress, AllocError>
-    requires moment { (V.facts view.now).moment ≤ 2 ^ 62 }
-    requires paths { ArePaths (V.router view.now) (V.facts view.now).moment (V.facts view.now).paths }
-    requires held { AreHeld (V.router view.now) (known (V.facts view.now) (V.held view.now)) }
-    requires standing { AllByRecursion (λ resv. stands (V.facts view.now) resv ≡ true) (V.held view.now).resvs }
+    requires moment { (V.state view.now).facts.moment ≤ 2 ^ 62 }
+    requires paths { ArePaths (V.router view.now) (V.state view.now).facts.moment (V.state view.now).facts.paths }
+    requires held { AreHeld (V.router view.now) (V.state view.now) }
+    requires standing { AllByRecursion (λ resv. stands (V.state view.now).facts resv ≡ true) (V.state view.now).resvs }
     requires message { IsMessage (contents.Resv resv.now) }
-    ensures reached { IfOk result (λ progress. reached (known (V.facts view.now) (V.held view.now)) progress
-        ≡ all_descriptors (V.router view.now) (known (V.facts view.now) (V.held view.now)) link style resv.now) }
+    ensures reached { IfOk result (λ progress. reached (V.state view.now) progress
+        ≡ all_descriptors (V.router view.now) (V.state view.now) link style resv.now) }
     ensures memory { OnErr result (is_heard (all_descriptors (V.router view.now)
-        (known (V.facts view.now) (V.held view.now)) link style resv.now) ≡ true) }
+        (V.state view.now) link style resv.now) ≡ true) }
 {
     resv_leaves_room(resv);
     let mut progress = Progress::new(alloc);
-    for descriptor in resv.descriptors.as_slice() {
+    let descriptors = resv.descriptors.as_slice();
+    for (index, descriptor) in descriptors.iter().enumerate() {
         let asked = Asked {
             link,
             style,
             resv,
             descriptor,
+            key: key_in(resv, descriptor),
+            is_last: index + 1 == descriptors.len(),
         };
         progress = next_descriptor(alloc, view, progress, &asked)?;
     }
@@ -95,43 +97,46 @@ fn all_descriptors<V: WholeState>(
 
 /// The reply to a Resv: the first error found; with none, done where a flow descriptor was granted; else it matches
 /// nothing.
-fn replied<V: WholeState>(alloc: Global, view: &V, progress: Progress) -> StateDraft
-    ensures { IsStateDraft result (resv_replied (known (V.facts view.now) (V.held view.now))
-        (reached (known (V.facts view.now) (V.held view.now)) progress) progress.first)
-        (V.router view.now) (known (V.facts view.now) (V.held view.now)) }
+fn replied<V: WholeState>(alloc: Global, view: &V, progress: Progress) -> Draft
+    ensures { IsDraft result (resv_replied (V.state view.now)
+        (reached (V.state view.now) progress) progress.first)
+        (V.router view.now) (V.state view.now) }
 {
     let reply = match progress.first {
         Some(error) => Reply::Error(error),
         None if progress.has_granted => Reply::Done,
         None => return refused(alloc, view, Refusal::NoMatch),
     };
-    StateDraft {
+    Draft {
         reply,
         errors: progress.errors,
         due: None,
         is_silent: false,
-        edits: StateEdits::of_resvs(alloc, progress.edits),
+        edits: Edits {
+            resvs: progress.edits,
+            ..Edits::none(alloc)
+        },
     }
 }
 
 /// What a Resv does that is read whole. It asks for what holds of each state that a router comes to. The only error is
 /// out of memory, and that never comes for a Resv that is refused.
-#[tactic(auto, using(crate::proofs::Hearing::heard_speaks), unfolding(abstract_lsr::specs::Reserving::resv_arrival))]
+#[tactic(auto, using(crate::proofs::Hearing::heard_speaks), unfolding(abstract_router::specs::Reserving::resv_arrival))]
 pub fn resv_arrival<V: WholeState>(
     alloc: Global,
     view: &V,
     link: u16,
     resv: &Resv,
-) -> Result<StateDraft, AllocError>
-    requires moment { (V.facts view.now).moment ≤ 2 ^ 62 }
-    requires paths { ArePaths (V.router view.now) (V.facts view.now).moment (V.facts view.now).paths }
-    requires held { AreHeld (V.router view.now) (known (V.facts view.now) (V.held view.now)) }
-    requires standing { AllByRecursion (λ resv. stands (V.facts view.now) resv ≡ true) (V.held view.now).resvs }
+) -> Result<Draft, AllocError>
+    requires moment { (V.state view.now).facts.moment ≤ 2 ^ 62 }
+    requires paths { ArePaths (V.router view.now) (V.state view.now).facts.moment (V.state view.now).facts.paths }
+    requires held { AreHeld (V.router view.now) (V.state view.now) }
+    requires standing { AllByRecursion (λ resv. stands (V.state view.now).facts resv ≡ true) (V.state view.now).resvs }
     requires message { IsMessage (contents.Resv resv.now) }
-    ensures draft { IfOk result (λ draft. IsStateDraft draft
-        (resv_arrival (V.router view.now) (known (V.facts view.now) (V.held view.now)) link resv.now)
-        (V.router view.now) (known (V.facts view.now) (V.held view.now))) }
-    ensures memory { OnErr result ((resv_arrival (V.router view.now) (known (V.facts view.now) (V.held view.now)) link
+    ensures draft { IfOk result (λ draft. IsDraft draft
+        (resv_arrival (V.router view.now) (V.state view.now) link resv.now)
+        (V.router view.now) (V.state view.now)) }
+    ensures memory { OnErr result ((resv_arrival (V.router view.now) (V.state view.now) link
         resv.now).is_silent ≡ false) }
 {
     let Some(style) = ResvStyle::of(resv.style) else {
@@ -143,7 +148,7 @@ pub fn resv_arrival<V: WholeState>(
 
 /// What a Resv does with an object that it doesn't know: it is in error, for its first flow descriptor (RFC 2205, 3.10
 /// and B, 13 and 14). The only error is out of memory.
-#[tactic(auto, unfolding(abstract_lsr::specs::Reserving::unknown_resv))]
+#[tactic(auto, unfolding(abstract_router::specs::Reserving::unknown_resv))]
 pub fn unknown_resv<V: WholeState>(
     alloc: Global,
     view: &V,
@@ -151,12 +156,12 @@ pub fn unknown_resv<V: WholeState>(
     resv: &Resv,
     class: u8,
     ctype: u8,
-) -> Result<StateDraft, AllocError>
+) -> Result<Draft, AllocError>
     requires { IsMessage (contents.Resv resv.now) }
-    ensures draft { IfOk result (λ draft. IsStateDraft draft
-        (unknown_resv (V.router view.now) (known (V.facts view.now) (V.held view.now)) link resv.now class ctype)
-        (V.router view.now) (known (V.facts view.now) (V.held view.now))) }
-    ensures memory { OnErr result ((unknown_resv (V.router view.now) (known (V.facts view.now) (V.held view.now)) link
+    ensures draft { IfOk result (λ draft. IsDraft draft
+        (unknown_resv (V.router view.now) (V.state view.now) link resv.now class ctype)
+        (V.router view.now) (V.state view.now)) }
+    ensures memory { OnErr result ((unknown_resv (V.router view.now) (V.state view.now) link
         resv.now class ctype).is_silent ≡ false) }
 {
     resv_leaves_room(resv);

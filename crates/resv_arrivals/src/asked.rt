@@ -1,5 +1,6 @@
 //! What is asked for.
 
+use lsr_facts::Key;
 use resv_facts::ResvStyle;
 use rsvp_contents::Resv;
 use rsvp_flows::FlowDescriptor;
@@ -15,4 +16,8 @@ pub struct Asked<'a> {
     pub resv: &'a Resv,
     /// The flow descriptor.
     pub descriptor: &'a FlowDescriptor,
+    /// The LSP that the flow descriptor is for.
+    pub key: Key,
+    /// Whether it is the Resv's last.
+    pub is_last: bool,
 }

@@ -3,27 +3,25 @@
 ghost use Rattle.std.specs.FinMap.Entries.{find};
 ghost use Rattle.std.specs.List.{AllByRecursion};
 ghost use Rattle.std.specs.Option.{option_and_then};
-ghost use Rattle.std.specs.Prelude.{◌≡◌, ◌≢◌, ◌^◌, ◌≤◌, ◌∷◌, ◌++◌, [], IfOk, IsOk, OnErr, fold};
+ghost use Rattle.std.specs.Prelude.{◌≡◌, ◌≢◌, ◌∷◌, ◌++◌, [], IfOk, IsOk, OnErr, false, fold};
 ghost use Rattle.lsr_facts.specs.Orders.{key_cmp};
-ghost use Rattle.resv_facts.specs.Admission.{victims_of};
-ghost use Rattle.row_edits.specs.Edits.{edited};
+ghost use Rattle.sorted_rows.specs.Edits.{edited};
 ghost use Rattle.rsvp_traffic.specs.Traffic.{flowspec_rate};
-ghost use Rattle.abstract_lsr.specs.Outcomes.{listed};
-ghost use Rattle.abstract_lsr.specs.Preempting.{limit_of, request_of, told_preempted};
-ghost use Rattle.abstract_lsr.specs.Reserving as reserving;
-ghost use Rattle.abstract_lsr.specs.Reserving.{carried_on, named, next_descriptor, verdict_of};
+ghost use Rattle.abstract_router.specs.Outcomes.{listed};
+ghost use Rattle.abstract_router.specs.Preempting.{request_of, told_preempted};
+ghost use Rattle.abstract_router.specs.Reserving as reserving;
+ghost use Rattle.abstract_router.specs.Reserving.{carried_on, named, next_descriptor, verdict_of};
 ghost use Rattle.resv_rules.specs.Rooms.{HaveRoom};
-ghost use Rattle.state_views.specs.Views.{known};
-ghost use Rattle.resv_arrivals.specs.Progresses.{IsReached, claims_at, fact_at, key_of, reached, told_of};
+ghost use Rattle.resv_arrivals.specs.Progresses.{IsOwn, IsReached, IsRenewed, fact_at, reached, told_of};
 
 use crate::asked::Asked;
-use crate::claims::{claims_with, edits_with};
-use crate::progress::{Progress, claims_now, resv_now};
+use crate::claims::{claims_for_next, giving_way};
+use crate::edits::edits_with;
+use crate::progress::{Progress, resv_now};
 use crate::verdicts::{Verdict, verdict_of};
-use admission::victims_of;
 use lsr_facts::{Key, RsvpError};
 use resv_facts::{Request, ResvFact};
-use resv_rules::{found_here, key_in, limit_of, named, resv_by, told_downstream, told_preempted};
+use resv_rules::{found_here, named, resv_by, told_downstream, told_preempted};
 use router_events::{Output, Outputs};
 use sorted_rows::Table;
 use state_views::{StateView, WholeState};
@@ -49,22 +47,24 @@ fn failed<V: WholeState>(
     asked: &Asked,
     error: RsvpError,
 ) -> Result<Progress, AllocError>
-    requires reached { IsReached (known (V.facts view.now) (V.held view.now)) progress }
+    requires reached { IsReached (V.router view.now) (V.state view.now) progress }
+    requires own { IsOwn asked.now }
     requires room { HaveRoom (named asked.now.descriptor.now ∷ []) }
-    ensures carried { IfOk result (λ now. reached (known (V.facts view.now) (V.held view.now)) now
+    ensures carried { IfOk result (λ now. reached (V.state view.now) now
         ≡ carried_on (V.router view.now) asked.now.link asked.now.resv.now asked.now.descriptor.now
-        (fact_at (V.facts view.now).moment asked.now) (reached (known (V.facts view.now) (V.held view.now)) progress)
+        (fact_at (V.state view.now).facts.moment asked.now) (reached (V.state view.now) progress)
         (reserving.Failed error)) }
-    ensures reached { IfOk result (IsReached (known (V.facts view.now) (V.held view.now))) }
+    ensures reached { IfOk result (IsReached (V.router view.now) (V.state view.now)) }
 {
     let Asked {
         link,
         resv,
         descriptor,
+        key,
         ..
     } = *asked;
     let router = view.node().router;
-    let is_reserved = resv_now(view, &progress.edits, &key_in(resv, descriptor)).is_some();
+    let is_reserved = resv_now(view, &progress.edits, &key).is_some();
     let found = found_here(router, is_reserved, error);
     let told = told_downstream(
         alloc,
@@ -82,23 +82,6 @@ fn failed<V: WholeState>(
     })
 }
 
-/// Those who give way to a request, in the order in which they are taken. It asks for a rate of at most 2^50 bytes per
-/// second.
-fn giving_way<V: WholeState>(
-    alloc: Global,
-    view: &V,
-    progress: &Progress,
-    request: &Request,
-) -> Result<Vec<Key>, AllocError>
-    requires reached { IsReached (known (V.facts view.now) (V.held view.now)) progress.now }
-    requires most { request.now.claim.rate ≤ 2 ^ 50 }
-    ensures { IfOk result (λ gone. gone.items ≡ victims_of (limit_of (V.router view.now) request.now.claim.link)
-        request.now (claims_at (known (V.facts view.now) (V.held view.now)) progress.now)) }
-{
-    let limit = limit_of(view.node().router, request.claim.link);
-    victims_of(alloc, limit, request, claims_now(view, progress))
-}
-
 /// An LSP that loses its reservation to another: its next hop is told.
 fn told_preempted_at<V: StateView>(
     alloc: Global,
@@ -107,9 +90,9 @@ fn told_preempted_at<V: StateView>(
     key: &Key,
 ) -> Result<Option<Output>, AllocError>
     requires { AllByRecursion (λ resv. IsOk (flowspec_rate resv.1.flowspec))
-        (edited key_cmp edits.now (V.held view.now).resvs) }
+        (edited key_cmp edits.now (V.state view.now).resvs) }
     ensures { IfOk result (λ told. told ≡ option_and_then (told_preempted (V.router view.now) key.now)
-        (find key_cmp key.now (edited key_cmp edits.now (V.held view.now).resvs))) }
+        (find key_cmp key.now (edited key_cmp edits.now (V.state view.now).resvs))) }
 {
     match resv_now(view, edits, key) {
         Some(fact) => told_preempted(alloc, view.node().router, key, fact),
@@ -127,8 +110,8 @@ fn with_one<V: StateView>(
     key: &Key,
 ) -> Result<Outputs, AllocError>
     requires { AllByRecursion (λ resv. IsOk (flowspec_rate resv.1.flowspec))
-        (edited key_cmp edits.now (V.held view.now).resvs) }
-    ensures { IfOk result (λ now. now ≡ told_of (V.router view.now) (edited key_cmp edits.now (V.held view.now).resvs)
+        (edited key_cmp edits.now (V.state view.now).resvs) }
+    ensures { IfOk result (λ now. now ≡ told_of (V.router view.now) (edited key_cmp edits.now (V.state view.now).resvs)
         errors key.now) }
 {
     let told = told_preempted_at(alloc, view, edits, key)?;
@@ -144,15 +127,47 @@ fn with_preempted<V: StateView>(
     gone: &[Key],
 ) -> Result<Outputs, AllocError>
     requires { AllByRecursion (λ resv. IsOk (flowspec_rate resv.1.flowspec))
-        (edited key_cmp edits.now (V.held view.now).resvs) }
+        (edited key_cmp edits.now (V.state view.now).resvs) }
     ensures { IfOk result (λ now. now ≡ fold (told_of (V.router view.now)
-        (edited key_cmp edits.now (V.held view.now).resvs)) errors gone.now) }
+        (edited key_cmp edits.now (V.state view.now).resvs)) errors gone.now) }
 {
     let mut now = errors;
     for key in gone {
         now = with_one(alloc, view, edits, now, key)?;
     }
     Ok(now)
+}
+
+/// A flow descriptor is granted, and its LSP claims that already: its reservation is put.
+fn renewed<V: WholeState>(
+    view: &V,
+    progress: Progress,
+    asked: &Asked,
+) -> Result<Progress, AllocError>
+    requires reached { IsReached (V.router view.now) (V.state view.now) progress }
+    requires own { IsOwn asked.now }
+    requires granted { verdict_of (V.router view.now)
+        (reached (V.state view.now) progress).state asked.now.key
+        (fact_at (V.state view.now).facts.moment asked.now) ≡ reserving.Granted }
+    requires renewed { IsRenewed (V.router view.now) (V.state view.now) progress asked.now }
+    ensures carried { IfOk result (λ now. reached (V.state view.now) now
+        ≡ carried_on (V.router view.now) asked.now.link asked.now.resv.now asked.now.descriptor.now
+        (fact_at (V.state view.now).facts.moment asked.now) (reached (V.state view.now) progress)
+        reserving.Granted) }
+    ensures reached { IfOk result (IsReached (V.router view.now) (V.state view.now)) }
+{
+    let fact = resv_by(
+        view.moment(),
+        asked.link,
+        asked.style,
+        asked.resv,
+        asked.descriptor,
+    )?;
+    Ok(Progress {
+        edits: edits_with(progress.edits, &[], asked.key, fact)?,
+        has_granted: true,
+        ..progress
+    })
 }
 
 /// A flow descriptor is granted: its reservation is put, once those who give way have lost theirs.
@@ -163,17 +178,18 @@ fn granted<V: WholeState>(
     asked: &Asked,
     request: &Request,
 ) -> Result<Progress, AllocError>
-    requires reached { IsReached (known (V.facts view.now) (V.held view.now)) progress }
+    requires reached { IsReached (V.router view.now) (V.state view.now) progress }
+    requires own { IsOwn asked.now }
     requires granted { verdict_of (V.router view.now)
-        (reached (known (V.facts view.now) (V.held view.now)) progress).state (key_of asked.now)
-        (fact_at (V.facts view.now).moment asked.now) ≡ reserving.Granted }
-    requires request { request.now ≡ request_of (V.facts view.now).paths (key_of asked.now)
-        (fact_at (V.facts view.now).moment asked.now) }
-    ensures carried { IfOk result (λ now. reached (known (V.facts view.now) (V.held view.now)) now
+        (reached (V.state view.now) progress).state asked.now.key
+        (fact_at (V.state view.now).facts.moment asked.now) ≡ reserving.Granted }
+    requires request { request.now ≡ request_of (V.state view.now).facts.paths asked.now.key
+        (fact_at (V.state view.now).facts.moment asked.now) }
+    ensures carried { IfOk result (λ now. reached (V.state view.now) now
         ≡ carried_on (V.router view.now) asked.now.link asked.now.resv.now asked.now.descriptor.now
-        (fact_at (V.facts view.now).moment asked.now) (reached (known (V.facts view.now) (V.held view.now)) progress)
+        (fact_at (V.state view.now).facts.moment asked.now) (reached (V.state view.now) progress)
         reserving.Granted) }
-    ensures reached { IfOk result (IsReached (known (V.facts view.now) (V.held view.now))) }
+    ensures reached { IfOk result (λ now. asked.now.is_last ≡ false → IsReached (V.router view.now) (V.state view.now) now) }
 {
     let gone = giving_way(alloc, view, &progress, request)?;
     let fact = resv_by(
@@ -193,7 +209,7 @@ fn granted<V: WholeState>(
     let errors = with_preempted(alloc, view, &edits, errors, &gone)?;
     let edits = edits_with(edits, &gone, request.key, fact)?;
     Ok(Progress {
-        claims: Some(claims_with(alloc, view, claims, &gone, request)?),
+        claims: claims_for_next(alloc, view, claims, &gone, request, asked.is_last)?,
         edits,
         errors,
         first,
@@ -208,19 +224,21 @@ pub fn next_descriptor<V: WholeState>(
     progress: Progress,
     asked: &Asked,
 ) -> Result<Progress, AllocError>
-    requires reached { IsReached (known (V.facts view.now) (V.held view.now)) progress }
+    requires reached { IsReached (V.router view.now) (V.state view.now) progress }
+    requires own { IsOwn asked.now }
     requires room { HaveRoom (named asked.now.descriptor.now ∷ []) }
-    ensures carried { IfOk result (λ now. reached (known (V.facts view.now) (V.held view.now)) now
+    ensures carried { IfOk result (λ now. reached (V.state view.now) now
         ≡ next_descriptor (V.router view.now) asked.now.link asked.now.style asked.now.resv.now
-        (reached (known (V.facts view.now) (V.held view.now)) progress) asked.now.descriptor.now) }
-    ensures reached { IfOk result (IsReached (known (V.facts view.now) (V.held view.now))) }
+        (reached (V.state view.now) progress) asked.now.descriptor.now) }
+    ensures reached { IfOk result (λ now. asked.now.is_last ≡ false → IsReached (V.router view.now) (V.state view.now) now) }
     ensures memory { OnErr result (verdict_of (V.router view.now)
-        (reached (known (V.facts view.now) (V.held view.now)) progress).state (key_of asked.now)
-        (fact_at (V.facts view.now).moment asked.now) ≢ reserving.PassedOver) }
+        (reached (V.state view.now) progress).state asked.now.key
+        (fact_at (V.state view.now).facts.moment asked.now) ≢ reserving.PassedOver) }
 {
     match verdict_of(view, &progress, asked) {
         Verdict::Failed(error) => failed(alloc, view, progress, asked, error),
         Verdict::PassedOver => Ok(progress),
+        Verdict::Renewed => renewed(view, progress, asked),
         Verdict::Granted(request) => granted(alloc, view, progress, asked, &request),
     }
 }

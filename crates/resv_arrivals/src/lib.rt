@@ -5,6 +5,7 @@
 mod arrivals;
 mod asked;
 mod claims;
+mod edits;
 mod granting;
 mod progress;
 mod verdicts;

@@ -2,6 +2,7 @@ pub mod Admission
 pub mod AdmissionLaws
 pub mod ClaimLaws
 pub mod Claims
+pub mod Conflicts
 pub mod Holdings
 pub mod Priorities
 pub mod RateLaws

@@ -18,3 +18,7 @@ lives_past moment fact = nat_lt moment fact.expiry
 -- Each reservation goes that has expired (RFC 2205, 2.3).
 unfoldable pub expire : ℕ → List (Key × ResvFact) → List (Key × ResvFact)
 expire moment resvs = filter (λ resv. lives_past moment resv.1) resvs
+
+-- a reservation, whenever it expires, which no message says
+abbrev pub timeless_resv : ResvFact → ResvFact
+timeless_resv resv = record resv { expiry = 0 }

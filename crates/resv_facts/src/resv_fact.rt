@@ -1,7 +1,8 @@
-ghost use Rattle.std.specs.Prelude.{◌≡◌, nat_lt};
-ghost use Rattle.resv_facts.specs.Reservations.{lives_past, style_of};
+ghost use Rattle.std.specs.Prelude.{◌≡◌, nat_lt, true};
+ghost use Rattle.resv_facts.specs.Conflicts.{is_same_style};
+ghost use Rattle.resv_facts.specs.Reservations.{lives_past, style_of, timeless_resv};
 
-use lsr_facts::Passing;
+use lsr_facts::{Passing, Same};
 use rsvp_flows::{is_fixed, is_shared};
 use rsvp_objects::Style;
 use rsvp_routes::Record;
@@ -33,6 +34,16 @@ impl ResvStyle {
     }
 }
 
+/// Whether both styles share what is reserved, or neither does.
+pub fn is_same_style(style: ResvStyle, other: ResvStyle) -> bool
+    ensures { result ≡ is_same_style style other }
+{
+    match style {
+        ResvStyle::FixedFilter => matches!(other, ResvStyle::FixedFilter),
+        ResvStyle::SharedExplicit => matches!(other, ResvStyle::SharedExplicit),
+    }
+}
+
 /// What the router knows of one LSP's reservation: reservation state (RFC 2205, 2.3; RFC 3209, 2).
 #[derive(Debug, Drop)]
 pub struct ResvFact {
@@ -58,6 +69,18 @@ impl ResvFact {
         ensures { result ≡ lives_past moment self.now }
     {
         moment < self.expiry
+    }
+
+    /// Whether another reservation is the same, but for when it expires.
+    pub fn is_same_but_expiry(&self, other: &ResvFact) -> bool
+        ensures { result ≡ true → timeless_resv self.now ≡ timeless_resv other.now }
+    {
+        self.link == other.link
+            && self.style == other.style
+            && self.label == other.label
+            && self.flowspec.is_same(&other.flowspec)
+            && self.recorded.is_same(&other.recorded)
+            && self.passing.is_same(&other.passing)
     }
 }
 

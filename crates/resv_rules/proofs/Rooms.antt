@@ -24,7 +24,7 @@ use Rattle.rsvp_traffic.specs.declared.fault.TrafficFault.{TrafficFault}
 use Rattle.rsvp_contents.specs.Written.{resv_err_objects, resv_objects}
 use Rattle.rsvp_contents.specs.declared.messages.Resv.{Resv}
 use Rattle.rsvp_contents.specs.declared.messages.ResvErr.{ResvErr}
-use Rattle.abstract_lsr.specs.Reserving.{named}
+use Rattle.abstract_router.specs.Reserving.{named}
 use Rattle.resv_rules.specs.Rooms.{HaveRoom}
 
 -- what a FLOWSPEC takes that counts, where one does

@@ -11,9 +11,9 @@ use Rattle.resv_facts.specs.Priorities.{holding_of}
 use Rattle.resv_facts.specs.declared.claim.Claim.{Claim}
 use Rattle.resv_facts.specs.declared.resv_fact.ResvFact.{ResvFact}
 use Rattle.resv_facts.specs.declared.resv_fact.ResvStyle.{ResvStyle}
-use Rattle.abstract_lsr.specs.Preempting.{attr_at, claims_of}
-use Rattle.abstract_lsr.specs.Reserving as reserving
-use Rattle.abstract_lsr.specs.Reserving.{is_same_style}
+use Rattle.abstract_router.specs.Preempting.{attr_at, claims_of}
+use Rattle.abstract_router.specs.Reserving as reserving
+use Rattle.abstract_router.specs.Reserving.{is_same_style}
 
 -- another LSP of the session claims of the link in the other style
 abbrev pub conflicts : ℕ → ResvStyle → Key → Key × Claim → Bool

@@ -1,7 +1,7 @@
 //! What a flow descriptor of a Resv asks for (RFC 2205, 3.1.4).
 
 ghost use Rattle.std.specs.Prelude.{◌≡◌, ◌^◌, ◌≤◌, IfOk};
-ghost use Rattle.abstract_lsr.specs.Reserving.{key_in, named, resv_by};
+ghost use Rattle.abstract_router.specs.Reserving.{key_in, named, resv_by};
 
 use lsr_facts::Key;
 use path_rules::{lifetime, lsp};

@@ -1,9 +1,9 @@
 //! The errors that reservations meet, and styles as this router writes them.
 
 ghost use Rattle.std.specs.Prelude.{◌≡◌};
-ghost use Rattle.abstract_lsr.specs.Errors.{style_conflict, style_word};
-ghost use Rattle.abstract_lsr.specs.Outcomes.{found_here};
-ghost use Rattle.abstract_lsr.specs.Reserving.{traffic_error};
+ghost use Rattle.abstract_router.specs.Errors.{style_conflict, style_word};
+ghost use Rattle.abstract_router.specs.Outcomes.{found_here};
+ghost use Rattle.abstract_router.specs.Reserving.{traffic_error};
 
 use lsr_facts::{Router, RsvpError};
 use resv_facts::ResvStyle;

@@ -4,6 +4,7 @@
 
 mod descriptors;
 mod errors;
+pub mod laws;
 mod requests;
 mod told;
 
@@ -12,5 +13,5 @@ pub use errors::{
     BAD_FLOWSPEC, NO_BANDWIDTH, NO_LABEL, NO_PATH, NO_SENDER, PREEMPTED, UNACCEPTABLE_LABEL,
     UNKNOWN_STYLE, UNSUPPORTED_SERVICE, found_here, style_conflict, style_word, traffic_error,
 };
-pub use requests::{conflicting_style, is_same_style, limit_of, request_of};
+pub use requests::{conflicting_style, limit_of, request_of};
 pub use told::{resv_err_leaves_room, resv_leaves_room, told_downstream, told_preempted};

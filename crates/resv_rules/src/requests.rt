@@ -1,15 +1,16 @@
 //! What an LSP asks for of a link, and what stands against it (RFC 2205, 3.1.4 and B, 5; RFC 3209, 4.7.1).
 
 ghost use Rattle.std.specs.Option.{option_copied, option_map};
-ghost use Rattle.std.specs.Prelude.{◌≡◌, find};
-ghost use Rattle.abstract_lsr.specs.Preempting.{limit_of};
-ghost use Rattle.abstract_lsr.specs.Reserving.{is_same_style};
+ghost use Rattle.std.specs.Prelude.{◌≡◌, ◌≤◌, find};
+ghost use Rattle.abstract_router.specs.Preempting.{limit_of};
 ghost use Rattle.resv_facts.specs.Priorities.{holding_of, setup_of};
 ghost use Rattle.resv_rules.specs.Conflicts.{conflicts};
 
 use lsr_facts::{Key, Router};
 use path_rules::link_at;
-use resv_facts::{Claim, Request, ResvStyle, holding_of, is_same_session, setup_of};
+use resv_facts::{
+    Claim, Request, ResvStyle, holding_of, is_same_session, is_same_style, setup_of,
+};
 use rsvp_objects::Attr;
 
 /// How much of a link may be reserved, in bytes per second: nothing of a link that the router doesn't have.
@@ -25,11 +26,12 @@ pub fn limit_of(router: &Router, link: u16) -> u64
 /// What an LSP asks for of a link: this rate, in bytes per second, in this style, with the priorities that its Path
 /// named (RFC 3209, 4.7.1).
 pub fn request_of(key: Key, link: u16, style: ResvStyle, rate: u64, attr: Option<&Attr>) -> Request
-    ensures { result ≡ record {
+    ensures request { result ≡ record {
       key = key;
       claim = record { link = link; style = style; rate = rate; holding = holding_of (option_copied attr.entry) };
       setup = setup_of (option_copied attr.entry);
     } }
+    ensures setup { result.setup ≤ 7 }
 {
     Request {
         key,
@@ -40,16 +42,6 @@ pub fn request_of(key: Key, link: u16, style: ResvStyle, rate: u64, attr: Option
             holding: holding_of(attr),
         },
         setup: setup_of(attr),
-    }
-}
-
-/// Whether both styles share what is reserved, or neither does.
-pub fn is_same_style(style: ResvStyle, other: ResvStyle) -> bool
-    ensures { result ≡ is_same_style style other }
-{
-    match style {
-        ResvStyle::FixedFilter => matches!(other, ResvStyle::FixedFilter),
-        ResvStyle::SharedExplicit => matches!(other, ResvStyle::SharedExplicit),
     }
 }
 

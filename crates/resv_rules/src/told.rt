@@ -6,9 +6,9 @@ ghost use Rattle.rsvp_contents.specs.Spelling.{IsMessage};
 ghost use Rattle.rsvp_contents.specs.declared.messages.Content.TheVariants as contents;
 ghost use Rattle.rsvp_flows.specs.Errors.{counts_on};
 ghost use Rattle.rsvp_traffic.specs.Traffic.{flowspec_rate};
-ghost use Rattle.abstract_lsr.specs.Outcomes.{told_downstream};
-ghost use Rattle.abstract_lsr.specs.Preempting.{told_preempted};
-ghost use Rattle.abstract_lsr.specs.Reserving.{named};
+ghost use Rattle.abstract_router.specs.Outcomes.{told_downstream};
+ghost use Rattle.abstract_router.specs.Preempting.{told_preempted};
+ghost use Rattle.abstract_router.specs.Reserving.{named};
 ghost use Rattle.resv_rules.specs.Rooms.{HaveRoom, as_list};
 
 use crate::errors::{PREEMPTED, found_here, style_word};

@@ -1,9 +1,11 @@
 -- A draft, with what follows from it and what it sends, is the plan of a step.
-use Rattle.std.specs.Prelude.{◌≡◌, ◌≢◌, ℕ, Bool, true, false, if◌then◌else◌, List, [], Option, Some, None, Result, Ok, Err, IfOk}
+use Rattle.std.specs.Prelude.{◌≡◌, ◌≢◌, ◌==◌, ℕ, All, filter_map, find, Bool, true, false, if◌then◌else◌, List, [], Option, Some, None, Result, Ok, Err, IfOk, IsOk, ◌++◌}
 use Rattle.std.specs.List.{AllByRecursion}
+use Rattle.std.specs.Option.{option_map}
 use Rattle.std.specs.Ordering.{nat_cmp}
 use Rattle.std.proofs.Common.{refl, ap, sym, subst, ◌∙◌}
-use Rattle.row_edits.specs.Edits as rows
+use Rattle.sorted_rows.specs.Edits as rows
+use Rattle.sorted_rows.specs.ListLaws.{all-weaker}
 use Rattle.admission.specs.Bandwidths.{AreEdits, Edit, claim_edits, resv_edits}
 use Rattle.forwarding_table.specs.declared.action.Action.{Action}
 use Rattle.lsr_facts.specs.Orders.{item_cmp, key_cmp}
@@ -13,87 +15,90 @@ use Rattle.lsr_facts.specs.declared.key.Key.{Key}
 use Rattle.lsr_facts.specs.declared.router.Router.{Router}
 use Rattle.router_tables.specs.Below.labels.RowLaws.{table-alike}
 use Rattle.router_tables.specs.Below.labels.Rows.{AreTableEdits}
+use Rattle.rsvp_traffic.specs.Traffic.{flowspec_rate}
 use Rattle.resv_facts.specs.Upstreams.{upstream_cmp}
 use Rattle.resv_facts.specs.declared.resv_fact.ResvFact.{ResvFact}
 use Rattle.resv_facts.specs.declared.upstream.Upstream.{Upstream}
 use Rattle.router_events.specs.declared.events.Event.{Event}
 use Rattle.router_events.specs.declared.events.Event.TheVariants as events
 use Rattle.router_events.specs.declared.events.Output.{Output}
-use Rattle.abstract_router.specs.Relays.{is_spent}
-use Rattle.abstract_router.specs.Soundness.{ArePaths}
-use Rattle.abstract_router.specs.Stamps.{stamps_of}
-use Rattle.abstract_router.specs.Steps.{IsEvent}
-use Rattle.abstract_router.specs.Wanted.{wanted_of}
-use Rattle.abstract_lsr.proofs.Drafting.{outcome-leaves}
-use Rattle.abstract_lsr.proofs.Settling.{IsDrafted, LeavesBy, sound_settled}
-use Rattle.abstract_lsr.proofs.Silence.{silent_keeps}
-use Rattle.abstract_lsr.specs.Arrivals.{outcome}
-use Rattle.abstract_lsr.specs.Labels.{IsLabelling}
-use Rattle.abstract_lsr.specs.Outcomes.{Outcome}
-use Rattle.abstract_lsr.specs.Outputs.{outputs_of, upstream_stamps}
-use Rattle.abstract_lsr.specs.Preempting.{claims_of}
-use Rattle.abstract_lsr.specs.Soundness.{AreLabelled, IsResv, IsSound}
-use Rattle.abstract_lsr.specs.States.{State}
-use Rattle.abstract_lsr.specs.Steps.{MayChooseBy, Step, settled, with_moments}
-use Rattle.abstract_lsr.specs.Upstreams.{upstream_of}
+use Rattle.abstract_paths.specs.Relays.{exceeds_hop_limit}
+use Rattle.abstract_paths.specs.Soundness.{ArePaths}
+use Rattle.router_soundness.proofs.Drafting.{outcome-leaves}
+use Rattle.router_soundness.proofs.Settling.{LeavesBy, sound_settled}
+use Rattle.router_soundness.proofs.Silence.{silent_keeps}
+use Rattle.router_soundness.specs.Drafted.{IsDrafted}
+use Rattle.abstract_router.specs.Arrivals.{outcome}
+use Rattle.abstract_router.specs.Labels.{IsLabelling}
+use Rattle.abstract_router.specs.Outcomes.{Outcome}
+use Rattle.abstract_router.specs.Outputs.{item_stamps, outputs_of, upstream_stamps}
+use Rattle.abstract_router.specs.Preempting.{claims_of}
+use Rattle.abstract_router.specs.Soundness.{AreLabelled, IsResv, IsSound}
+use Rattle.abstract_router.specs.States.{State}
+use Rattle.abstract_router.specs.Steps.{IsEvent, MayChooseBy, Step, settled, taken_over, told_repaired, with_moments}
+use Rattle.abstract_router.specs.Lsps.{lsps_of}
+use Rattle.abstract_router.specs.Tables.{entry_of, look, table_of}
+use Rattle.abstract_router.specs.Upstreams.{upstream_of}
+use Rattle.abstract_router.specs.Wanted.{items_of}
 use Rattle.router_core.specs.Plans.{IsPlanOf, IsSendingPlan, after_plan, drafted}
 use Rattle.router_core.specs.declared.plan.Plan.{Plan}
-use Rattle.router_tables.specs.Below.steps.Drafts as paths
 use Rattle.router_tables.specs.Changes.{IsChange, changed}
 use Rattle.router_tables.specs.States.{RouterState}
 use Rattle.router_tables.specs.declared.change.Change.{Change}
-use Rattle.router_tables.specs.Below.views.StateDrafts.{IsStateDraft}
-use Rattle.router_tables.specs.Below.views.Views.{edited}
-use Rattle.router_tables.specs.Below.views.declared.draft.StateDraft.{StateDraft}
-use Rattle.router_tables.specs.Below.views.declared.edits.StateEdits.{StateEdits}
+use Rattle.router_tables.specs.Below.views.Drafts.{IsDraft}
+use Rattle.router_tables.specs.Below.views.Edits.{edited}
+use Rattle.router_tables.specs.Below.views.declared.draft.Draft.{Draft}
+use Rattle.router_tables.specs.Below.views.declared.edits.Edits.{Edits}
+
+-- the errors that are sent: those of the event itself, then those that repair tells
+abbrev errors_in : Router → State → Outcome → List Output
+errors_in r s o = o.errors ++ told_repaired r (taken_over r o.after)
 
 -- what is sent doesn't depend on when messages were sent
-sent_alike : (r : Router) (s : State) (o : Outcome) (t : State) → outputs_of r s o.errors o.due o.upstream_due t ≡ outputs_of r s o.errors o.due o.upstream_due (with_moments r s o t)
-unfolding outputs_of wanted_of upstream_of
+sent_alike : (r : Router) (s : State) (o : Outcome) (t : State) → outputs_of r s (errors_in r s o) o.due o.upstream_due t ≡ outputs_of r s (errors_in r s o) o.due o.upstream_due (with_moments r s o t)
+unfolding outputs_of items_of upstream_of lsps_of
 sent_alike r s o t = refl
 
--- the edits of a draft, but for those of labels, which say nothing new
-abbrev pub stripped : StateEdits → List (Key × Option ℕ) → StateEdits
-stripped e labels = record { facts = e.facts; resvs = e.resvs; labels = labels }
-
-stripped_is : (s : State) (e : StateEdits) (labels : List (Key × Option ℕ)) → labels ≡ [] → (edited e s).labels ≡ s.labels → edited (stripped e labels) s ≡ edited e s
-stripped_is s e labels none same = λ i. record (edited e s) { labels = (ap (λ (edits : List (Key × Option ℕ)). rows.edited key_cmp edits s.labels) none ∙ sym same) i }
-
-module _ (r : Router) (s : State) (is : IsSound r s) (draft : StateDraft) (may : IsDrafted r s (edited draft.edits s)) (labels : List (Key × Option ℕ)) (none : labels ≡ []) (x : StateEdits) (chosen : List (Key × ℕ))
-    (after : edited x s ≡ settled r chosen (edited (stripped draft.edits labels) s)) (labelling : IsLabelling r s.labels (edited draft.edits s).facts.paths chosen) where
+module _ (r : Router) (s : State) (is : IsSound r s) (draft : Draft) (may : IsDrafted r s (edited draft.edits s)) (x : Edits) (chosen : List (Key × ℕ))
+    (settles : edited x s ≡ settled r chosen (edited draft.edits s)) (labelling : IsLabelling r s.labels (edited draft.edits s).facts.paths chosen) where
   abbrev o : Outcome
   o = drafted draft r s
-
-  settles : edited x s ≡ settled r chosen o.after
-  settles = after ∙ ap (λ t. settled r chosen t) (stripped_is s draft.edits labels none may.labels)
 
   next_sound : IsSound r (with_moments r s o (edited x s))
   next_sound = subst (λ t. IsSound r (with_moments r s o t)) (sym settles) (sound_settled r s o chosen is.labels may labelling)
 
   pub next_paths : ArePaths r (edited x s).facts.moment (edited x s).facts.paths
-  next_paths = next_sound.paths.standing.paths
+  next_paths = next_sound.paths.paths
 
   pub next_resvs : AllByRecursion (IsResv (edited x s).facts.moment) (edited x s).resvs
   next_resvs = next_sound.held.each
+
+  pub next_rates : AllByRecursion (λ (resv : Key × ResvFact). IsOk (flowspec_rate resv.1.flowspec)) (edited x s).resvs
+  next_rates = all-weaker (IsResv (edited x s).facts.moment) (λ (resv : Key × ResvFact). IsOk (flowspec_rate resv.1.flowspec)) (λ resv is. is.has_rate) (edited x s).resvs next_resvs
 
   pub next_labels : AreLabelled r (edited x s)
   next_labels = let l = next_sound.labels in record { of_lsps = l.of_lsps; from_first = l.from_first; to_last = l.to_last; apart = l.apart }
 
   module _ (bandwidth : List (Key × Edit)) (moments : List (Item × Option ℕ)) (upstream : List (Upstream × Option ℕ)) (table : List (ℕ × Option Action))
-      (stamps : rows.edited item_cmp moments s.facts.sent ≡ stamps_of r s.facts o.due (edited x s).facts)
+      (stamps : rows.edited item_cmp moments s.facts.sent ≡ item_stamps r s o.due (edited x s))
       (upstamps : rows.edited upstream_cmp upstream s.sent_upstream ≡ upstream_stamps r s o.upstream_due (edited x s))
       (resvs : rows.edited key_cmp (resv_edits bandwidth) s.resvs ≡ rows.edited key_cmp x.resvs s.resvs) where
     abbrev change : Change
-    change = record { facts = x.facts; bandwidth = bandwidth; labels = x.labels; moments = moments; upstream = upstream; table = table }
+    change = record { moment = x.moment; up = x.up; paths = x.paths; bandwidth = bandwidth; labels = x.labels; moments = moments; upstream = upstream; table = table }
 
     -- what is known after the change is what is known after the step
     changed_is : changed change s ≡ with_moments r s o (edited x s)
     changed_is = λ i. record {
-      facts = record (paths.edited x.facts s.facts) { sent = stamps i };
+      facts = record (edited x s).facts { sent = stamps i };
       resvs = resvs i;
       labels = rows.edited key_cmp x.labels s.labels;
       sent_upstream = upstamps i;
     }
+
+    -- labels have the same actions after both
+    looks : (label : ℕ) → look (edited x s) label ≡ look (changed change s) label
+    unfolding look table_of
+    looks label = λ i. option_map (λ entry. entry.1) (find (λ entry. entry.0 == label) (filter_map (entry_of (record (edited x s) { resvs = sym resvs i })) (edited x s).facts.paths))
 
     change_is : AreEdits bandwidth → rows.edited key_cmp (claim_edits bandwidth) (claims_of s.facts.paths s.resvs) ≡ claims_of (edited x s).facts.paths (edited x s).resvs → AreTableEdits s (edited x s) table → IsChange r s change
     change_is edits claims are = record {
@@ -104,21 +109,23 @@ module _ (r : Router) (s : State) (is : IsSound r s) (draft : StateDraft) (may :
         table = λ was of_before. table-alike (edited x s) (changed change s) (rows.edited nat_cmp table was) refl (sym resvs) refl (are.table was of_before);
         room = are.room;
         labels = are.labels;
+        changes = subst (λ (f : ℕ → Option Action). All (λ edit. look s edit.0 ≢ f edit.0) table) (λ i label. looks label i) are.changes;
+        none = λ alike. are.none (λ label. alike label ∙ sym (looks label));
       };
     }
 
     -- The plan of a draft that isn't silent.
-    pub sending : (outputs : List Output) → outputs ≡ outputs_of r s o.errors o.due o.upstream_due (edited x s) → AreEdits bandwidth → rows.edited key_cmp (claim_edits bandwidth) (claims_of s.facts.paths s.resvs) ≡ claims_of (edited x s).facts.paths (edited x s).resvs → AreTableEdits s (edited x s) table
+    pub sending : (outputs : List Output) → outputs ≡ outputs_of r s (errors_in r s o) o.due o.upstream_due (edited x s) → AreEdits bandwidth → rows.edited key_cmp (claim_edits bandwidth) (claims_of s.facts.paths s.resvs) ≡ claims_of (edited x s).facts.paths (edited x s).resvs → AreTableEdits s (edited x s) table
         → IsSendingPlan r s o (record { reply = o.reply; outputs = outputs; chosen = chosen; change = Some change })
     sending outputs sends edits claims are = record {
       chosen = labelling;
       replied = refl;
       changed = changed_is ∙ ap (λ t. with_moments r s o t) settles;
-      sent = sends ∙ sent_alike r s o (edited x s) ∙ ap (λ t. outputs_of r s o.errors o.due o.upstream_due t) (sym changed_is);
+      sent = sends ∙ sent_alike r s o (edited x s) ∙ ap (λ t. outputs_of r s (errors_in r s o) o.due o.upstream_due t) (sym changed_is);
       change = change_is edits claims are;
     }
 
-module _ (r : Router) (s : State) (event : Event) (draft : StateDraft) (runs : s.facts.cold ≡ false) (possible : IsEvent event) (passes : is_spent r s.facts event ≡ false) (is : IsStateDraft draft (outcome r s event) r s) where
+module _ (r : Router) (s : State) (event : Event) (draft : Draft) (runs : s.facts.cold ≡ false) (possible : IsEvent event) (passes : exceeds_hop_limit r s.facts event ≡ false) (is : IsDraft draft (outcome r s event) r s) where
   -- The plan of a silent event: nothing changes, and nothing is sent.
   silence : event ≢ events.Restart → draft.is_silent ≡ true → IsPlanOf (record { router = r; state = s }) event (record { reply = draft.reply; outputs = []; chosen = []; change = None })
   silence other silent =
@@ -132,7 +139,7 @@ module _ (r : Router) (s : State) (event : Event) (draft : StateDraft) (runs : s
           chosen = subst (λ b. MayChooseBy b r s.labels o.after.facts.paths []) (sym so) refl;
           replied = is.reply;
           changed = sym (silent_keeps r s event runs other so) ∙ sym (ap (λ b. if b then o.after else with_moments r s o (settled r [] o.after)) so);
-          sent = sym (ap (λ b. if b then [] else outputs_of r s o.errors o.due o.upstream_due s) so);
+          sent = sym (ap (λ b. if b then [] else outputs_of r s (errors_in r s o) o.due o.upstream_due s) so);
         };
         change = tt;
       }
@@ -165,7 +172,7 @@ module _ (r : Router) (s : State) (event : Event) (draft : StateDraft) (runs : s
           chosen = subst (λ b. MayChooseBy b r s.labels o.after.facts.paths plan.chosen) (sym so) sent.chosen;
           replied = sent.replied;
           changed = sent.changed ∙ sym (ap (λ b. if b then o.after else with_moments r s o (settled r plan.chosen o.after)) so);
-          sent = sent.sent ∙ sym (ap (λ b. if b then [] else outputs_of r s o.errors o.due o.upstream_due (after_plan plan s)) so);
+          sent = sent.sent ∙ sym (ap (λ b. if b then [] else outputs_of r s (errors_in r s o) o.due o.upstream_due (after_plan plan s)) so);
         };
         change = sent.change;
       }

@@ -3,25 +3,24 @@ use Rattle.std.specs.Prelude.{◌≡◌, true, false, []}
 use Rattle.std.proofs.Common.{refl, sym, ◌∙◌}
 use Rattle.lsr_facts.specs.declared.router.Router.{Router}
 use Rattle.router_events.specs.declared.events.Event.TheVariants as events
-use Rattle.abstract_router.specs.Wanted.{wanted_of}
-use Rattle.abstract_lsr.specs.Soundness.{IsSound}
-use Rattle.abstract_lsr.specs.States.{State}
-use Rattle.abstract_lsr.specs.Steps.{Step}
-use Rattle.abstract_lsr.specs.Upstreams.{upstream_of}
+use Rattle.abstract_router.specs.Soundness.{IsSound}
+use Rattle.abstract_router.specs.States.{State}
+use Rattle.abstract_router.specs.Steps.{Step}
+use Rattle.abstract_router.specs.Lsps.{lsps_of}
+use Rattle.abstract_router.specs.Upstreams.{upstream_of}
+use Rattle.abstract_router.specs.Wanted.{items_of}
 use Rattle.router_core.specs.Plans.{quiet}
 use Rattle.router_tables.specs.States.{emptied}
 
 -- what a router knows that has no path is sound, also while it is cold
 pub sound_stopped : (r : Router) (s : State) → s.facts.paths ≡ [] → IsSound r s → IsSound r (record s { facts = record s.facts { cold = true } })
-unfolding wanted_of upstream_of
+unfolding items_of upstream_of lsps_of
 sound_stopped r s none is = record {
-  paths = record {
-    standing = record { moment = is.paths.standing.moment; links = is.paths.standing.links; routes = is.paths.standing.routes; paths = is.paths.standing.paths; cold = λ cold. none };
-    sent = is.paths.sent;
-  };
+  paths = record { moment = is.paths.moment; links = is.paths.links; routes = is.paths.routes; paths = is.paths.paths; cold = λ cold. none };
   held = record { in_order = is.held.in_order; each = is.held.each; one_style = is.held.one_style; within = is.held.within };
   standing = is.standing;
   labels = record { of_lsps = is.labels.of_lsps; from_first = is.labels.from_first; to_last = is.labels.to_last; apart = is.labels.apart };
+  sent = is.sent;
   sent_upstream = is.sent_upstream;
 }
 

@@ -1,5 +1,5 @@
 -- The plan of a step.
-use Rattle.std.specs.Prelude.{◌≡◌, true, false, [], IfSome}
+use Rattle.std.specs.Prelude.{◌≡◌, ◌++◌, true, false, [], IfSome}
 use Rattle.std.specs.Option.{option_map_or}
 use Rattle.lsr_facts.specs.declared.refusal.Refusal.{Refusal}
 use Rattle.lsr_facts.specs.declared.refusal.Refusal.TheVariants.{HopLimit, NoMemory}
@@ -7,17 +7,16 @@ use Rattle.lsr_facts.specs.declared.reply.Reply.TheVariants as replies
 use Rattle.lsr_facts.specs.declared.router.Router.{Router}
 use Rattle.router_events.specs.declared.events.Event.{Event}
 use Rattle.router_events.specs.declared.events.Made.{Made}
-use Rattle.abstract_router.specs.Relays.{is_spent}
-use Rattle.abstract_lsr.specs.Arrivals.{outcome}
-use Rattle.abstract_lsr.specs.Labels.{IsLabelling}
-use Rattle.abstract_lsr.specs.Outcomes.{Outcome}
-use Rattle.abstract_lsr.specs.Outputs.{outputs_of}
-use Rattle.abstract_lsr.specs.States.{State}
-use Rattle.abstract_lsr.specs.Steps.{Step, settled, with_moments}
-use Rattle.router_tables.specs.Below.views.StateDrafts.{upstream_due_by}
-use Rattle.router_tables.specs.Below.views.Views.{edited}
-use Rattle.router_tables.specs.Below.views.declared.draft.StateDraft.{StateDraft}
-use Rattle.router_tables.specs.Below.steps.Drafts.{due_by}
+use Rattle.abstract_paths.specs.Relays.{exceeds_hop_limit}
+use Rattle.abstract_router.specs.Arrivals.{outcome}
+use Rattle.abstract_router.specs.Labels.{IsLabelling}
+use Rattle.abstract_router.specs.Outcomes.{Outcome}
+use Rattle.abstract_router.specs.Outputs.{outputs_of}
+use Rattle.abstract_router.specs.States.{State}
+use Rattle.abstract_router.specs.Steps.{Step, settled, taken_over, told_repaired, with_moments}
+use Rattle.router_tables.specs.Below.views.Drafts.{due_by, upstream_due_by}
+use Rattle.router_tables.specs.Below.views.Edits.{edited}
+use Rattle.router_tables.specs.Below.views.declared.draft.Draft.{Draft}
 use Rattle.router_tables.specs.Changes.{IsChange, changed}
 use Rattle.router_tables.specs.States.{RouterState}
 use Rattle.router_core.specs.declared.plan.Plan.{Plan}
@@ -25,7 +24,7 @@ use Rattle.router_core.specs.declared.plan.Plan.{Plan}
 -- Why an event has no step: it is a message for another router whose limit ran out; or memory ran out, and it isn't
 -- silent. What is refused, and a start, take none.
 abbrev pub IsOutFor : RouterState → Event → Refusal → Type 0
-IsOutFor s event HopLimit = is_spent s.router s.state.facts event ≡ true
+IsOutFor s event HopLimit = exceeds_hop_limit s.router s.state.facts event ≡ true
 IsOutFor s event NoMemory = (outcome s.router s.state event).is_silent ≡ false
 IsOutFor s event refusal = ⊥
 
@@ -48,11 +47,11 @@ pub record IsPlanOf (s : RouterState) (event : Event) (plan : Plan) : Type 0 whe
   pub change : IfSome plan.change (IsChange s.router s.state)
 
 -- what a draft says that an event does of itself
-abbrev pub drafted : StateDraft → Router → State → Outcome
+abbrev pub drafted : Draft → Router → State → Outcome
 drafted draft r s = record {
   reply = draft.reply;
   errors = draft.errors;
-  due = due_by draft.due r s.facts;
+  due = due_by draft.due r s;
   upstream_due = upstream_due_by draft.due r s;
   after = edited draft.edits s;
   is_silent = draft.is_silent;
@@ -64,5 +63,5 @@ pub record IsSendingPlan (r : Router) (s : State) (o : Outcome) (plan : Plan) : 
   pub chosen : IsLabelling r s.labels o.after.facts.paths plan.chosen
   pub replied : plan.reply ≡ o.reply
   pub changed : after_plan plan s ≡ with_moments r s o (settled r plan.chosen o.after)
-  pub sent : plan.outputs ≡ outputs_of r s o.errors o.due o.upstream_due (after_plan plan s)
+  pub sent : plan.outputs ≡ outputs_of r s (o.errors ++ told_repaired r (taken_over r o.after)) o.due o.upstream_due (after_plan plan s)
   pub change : IfSome plan.change (IsChange r s)

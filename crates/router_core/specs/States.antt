@@ -1,7 +1,7 @@
 -- A router that isn't started.
 use Rattle.std.specs.Prelude.{◌≡◌, true, []}
 pub use Rattle.router_tables.specs.States.{RouterState, emptied, opened}
-use Rattle.abstract_lsr.specs.States.{State}
+use Rattle.abstract_router.specs.States.{State}
 
 -- the same router, not started yet
 abbrev pub cold : RouterState → RouterState

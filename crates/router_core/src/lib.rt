@@ -5,5 +5,5 @@ mod plan;
 mod running;
 
 pub use plan::Plan;
-pub use router_tables::{Tables, WholeState, WholeView};
+pub use router_tables::{StateView, Tables, WholeState};
 pub use running::{Cold, Running};

@@ -5,30 +5,28 @@ ghost use Rattle.lsr_facts.specs.Orders.{key_cmp};
 ghost use Rattle.lsr_facts.specs.declared.key.Key.{Key};
 ghost use Rattle.router_events.specs.declared.events.Event.TheVariants as events;
 ghost use Rattle.lsr_facts.specs.declared.refusal.Refusal.TheVariants.{HopLimit};
-ghost use Rattle.abstract_router.specs.Relays.{is_spent};
-ghost use Rattle.abstract_router.specs.Soundness.{ArePaths};
+ghost use Rattle.abstract_paths.specs.Relays.{exceeds_hop_limit};
+ghost use Rattle.abstract_paths.specs.Soundness.{ArePaths};
+ghost use Rattle.abstract_router.specs.Arrivals.{outcome};
+ghost use Rattle.abstract_router.specs.Soundness.{AreLabelled, IsResv};
 ghost use Rattle.abstract_router.specs.Steps.{IsEvent};
-ghost use Rattle.abstract_router.specs.Touched.{is_among};
-ghost use Rattle.abstract_lsr.proofs.Settling.{IsDrafted};
-ghost use Rattle.abstract_lsr.specs.Arrivals.{outcome};
-ghost use Rattle.abstract_lsr.specs.Soundness.{AreLabelled, IsResv};
-ghost use Rattle.router_tables.specs.Below.views.Views.{edited};
+ghost use Rattle.router_soundness.specs.Drafted.{IsDrafted};
+ghost use Rattle.router_tables.specs.Below.views.Edits.{edited};
 ghost use Rattle.std.specs.List.{AllByRecursion};
 ghost use Rattle.router_tables.specs.Below.labels.Rows.{AreTableEdits};
 ghost use Rattle.router_core.specs.Plans.{IsOutFor, IsPlanOf, IsSendingPlan, drafted};
 
-use claim_edits::bandwidth_edits;
 use forwarding_table::Action;
 use lsr_facts::{Key, Refusal, Reply};
-use lsr_steps::{draft_of, is_spent};
+use router_steps::{draft_of, exceeds_hop_limit};
 use router_events::{Event, Outputs};
 use router_tables::{
-    Change, ChangedState, StateDraft, StateEdits, Tables, edits_leave_other_lsps, table_edits,
+    Change, Changed, Draft, Edits, Tables, edits_leave_other_lsps, table_edits,
 };
 use rsvp_contents::Reading;
 use sorted_rows::Table;
-use state_sends::{StateSends, edited_lsps, sends_of};
-use state_settling::{Settled, settle};
+use state_sends::{StateSends, appended, edited_lsps, sends_of};
+use state_settling::{Settled, bandwidth_edits, settle};
 use std::alloc::{AllocError, Global};
 
 /// A step that is made ready, with all the memory that it takes, and hasn't happened yet. It is of use once, on
@@ -74,7 +72,7 @@ fn is_possible(event: &Event)
 fn table_of(
     alloc: Global,
     tables: &Tables,
-    edits: &StateEdits,
+    edits: &Edits,
 ) -> Result<Table<u32, Option<Action>>, AllocError>
     requires paths { ArePaths tables.now.router (edited edits.now tables.now.state).facts.moment
         (edited edits.now tables.now.state).facts.paths }
@@ -88,41 +86,48 @@ fn table_of(
     // That of LSPs which have no edit the same is known after edits.
     edits_leave_other_lsps();
     let touched = edited_lsps(alloc, edits)?;
-    let after = ChangedState::new(tables, edits);
+    let after = Changed {
+        under: tables,
+        edits,
+    };
     table_edits(alloc, tables, &after, touched.as_slice())
 }
 
 /// The plan of the step of a draft that isn't silent: with all that follows from its own change, with what is sent, and
 /// with what becomes of the label table. The only error is out of memory.
-fn sending_plan(alloc: Global, tables: &Tables, draft: StateDraft) -> Result<Plan, AllocError>
+fn sending_plan(alloc: Global, tables: &Tables, draft: Draft) -> Result<Plan, AllocError>
     requires { IsDrafted tables.now.router tables.now.state (edited draft.edits tables.now.state) }
     ensures { IfOk result (IsSendingPlan tables.now.router tables.now.state (drafted draft tables.now.router tables.now.state)) }
 {
     tables.soundness();
-    let edits = draft.edits;
-    let own = StateEdits {
-        labels: Table::new(alloc),
-        ..edits
-    };
-    let Settled { edits, chosen } = settle(alloc, tables, own)?;
+    let Settled {
+        edits,
+        chosen,
+        told,
+    } = settle(alloc, tables, draft.edits)?;
+    let errors = appended(draft.errors, told)?;
     let StateSends {
         outputs,
         moments,
         upstream,
-    } = sends_of(alloc, tables, &edits, draft.due, draft.errors)?;
+    } = sends_of(alloc, tables, &edits, draft.due, errors)?;
     let table = table_of(alloc, tables, &edits)?;
-    let StateEdits {
-        facts,
+    let Edits {
+        moment,
+        up,
+        paths,
         resvs,
         labels,
     } = edits;
-    let bandwidth = bandwidth_edits(alloc, tables, &facts, resvs)?;
+    let bandwidth = bandwidth_edits(alloc, tables, &paths, resvs)?;
     Ok(Plan {
         reply: draft.reply,
         outputs,
         chosen,
         change: Some(Change {
-            facts,
+            moment,
+            up,
+            paths,
             bandwidth,
             labels,
             moments,
@@ -136,7 +141,7 @@ fn sending_plan(alloc: Global, tables: &Tables, draft: StateDraft) -> Result<Pla
 /// silent.
 fn plan_of_step(alloc: Global, tables: &Tables, event: &Event) -> Result<Plan, AllocError>
     requires event { event.now ≢ events.Restart }
-    requires passes { is_spent tables.now.router tables.now.state.facts event.now ≡ false }
+    requires passes { exceeds_hop_limit tables.now.router tables.now.state.facts event.now ≡ false }
     ensures planned { IfOk result (IsPlanOf tables.now event.now) }
     ensures memory { OnErr result ((outcome tables.now.router tables.now.state event.now).is_silent ≡ false) }
 {
@@ -160,9 +165,9 @@ pub(crate) fn plan_of(alloc: Global, tables: &Tables, event: &Event) -> Result<P
     requires { event.now ≢ events.Restart }
     ensures planned { IfOk result (IsPlanOf tables.now event.now) }
     ensures out { IfErr result (IsOutFor tables.now event.now) }
-    ensures spent { is_spent tables.now.router tables.now.state.facts event.now ≡ true → result ≡ Err HopLimit }
+    ensures limit { exceeds_hop_limit tables.now.router tables.now.state.facts event.now ≡ true → result ≡ Err HopLimit }
 {
-    if is_spent(tables, event) {
+    if exceeds_hop_limit(tables, event) {
         return Err(Refusal::HopLimit);
     }
     Ok(plan_of_step(alloc, tables, event)?)

@@ -6,11 +6,11 @@ ghost use Rattle.router_events.specs.declared.events.Event.{Event};
 ghost use Rattle.router_events.specs.declared.events.Event.TheVariants as events;
 ghost use Rattle.resv_facts.specs.Claims.{reserved_of};
 ghost use Rattle.lsr_facts.specs.declared.refusal.Refusal.TheVariants.{HopLimit};
-ghost use Rattle.abstract_router.specs.Relays.{is_spent};
-ghost use Rattle.abstract_lsr.specs.Preempting.{claims_of};
-ghost use Rattle.abstract_lsr.specs.Soundness.{IsSound};
-ghost use Rattle.abstract_lsr.specs.Steps.{Step};
-ghost use Rattle.abstract_lsr.specs.Tables.{look};
+ghost use Rattle.abstract_paths.specs.Relays.{exceeds_hop_limit};
+ghost use Rattle.abstract_router.specs.Preempting.{claims_of};
+ghost use Rattle.abstract_router.specs.Soundness.{IsSound};
+ghost use Rattle.abstract_router.specs.Steps.{Step};
+ghost use Rattle.abstract_router.specs.Tables.{look};
 ghost use Rattle.router_core.specs.Plans.{IsOutFor, IsPlanOf, after_plan, made_by, quiet};
 ghost use Rattle.router_core.specs.States.{IsEmpty, cold, emptied, opened};
 
@@ -104,7 +104,7 @@ impl Running {
         requires { event.now ≢ events.Restart }
         ensures planned { IfOk result (IsPlanOf self.now event.now) }
         ensures out { IfErr result (IsOutFor self.now event.now) }
-        ensures spent { is_spent self.now.router self.now.state.facts event.now ≡ true → result ≡ Err HopLimit }
+        ensures limit { exceeds_hop_limit self.now.router self.now.state.facts event.now ≡ true → result ≡ Err HopLimit }
     {
         plan_of(alloc, &self.tables, event)
     }

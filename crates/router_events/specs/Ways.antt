@@ -21,12 +21,12 @@ takes_content ways.Routed (contents.ResvTear t) = true
 takes_content ways.Routed content = false
 
 -- an object that it doesn't know puts a Path and a Resv in error, and no other message (RFC 2205, 3.10)
-abbrev pub minds_unknown : Content → Bool
-minds_unknown (contents.Path p) = true
-minds_unknown (contents.Resv v) = true
-minds_unknown content = false
+abbrev pub rejects_unknown : Content → Bool
+rejects_unknown (contents.Path p) = true
+rejects_unknown (contents.Resv v) = true
+rejects_unknown content = false
 
 -- the way takes what a message was read as
 abbrev pub takes : ArrivalWay → Reading → Bool
 takes way (readings.Whole content) = takes_content way content
-takes way (readings.Unknown content class ctype) = minds_unknown content && takes_content way content
+takes way (readings.Unknown content class ctype) = rejects_unknown content && takes_content way content

@@ -1,6 +1,7 @@
 //! The events of a router, the frames that it sends for them, and its steps as they were made.
 
-ghost use Rattle.std.specs.Prelude.{◌≡◌, ◌∷◌, ◌++◌, [], OnOk, OnErr};
+ghost use Rattle.std.specs.Prelude.{◌≡◌, ◌∷◌, ◌++◌, [], IfOk, OnOk, OnErr, true};
+ghost use Rattle.router_events.specs.Arrivals.{is_message};
 
 use crate::ways::{Arrive, Relay};
 use link_frames::Frame;
@@ -107,8 +108,12 @@ pub struct Made {
     pub outputs: Outputs,
 }
 
-impl TryCopy for Event {
-    fn try_copy(&self, alloc: Global) -> Result<Event, AllocError> {
+impl Event {
+    /// A copy of the event. The only error is out of memory, and it comes for messages alone.
+    pub fn copied(&self, alloc: Global) -> Result<Event, AllocError>
+        ensures ok { IfOk result (λ copy. copy ≡ self.now) }
+        ensures memory { OnErr result (is_message self.now ≡ true) }
+    {
         match self {
             Event::Arrive(arrive) => Ok(Event::Arrive(arrive.try_copy(alloc)?)),
             Event::Relay(relay) => Ok(Event::Relay(relay.try_copy(alloc)?)),
@@ -118,6 +123,12 @@ impl TryCopy for Event {
             Event::Restart => Ok(Event::Restart),
             Event::Start => Ok(Event::Start),
         }
+    }
+}
+
+impl TryCopy for Event {
+    fn try_copy(&self, alloc: Global) -> Result<Event, AllocError> {
+        self.copied(alloc)
     }
 }
 

@@ -1,7 +1,7 @@
 //! Messages that come: what they were read as, or where they are to go.
 
 ghost use Rattle.std.specs.Prelude.{◌≡◌, true};
-ghost use Rattle.router_events.specs.Ways.{minds_unknown, takes, takes_content};
+ghost use Rattle.router_events.specs.Ways.{rejects_unknown, takes, takes_content};
 
 use link_frames::{Data, Reading};
 use rsvp_contents::{Content, Message};
@@ -58,8 +58,8 @@ fn takes_content(way: ArrivalWay, content: &Content) -> bool
 
 /// Whether a message that is read with an object that it doesn't know is in error for it: a Path and a Resv are
 /// (RFC 2205, 3.10).
-fn minds_unknown(message: &Message) -> bool
-    ensures { result ≡ minds_unknown message.now }
+fn rejects_unknown(message: &Message) -> bool
+    ensures { result ≡ rejects_unknown message.now }
 {
     matches!(message.content(), Content::Path(_) | Content::Resv(_))
 }
@@ -71,7 +71,7 @@ pub fn takes(way: ArrivalWay, reading: &Reading) -> bool
     match reading {
         Reading::Whole(message) => takes_content(way, message.content()),
         Reading::Unknown(message, ..) => {
-            minds_unknown(message) && takes_content(way, message.content())
+            rejects_unknown(message) && takes_content(way, message.content())
         }
     }
 }

@@ -1,14 +1,15 @@
 -- What a step of a known event answers, leads to and sends.
 use Rattle.std.specs.Prelude.{◌≡◌}
 use Rattle.std.proofs.Common.{ap, ◌∙◌}
-use Rattle.lsr_facts.specs.declared.facts.Facts.{Facts}
 use Rattle.lsr_facts.specs.declared.router.Router.{Router}
 use Rattle.router_events.specs.declared.events.Event.{Event}
 use Rattle.router_events.specs.declared.events.Made.{Made}
+use Rattle.abstract_router.specs.Arrivals.{outcome}
 use Rattle.abstract_router.specs.Outcomes.{Outcome}
-use Rattle.abstract_router.specs.Steps.{Step, known_after, outcome, sent_in}
+use Rattle.abstract_router.specs.States.{State}
+use Rattle.abstract_router.specs.Steps.{Step, known_after, sent_in}
 
-module _ (r : Router) (before after : Facts) (made : Made) (event : Event) (o : Outcome) (x : Step r before made after) (is : made.event ≡ event) (does : outcome r before event ≡ o) where
+module _ (r : Router) (before after : State) (made : Made) (event : Event) (o : Outcome) (x : Step r before made after) (is : made.event ≡ event) (does : outcome r before event ≡ o) where
   same : outcome r before made.event ≡ o
   same = ap (outcome r before) is ∙ does
 

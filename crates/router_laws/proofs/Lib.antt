@@ -1,5 +1,8 @@
 pub mod Led
-pub mod OfPaths
+pub mod Repeating
 pub mod Repeats
+pub mod Staying
+pub mod Still
 pub mod Ticks
+pub mod Touching
 pub mod Unchanged

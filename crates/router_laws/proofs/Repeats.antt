@@ -1,13 +1,14 @@
 -- A Path that comes again at the same moment changes nothing, and nothing is sent for it.
-use Rattle.std.specs.Prelude.{◌≡◌, ◌≢◌, ◌&&◌, ℕ, not, ◌==◌, Bool, true, false, cond, T, List, [], ◌∷◌, Option, Some, None, Result, Ok, Err, is_none, nat_eq, nat_le, length}
+use Rattle.std.specs.Prelude.{◌≡◌, ◌≢◌, ◌&&◌, ℕ, not, ◌==◌, if◌then◌else◌, Bool, true, false, cond, List, [], ◌∷◌, Option, Some, None, Result, Ok, Err, is_none, nat_eq, nat_le, length}
 use Rattle.std.specs.Cmp.{IsTotalOrder}
 use Rattle.std.specs.Cmp.Lexicographic.{pointwise}
-use Rattle.std.specs.FinMap.Entries.{by_order, find, is_sorted, put, is_sorted-put}
+use Rattle.std.specs.FinMap.Entries.{by_order, find, put}
 use Rattle.std.specs.Option.{option_eq}
 use Rattle.std.specs.declared.cmp.Ordering.{Ordering}
 use Rattle.std.specs.declared.cmp.Ordering.TheVariants.{Less, Equal, Greater}
 use Rattle.std.specs.declared.net.ipv4_addr.Ipv4Addr.{Ipv4Addr}
 use Rattle.std.proofs.Common.{refl, sym, ap, subst, ◌∙◌}
+use Rattle.std.proofs.lemmas.Bool.{cond_both}
 use Rattle.std.proofs.lemmas.Cmp.{nat_list_eq_equiv, tied_itself}
 use Rattle.rsvp_routes.specs.Steps.{route_bytes}
 use Rattle.rsvp_routes.specs.Traces.{record_bytes}
@@ -18,7 +19,7 @@ use Rattle.sorted_rows.specs.RowsLaws.{find-put_same}
 use Rattle.lsr_facts.specs.Errors.{bad_tspec, system_error, routing_loop, unsupported_l3pid, record_too_long}
 use Rattle.lsr_facts.specs.OrderLaws.{address_total, key_total}
 use Rattle.lsr_facts.specs.Orders.{address_cmp, key_cmp}
-use Rattle.lsr_facts.specs.Routers.{link_at}
+use Rattle.lsr_facts.specs.Routers.{IsRouter, link_at}
 use Rattle.lsr_facts.specs.declared.choice.Choice.{Choice}
 use Rattle.lsr_facts.specs.declared.choice.Choice.TheVariants.{Link, Tail}
 use Rattle.lsr_facts.specs.declared.errors.RsvpError.{RsvpError}
@@ -32,29 +33,34 @@ use Rattle.lsr_facts.specs.declared.router.Router.{Router}
 use Rattle.router_events.specs.Arrivals.{hop_arrive}
 use Rattle.router_events.specs.declared.ways.Arrive.{Arrive}
 use Rattle.router_events.specs.declared.events.Made.{Made}
-use Rattle.abstract_router.specs.Changes.{with_path}
-use Rattle.abstract_router.specs.Outcomes.{Outcome, done, found_here, refused, told_upstream}
-use Rattle.abstract_router.specs.Outputs.{outputs_of}
-use Rattle.abstract_router.specs.Paths.{drops_record, failed, has_loop, key_of, origin_of, origins_of, path_arrival, path_by, path_on_its_way, record_errors, taken, way_for, way_of}
-use Rattle.abstract_router.specs.Places.{is_up, place_of}
-use Rattle.abstract_router.specs.Routing.{next_hop}
-use Rattle.abstract_router.specs.StampLaws.{keys-stamps_of}
-use Rattle.abstract_router.specs.Stamps.{stamps_of}
-use Rattle.abstract_router.specs.Steps.{Step, arrival, arrival_by, outcome}
-use Rattle.abstract_router.specs.Wanted.{wanted_of}
+use Rattle.abstract_paths.specs.Changes.{with_path}
+use Rattle.abstract_paths.specs.Outcomes as paths
+use Rattle.abstract_paths.specs.Outcomes.{found_here, told_upstream}
+use Rattle.abstract_paths.specs.Paths.{drops_record, failed, has_loop, key_of, origin_of, origins_of, path_arrival, path_by, path_on_its_way, record_errors, taken, way_for, way_of}
+use Rattle.abstract_paths.specs.Places.{is_up, place_of}
+use Rattle.abstract_paths.specs.Routing.{next_hop}
+use Rattle.abstract_router.specs.Arrivals.{arrival, arrival_by, is_done, labelled_path_arrival}
+use Rattle.abstract_router.specs.Errors.{no_label}
+use Rattle.abstract_router.specs.Labels.{has_free_label}
+use Rattle.abstract_router.specs.Outcomes.{Outcome, of_paths, refused, replied}
+use Rattle.abstract_router.specs.Outputs.{item_stamps}
+use Rattle.abstract_router.specs.Soundness.{IsSound}
+use Rattle.abstract_router.specs.States.{State}
+use Rattle.abstract_router.specs.Steps.{Step, settled}
+use Rattle.router_soundness.proofs.Running.{sound_step}
 use Rattle.router_laws.specs.Words.{comes}
-use Rattle.router_laws.proofs.Led.{answered, led, sends}
-use Rattle.router_laws.proofs.Unchanged.{moments_stay, sends_nothing}
+use Rattle.router_laws.proofs.Led.{answered, led}
+use Rattle.router_laws.proofs.Still.{done-still, still_step}
 
 -- the link is one of the router's, and up
 record IsOpen (r : Router) (s : Facts) (link : ℕ) : Type 0 where
   known : is_none (link_at r link) ≡ false
   up : not (is_up s.up link) ≡ false
 
-arrival_open : (r : Router) (s : Facts) (a : Arrive) → replies.Done ≡ (arrival r s a).reply → IsOpen r s a.link
+arrival_open : (r : Router) (s : State) (a : Arrive) → replies.Done ≡ (arrival r s a).reply → IsOpen r s.facts a.link
 unfolding arrival
 arrival_open r s a done =
-    let tests = by (is_none (link_at r a.link)) (not (is_up s.up a.link)) (arrival_by r s a.way a.link a.reading) done in
+    let tests = by (is_none (link_at r a.link)) (not (is_up s.facts.up a.link)) (arrival_by r s a.way a.link a.reading) done in
     record { known = tests.0; up = tests.1 }
   where
     by : (b c : Bool) (read : Outcome) → replies.Done ≡ (cond b (refused s UnknownLink) (cond c (refused s LinkDown) read)).reply → (b ≡ false) × (c ≡ false)
@@ -62,12 +68,25 @@ arrival_open r s a done =
     by false true read d = absurd (let e = d in cc)
     by false false read d = (refl, refl)
 
-arrival_read : (r : Router) (s : Facts) (a : Arrive) → IsOpen r s a.link → arrival r s a ≡ arrival_by r s a.way a.link a.reading
+arrival_read : (r : Router) (s : State) (a : Arrive) → IsOpen r s.facts a.link → arrival r s a ≡ arrival_by r s a.way a.link a.reading
 unfolding arrival
 arrival_read r s a open_link =
     let read = arrival_by r s a.way a.link a.reading in
-    ap (λ b. cond b (refused s UnknownLink) (cond (not (is_up s.up a.link)) (refused s LinkDown) read)) open_link.known
+    ap (λ b. cond b (refused s UnknownLink) (cond (not (is_up s.facts.up a.link)) (refused s LinkDown) read)) open_link.known
     ∙ ap (λ b. cond b (refused s LinkDown) read) open_link.up
+
+-- a Path that is done does what it does of itself
+labelled_done : (r : Router) (s : State) (link : ℕ) (p : Path) → replies.Done ≡ (labelled_path_arrival r s link p).reply → labelled_path_arrival r s link p ≡ of_paths s (path_arrival r s.facts link p)
+unfolding labelled_path_arrival
+labelled_done r s link p =
+    cond_both (is_done (path_arrival r s.facts link p).reply && is_none (find key_cmp (key_of p) s.facts.paths) && not (has_free_label r s.labels)) _ _ (λ (o : Outcome). replies.Done ≡ o.reply → o ≡ of_paths s (path_arrival r s.facts link p))
+    (λ full done. absurd (let e = done in cc)) (λ room done. refl)
+
+-- and so does one of an LSP that is known, where all is as it was
+labelled_again : (r : Router) (s : State) (link : ℕ) (p : Path) (fact : PathFact) → find key_cmp (key_of p) s.facts.paths ≡ Some fact → path_arrival r s.facts link p ≡ paths.done [] s.facts → labelled_path_arrival r s link p ≡ replied replies.Done [] s
+unfolding labelled_path_arrival
+labelled_again r s link p fact found again =
+    λ i. if is_done (again i).reply && is_none (found i) && not (has_free_label r s.labels) then of_paths s (failed r s.facts link p no_label) else of_paths s (again i)
 
 -- the same put twice is put once
 put_twice : {K X : Type 0} (cmp : K → K → Ordering) → IsTotalOrder cmp → (k : K) (v : X) (es : List (K × X)) → put cmp k v (put cmp k v es) ≡ put cmp k v es
@@ -85,13 +104,13 @@ same_option bytes None = refl
 same_option bytes (Some x) = nat_list_eq_equiv.refl (bytes x)
 
 -- three tests that a Path passes
-passed : (b c d : Bool) (x y z w : Outcome) → replies.Done ≢ x.reply → replies.Done ≢ y.reply → replies.Done ≢ z.reply → replies.Done ≡ (cond b x (cond c y (cond d z w))).reply → (b ≡ false) × (c ≡ false) × (d ≡ false) × (replies.Done ≡ w.reply)
+passed : (b c d : Bool) (x y z w : paths.Outcome) → replies.Done ≢ x.reply → replies.Done ≢ y.reply → replies.Done ≢ z.reply → replies.Done ≡ (cond b x (cond c y (cond d z w))).reply → (b ≡ false) × (c ≡ false) × (d ≡ false) × (replies.Done ≡ w.reply)
 passed true c d x y z w p q n done = absurd (p done)
 passed false true d x y z w p q n done = absurd (q done)
 passed false false true x y z w p q n done = absurd (n done)
 passed false false false x y z w p q n done = (refl, refl, refl, done)
 
-passing : (b c d : Bool) (x y z w : Outcome) → b ≡ false → c ≡ false → d ≡ false → cond b x (cond c y (cond d z w)) ≡ w
+passing : (b c d : Bool) (x y z w : paths.Outcome) → b ≡ false → c ≡ false → d ≡ false → cond b x (cond c y (cond d z w)) ≡ w
 passing b c d x y z w p q n = ap (λ t. cond t x (cond c y (cond d z w))) p ∙ ap (λ t. cond t y (cond d z w)) q ∙ ap (λ t. cond t z w) n
 
 -- an error isn't done
@@ -105,7 +124,7 @@ record IsAccepted (r : Router) (p : Path) : Type 0 where
   unlooped : has_loop r p.recorded ≡ false
 
 -- its way
-record IsTaken (r : Router) (s : Facts) (known : Option PathFact) (link : ℕ) (p : Path) (o : Outcome) : Type 0 where
+record IsTaken (r : Router) (s : Facts) (known : Option PathFact) (link : ℕ) (p : Path) (o : paths.Outcome) : Type 0 where
   accepted : IsAccepted r p
   way : Choice
   is : o ≡ taken r s known link p way
@@ -155,17 +174,17 @@ after_path : Facts → Option PathFact → ℕ → Path → Choice → Facts
 after_path s known link p way = with_path (key_of p) (path_by s.moment known link p way) s
 
 -- taken again it changes nothing
-taken_again : (r : Router) (s : Facts) (known : Option PathFact) (link : ℕ) (p : Path) (way : Choice) → taken r (after_path s known link p way) (Some (path_by s.moment known link p way)) link p way ≡ done [] (after_path s known link p way)
+taken_again : (r : Router) (s : Facts) (known : Option PathFact) (link : ℕ) (p : Path) (way : Choice) → taken r (after_path s known link p way) (Some (path_by s.moment known link p way)) link p way ≡ paths.done [] (after_path s known link p way)
 unfolding after_path
 taken_again r s known link p way =
     let key = key_of p in
     let fact = path_by s.moment known link p way in
     let b : Facts = with_path key fact s in
-    ap (λ again. done (record_errors r key (Some fact) again) (with_path key again b)) (path_again s.moment known link p way)
-    ∙ (λ i. done (errors_again r key fact i) (record s { paths = put_twice key_cmp key_total key fact s.paths i }))
+    ap (λ again. paths.done (record_errors r key (Some fact) again) (with_path key again b)) (path_again s.moment known link p way)
+    ∙ (λ i. paths.done (errors_again r key fact i) (record s { paths = put_twice key_cmp key_total key fact s.paths i }))
 
 -- A Path that was taken, arriving again.
-arrival_again : (r : Router) (s : Facts) (known : Option PathFact) (link : ℕ) (p : Path) (way : Choice) → IsAccepted r p → path_arrival r (after_path s known link p way) link p ≡ done [] (after_path s known link p way)
+arrival_again : (r : Router) (s : Facts) (known : Option PathFact) (link : ℕ) (p : Path) (way : Choice) → IsAccepted r p → path_arrival r (after_path s known link p way) link p ≡ paths.done [] (after_path s known link p way)
 unfolding after_path path_arrival path_on_its_way way_for
 arrival_again r s known link p way accepted =
     let key = key_of p in
@@ -178,55 +197,62 @@ arrival_again r s known link p way accepted =
     ∙ taken_again r s known link p way
 
 -- what a Path that is done came upon
-record IsMet (r : Router) (s : Facts) (link : ℕ) (p : Path) (o : Outcome) : Type 0 where
-  open_link : IsOpen r s link
+record IsMet (r : Router) (s : State) (link : ℕ) (p : Path) (o : Outcome) : Type 0 where
+  open_link : IsOpen r s.facts link
   accepted : IsAccepted r p
   way : Choice
-  is : o ≡ taken r s (find key_cmp (key_of p) s.paths) link p way
+  is : o ≡ of_paths s (taken r s.facts (find key_cmp (key_of p) s.facts.paths) link p way)
 
-met : (r : Router) (s : Facts) (link : ℕ) (p : Path) → replies.Done ≡ (outcome r s (comes link (contents.Path p))).reply → IsMet r s link p (outcome r s (comes link (contents.Path p)))
+met : (r : Router) (s : State) (link : ℕ) (p : Path) → replies.Done ≡ (arrival r s (hop_arrive link (contents.Path p))).reply → IsMet r s link p (arrival r s (hop_arrive link (contents.Path p)))
 met r s link p is_done =
-    let event : Arrive = hop_arrive link (contents.Path p) in
-    let was_open = arrival_open r s event is_done in
-    let read = arrival_read r s event was_open in
-    let t = path_taken r s link p (is_done ∙ ap (λ (o : Outcome). o.reply) read) in
-    record { open_link = was_open; accepted = t.accepted; way = t.way; is = read ∙ t.is }
+    let a : Arrive = hop_arrive link (contents.Path p) in
+    let was_open = arrival_open r s a is_done in
+    let read = arrival_read r s a was_open in
+    let labelled = labelled_done r s link p (is_done ∙ ap (λ (o : Outcome). o.reply) read) in
+    let t = path_taken r s.facts link p (is_done ∙ ap (λ (o : Outcome). o.reply) (read ∙ labelled)) in
+    record { open_link = was_open; accepted = t.accepted; way = t.way; is = read ∙ labelled ∙ ap (of_paths s) t.is }
+
+module _ (r : Router) (before after : State) (made : Made) (link : ℕ) (p : Path) (x : Step r before made after) (is : made.event ≡ comes link (contents.Path p)) (done : made.reply ≡ replies.Done) where
+  meets : IsMet r before link p (arrival r before (hop_arrive link (contents.Path p)))
+  meets = met r before link p (sym done ∙ answered r before after made (comes link (contents.Path p)) (arrival r before (hop_arrive link (contents.Path p))) x is refl)
+
+  known : Option PathFact
+  known = find key_cmp (key_of p) before.facts.paths
+
+  -- its outcome, and the facts with the moments of the messages that are wanted then
+  takes : Outcome
+  takes = of_paths before (taken r before.facts known link p meets.way)
+
+  stamped : Facts
+  stamped = record before.facts { sent = item_stamps r before [] (settled r made.labels takes.after) }
+
+  -- what is known after it of links, routes, time and paths
+  facts_after : after.facts ≡ after_path stamped known link p meets.way
+  unfolding takes known stamped after_path
+  facts_after = ap (λ (s : State). s.facts) (led r before after made (comes link (contents.Path p)) takes x is meets.is)
+
+  made_path : PathFact
+  made_path = path_by before.facts.moment known link p meets.way
+
+  path_found : find key_cmp (key_of p) after.facts.paths ≡ Some made_path
+  unfolding made_path stamped after_path
+  path_found = ap (λ (s : Facts). find key_cmp (key_of p) s.paths) facts_after ∙ find-put_same key_cmp key_total (key_of p) made_path before.facts.paths
+
+  -- the same Path is done again, and leaves all as it is
+  does_again : arrival r after (hop_arrive link (contents.Path p)) ≡ replied replies.Done [] after
+  unfolding stamped after_path
+  does_again =
+      let open_link : IsOpen r after.facts link = subst (λ (s : Facts). IsOpen r s link) (sym facts_after) (record { known = meets.open_link.known; up = meets.open_link.up }) in
+      let again : path_arrival r after.facts link p ≡ paths.done [] after.facts =
+      subst (λ (s : Facts). path_arrival r s link p ≡ paths.done [] s) (sym facts_after) (arrival_again r stamped known link p meets.way meets.accepted) in
+      arrival_read r after (hop_arrive link (contents.Path p)) open_link ∙ labelled_again r after link p made_path path_found again
+
+  -- A Path that is done makes or renews its origin.
+  pub path_renews : (fact : PathFact) × (find key_cmp (key_of p) after.facts.paths ≡ Some fact) × (find address_cmp p.sender.sender fact.origins ≡ Some (origin_of before.facts.moment link p))
+  unfolding made_path
+  path_renews = (made_path, path_found, find-put_same address_cmp address_total p.sender.sender (origin_of before.facts.moment link p) (origins_of known))
 
 -- A Path that is done, once more.
-pub path_repeats : (r : Router) (a b c : Facts) (one other : Made) (link : ℕ) (p : Path) → T (is_sorted key_cmp a.paths) → one.event ≡ comes link (contents.Path p) → other.event ≡ comes link (contents.Path p) → one.reply ≡ replies.Done → Step r a one b → Step r b other c → (other.reply ≡ replies.Done) × (other.outputs ≡ []) × (c ≡ b)
-unfolding after_path wanted_of
-path_repeats r a b c one other link p h is again is_done x y =
-    let event : Arrive = hop_arrive link (contents.Path p) in
-    let known = find key_cmp (key_of p) a.paths in
-    let m = met r a link p (sym is_done ∙ answered r a b one (comes link (contents.Path p)) (outcome r a (comes link (contents.Path p))) x is refl) in
-    let sent = stamps_of r a [] (after_path a known link p m.way) in
-    let stamped : Facts = record a { sent = sent } in
-    let then_facts = after_path stamped known link p m.way in
-    let came : b ≡ then_facts = led r a b one (comes link (contents.Path p)) (taken r a known link p m.way) x is m.is in
-    let does : outcome r b (comes link (contents.Path p)) ≡ done [] b =
-    subst (λ (s : Facts). outcome r s (comes link (contents.Path p)) ≡ done [] s) (sym came)
-    (arrival_read r then_facts event (record { known = m.open_link.known; up = m.open_link.up }) ∙ arrival_again r stamped known link p m.way m.accepted)
-    in
-    let in_order : T (is_sorted key_cmp then_facts.paths) = is_sorted-put key_cmp key_total (key_of p) (path_by a.moment known link p m.way) a.paths h in
-    let h_b : T (is_sorted key_cmp b.paths) = subst (λ (s : Facts). T (is_sorted key_cmp s.paths)) (sym came) in_order in
-    let stays : stamps_of r b [] b ≡ b.sent =
-    subst (λ (s : Facts). stamps_of r s [] s ≡ s.sent) (sym came) (moments_stay r then_facts in_order (keys-stamps_of r a [] (after_path a known link p m.way)))
-    in
-    let last : c ≡ b = led r b c other (comes link (contents.Path p)) (done [] b) y again does ∙ (λ i. record b { sent = stays i }) in (
-      answered r b c other (comes link (contents.Path p)) (done [] b) y again does,
-      sends r b c other (comes link (contents.Path p)) (done [] b) y again does ∙ ap (outputs_of r b [] []) last ∙ sends_nothing r b h_b,
-      last,
-    )
-
--- A Path that is done makes or renews its origin.
-pub path_renews : (r : Router) (before after : Facts) (made : Made) (link : ℕ) (p : Path) → Step r before made after → made.event ≡ comes link (contents.Path p) → made.reply ≡ replies.Done → (fact : PathFact) × (find key_cmp (key_of p) after.paths ≡ Some fact) × (find address_cmp p.sender.sender fact.origins ≡ Some (origin_of before.moment link p))
-path_renews r before after made link p x is is_done =
-    let known = find key_cmp (key_of p) before.paths in
-    let event = comes link (contents.Path p) in
-    let m = met r before link p (sym is_done ∙ answered r before after made event (outcome r before event) x is refl) in
-    let fact = path_by before.moment known link p m.way in (
-      fact,
-      ap (λ (s : Facts). find key_cmp (key_of p) s.paths) (led r before after made event (taken r before known link p m.way) x is m.is)
-          ∙ find-put_same key_cmp key_total (key_of p) fact before.paths,
-      find-put_same address_cmp address_total p.sender.sender (origin_of before.moment link p) (origins_of known),
-    )
+pub path_repeats : (r : Router) (a b c : State) (one other : Made) (link : ℕ) (p : Path) → IsRouter r → IsSound r a → one.event ≡ comes link (contents.Path p) → other.event ≡ comes link (contents.Path p) → one.reply ≡ replies.Done → Step r a one b → Step r b other c → (other.reply ≡ replies.Done) × (other.outputs ≡ []) × (c ≡ b)
+path_repeats r a b c one other link p router sound is again done x y =
+    still_step r b c other (comes link (contents.Path p)) (replied replies.Done [] b) y again (does_again r a b one link p x is done) (done-still r b (sound_step r a one b router sound x))

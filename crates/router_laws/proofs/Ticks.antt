@@ -1,6 +1,7 @@
 -- What a moment that comes changes, and what is sent for it.
 use Rattle.std.specs.Prelude.{◌≡◌, ◌<◌, ◌≤◌, ◌^◌, ◌+◌, ◌&&◌, ◌||◌, ◌++◌, ℕ, suc, not, nat_lt, nat_le, Bool, true, false, cond, if◌then◌else◌, T, List, [], ◌∷◌, filter, filter_map, Option, Some, None, IfSome}
 use Rattle.std.specs.Bool.{then_some}
+use Rattle.std.specs.Cmp.{IsTotalOrder}
 use Rattle.std.specs.FinMap.Entries.{find, is_sorted}
 use Rattle.std.specs.List.{AllByRecursion, Contains, cons_option, list_any}
 use Rattle.std.specs.Option.{option_and_then, option_map, option_map_or, unwrap_or}
@@ -9,11 +10,12 @@ use Rattle.std.specs.declared.cmp.Ordering.{Ordering}
 use Rattle.std.specs.declared.cmp.Ordering.TheVariants.{Equal}
 use Rattle.std.specs.declared.net.ipv4_addr.Ipv4Addr.{Ipv4Addr}
 use Rattle.std.proofs.Common.{refl, ap, arith, sym, subst, zero, ◌∙◌}
-use Rattle.std.proofs.lemmas.Bool.{le-leb, le-ltb, lt-ltb, ltb-true}
-use Rattle.sorted_rows.specs.ListLaws.{all-always, all-filter_passes, all-map}
-use Rattle.sorted_rows.specs.RowsLaws.{find-filter, find-map}
+use Rattle.std.proofs.lemmas.Bool.{cond_both, le-leb, le-ltb, lt-ltb, ltb-true}
+use Rattle.std.proofs.lemmas.List.Elements.{Contains-append_left, Contains-append_right}
+use Rattle.sorted_rows.specs.ListLaws.{all-always, all-filter, all-filter_passes, all-map}
+use Rattle.sorted_rows.specs.RowsLaws.{find-filter, find-map, is_sorted-both}
 use Rattle.lsr_facts.specs.Lifetimes.{begins_here, due_items, expire, lives_on, lives_past, living, with_living}
-use Rattle.lsr_facts.specs.OrderLaws.{address_total, item_exact, key_total}
+use Rattle.lsr_facts.specs.OrderLaws.{address_total, item_exact, item_total, key_total}
 use Rattle.lsr_facts.specs.Orders.{address_cmp, item_cmp, key_cmp}
 use Rattle.lsr_facts.specs.declared.facts.Facts.{Facts}
 use Rattle.lsr_facts.specs.declared.key.Item.{Item}
@@ -25,82 +27,130 @@ use Rattle.lsr_facts.specs.declared.path_fact.Role.TheVariants as roles
 use Rattle.lsr_facts.specs.declared.refusal.Refusal.TheVariants.{BadMoment, Late}
 use Rattle.lsr_facts.specs.declared.reply.Reply.TheVariants as replies
 use Rattle.lsr_facts.specs.declared.router.Router.{Router}
+use Rattle.resv_facts.specs.Reservations as reservations
+use Rattle.resv_facts.specs.UpstreamOrder.{upstream_exact, upstream_total}
+use Rattle.resv_facts.specs.Upstreams.{upstream_cmp}
+use Rattle.resv_facts.specs.declared.upstream.Upstream.{Upstream}
 use Rattle.router_events.specs.declared.events.Event.TheVariants as events
 use Rattle.router_events.specs.declared.events.Made.{Made}
 use Rattle.router_events.specs.declared.events.Output.{Output}
-use Rattle.abstract_router.specs.Outcomes.{Outcome, done, refused}
-use Rattle.abstract_router.specs.Outputs.{between, is_due, is_same_frame, outputs_of, rests, send_for, tear_for}
-use Rattle.abstract_router.specs.Soundness.{IsPath, IsSound}
-use Rattle.abstract_router.specs.StampLaws.{find-stamps_of, is_due-due_items, is_sorted-stamped, ties}
-use Rattle.abstract_router.specs.Stamps.{stamp, with_stamps}
-use Rattle.abstract_router.specs.Steps.{Step}
-use Rattle.abstract_router.specs.Time.{tick}
-use Rattle.abstract_router.specs.Wanted.{downstream_rows, wanted_of}
-use Rattle.abstract_router.specs.WantedLaws.{wanted-downstream}
-use Rattle.abstract_router.proofs.PathTable.{path_known}
+use Rattle.abstract_paths.specs.Outcomes as paths
+use Rattle.abstract_paths.specs.Outputs.{between, is_same_frame, rests, send_for, tear_for}
+use Rattle.abstract_paths.specs.Soundness.{IsPath}
+use Rattle.abstract_paths.specs.StampLaws.{find-stamps, is_due-due_among, ties}
+use Rattle.abstract_paths.specs.Stamps.{due_among, stamp, stamps}
+use Rattle.abstract_paths.specs.Time.{tick}
+use Rattle.abstract_paths.proofs.PathTable.{path_known}
+use Rattle.abstract_router.specs.Arrivals.{due_upstream, for_reservations, moment_comes}
+use Rattle.abstract_router.specs.Lsps.{lsps_of}
+use Rattle.abstract_router.specs.Outcomes.{Outcome, of_paths}
+use Rattle.abstract_router.specs.Outputs.{item_stamps, outputs_of, upstream_stamps}
+use Rattle.abstract_router.specs.Soundness.{IsSound}
+use Rattle.abstract_router.specs.States.{State}
+use Rattle.abstract_router.specs.Steps.{Step, settled, stands, with_moments}
+use Rattle.abstract_router.specs.UpstreamLaws.{is_sorted-upstream_sound}
+use Rattle.abstract_router.specs.Upstreams.{upstream_of}
+use Rattle.abstract_router.specs.Wanted.{items_of}
+use Rattle.abstract_router.specs.WantedLaws.{is_sorted-items}
 use Rattle.router_laws.specs.Words.{IsUnexpired}
 use Rattle.router_laws.proofs.Led.{answered, led, sends}
 
 -- a moment that is done
-ticked : Router → Facts → ℕ → Outcome
-ticked r s n = record (done [] (record s { moment = n; paths = expire n s.paths })) { due = due_items r.refresh_ms s.sent n }
+ticked : Router → State → ℕ → Outcome
+ticked r s n = record {
+  reply = replies.Done;
+  errors = [];
+  due = due_items r.refresh_ms s.facts.sent n;
+  upstream_due = due_upstream r.refresh_ms s.sent_upstream n;
+  after = record s { facts = record s.facts { moment = n; paths = expire n s.facts.paths }; resvs = reservations.expire n s.resvs };
+  is_silent = false;
+}
+
+-- and as paths have it
+ticked_paths : Router → Facts → ℕ → paths.Outcome
+ticked_paths r s n = record (paths.done [] (record s { moment = n; paths = expire n s.paths })) { due = due_items r.refresh_ms s.sent n }
+
+-- what a moment does, by what it does to paths
+abbrev by_paths : Router → State → ℕ → paths.Outcome → Outcome
+by_paths r s n o = for_reservations r s n (of_paths s o)
 
 -- a moment that isn't refused is done
-tick_done : (r : Router) (s : Facts) (n : ℕ) → replies.Done ≡ (tick r s n).reply → tick r s n ≡ ticked r s n
-unfolding tick ticked
-tick_done r s n is =
-    elim (nat_lt (2 ^ 62) n) as (λ b. replies.Done ≡ (cond b (refused s BadMoment) (cond (nat_lt n s.moment) (refused s Late) (ticked r s n))).reply → cond b (refused s BadMoment) (cond (nat_lt n s.moment) (refused s Late) (ticked r s n)) ≡ ticked r s n) [
-      | true ↦ λ d. absurd (let e = d in cc)
-      | false ↦ elim (nat_lt n s.moment) as (λ b. replies.Done ≡ (cond b (refused s Late) (ticked r s n)).reply → cond b (refused s Late) (ticked r s n) ≡ ticked r s n) [ true ↦ λ d. absurd (let e = d in cc) | false ↦ λ d. refl ]
-    ] is
+tick_done : (r : Router) (s : State) (n : ℕ) → replies.Done ≡ (moment_comes r s n).reply → moment_comes r s n ≡ ticked r s n
+unfolding moment_comes tick ticked
+tick_done r s n =
+    cond_both (nat_lt (2 ^ 62) n) _ _ Does (λ above. λ done. absurd (let e = done in cc))
+    (λ most. cond_both (nat_lt n s.facts.moment) _ _ Does (λ below. λ done. absurd (let e = done in cc)) (λ later. λ done. refl))
+  where
+    Does : paths.Outcome → Type 0
+    Does o = replies.Done ≡ (by_paths r s n o).reply → by_paths r s n o ≡ ticked r s n
 
 -- A moment that is neither late nor above the last one that there is is done.
-pub moment_done : (r : Router) (before after : Facts) (made : Made) (n : ℕ) → Step r before made after → made.event ≡ events.Tick n → before.moment ≤ n → n ≤ 2 ^ 62 → made.reply ≡ replies.Done
-unfolding tick ticked
+pub moment_done : (r : Router) (before after : State) (made : Made) (n : ℕ) → Step r before made after → made.event ≡ events.Tick n → before.facts.moment ≤ n → n ≤ 2 ^ 62 → made.reply ≡ replies.Done
+unfolding moment_comes tick ticked_paths
 moment_done r before after made n x is later most =
-    answered r before after made (events.Tick n) (tick r before n) x is refl
-    ∙ ap (λ b. (cond b (refused before BadMoment) (cond (nat_lt n before.moment) (refused before Late) (ticked r before n))).reply) (le-ltb (2 ^ 62) n most)
-    ∙ ap (λ b. (cond b (refused before Late) (ticked r before n)).reply) (le-ltb n before.moment later)
+    let s = before.facts in
+    answered r before after made (events.Tick n) (moment_comes r before n) x is refl
+    ∙ ap (λ b. (by_paths r before n (cond b (paths.refused s BadMoment) (cond (nat_lt n s.moment) (paths.refused s Late) (ticked_paths r s n)))).reply) (le-ltb (2 ^ 62) n most)
+    ∙ ap (λ b. (by_paths r before n (cond b (paths.refused s Late) (ticked_paths r s n))).reply) (le-ltb n s.moment later)
 
 -- A moment above the last one that there is.
-pub moment_none : (r : Router) (before after : Facts) (made : Made) (n : ℕ) → Step r before made after → made.event ≡ events.Tick n → 2 ^ 62 < n → made.reply ≡ replies.Refused BadMoment
-unfolding tick ticked
+pub moment_none : (r : Router) (before after : State) (made : Made) (n : ℕ) → Step r before made after → made.event ≡ events.Tick n → 2 ^ 62 < n → made.reply ≡ replies.Refused BadMoment
+unfolding moment_comes tick ticked_paths
 moment_none r before after made n x is above =
-    answered r before after made (events.Tick n) (tick r before n) x is refl
-    ∙ ap (λ b. (cond b (refused before BadMoment) (cond (nat_lt n before.moment) (refused before Late) (ticked r before n))).reply) (lt-ltb (2 ^ 62) n above)
+    let s = before.facts in
+    answered r before after made (events.Tick n) (moment_comes r before n) x is refl
+    ∙ ap (λ b. (by_paths r before n (cond b (paths.refused s BadMoment) (cond (nat_lt n s.moment) (paths.refused s Late) (ticked_paths r s n)))).reply) (lt-ltb (2 ^ 62) n above)
 
 -- A moment below the router's.
-pub moment_late : (r : Router) (before after : Facts) (made : Made) (n : ℕ) → Step r before made after → made.event ≡ events.Tick n → n ≤ 2 ^ 62 → n < before.moment → made.reply ≡ replies.Refused Late
-unfolding tick ticked
+pub moment_late : (r : Router) (before after : State) (made : Made) (n : ℕ) → Step r before made after → made.event ≡ events.Tick n → n ≤ 2 ^ 62 → n < before.facts.moment → made.reply ≡ replies.Refused Late
+unfolding moment_comes tick ticked_paths
 moment_late r before after made n x is most below =
-    answered r before after made (events.Tick n) (tick r before n) x is refl
-    ∙ ap (λ b. (cond b (refused before BadMoment) (cond (nat_lt n before.moment) (refused before Late) (ticked r before n))).reply) (le-ltb (2 ^ 62) n most)
-    ∙ ap (λ b. (cond b (refused before Late) (ticked r before n)).reply) (lt-ltb n before.moment below)
+    let s = before.facts in
+    answered r before after made (events.Tick n) (moment_comes r before n) x is refl
+    ∙ ap (λ b. (by_paths r before n (cond b (paths.refused s BadMoment) (cond (nat_lt n s.moment) (paths.refused s Late) (ticked_paths r s n)))).reply) (le-ltb (2 ^ 62) n most)
+    ∙ ap (λ b. (by_paths r before n (cond b (paths.refused s Late) (ticked_paths r s n))).reply) (lt-ltb n s.moment below)
 
-module _ (r : Router) (before after : Facts) (made : Made) (n : ℕ) (x : Step r before made after) (is : made.event ≡ events.Tick n) (is_done : made.reply ≡ replies.Done) where
-  does : tick r before n ≡ ticked r before n
-  does = tick_done r before n (sym is_done ∙ answered r before after made (events.Tick n) (tick r before n) x is refl)
+module _ (r : Router) (before after : State) (made : Made) (n : ℕ) (x : Step r before made after) (is : made.event ≡ events.Tick n) (is_done : made.reply ≡ replies.Done) where
+  does : moment_comes r before n ≡ ticked r before n
+  does = tick_done r before n (sym is_done ∙ answered r before after made (events.Tick n) (moment_comes r before n) x is refl)
 
   -- what is known after it
-  after_tick : after ≡ with_stamps r before (due_items r.refresh_ms before.sent n) (record before { moment = n; paths = expire n before.paths })
+  after_tick : after ≡ with_moments r before (ticked r before n) (settled r made.labels (ticked r before n).after)
   unfolding ticked
   after_tick = led r before after made (events.Tick n) (ticked r before n) x is does
 
-  sends_then : made.outputs ≡ outputs_of r before [] (due_items r.refresh_ms before.sent n) after
+  sends_then : made.outputs ≡ outputs_of r before [] (due_items r.refresh_ms before.facts.sent n) (due_upstream r.refresh_ms before.sent_upstream n) after
   unfolding ticked
   sends_then = sends r before after made (events.Tick n) (ticked r before n) x is does
 
--- Nothing stands that has expired.
-pub none_expired : (r : Router) (before after : Facts) (made : Made) (n : ℕ) → Step r before made after → made.event ≡ events.Tick n → made.reply ≡ replies.Done → (after.moment ≡ n) × AllByRecursion (IsUnexpired n) after.paths
-unfolding expire
-none_expired r before after made n x is is_done =
-    let came = after_tick r before after made n x is is_done in
-    let left = filter (lives_on n) before.paths in (
-      ap (λ (s : Facts). s.moment) came,
-      subst (λ (s : Facts). AllByRecursion (IsUnexpired n) s.paths) (sym came)
-          (all-map (IsUnexpired n) (with_living n) left
-          (all-always (λ path. IsUnexpired n (with_living n path)) (λ path. all-filter_passes (λ (o : Ipv4Addr × Origin). n < o.1.expiry) (lives_past n) (λ o lives. ltb-true n o.1.expiry lives) path.1.origins) left)),
-    )
+  -- the moment, and the paths
+  moment_then : after.facts.moment ≡ n
+  unfolding ticked
+  moment_then = ap (λ (s : State). s.facts.moment) after_tick
+
+  paths_then : after.facts.paths ≡ expire n before.facts.paths
+  unfolding ticked
+  paths_then = ap (λ (s : State). s.facts.paths) after_tick
+
+  -- Nothing stands that has expired.
+  pub none_expired : (after.facts.moment ≡ n) × AllByRecursion (IsUnexpired n) after.facts.paths
+  unfolding expire
+  none_expired =
+      let left = filter (lives_on n) before.facts.paths in (
+        moment_then,
+        subst (λ rows. AllByRecursion (IsUnexpired n) rows) (sym paths_then)
+            (all-map (IsUnexpired n) (with_living n) left
+            (all-always (λ path. IsUnexpired n (with_living n path)) (λ path. all-filter_passes (λ (o : Ipv4Addr × Origin). n < o.1.expiry) (lives_past n) (λ o lives. ltb-true n o.1.expiry lives) path.1.origins) left)),
+      )
+
+  -- no reservation either
+  pub no_resv_expired : AllByRecursion (λ resv. n < resv.1.expiry) after.resvs
+  unfolding ticked reservations.expire
+  no_resv_expired =
+      let then_facts : Facts = record before.facts { moment = n; paths = expire n before.facts.paths } in
+      subst (λ (s : State). AllByRecursion (λ resv. n < resv.1.expiry) s.resvs) (sym after_tick)
+      (all-filter (λ resv. n < resv.1.expiry) (stands then_facts) (filter (λ resv. reservations.lives_past n resv.1) before.resvs)
+      (all-filter_passes (λ resv. n < resv.1.expiry) (λ resv. reservations.lives_past n resv.1) (λ resv lives. ltb-true n resv.1.expiry lives) before.resvs))
 
 -- what is known of an LSP when a moment has come
 find-expire : (n : ℕ) (key : Key) (paths : List (Key × PathFact)) → T (is_sorted key_cmp paths) → find key_cmp key (expire n paths) ≡ option_map (living n) (option_and_then (λ fact. then_some (lives_on n (key, fact)) fact) (find key_cmp key paths))
@@ -114,10 +164,10 @@ none_lives n [] old = refl
 none_lives n (o ∷ os) old = ap (λ b. b || list_any (lives_past n) os) (le-ltb n o.1.expiry old.0) ∙ none_lives n os old.1
 
 -- A path goes whose origins have all expired.
-pub path_goes : (r : Router) (before after : Facts) (made : Made) (n : ℕ) (key : Key) (fact : PathFact) → T (is_sorted key_cmp before.paths) → Step r before made after → made.event ≡ events.Tick n → made.reply ≡ replies.Done → find key_cmp key before.paths ≡ Some fact → begins_here fact.role ≡ false → AllByRecursion (λ (origin : Ipv4Addr × Origin). origin.1.expiry ≤ n) fact.origins → find key_cmp key after.paths ≡ None
+pub path_goes : (r : Router) (before after : State) (made : Made) (n : ℕ) (key : Key) (fact : PathFact) → T (is_sorted key_cmp before.facts.paths) → Step r before made after → made.event ≡ events.Tick n → made.reply ≡ replies.Done → find key_cmp key before.facts.paths ≡ Some fact → begins_here fact.role ≡ false → AllByRecursion (λ (origin : Ipv4Addr × Origin). origin.1.expiry ≤ n) fact.origins → find key_cmp key after.facts.paths ≡ None
 path_goes r before after made n key fact h x is is_done known elsewhere old =
-    ap (λ (s : Facts). find key_cmp key s.paths) (after_tick r before after made n x is is_done)
-    ∙ find-expire n key before.paths h
+    ap (find key_cmp key) (paths_then r before after made n x is is_done)
+    ∙ find-expire n key before.facts.paths h
     ∙ ap (λ o. option_map (living n) (option_and_then (λ f. then_some (lives_on n (key, f)) f) o)) known
     ∙ (λ i. option_map (living n) (then_some (elsewhere i || none_lives n fact.origins old i) fact))
 
@@ -135,31 +185,26 @@ found_lives n sender origin (o ∷ os) found lives =
     either_true false b p = p
 
 -- A path that was refreshed in time stays.
-pub path_stays : (r : Router) (before after : Facts) (made : Made) (n : ℕ) (key : Key) (fact : PathFact) (sender : Ipv4Addr) (origin : Origin) → IsSound r before → Step r before made after → made.event ≡ events.Tick n → made.reply ≡ replies.Done → find key_cmp key before.paths ≡ Some fact → find address_cmp sender fact.origins ≡ Some origin → n < origin.expiry → (still : PathFact) × (find key_cmp key after.paths ≡ Some still) × (find address_cmp sender still.origins ≡ Some origin) × (still ≡ record fact { origins = still.origins })
+pub path_stays : (r : Router) (before after : State) (made : Made) (n : ℕ) (key : Key) (fact : PathFact) (sender : Ipv4Addr) (origin : Origin) → IsSound r before → Step r before made after → made.event ≡ events.Tick n → made.reply ≡ replies.Done → find key_cmp key before.facts.paths ≡ Some fact → find address_cmp sender fact.origins ≡ Some origin → n < origin.expiry → (still : PathFact) × (find key_cmp key after.facts.paths ≡ Some still) × (find address_cmp sender still.origins ≡ Some origin) × (still ≡ record fact { origins = still.origins })
 path_stays r before after made n key fact sender origin sound x is is_done known found lives =
     let past = lt-ltb n origin.expiry lives in
-    let h = sound.standing.paths.in_order in
-    let knows : IsPath r before.moment (key, fact) = subst (λ (o : Option PathFact). IfSome o (λ f. IsPath r before.moment (key, f))) known (path_known r before.moment key before.paths sound.standing.paths) in (
+    let h = sound.paths.paths.in_order in
+    let knows : IsPath r before.facts.moment (key, fact) = subst (λ (o : Option PathFact). IfSome o (λ f. IsPath r before.facts.moment (key, f))) known (path_known r before.facts.moment key before.facts.paths sound.paths.paths) in (
       living n fact,
-      ap (λ (s : Facts). find key_cmp key s.paths) (after_tick r before after made n x is is_done)
-          ∙ find-expire n key before.paths h
+      ap (find key_cmp key) (paths_then r before after made n x is is_done)
+          ∙ find-expire n key before.facts.paths h
           ∙ ap (λ o. option_map (living n) (option_and_then (λ f. then_some (lives_on n (key, f)) f) o)) known
-          ∙ ap (λ b. option_map (living n) (then_some b fact)) (stands fact.role (list_any (lives_past n) fact.origins) (found_lives n sender origin fact.origins found past)),
+          ∙ ap (λ b. option_map (living n) (then_some b fact)) (lives_as fact.role (list_any (lives_past n) fact.origins) (found_lives n sender origin fact.origins found past)),
       find-filter address_cmp address_total (lives_past n) sender (λ y v tied. refl) fact.origins knows.origins.in_order
           ∙ ap (option_and_then (λ v. then_some (lives_past n (sender, v)) v)) found
           ∙ ap (λ b. then_some b origin) past,
       refl,
     )
   where
-    stands : (role : Role) (b : Bool) → b ≡ true → (begins_here role || b) ≡ true
-    stands roles.Tail b p = p
-    stands roles.Transit b p = p
-    stands roles.Head b p = refl
-
--- an element of a list is one of it behind others
-behind : {A : Type 0} (x : A) (before xs : List A) → Contains xs x → Contains (before ++ xs) x
-behind x [] xs there = there
-behind x (y ∷ ys) xs there = let later = behind x ys xs there in (suc later.0, omega (arith, later.1), later.2)
+    lives_as : (role : Role) (b : Bool) → b ≡ true → (begins_here role || b) ≡ true
+    lives_as roles.Tail b p = p
+    lives_as roles.Transit b p = p
+    lives_as roles.Head b p = refl
 
 -- what f gives of a row that is found is among what it gives of all
 found_among : {K C O : Type 0} (cmp : K → K → Ordering) (exact : (a b : K) → cmp a b ≡ Equal → a ≡ b) (f : K × C → Option O) (key : K) (value : C) (output : O) (rows : List (K × C)) → find cmp key rows ≡ Some value → f (key, value) ≡ Some output → Contains (filter_map f rows) output
@@ -180,27 +225,70 @@ found_among {K} {C} {O} cmp exact f key value output (row ∷ rows) found gives 
     later None there = there
     later (Some y) there = (suc there.0, omega (arith, there.1), there.2)
 
--- What is due is sent, and that is its moment then.
-pub due_sent : (r : Router) (before after : Facts) (made : Made) (n at : ℕ) (item : Item) (output : Output) → IsSound r before → Step r before made after → made.event ≡ events.Tick n → made.reply ≡ replies.Done → find item_cmp item (wanted_of r after) ≡ Some output → find item_cmp item before.sent ≡ Some at → at + r.refresh_ms ≤ n → Contains made.outputs output × (find item_cmp item after.sent ≡ Some n)
-unfolding outputs_of
-due_sent r before after made n at item output sound x is is_done wanted sent waited =
-    let due = due_items r.refresh_ms before.sent n in
-    let came = after_tick r before after made n x is is_done in
-    let then_facts : Facts = record before { moment = n; paths = expire n before.paths } in
-    let is_now : is_due item_cmp due item ≡ true =
-    is_due-due_items r.refresh_ms before.sent n item (is_sorted-stamped r before before.sent sound.standing.paths.in_order sound.sent)
-    ∙ ap (λ o. option_map_or (λ last. nat_le (last + r.refresh_ms) n) o false) sent
-    ∙ le-leb (at + r.refresh_ms) n waited
-    in
-    let none_rests : (was : Option Output) → rests item_cmp due was (item, output) ≡ false =
-    λ was. ap (λ b. not b && option_map_or (λ o. is_same_frame output.frame o.frame) was false) is_now
-    in
-    let rows = wanted_of r after in
-    let among = found_among item_cmp item_exact (λ row. send_for item_cmp due (find item_cmp row.0 (wanted_of r before)) row) item output output rows wanted (ap (λ b. if b then None else Some output) (none_rests (find item_cmp item (wanted_of r before)))) in
-    let whole = behind output (between item_cmp (tear_for after.up) (wanted_of r before) rows) (between item_cmp (send_for item_cmp due) rows (wanted_of r before)) among in (
-      subst (λ outputs. Contains outputs output) (sym (sends_then r before after made n x is is_done)) whole,
-      ap (λ (s : Facts). find item_cmp item s.sent) came
-          ∙ find-stamps_of r before due then_facts item
-          ∙ ap (option_map (λ o. stamp item_cmp due (wanted_of r before) before.sent n (item, o))) (ap (find item_cmp item) (wanted-downstream r then_facts ∙ ap (downstream_rows r) (sym came) ∙ sym (wanted-downstream r after)) ∙ wanted)
-          ∙ ap (λ b. Some (if b then unwrap_or (find item_cmp item before.sent) n else n)) (none_rests (find item_cmp item (wanted_of r before))),
-    )
+-- An item that was sent last a refresh period ago or longer is due, whatever kind it is.
+module _ {I : Type 0} (cmp : I → I → Ordering) (total : IsTotalOrder cmp) (exact : (a b : I) → cmp a b ≡ Equal → a ≡ b) (refresh_ms n at : ℕ) (was is : List (I × Output)) (sent : List (I × ℕ)) (item : I) (output : Output)
+    (in_order : T (is_sorted cmp sent)) (wanted : find cmp item is ≡ Some output) (found : find cmp item sent ≡ Some at) (waited : at + refresh_ms ≤ n) where
+  abbrev due : List I
+  due = due_among refresh_ms sent n
+
+  -- so it doesn't rest
+  none_rests : (o : Option Output) → rests cmp due o (item, output) ≡ false
+  none_rests o =
+      ap (λ b. not b && option_map_or (λ was. is_same_frame output.frame was.frame) o false)
+      (is_due-due_among cmp total refresh_ms sent n item in_order ∙ ap (λ o. option_map_or (λ last. nat_le (last + refresh_ms) n) o false) found ∙ le-leb (at + refresh_ms) n waited)
+
+  -- it is sent
+  goes_out : Contains (between cmp (send_for cmp due) is was) output
+  goes_out = found_among cmp exact (λ row. send_for cmp due (find cmp row.0 was) row) item output output is wanted (ap (λ b. if b then None else Some output) (none_rests (find cmp item was)))
+
+  -- and that is its moment then
+  moment_is : find cmp item (stamps cmp due was sent n is) ≡ Some n
+  moment_is =
+      find-stamps cmp exact due was sent n is item
+      ∙ ap (option_map (λ o. stamp cmp due was sent n (item, o))) wanted
+      ∙ ap (λ b. Some (if b then unwrap_or (find cmp item sent) n else n)) (none_rests (find cmp item was))
+
+module _ (r : Router) (before after : State) (made : Made) (n at : ℕ) (sound : IsSound r before) (x : Step r before made after) (is : made.event ≡ events.Tick n) (is_done : made.reply ≡ replies.Done) where
+  -- what is known after what follows from the moment, but for when messages were sent
+  unstamped : State
+  unstamped = settled r made.labels (ticked r before n).after
+
+  -- A Path that is due is sent.
+  pub due_path : (item : Item) (output : Output) → find item_cmp item (items_of r after) ≡ Some output → find item_cmp item before.facts.sent ≡ Some at → at + r.refresh_ms ≤ n → Contains made.outputs output × (find item_cmp item after.facts.sent ≡ Some n)
+  unfolding outputs_of due_items item_stamps items_of lsps_of ticked unstamped
+  due_path item output wanted sent waited =
+      let came = after_tick r before after made n x is is_done in
+      let in_order = subst T (sym (is_sorted-both item_cmp before.facts.sent (items_of r before) sound.sent)) (is_sorted-items r before sound.paths.paths.in_order) in
+      let due = due_among r.refresh_ms before.facts.sent n in
+      let upstream_due = due_upstream r.refresh_ms before.sent_upstream n in
+      let out = goes_out item_cmp item_total item_exact r.refresh_ms n at (items_of r before) (items_of r after) before.facts.sent item output in_order wanted sent waited in
+      let tears = between item_cmp (tear_for after.facts.up) (items_of r before) (items_of r after) in
+      let resv_tears = between upstream_cmp (tear_for after.facts.up) (upstream_of r before) (upstream_of r after) in
+      let sends = between item_cmp (send_for item_cmp due) (items_of r after) (items_of r before) in
+      let resv_sends = between upstream_cmp (send_for upstream_cmp upstream_due) (upstream_of r after) (upstream_of r before) in (
+        subst (λ outputs. Contains outputs output) (sym (sends_then r before after made n x is is_done))
+            (Contains-append_left (tears ++ resv_tears ++ sends) resv_sends output (Contains-append_right (tears ++ resv_tears) sends output out)),
+        ap (λ (s : State). find item_cmp item s.facts.sent) came
+            ∙ moment_is item_cmp item_total item_exact r.refresh_ms n at (items_of r before) (items_of r unstamped) before.facts.sent item output in_order
+            (subst (λ (s : State). find item_cmp item (items_of r s) ≡ Some output) came wanted) sent waited,
+      )
+
+  -- So is a Resv.
+  pub due_resv : (upstream : Upstream) (output : Output) → find upstream_cmp upstream (upstream_of r after) ≡ Some output → find upstream_cmp upstream before.sent_upstream ≡ Some at → at + r.refresh_ms ≤ n → Contains made.outputs output × (find upstream_cmp upstream after.sent_upstream ≡ Some n)
+  unfolding outputs_of due_items upstream_stamps upstream_of lsps_of ticked unstamped
+  due_resv upstream output wanted sent waited =
+      let came = after_tick r before after made n x is is_done in
+      let in_order = subst T (sym (is_sorted-both upstream_cmp before.sent_upstream (upstream_of r before) sound.sent_upstream)) (is_sorted-upstream_sound r before before.facts.moment sound.paths.paths) in
+      let due = due_among r.refresh_ms before.facts.sent n in
+      let upstream_due = due_upstream r.refresh_ms before.sent_upstream n in
+      let out = goes_out upstream_cmp upstream_total upstream_exact r.refresh_ms n at (upstream_of r before) (upstream_of r after) before.sent_upstream upstream output in_order wanted sent waited in
+      let tears = between item_cmp (tear_for after.facts.up) (items_of r before) (items_of r after) in
+      let resv_tears = between upstream_cmp (tear_for after.facts.up) (upstream_of r before) (upstream_of r after) in
+      let sends = between item_cmp (send_for item_cmp due) (items_of r after) (items_of r before) in
+      let resv_sends = between upstream_cmp (send_for upstream_cmp upstream_due) (upstream_of r after) (upstream_of r before) in (
+        subst (λ outputs. Contains outputs output) (sym (sends_then r before after made n x is is_done))
+            (Contains-append_right (tears ++ resv_tears ++ sends) resv_sends output out),
+        ap (λ (s : State). find upstream_cmp upstream s.sent_upstream) came
+            ∙ moment_is upstream_cmp upstream_total upstream_exact r.refresh_ms n at (upstream_of r before) (upstream_of r unstamped) before.sent_upstream upstream output in_order
+            (subst (λ (s : State). find upstream_cmp upstream (upstream_of r s) ≡ Some output) came wanted) sent waited,
+      )

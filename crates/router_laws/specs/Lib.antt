@@ -1,1 +1,2 @@
+pub mod TouchedBy
 pub mod Words

@@ -17,8 +17,3 @@ link_event number false = events.LinkDown number
 -- each origin of the path has its expiry above the moment
 abbrev pub IsUnexpired : ℕ → Key × PathFact → Type 0
 IsUnexpired moment path = AllByRecursion (λ (origin : Ipv4Addr × Origin). moment < origin.1.expiry) path.1.origins
-
--- the event is no message for this router
-abbrev pub IsNoMessage : Event → Type 0
-IsNoMessage (events.Arrive a) = ⊥
-IsNoMessage _ = Unit {0}

@@ -3,5 +3,5 @@
 #![tactic(auto)]
 
 pub mod moments;
-pub mod served;
+pub mod reservations;
 pub mod stays;

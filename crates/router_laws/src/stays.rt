@@ -1,29 +1,34 @@
 //! What stays as it was, and what is silent.
 
-ghost use Rattle.std.specs.Prelude.{◌≡◌, ℕ, Bool, List, [], T, Some, Ok, true, false};
-ghost use Rattle.std.specs.FinMap.Entries.{is_sorted};
+ghost use Rattle.std.specs.Prelude.{◌≡◌, ℕ, Bool, [], T, Some, Ok, not, true, false};
+ghost use Rattle.std.specs.FinMap.Entries.{is_sorted, where_key};
 ghost use Rattle.rsvp_contents.specs.declared.messages.Content.TheVariants as contents;
 ghost use Rattle.rsvp_contents.specs.declared.messages.Path.{Path};
-ghost use Rattle.lsr_facts.specs.Orders.{key_cmp};
+ghost use Rattle.lsr_facts.specs.Orders.{item_cmp, key_cmp, key_of_item};
 ghost use Rattle.lsr_facts.specs.Routers.{HasLink, IsRouter};
-ghost use Rattle.lsr_facts.specs.declared.facts.Facts.{Facts};
+ghost use Rattle.lsr_facts.specs.declared.key.Key.{Key};
 ghost use Rattle.lsr_facts.specs.declared.path_fact.PathFact.{PathFact};
 ghost use Rattle.lsr_facts.specs.declared.reply.Reply.TheVariants as replies;
 ghost use Rattle.lsr_facts.specs.declared.router.Router.{Router};
+ghost use Rattle.resv_facts.specs.Upstreams.{upstream_cmp};
 ghost use Rattle.router_events.specs.declared.events.Event.TheVariants as events;
 ghost use Rattle.router_events.specs.declared.events.Made.{Made};
 ghost use Rattle.router_events.specs.declared.ways.Relay.{Relay};
-ghost use Rattle.abstract_router.specs.Paths.{is_same_route, way_for, way_of};
-ghost use Rattle.abstract_router.specs.Places.{Place, is_up};
+ghost use Rattle.abstract_paths.specs.Paths.{is_same_route, way_for, way_of};
+ghost use Rattle.abstract_paths.specs.Places.{Place, is_up};
 ghost use Rattle.abstract_router.specs.Soundness.{IsSound};
+ghost use Rattle.abstract_router.specs.States.{State};
 ghost use Rattle.abstract_router.specs.Steps.{Step};
+ghost use Rattle.abstract_router.specs.Touched.{IsSameElsewhere};
+ghost use Rattle.abstract_router.specs.Upstreams.{upstream_of};
+ghost use Rattle.abstract_router.specs.Wanted.{items_of};
 ghost use Rattle.router_laws.specs.Words.{comes, link_event};
 
 /// A Path that is done, and comes again over the same link at the same moment, is done again; nothing is sent for
 /// it, and nothing changes. That its record is dropped was told the first time.
 pub fn paths_repeat_silently()
-    ensures { (r : Router) (a b c : Facts) (one other : Made) (link : ℕ) (p : Path) →
-        T (is_sorted key_cmp a.paths) →
+    ensures { (r : Router) (a b c : State) (one other : Made) (link : ℕ) (p : Path) →
+        IsRouter r → IsSound r a →
         one.event ≡ comes link (contents.Path p) → other.event ≡ comes link (contents.Path p) →
         one.reply ≡ replies.Done → Step r a one b → Step r b other c →
         (other.reply ≡ replies.Done) × (other.outputs ≡ []) × (c ≡ b) }
@@ -32,8 +37,8 @@ pub fn paths_repeat_silently()
 /// A link that comes up where it is up, or goes down where it is down, is done; nothing is sent for it, and
 /// nothing changes.
 pub fn links_repeat_silently()
-    ensures { (r : Router) (before after : Facts) (made : Made) (number : ℕ) (so : Bool) →
-        IsRouter r → IsSound r before → HasLink r number → is_up before.up number ≡ so →
+    ensures { (r : Router) (before after : State) (made : Made) (number : ℕ) (so : Bool) →
+        IsRouter r → IsSound r before → HasLink r number → is_up before.facts.up number ≡ so →
         Step r before made after → made.event ≡ link_event number so →
         (made.reply ≡ replies.Done) × (made.outputs ≡ []) × (after ≡ before) }
 {}
@@ -45,24 +50,46 @@ pub fn same_routes_keep_their_way()
         is_same_route fact.given p.route ≡ true → way_for n (Some fact) p ≡ Ok (way_of fact) }
 {}
 
-/// A restart takes what messages set up and leaves the router cold; links, static routes and the moment stay. No
-/// message goes out for it, no tear either.
+/// A restart takes what messages set up, paths, reservations and labels, and leaves the router cold; links, static
+/// routes and the moment stay. No message goes out for it, no tear either.
 pub fn restarts_lose_what_messages_set_up()
-    ensures { (r : Router) (before after : Facts) (made : Made) →
+    ensures { (r : Router) (before after : State) (made : Made) →
         Step r before made after → made.event ≡ events.Restart →
         (made.reply ≡ replies.Done) × (made.outputs ≡ [])
-        × (after ≡ record before { cold = true; paths = []; sent = [] }) }
+        × (after ≡ record {
+          facts = record before.facts { cold = true; paths = []; sent = [] };
+          resvs = [];
+          labels = [];
+          sent_upstream = [];
+        }) }
 {}
 
 /// A start makes a router run, and changes and sends nothing.
 pub fn starts_change_nothing_else()
-    ensures { (r : Router) (before after : Facts) (made : Made) →
+    ensures { (r : Router) (before after : State) (made : Made) →
         Step r before made after → made.event ≡ events.Start →
-        (made.reply ≡ replies.Done) × (made.outputs ≡ []) × (after ≡ record before { cold = false }) }
+        (made.reply ≡ replies.Done) × (made.outputs ≡ [])
+        × (after ≡ record before { facts = record before.facts { cold = false } }) }
 {}
 
-/// A message for another router changes nothing that is known of paths, be it passed on or refused.
+/// A message for another router changes nothing that is known, be it passed on or refused.
 pub fn relays_change_nothing()
-    ensures { (r : Router) (before after : Facts) (made : Made) (message : Relay) →
+    ensures { (r : Router) (before after : State) (made : Made) (message : Relay) →
         IsSound r before → Step r before made after → made.event ≡ events.Relay message → after ≡ before }
+{}
+
+/// What is wanted of an LSP comes of what is known of it, and of what all LSPs share: where the same links are up and
+/// the same static routes stand before and after, each LSP that isn't touched has the same Paths and Resvs wanted of
+/// it. An LSP that isn't touched has the path, the label and the reservation that it had, but for when they expire.
+pub fn what_is_wanted_comes_of_its_lsps()
+    ensures paths { (r : Router) (touched : Key → Bool) (before after : State) →
+        T (is_sorted key_cmp before.facts.paths) → T (is_sorted key_cmp after.facts.paths) →
+        IsSameElsewhere r touched before after →
+        where_key item_cmp (λ item. not (touched (key_of_item item))) (items_of r before)
+        ≡ where_key item_cmp (λ item. not (touched (key_of_item item))) (items_of r after) }
+    ensures resvs { (r : Router) (touched : Key → Bool) (before after : State) →
+        T (is_sorted key_cmp before.facts.paths) → T (is_sorted key_cmp after.facts.paths) →
+        IsSameElsewhere r touched before after →
+        where_key upstream_cmp (λ u. not (touched u.key)) (upstream_of r before)
+        ≡ where_key upstream_cmp (λ u. not (touched u.key)) (upstream_of r after) }
 {}

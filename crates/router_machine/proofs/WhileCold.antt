@@ -12,8 +12,8 @@ use Rattle.lsr_facts.specs.declared.key.Key.{Key}
 use Rattle.lsr_facts.specs.declared.path_fact.PathFact.{PathFact}
 use Rattle.lsr_facts.specs.declared.refusal.Refusal.{Refusal}
 use Rattle.lsr_facts.specs.declared.router.Router.{Router}
-use Rattle.abstract_lsr.specs.States.{State}
-use Rattle.abstract_lsr.specs.Tables.{action_of, forwarded, look, table_of}
+use Rattle.abstract_router.specs.States.{State}
+use Rattle.abstract_router.specs.Tables.{action_of, forwarded, look, table_of}
 use Rattle.datagrams.specs.Datagrams.{IsDatagram}
 use Rattle.datagrams.specs.declared.datagram.Datagram.{Datagram}
 

@@ -3,13 +3,13 @@ use Rattle.std.specs.Prelude.{◌≡◌, ◌≢◌, ◌⊎◌, ℕ, Bool, List, 
 use Rattle.lsr_facts.specs.declared.refusal.Refusal.{Refusal}
 use Rattle.lsr_facts.specs.declared.refusal.Refusal.TheVariants.{NoMemory}
 use Rattle.lsr_facts.specs.declared.router.Router.{Router}
+use Rattle.router_events.specs.Arrivals.{is_message}
 use Rattle.router_events.specs.declared.events.Event.{Event}
-use Rattle.router_events.specs.declared.events.Event.TheVariants as events
 use Rattle.router_events.specs.declared.events.Made.{Made}
-use Rattle.abstract_lsr.specs.Arrivals.{outcome}
-use Rattle.abstract_lsr.specs.States.{State}
-use Rattle.abstract_lsr.specs.Steps.{IsNoStep, Step}
-use Rattle.abstract_lsr.specs.Tables.{forwarded}
+use Rattle.abstract_router.specs.Arrivals.{outcome}
+use Rattle.abstract_router.specs.States.{State}
+use Rattle.abstract_router.specs.Steps.{IsNoStep, Step}
+use Rattle.abstract_router.specs.Tables.{forwarded}
 use Rattle.datagrams.specs.Datagrams.{IsDatagram}
 use Rattle.datagrams.specs.declared.datagram.Datagram.{Datagram}
 use Rattle.datagrams.specs.declared.datagram.Datagram.TheVariants as kinds
@@ -19,13 +19,32 @@ use Rattle.router_machine.specs.declared.inputs.Input.{Input}
 use Rattle.router_machine.specs.declared.inputs.Input.TheVariants as inputs
 use Rattle.router_machine.specs.declared.inputs.Served.{Served}
 use Rattle.router_machine.specs.declared.inputs.Served.TheVariants as serves
-use Rattle.router_machine.specs.declared.machine.Inside.{Inside}
-use Rattle.router_machine.specs.declared.machine.Inside.TheVariants as insides
+use Rattle.router_machine.specs.declared.machine.Phase.{Phase}
+use Rattle.router_machine.specs.declared.machine.Phase.TheVariants as phases
+
+-- What stands for a router that is out: it is no router, and no machine is this between two calls.
+unfoldable pub no_router : RouterState
+no_router = record {
+  router = record { id = record { octets = [] }; refresh_ms = 0; labels = record { first = 0; last = 0 }; links = [] };
+  state = record {
+    facts = record { cold = true; moment = 0; up = []; routes = []; paths = []; sent = [] };
+    resvs = [];
+    labels = [];
+    sent_upstream = [];
+  };
+}
 
 -- what a router is and knows, cold or running
-abbrev pub state_in : Inside → RouterState
-state_in (insides.Running router) = router
-state_in (insides.Cold router) = router
+abbrev pub state_in : Phase → RouterState
+state_in (phases.Running router) = router
+state_in (phases.Cold router) = router
+state_in phases.Between = no_router
+
+-- a router is there, cold or running
+abbrev pub IsThere : Phase → Type 0
+IsThere (phases.Running router) = Unit {0}
+IsThere (phases.Cold router) = Unit {0}
+IsThere phases.Between = ⊥
 
 -- Why an event is left out: it has no step; or memory ran out for one that isn't silent, while the router runs. What is
 -- refused, and a start, take no memory.
@@ -57,12 +76,6 @@ abbrev pub IsDatagramServed : Router → State → ℕ → List ℕ → State �
 IsDatagramServed r before link bytes after answer =
     (datagram : Result Datagram Refusal) × IsDatagram r (forwarded before) link bytes datagram × IsServedFor r before datagram after answer
 
--- the event is a message that came
-abbrev pub is_message : Event → Bool
-is_message (events.Arrive a) = true
-is_message (events.Relay m) = true
-is_message event = false
-
 -- What comes of an event that is copied first: memory may run out for the copy of a message.
 abbrev pub IsCopyServed : Router → State → Event → State → Result Served Refusal → Type 0
 IsCopyServed r before event after answer =
@@ -73,16 +86,18 @@ abbrev pub IsInputServed : Router → State → Input → State → Result Serve
 IsInputServed r before (inputs.Datagram link bytes) after answer = IsDatagramServed r before link bytes.items after answer
 IsInputServed r before (inputs.Event event) after answer = IsCopyServed r before event after answer
 
--- Inputs, one after the other: of each comes its step, or what becomes of its labelled frame at that moment, in this order
--- and nothing else; or it is left out for a refusal that isn't out of memory. Only a step changes anything.
-abbrev pub AreServed : Router → State → List Input → List Served → State → Type 0
-AreServed r before [] served after = (served ≡ []) × (after ≡ before)
-AreServed r before (input ∷ more) served after =
-    ((one : Served) × (later : List Served) × (between : State) × (served ≡ one ∷ later) × IsInputServed r before input between (Ok one) × AreServed r between more later after)
-    ⊎ ((refusal : Refusal) × (refusal ≢ NoMemory) × IsInputServed r before input before (Err refusal) × AreServed r before more served after)
+-- Inputs are answered, one after the other: each has its answer at its own place, be it its step, what becomes of its
+-- labelled frame at that moment, or its refusal. Only a step changes anything.
+abbrev pub AreAnswered : Router → State → List Input → List (Result Served Refusal) → State → Type 0
+AreAnswered r before [] [] after = after ≡ before
+AreAnswered r before (input ∷ inputs) (answer ∷ answers) after =
+    (between : State) × IsInputServed r before input between answer × AreAnswered r between inputs answers after
+AreAnswered r before [] (answer ∷ answers) after = ⊥
+AreAnswered r before (input ∷ inputs) [] after = ⊥
 
 -- the steps that were made
-abbrev pub steps_in : List Served → List Made
+abbrev pub steps_in : List (Result Served Refusal) → List Made
 steps_in [] = []
-steps_in (serves.Made made ∷ more) = made ∷ steps_in more
-steps_in (serves.Passed passed ∷ more) = steps_in more
+steps_in (Ok (serves.Made made) ∷ more) = made ∷ steps_in more
+steps_in (Ok (serves.Passed passed) ∷ more) = steps_in more
+steps_in (Err refusal ∷ more) = steps_in more

@@ -1,7 +1,7 @@
 //! The label table of a router, as datagrams ask it.
 
 ghost use Rattle.std.specs.Prelude.{◌≡◌};
-ghost use Rattle.abstract_lsr.specs.Tables.{forwarded};
+ghost use Rattle.abstract_router.specs.Tables.{forwarded};
 
 use datagrams::Forwards;
 use forwarding_table::Forwarding;

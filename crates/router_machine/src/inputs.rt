@@ -17,22 +17,11 @@ pub enum Input {
     Event(Event),
 }
 
-/// What came of an input that wasn't left out.
+/// What came of an input that wasn't refused.
 #[derive(Debug, Drop)]
 pub enum Served {
     /// It was an event, and this is its step.
     Made(Made),
     /// It was a labelled frame, and this became of it (RFC 3031, 3.10). The router is as it was.
     Passed(Passed),
-}
-
-/// What came of inputs.
-#[derive(Debug, Drop)]
-pub struct Report {
-    /// What came of each that wasn't left out, in their order.
-    pub served: Vec<Served>,
-    /// How many inputs were taken or left out, from the first on.
-    pub count: usize,
-    /// Whether the rest wait because memory ran out.
-    pub is_out_of_memory: bool,
 }

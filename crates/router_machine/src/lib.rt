@@ -6,6 +6,5 @@ mod inputs;
 mod machine;
 
 pub use datagrams::Passed;
-pub use inputs::{Input, Report, Served};
+pub use inputs::{Input, Served};
 pub use machine::Machine;
-pub use router_core::{Tables, WholeState, WholeView};

@@ -1,50 +1,58 @@
 //! A router that is cold or runs.
 
-ghost use Rattle.std.specs.Prelude.{◌≡◌, ◌≢◌, ◌<◌, List, IfOk, OnErr, false, true, length, take, ◌++◌, ◌∷◌, []};
+ghost use Rattle.std.specs.Prelude.{◌≡◌, IfOk, OnErr, false};
 ghost use Rattle.lsr_facts.specs.Routers.{IsRouter};
-ghost use Rattle.lsr_facts.specs.declared.refusal.Refusal.TheVariants.{NoMemory};
-ghost use Rattle.abstract_lsr.specs.Soundness.{IsSound};
-ghost use Rattle.abstract_lsr.specs.Steps.{Run, opening};
-ghost use Rattle.abstract_lsr.specs.Tables.{forwarded};
+ghost use Rattle.resv_facts.specs.Claims.{reserved_of};
+ghost use Rattle.abstract_router.specs.Preempting.{claims_of};
+ghost use Rattle.abstract_router.specs.Soundness.{IsSound};
+ghost use Rattle.abstract_router.specs.Steps.{Run, opening};
+ghost use Rattle.abstract_router.specs.Tables.{forwarded};
 ghost use Rattle.datagrams.specs.Datagrams.{IsDatagram};
 ghost use Rattle.router_core.specs.Plans.{quiet};
 ghost use Rattle.router_core.specs.States.{opened};
-ghost use Rattle.router_machine.specs.Machines.{AreServed, IsCopyServed, IsDatagramServed, IsEventServed, IsInputServed, IsMadeFor, is_message, state_in, steps_in};
-ghost use Rattle.router_machine.specs.declared.inputs.Served.{Served};
+ghost use Rattle.router_machine.specs.Below.labels.Rows.{IsTableOf};
+ghost use Rattle.router_machine.specs.Machines.{AreAnswered, IsCopyServed, IsDatagramServed, IsEventServed, IsInputServed, IsMadeFor, IsThere, state_in, steps_in};
 
 use crate::forwarding::Labels;
-use crate::inputs::{Input, Report, Served};
+use crate::inputs::{Input, Served};
 use datagrams::{Datagram, read_datagram};
+use forwarding_table::Action;
 use lsr_config::Config;
-use lsr_facts::{Refusal, Reply};
+use lsr_facts::{Refusal, Reply, Router};
+use resv_facts::State;
 use router_core::{Cold, Running, Tables};
 use router_events::{Event, Made, Outputs};
-use sorted_rows::{Table, TryCopy};
+use sorted_rows::Table;
 use std::alloc::{AllocError, Global};
 use std::marker::Model;
+use std::mem;
 
 /// Whether a router runs.
 #[derive(Debug, Drop)]
-enum Inside {
+enum Phase {
     /// It runs.
     Running(Running),
     /// It was restarted, and takes no event but its start.
     Cold(Cold),
+    /// It is out, while an event is served. Between two calls it never is.
+    Between,
 }
 
 /// A router, cold or running. Contracts see what it is and knows.
 #[derive(Debug, Drop)]
 pub struct Machine {
-    inside: Inside,
+    phase: Phase,
 }
 
 impl Model for Machine {
     ghost use Rattle.router_core.specs.States.{RouterState};
-    ghost use Rattle.router_machine.specs.Machines.{AreServed, IsCopyServed, IsDatagramServed, IsEventServed, IsInputServed, IsMadeFor, is_message, state_in, steps_in};
+    ghost use Rattle.router_machine.specs.Machines.{IsThere, state_in};
 
     ghost Value = { RouterState };
 
-    ghost view = { λ m. state_in m.inside };
+    ghost view = { λ m. state_in m.phase };
+
+    ghost invariant = { λ m. IsThere m.phase };
 }
 
 /// The step of an event that is done, and for which nothing is sent.
@@ -60,65 +68,37 @@ fn done(alloc: Global, event: Event) -> Made
 }
 
 /// Serves an event by a running router.
-fn serve_running(
-    mut router: Running,
-    alloc: Global,
-    event: Event,
-) -> (Inside, Result<Made, Refusal>)
+fn serve_running(mut router: Running, alloc: Global, event: Event) -> (Phase, Result<Made, Refusal>)
+    ensures there { IsThere result.0 }
     ensures served { IsEventServed router.router router.state event (state_in result.0).state result.1 }
     ensures router { (state_in result.0).router ≡ router.router }
 {
     router.soundness();
     match event {
         Event::Restart => (
-            Inside::Cold(router.restart()),
+            Phase::Cold(router.restart()),
             Ok(done(alloc, Event::Restart)),
         ),
         event => {
             let answer = router.serve_event(alloc, event);
-            (Inside::Running(router), answer)
+            (Phase::Running(router), answer)
         }
     }
 }
 
 /// Serves an event by a cold router.
-fn serve_cold(router: Cold, alloc: Global, event: Event) -> (Inside, Result<Made, Refusal>)
+fn serve_cold(router: Cold, alloc: Global, event: Event) -> (Phase, Result<Made, Refusal>)
+    ensures there { IsThere result.0 }
     ensures served { IsEventServed router.router router.state event (state_in result.0).state result.1 }
     ensures router { (state_in result.0).router ≡ router.router }
 {
     router.soundness();
     match event {
         Event::Start => (
-            Inside::Running(router.start()),
+            Phase::Running(router.start()),
             Ok(done(alloc, Event::Start)),
         ),
-        _ => (Inside::Cold(router), Err(Refusal::IsCold)),
-    }
-}
-
-/// A copy of an event. Memory may run out for a message.
-fn copy_of(alloc: Global, event: &Event) -> Result<Event, AllocError>
-    ensures ok { IfOk result (λ copy. copy ≡ event.now) }
-    ensures memory { OnErr result (is_message event.now ≡ true) }
-{
-    match event {
-        Event::Arrive(_) | Event::Relay(_) => event.try_copy(alloc),
-        Event::Tick(moment) => Ok(Event::Tick(*moment)),
-        Event::LinkUp(number) => Ok(Event::LinkUp(*number)),
-        Event::LinkDown(number) => Ok(Event::LinkDown(*number)),
-        Event::Restart => Ok(Event::Restart),
-        Event::Start => Ok(Event::Start),
-    }
-}
-
-/// Out of memory is passed on as the error; what is left out for another reason is passed over.
-fn only_memory(refusal: Refusal) -> Result<(), AllocError>
-    ensures over { IfOk result (λ _. refusal ≢ NoMemory) }
-    ensures memory { OnErr result (refusal ≡ NoMemory) }
-{
-    match refusal {
-        Refusal::NoMemory => Err(AllocError),
-        _ => Ok(()),
+        _ => (Phase::Cold(router), Err(Refusal::IsCold)),
     }
 }
 
@@ -130,33 +110,54 @@ impl Machine {
     {
         let router = Cold::new(alloc, config)?.start();
         Ok(Machine {
-            inside: Inside::Running(router),
+            phase: Phase::Running(router),
         })
     }
 
-    /// Serves an event: the router as it is then, and the step that was made. A cold router refuses each event but
-    /// [`Event::Start`] ([`Refusal::IsCold`]). A message for another router whose limit ran out, over a link that is up, is
-    /// dropped ([`Refusal::HopLimit`]). Else the only error is [`Refusal::NoMemory`]. What is refused changes nothing.
-    pub fn serve_event(self, alloc: Global, event: Event) -> (Machine, Result<Made, Refusal>)
-        ensures served { IsEventServed self.router self.state event result.0.state result.1 }
-        ensures router { result.0.router ≡ self.router }
+    /// Opens the router of a configuration and serves what comes, as [`Machine::serve_all`] does: the steps that were made
+    /// are a run from its opening, and what it knows at the end is sound. The only error is out of memory, before anything
+    /// is served.
+    pub fn run(
+        alloc: Global,
+        config: Config,
+        inputs: &[Input],
+    ) -> Result<(Machine, Vec<Result<Served, Refusal>>), AllocError>
+        ensures answered { IfOk result (λ after. AreAnswered config.router (opening config.router config.routes)
+            inputs.now after.1.items after.0.state) }
+        ensures run { IfOk result (λ after. Run config.router (opening config.router config.routes)
+            (steps_in after.1.items) after.0.state) }
+        ensures sound { IfOk result (λ after. IsSound config.router after.0.state) }
+        ensures router { IfOk result (λ after. after.0.router ≡ config.router) }
     {
-        let (inside, answer) = match self.inside {
-            Inside::Running(router) => serve_running(router, alloc, event),
-            Inside::Cold(router) => serve_cold(router, alloc, event),
+        let mut machine = Machine::open(alloc, config)?;
+        let answers = machine.serve_all(alloc, inputs)?;
+        Ok((machine, answers))
+    }
+
+    /// Serves an event, and gives the step that was made. A cold router refuses each event but [`Event::Start`]
+    /// ([`Refusal::IsCold`]). A message for another router whose limit ran out, over a link that is up, is dropped
+    /// ([`Refusal::HopLimit`]). Else the only error is [`Refusal::NoMemory`]. What is refused changes nothing.
+    pub fn serve_event(&mut self, alloc: Global, event: Event) -> Result<Made, Refusal>
+        ensures served { IsEventServed self.old.router self.old.state event self.new.state result }
+        ensures router { self.new.router ≡ self.old.router }
+    {
+        let (phase, answer) = match mem::replace(&mut self.phase, Phase::Between) {
+            Phase::Running(router) => serve_running(router, alloc, event),
+            Phase::Cold(router) => serve_cold(router, alloc, event),
+            Phase::Between => unreachable!(),
         };
-        (Machine { inside }, answer)
+        self.phase = phase;
+        answer
     }
 
     /// Serves an event, and tells what came of it as of any input.
-    fn serve_made(self, alloc: Global, event: Event) -> (Machine, Result<Served, Refusal>)
-        ensures served { IsMadeFor self.router self.state event result.0.state result.1 }
-        ensures router { result.0.router ≡ self.router }
+    fn serve_made(&mut self, alloc: Global, event: Event) -> Result<Served, Refusal>
+        ensures served { IsMadeFor self.old.router self.old.state event self.new.state result }
+        ensures router { self.new.router ≡ self.old.router }
     {
-        let (machine, answer) = self.serve_event(alloc, event);
-        match answer {
-            Ok(made) => (machine, Ok(Served::Made(made))),
-            Err(refusal) => (machine, Err(refusal)),
+        match self.serve_event(alloc, event) {
+            Ok(made) => Ok(Served::Made(made)),
+            Err(refusal) => Err(refusal),
         }
     }
 
@@ -168,7 +169,7 @@ impl Machine {
         read_datagram(alloc, tables.router(), &Labels { tables }, link, bytes)
     }
 
-    /// Serves a datagram that came over a link, whatever it is: the router as it is then, and what came of the datagram.
+    /// Serves a datagram that came over a link, whatever it is, and gives what came of it.
     ///
     /// A labelled frame is passed on or delivered, and changes nothing: the label table alone says where it goes
     /// (RFC 3031, 3.10), and that of a cold router is empty. A message is an event, whose step is made. Any other datagram
@@ -178,36 +179,36 @@ impl Machine {
     /// [`Machine::serve_event`] refuses it. [`Refusal::NoMemory`] can come in place of any answer but a fault of the
     /// datagram's head. What is refused changes nothing.
     pub fn serve_datagram(
-        self,
+        &mut self,
         alloc: Global,
         link: u16,
         bytes: &[u8],
-    ) -> (Machine, Result<Served, Refusal>)
-        ensures served { IsDatagramServed self.router self.state link bytes.now result.0.state result.1 }
-        ensures router { result.0.router ≡ self.router }
+    ) -> Result<Served, Refusal>
+        ensures served { IsDatagramServed self.old.router self.old.state link bytes.now self.new.state result }
+        ensures router { self.new.router ≡ self.old.router }
     {
         match self.read(alloc, link, bytes) {
             Ok(Datagram::Event(event)) => self.serve_made(alloc, event),
-            Ok(Datagram::Passed(passed)) => (self, Ok(Served::Passed(passed))),
-            Err(refusal) => (self, Err(refusal)),
+            Ok(Datagram::Passed(passed)) => Ok(Served::Passed(passed)),
+            Err(refusal) => Err(refusal),
         }
     }
 
     /// Serves an event that stays the caller's: it is copied, where it is a message.
-    fn serve_copy(self, alloc: Global, event: &Event) -> (Machine, Result<Served, Refusal>)
-        ensures served { IsCopyServed self.router self.state event.now result.0.state result.1 }
-        ensures router { result.0.router ≡ self.router }
+    fn serve_copy(&mut self, alloc: Global, event: &Event) -> Result<Served, Refusal>
+        ensures served { IsCopyServed self.old.router self.old.state event.now self.new.state result }
+        ensures router { self.new.router ≡ self.old.router }
     {
-        match copy_of(alloc, event) {
+        match event.copied(alloc) {
             Ok(event) => self.serve_made(alloc, event),
-            Err(_no_memory) => (self, Err(Refusal::NoMemory)),
+            Err(_no_memory) => Err(Refusal::NoMemory),
         }
     }
 
     /// Serves whatever comes, as [`Machine::serve_datagram`] and [`Machine::serve_event`] do.
-    pub fn serve(self, alloc: Global, input: &Input) -> (Machine, Result<Served, Refusal>)
-        ensures served { IsInputServed self.router self.state input.now result.0.state result.1 }
-        ensures router { result.0.router ≡ self.router }
+    pub fn serve(&mut self, alloc: Global, input: &Input) -> Result<Served, Refusal>
+        ensures served { IsInputServed self.old.router self.old.state input.now self.new.state result }
+        ensures router { self.new.router ≡ self.old.router }
     {
         match input {
             Input::Datagram { link, bytes } => self.serve_datagram(alloc, *link, bytes),
@@ -215,106 +216,95 @@ impl Machine {
         }
     }
 
-    /// Serves an input, and puts what came of it, if it isn't left out, behind the others: the router as it is then, and
-    /// whether there was memory for it. Where there was none, nothing changed.
-    fn serve_next(
-        self,
+    /// Serves what comes, one input after the other, and gives the answer to each, in the same order. What is refused
+    /// changes nothing, be it for want of memory: those after it are served all the same. The memory of the list of answers
+    /// is reserved before the first input is served; the only error is that there is none, and then nothing changed.
+    pub fn serve_all(
+        &mut self,
         alloc: Global,
-        input: &Input,
-        served: &mut Vec<Served>,
-    ) -> (Machine, Result<(), AllocError>)
-        ensures taken { IfOk result.1 (λ _. (later : List Served) × (served.new.items ≡ served.old.items ++ later)
-            × AreServed self.router self.state (input.now ∷ []) later result.0.state) }
-        ensures kept { OnErr result.1 ((served.new.items ≡ served.old.items) × (result.0.state ≡ self.state)) }
-        ensures router { result.0.router ≡ self.router }
-    {
-        if let Err(error) = served.reserve(1) {
-            return (self, Err(error));
-        }
-        let (machine, answer) = self.serve(alloc, input);
-        match answer {
-            Ok(one) => {
-                served.push(one).unwrap();
-                (machine, Ok(()))
-            }
-            Err(refusal) => (machine, only_memory(refusal)),
-        }
-    }
-
-    /// Serves what comes, one input after the other, as long as there is memory: the router as it is then, and what
-    /// came of the inputs. One for which there is no memory changes nothing, and waits with those behind it: so memory
-    /// ran out only where an input waits, and where it did not, each input is counted.
-    pub fn serve_all(self, alloc: Global, inputs: &[Input]) -> (Machine, Report)
-        ensures taken { AreServed self.router self.state (take result.1.count inputs.now) result.1.served.items result.0.state }
-        ensures all { result.1.is_out_of_memory ≡ false → result.1.count ≡ length inputs.now }
-        ensures memory { result.1.is_out_of_memory ≡ true → result.1.count < length inputs.now }
-        ensures run { Run self.router self.state (steps_in result.1.served.items) result.0.state }
-        ensures sound { IsSound result.0.router result.0.state }
-        ensures router { result.0.router ≡ self.router }
-    {
-        let mut machine = self;
-        let mut served = Vec::new(alloc);
-        let mut count = 0;
-        for input in inputs {
-            let (next, answer) = machine.serve_next(alloc, input, &mut served);
-            machine = next;
-            match answer {
-                Ok(()) => count += 1,
-                Err(_no_memory) => {
-                    machine.soundness();
-                    return (
-                        machine,
-                        Report {
-                            served,
-                            count,
-                            is_out_of_memory: true,
-                        },
-                    );
-                }
-            }
-        }
-        machine.soundness();
-        (
-            machine,
-            Report {
-                served,
-                count,
-                is_out_of_memory: false,
-            },
-        )
-    }
-
-    /// Opens the router of a configuration and serves what comes: the steps that were made are a run from its
-    /// opening, and what it knows at the end is sound. As [`Machine::serve_all`] does, it serves each input unless memory
-    /// runs out, and then at least one waits. The only error is out of memory, before anything is served.
-    pub fn run(
-        alloc: Global,
-        config: Config,
         inputs: &[Input],
-    ) -> Result<(Machine, Report), AllocError>
-        ensures run { IfOk result (λ after. Run config.router (opening config.router config.routes)
-            (steps_in after.1.served.items) after.0.state) }
-        ensures sound { IfOk result (λ after. IsSound config.router after.0.state) }
-        ensures taken { IfOk result (λ after. AreServed config.router (opening config.router config.routes)
-            (take after.1.count inputs.now) after.1.served.items after.0.state) }
-        ensures all { IfOk result (λ after. after.1.is_out_of_memory ≡ false → after.1.count ≡ length inputs.now) }
-        ensures memory { IfOk result (λ after. after.1.is_out_of_memory ≡ true → after.1.count < length inputs.now) }
-        ensures router { IfOk result (λ after. after.0.router ≡ config.router) }
+    ) -> Result<Vec<Result<Served, Refusal>>, AllocError>
+        ensures answered { IfOk result (λ answers. AreAnswered self.old.router self.old.state inputs.now answers.items self.new.state) }
+        ensures run { IfOk result (λ answers. Run self.old.router self.old.state (steps_in answers.items) self.new.state) }
+        ensures kept { OnErr result (self.new ≡ self.old) }
+        ensures sound { IsSound self.new.router self.new.state }
+        ensures router { self.new.router ≡ self.old.router }
     {
-        Ok(Machine::open(alloc, config)?.serve_all(alloc, inputs))
+        self.soundness();
+        let mut answers = Vec::with_capacity(alloc, inputs.len())?;
+        for input in inputs {
+            answers.push_reserved(self.serve(alloc, input));
+        }
+        self.soundness();
+        Ok(answers)
     }
 
-    /// The tables of the router: what it knows, and what is reserved. They say nothing of whether it is cold.
-    pub fn tables(&self) -> &Tables
+    /// Whether the router is cold: it was restarted, and not started yet.
+    pub fn is_cold(&self) -> bool
+        ensures { result ≡ self.now.state.facts.cold }
+    {
+        match &self.phase {
+            Phase::Running(router) => {
+                router.soundness();
+                false
+            }
+            Phase::Cold(router) => {
+                router.soundness();
+                true
+            }
+            Phase::Between => unreachable!(),
+        }
+    }
+
+    /// What never changes of the router.
+    pub fn router(&self) -> &Router
+        ensures { result.now ≡ self.now.router }
+    {
+        self.tables().router()
+    }
+
+    /// What the router knows, as a value. The only error is out of memory.
+    pub fn export(&self, alloc: Global) -> Result<State, AllocError>
+        ensures { IfOk result (λ state. state ≡ self.now.state) }
+    {
+        match &self.phase {
+            Phase::Running(router) => router.tables().export(alloc),
+            Phase::Cold(router) => {
+                let mut state = router.tables().export(alloc)?;
+                state.facts.cold = true;
+                Ok(state)
+            }
+            Phase::Between => unreachable!(),
+        }
+    }
+
+    /// All labels under which frames may come, in their order, and what is done with them: a copy. A cold router has none.
+    /// The only error is out of memory.
+    pub fn actions(&self, alloc: Global) -> Result<Table<u32, Action>, AllocError>
+        ensures { IfOk result (IsTableOf self.now.state) }
+    {
+        self.tables().actions(alloc)
+    }
+
+    /// How much of a link is reserved at this priority, 0 (best) to 7, or a better one, in bytes per second.
+    pub fn reserved(&self, link: u16, priority: u8) -> u64
+        ensures { result ≡ reserved_of link priority (claims_of self.now.state.facts.paths self.now.state.resvs) }
+    {
+        self.tables().reserved(link, priority)
+    }
+
+    /// The tables of the router. They say nothing of whether it is cold.
+    fn tables(&self) -> &Tables
         ensures router { result.now.router ≡ self.now.router }
         ensures facts { result.now.state.facts ≡ record self.now.state.facts { cold = false } }
         ensures resvs { result.now.state.resvs ≡ self.now.state.resvs }
         ensures labels { result.now.state.labels ≡ self.now.state.labels }
         ensures upstream { result.now.state.sent_upstream ≡ self.now.state.sent_upstream }
     {
-        let tables = match &self.inside {
-            Inside::Running(router) => router.tables(),
-            Inside::Cold(router) => router.tables(),
+        let tables = match &self.phase {
+            Phase::Running(router) => router.tables(),
+            Phase::Cold(router) => router.tables(),
+            Phase::Between => unreachable!(),
         };
         tables.soundness();
         tables
@@ -325,9 +315,10 @@ impl Machine {
         ensures router { IsRouter self.now.router }
         ensures sound { IsSound self.now.router self.now.state }
     {
-        match &self.inside {
-            Inside::Running(router) => router.soundness(),
-            Inside::Cold(router) => router.soundness(),
+        match &self.phase {
+            Phase::Running(router) => router.soundness(),
+            Phase::Cold(router) => router.soundness(),
+            Phase::Between => unreachable!(),
         }
     }
 }

@@ -5,7 +5,7 @@ use Rattle.std.specs.declared.cmp.Ordering.{Ordering}
 use Rattle.std.proofs.Common.{append_assoc, get_or, refl, sym, ap, ◌∙◌}
 use Rattle.std.proofs.lemmas.List.Sums.{fold-append}
 use Rattle.std.specs.FinMap.Entries.{put}
-use Rattle.abstract_router.specs.RowLaws.{one_more}
+use Rattle.abstract_paths.specs.RowLaws.{one_more}
 use Rattle.router_sends.specs.Placing.{placed}
 
 module _ {X Y : Type 0} (f : X → Option Y) (xs : List X) (i : ℕ) (x : X) (within : i < length xs) (is : x ≡ get_or xs i x) where

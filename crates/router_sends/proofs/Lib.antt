@@ -1,3 +1,4 @@
 pub mod Asking
 pub mod Placing
+pub mod Searching
 pub mod Tears

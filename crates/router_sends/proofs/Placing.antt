@@ -8,9 +8,9 @@ use Rattle.std.specs.declared.cmp.Ordering.{Ordering}
 use Rattle.std.proofs.Common.{refl, sym, ap, ◌∙◌}
 use Rattle.sorted_rows.specs.RowsLaws.{find-append, find-behind, second, ties}
 use Rattle.router_events.specs.declared.events.Output.{Output}
-use Rattle.abstract_router.specs.Outputs.{between}
-use Rattle.abstract_router.specs.Touched.{forgotten, moments_between, renewed}
-use Rattle.abstract_router.specs.TouchedLaws.{is_sorted-forgotten, is_sorted-renewed}
+use Rattle.abstract_paths.specs.Outputs.{between}
+use Rattle.abstract_paths.specs.Touched.{forgotten, moments_between, renewed}
+use Rattle.abstract_paths.specs.TouchedLaws.{is_sorted-forgotten, is_sorted-renewed}
 use Rattle.router_sends.specs.Placing.{placed}
 
 or_none : {A : Type 0} (o : Option A) → option_or o None ≡ o

@@ -4,7 +4,7 @@ ghost use Rattle.std.specs.Prelude.{◌≡◌, IfOk, Some, map};
 ghost use Rattle.rsvp_contents.specs.Spelling.{IsMessage};
 ghost use Rattle.rsvp_contents.specs.declared.messages.Content.TheVariants as contents;
 ghost use Rattle.router_events.specs.Frames.{frame_bytes};
-ghost use Rattle.abstract_router.specs.Outputs.{is_same_frame, tear_by, tear_of};
+ghost use Rattle.abstract_paths.specs.Outputs.{is_same_frame, tear_by, tear_of};
 
 use frame_writer::write_frame;
 use path_rules::sent_by;

@@ -4,7 +4,5 @@
 mod frames;
 mod rests;
 mod sends;
-mod timing;
 
 pub use sends::{Sends, errors_out, sends_between};
-pub use timing::Timing;

@@ -1,16 +1,23 @@
 //! Whether what is wanted rests, or is sent.
 
 ghost use Rattle.std.specs.FinMap.Entries.{find, is_sorted};
+ghost use Rattle.std.specs.List.Sorted.{IsSorted};
 ghost use Rattle.std.specs.Option.{option_copied, option_map_or};
 ghost use Rattle.std.specs.Prelude.{◌≡◌, ◌&&◌, IfOk, None, Some, T, false, if◌then◌else◌, not};
-ghost use Rattle.abstract_router.specs.Outputs.{is_same_frame, rests};
-ghost use Rattle.abstract_router.specs.Stamps.{due_at};
+ghost use Rattle.abstract_paths.specs.Outputs.{is_due, is_same_frame, rests};
 
 use crate::frames::is_same_frame;
-use crate::timing::{Timing, is_due};
 use router_events::Output;
 use sorted_rows::{TryCopy, get_ref};
 use std::alloc::{AllocError, Global};
+
+/// Whether an item is one of those that are due. They stand in the order of items: a binary search.
+fn is_due<I: Ord>(due: &[I], item: &I) -> bool
+    requires { IsSorted I.cmp due.now }
+    ensures { result ≡ is_due I.cmp due.now item.now }
+{
+    due.binary_search(item).is_ok()
+}
 
 /// Whether it is the frame that was sent before, if one was.
 fn is_known_frame(alloc: Global, was: Option<&Output>, wants: &Output) -> Result<bool, AllocError>
@@ -40,17 +47,15 @@ fn rests(
 /// A copy of what is wanted, where it is sent: asked once, whether it rests.
 pub(crate) fn fresh<I: Ord + Copy>(
     alloc: Global,
-    timing: &Timing,
-    sent: &[(I, u64)],
+    due: &[I],
     was: &[(I, Output)],
     wants: &(I, Output),
 ) -> Result<Option<(I, Output)>, AllocError>
-    requires sent { T (is_sorted I.cmp sent.now) }
+    requires due { IsSorted I.cmp due.now }
     requires was { T (is_sorted I.cmp was.now) }
-    ensures fresh { IfOk result (λ row. row ≡ (if rests I.cmp (due_at timing.now.refresh_ms sent.now timing.now.due_at)
-        (find I.cmp wants.now.0 was.now) wants.now then None else Some wants.now)) }
+    ensures fresh { IfOk result (λ row. row ≡ (if rests I.cmp due.now (find I.cmp wants.now.0 was.now) wants.now then None else Some wants.now)) }
 {
-    let is_due = is_due(timing, sent, &wants.0);
+    let is_due = is_due(due, &wants.0);
     let known = get_ref(was, &wants.0);
     if rests(alloc, is_due, known, &wants.1)? {
         return Ok(None);

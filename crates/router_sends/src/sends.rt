@@ -1,16 +1,15 @@
 //! What is sent between what was wanted and what is.
 
 ghost use Rattle.std.specs.FinMap.Entries.{find, is_sorted};
+ghost use Rattle.std.specs.List.Sorted.{IsSorted};
 ghost use Rattle.std.specs.Option.{option_copied, option_map, option_to_list};
 ghost use Rattle.std.specs.Prelude.{◌≡◌, ◌++◌, [], IfOk, None, Some, T, if◌then◌else◌, is_none};
-ghost use Rattle.abstract_router.specs.Outputs.{between, errors_out, send_for, tear_for};
-ghost use Rattle.abstract_router.specs.Stamps.{due_at};
-ghost use Rattle.abstract_router.specs.Touched.{forgotten, moments_between, renewed};
+ghost use Rattle.abstract_paths.specs.Outputs.{between, errors_out, send_for, tear_for};
+ghost use Rattle.abstract_paths.specs.Touched.{forgotten, moments_between, renewed};
 ghost use Rattle.router_sends.specs.Placing.{placed};
 
 use crate::frames::tear_by;
 use crate::rests::fresh;
-use crate::timing::Timing;
 use path_rules::is_up;
 use router_events::{Output, Outputs};
 use sorted_rows::{Table, get_ref};
@@ -27,7 +26,7 @@ pub struct Sends<I: Ord> {
     pub moments: Table<I, Option<u64>>,
 }
 
-/// An output behind others, if there is one.
+/// An output after others, if there is one.
 fn with_output(outputs: Outputs, output: Option<Output>) -> Result<Outputs, AllocError>
     ensures { IfOk result (λ out. out ≡ outputs ++ option_to_list output) }
 {
@@ -133,22 +132,22 @@ fn output_of<I: Drop>(sent: Option<(I, Output)>) -> Option<Output>
     }
 }
 
-/// What is sent and renewed of what is wanted, behind what is there.
+/// What is sent and renewed of what is wanted, after what is there.
 fn kept<I: Ord + Copy + Drop>(
     alloc: Global,
-    timing: &Timing,
-    sent: &[(I, u64)],
+    due: &[I],
+    moment: u64,
     was: &[(I, Output)],
     is: &[(I, Output)],
     torn: Sends<I>,
 ) -> Result<Sends<I>, AllocError>
-    requires sent { T (is_sorted I.cmp sent.now) }
+    requires due { IsSorted I.cmp due.now }
     requires was { T (is_sorted I.cmp was.now) }
     ensures tears { IfOk result (λ kept. kept.tears ≡ torn.tears) }
     ensures sends { IfOk result (λ kept. kept.sends ≡ torn.sends
-        ++ between I.cmp (send_for I.cmp (due_at timing.now.refresh_ms sent.now timing.now.due_at)) is.now was.now) }
+        ++ between I.cmp (send_for I.cmp due.now) is.now was.now) }
     ensures moments { IfOk result (λ kept. kept.moments ≡ placed I.cmp torn.moments
-        (between I.cmp (renewed I.cmp (due_at timing.now.refresh_ms sent.now timing.now.due_at) timing.now.moment)
+        (between I.cmp (renewed I.cmp due.now moment)
         is.now was.now)) }
 {
     let Sends {
@@ -157,8 +156,8 @@ fn kept<I: Ord + Copy + Drop>(
         mut moments,
     } = torn;
     for wants in is {
-        let going = fresh(alloc, timing, sent, was, wants)?;
-        moments = with_moment(moments, renewed(timing.moment, &going))?;
+        let going = fresh(alloc, due, was, wants)?;
+        moments = with_moment(moments, renewed(moment, &going))?;
         sends = with_output(sends, output_of(going))?;
     }
     Ok(Sends {
@@ -169,27 +168,28 @@ fn kept<I: Ord + Copy + Drop>(
 }
 
 /// What is sent between what was wanted and what is, and what becomes of the moments at which items were sent last:
-/// what is wanted no more is torn down where its link is up (RFC 2205, 2.3), and what is new, changed or due is sent.
-/// All rows stand in the order of items. The only error is out of memory.
+/// what is wanted no more is torn down where its link is up (RFC 2205, 2.3), and what is new, changed or due is sent. All
+/// rows, and what is due, stand in the order of items; the moment is that of the step, in milliseconds. The only error is
+/// out of memory.
 pub fn sends_between<I: Ord + Copy + Drop>(
     alloc: Global,
     up: &Table<u16, bool>,
-    timing: &Timing,
-    sent: &[(I, u64)],
+    due: &[I],
+    moment: u64,
     was: &[(I, Output)],
     is: &[(I, Output)],
 ) -> Result<Sends<I>, AllocError>
-    requires sent { T (is_sorted I.cmp sent.now) }
+    requires due { IsSorted I.cmp due.now }
     requires was { T (is_sorted I.cmp was.now) }
     requires is { T (is_sorted I.cmp is.now) }
     ensures tears { IfOk result (λ sends. sends.tears ≡ between I.cmp (tear_for up.now) was.now is.now) }
     ensures sends { IfOk result (λ sends. sends.sends
-        ≡ between I.cmp (send_for I.cmp (due_at timing.now.refresh_ms sent.now timing.now.due_at)) is.now was.now) }
+        ≡ between I.cmp (send_for I.cmp due.now) is.now was.now) }
     ensures moments { IfOk result (λ sends. (item : I) → find I.cmp item sends.moments ≡ find I.cmp item
-        (moments_between I.cmp (due_at timing.now.refresh_ms sent.now timing.now.due_at) timing.now.moment
+        (moments_between I.cmp due.now moment
         was.now is.now)) }
 {
     let told = torn(alloc, up, was, is)?;
-    let sends = kept(alloc, timing, sent, was, is, told)?;
+    let sends = kept(alloc, due, moment, was, is, told)?;
     Ok(sends)
 }

@@ -1,1 +1,3 @@
-pub mod Expiries
+pub mod Labelling
+pub mod Onward
+pub mod Torn

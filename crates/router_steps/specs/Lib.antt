@@ -1,4 +1,1 @@
-pub mod Drafts
-pub mod EditLaws
-pub mod Expiring
-pub mod SilenceLaws
+pub mod Torn

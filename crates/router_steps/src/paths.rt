@@ -1,195 +1,64 @@
-//! What a Path does (RFC 2205, 3.1.3 and 3.7; RFC 3209, 4.3 and 4.4).
+//! What a Path does where it needs a label (RFC 3209, 4.2.4 and 7.3).
 
-ghost use Rattle.std.specs.FinMap.Entries.{put};
-ghost use Rattle.std.specs.Option.{option_copied};
-ghost use Rattle.std.specs.Prelude.{◌≡◌, ◌≤◌, ◌^◌, IfOk, IsTrue, Ok, is_some};
-ghost use Rattle.lsr_facts.specs.Orders.{address_cmp};
+ghost use Rattle.std.specs.FinMap.Entries.{find};
+ghost use Rattle.std.specs.Prelude.{◌≡◌, ◌≤◌, ◌^◌, ◌&&◌, IfOk, OnErr, false, is_none, not};
+ghost use Rattle.lsr_facts.specs.Orders.{key_cmp};
 ghost use Rattle.rsvp_contents.specs.Spelling.{IsMessage};
 ghost use Rattle.rsvp_contents.specs.declared.messages.Content.TheVariants as contents;
-ghost use Rattle.rsvp_traffic.specs.TokenBuckets.{token_rate};
-ghost use Rattle.abstract_router.specs.Paths.{failed, origin_of, origins_of, path_arrival, path_by, path_on_its_way, taken, unknown_object, way_for};
-ghost use Rattle.abstract_router.specs.Places.{place_of};
-ghost use Rattle.router_steps.specs.Drafts.{IsDraft};
+ghost use Rattle.abstract_paths.specs.Paths.{key_of};
+ghost use Rattle.abstract_router.specs.Labels.{has_free_label};
+ghost use Rattle.abstract_router.specs.Arrivals.{is_done, labelled_path_arrival};
+ghost use Rattle.state_views.specs.Drafts.{IsDraft};
 
-use crate::draft::Draft;
-use crate::edits::Edits;
-use crate::told::{failed, record_errors};
-use crate::view::{WholeView, is_full, node_of};
-use lsr_facts::{Choice, FactsView, Origin, PathFact, Reply, RsvpError, Via};
-use path_rules::{
-    RouteFault, carries_ipv4, has_been_here, has_no_rate, lifetime, link_of, lsp, origins_of,
-    rest_of, role_of, unknown_object, way_for,
-};
+use lsr_facts::Reply;
+use path_rules::lsp;
+use path_steps::{failed, path_arrival};
+use resv_arrivals::NO_LABEL;
 use rsvp_contents::Path;
-use sorted_rows::Table;
+use state_views::{Draft, WholeState};
 use std::alloc::{AllocError, Global};
-use std::net::Ipv4Addr;
 
-/// The origin that a Path gives its path which comes at a moment, in milliseconds: the neighbour that sent it, and
-/// until when that counts.
-fn origin_of(moment: u64, link: u16, path: &Path) -> Origin
-    requires { moment ≤ 2 ^ 62 }
-    ensures { result ≡ origin_of moment link path.now }
+/// Whether the reply is that it was done.
+fn is_done(reply: Reply) -> bool
+    ensures { result ≡ is_done reply }
 {
-    Origin {
-        via: Via::Link(link),
-        hop: path.hop,
-        expiry: moment + lifetime(path.time.refresh_ms),
+    match reply {
+        Reply::Done => true,
+        Reply::Error(_) => false,
+        Reply::Refused(_) => false,
     }
 }
 
-/// The origins of a path with that of a Path put among them.
-fn origins_by(
-    alloc: Global,
-    moment: u64,
-    known: Option<&PathFact>,
-    link: u16,
-    path: &Path,
-) -> Result<Table<Ipv4Addr, Origin>, AllocError>
-    requires { moment ≤ 2 ^ 62 }
-    ensures { IfOk result (λ origins. origins ≡ put address_cmp path.now.sender.sender
-        (origin_of moment link path.now) (origins_of (option_copied known.entry))) }
+/// Whether what is drafted of a Path lacks a label: the Path would be taken, of a new LSP, and no label is free.
+fn lacks_label<V: WholeState>(view: &V, draft: &Draft, path: &Path) -> bool
+    ensures { result ≡ (is_done draft.now.reply && is_none (find key_cmp (key_of path.now) (V.state view.now).facts.paths)
+        && not (has_free_label (V.router view.now) (V.state view.now).labels)) }
 {
-    let mut origins = origins_of(alloc, known)?;
-    origins.set(path.sender.sender, origin_of(moment, link, path))?;
-    Ok(origins)
+    is_done(draft.reply)
+        && view.path(&lsp(path.session, path.sender)).is_none()
+        && view.free_label().is_none()
 }
 
-/// The path that a Path makes or renews.
-fn path_by(
-    alloc: Global,
-    moment: u64,
-    known: Option<&PathFact>,
-    link: u16,
-    path: &Path,
-    way: Choice,
-) -> Result<PathFact, AllocError>
-    requires { moment ≤ 2 ^ 62 }
-    ensures { IfOk result (λ fact. fact ≡ path_by moment (option_copied known.entry) link path.now way) }
-{
-    Ok(PathFact {
-        role: role_of(&way),
-        origins: origins_by(alloc, moment, known, link, path)?,
-        out_link: link_of(&way),
-        given: path.route.clone()?,
-        rest: rest_of(way),
-        recorded: path.recorded.clone()?,
-        label_request: path.label_request,
-        tspec: path.tspec.clone()?,
-        attr: path.attr.clone()?,
-        fast_reroute: path.fast_reroute,
-        passing: path.passing.clone()?,
-    })
-}
-
-/// A Path that is taken.
-fn taken<V: FactsView>(
+/// What a Path does that is read whole: one that would be taken, of a new LSP, is in error where no label is free for
+/// it. The only error is out of memory.
+#[tactic(auto, using(crate::proofs::Labelling::labelled_path_speaks))]
+pub(crate) fn labelled_path_arrival<V: WholeState>(
     alloc: Global,
     view: &V,
-    known: Option<&PathFact>,
     link: u16,
     path: &Path,
-    way: Choice,
 ) -> Result<Draft, AllocError>
-    requires moment { (V.facts view.now).moment ≤ 2 ^ 62 }
-    requires rate { IsTrue (is_some (token_rate 1 path.now.tspec)) }
-    ensures { IfOk result (λ draft. IsDraft draft (taken (V.router view.now) (V.facts view.now)
-        (option_copied known.entry) link path.now way) (V.router view.now) (V.facts view.now)) }
-{
-    let key = lsp(path.session, path.sender);
-    let fact = path_by(alloc, view.moment(), known, link, path, way)?;
-    let errors = record_errors(alloc, &node_of(view), &key, known, &fact)?;
-    Ok(Draft {
-        reply: Reply::Done,
-        errors,
-        due: None,
-        is_silent: false,
-        edits: Edits::of_path(alloc, key, Some(fact))?,
-    })
-}
-
-/// A Path whose way is known: it is taken, if there is room for its LSP.
-#[tactic(auto, unfolding(abstract_router::specs::Paths::path_on_its_way))]
-fn path_with_way<V: WholeView>(
-    alloc: Global,
-    view: &V,
-    known: Option<&PathFact>,
-    link: u16,
-    path: &Path,
-    way: Choice,
-) -> Result<Draft, AllocError>
-    requires moment { (V.facts view.now).moment ≤ 2 ^ 62 }
+    requires moment { (V.state view.now).facts.moment ≤ 2 ^ 62 }
     requires message { IsMessage (contents.Path path.now) }
-    requires rate { IsTrue (is_some (token_rate 1 path.now.tspec)) }
-    ensures { IfOk result (λ draft. IsDraft draft (path_on_its_way (V.router view.now) (V.facts view.now)
-        (option_copied known.entry) link path.now (Ok way)) (V.router view.now) (V.facts view.now)) }
+    ensures draft { IfOk result (λ draft. IsDraft draft
+        (labelled_path_arrival (V.router view.now) (V.state view.now) link path.now)
+        (V.router view.now) (V.state view.now)) }
+    ensures memory { OnErr result ((labelled_path_arrival (V.router view.now)
+        (V.state view.now) link path.now).is_silent ≡ false) }
 {
-    if is_full(view, known) {
-        return failed(alloc, view, link, path, RsvpError::SYSTEM_ERROR);
+    let draft = path_arrival(alloc, view, link, path)?;
+    if lacks_label(view, &draft, path) {
+        return failed(alloc, view, link, path, NO_LABEL);
     }
-    taken(alloc, view, known, link, path, way)
-}
-
-/// A Path that nothing is wrong with: its way is asked for.
-fn path_on_its_way<V: WholeView>(
-    alloc: Global,
-    view: &V,
-    known: Option<&PathFact>,
-    link: u16,
-    path: &Path,
-) -> Result<Draft, AllocError>
-    requires moment { (V.facts view.now).moment ≤ 2 ^ 62 }
-    requires message { IsMessage (contents.Path path.now) }
-    requires rate { IsTrue (is_some (token_rate 1 path.now.tspec)) }
-    ensures { IfOk result (λ draft. IsDraft draft (path_on_its_way (V.router view.now) (V.facts view.now)
-        (option_copied known.entry) link path.now
-        (way_for (place_of (V.router view.now) (V.facts view.now)) (option_copied known.entry) path.now)) (V.router view.now) (V.facts view.now)) }
-{
-    match way_for(alloc, &node_of(view), known, path) {
-        Ok(way) => path_with_way(alloc, view, known, link, path, way),
-        Err(RouteFault::Error(error)) => failed(alloc, view, link, path, error.error()),
-        Err(RouteFault::Memory) => Err(AllocError),
-    }
-}
-
-/// What a Path does that is read whole. The only error is out of memory.
-#[tactic(auto, unfolding(abstract_router::specs::Paths::path_arrival))]
-pub fn path_arrival<V: WholeView>(
-    alloc: Global,
-    view: &V,
-    link: u16,
-    path: &Path,
-) -> Result<Draft, AllocError>
-    requires moment { (V.facts view.now).moment ≤ 2 ^ 62 }
-    requires message { IsMessage (contents.Path path.now) }
-    ensures { IfOk result (λ draft. IsDraft draft
-        (path_arrival (V.router view.now) (V.facts view.now) link path.now) (V.router view.now) (V.facts view.now)) }
-{
-    if !carries_ipv4(path) {
-        return failed(alloc, view, link, path, RsvpError::UNSUPPORTED_L3PID);
-    }
-    if has_no_rate(&path.tspec) {
-        return failed(alloc, view, link, path, RsvpError::BAD_TSPEC);
-    }
-    if has_been_here(&node_of(view), &path.recorded) {
-        return failed(alloc, view, link, path, RsvpError::ROUTING_LOOP);
-    }
-    let known = view.path(&lsp(path.session, path.sender));
-    path_on_its_way(alloc, view, known, link, path)
-}
-
-/// What a Path does with an object that it doesn't know. The only error is out of memory.
-pub fn unknown_path_arrival<V: FactsView>(
-    alloc: Global,
-    view: &V,
-    link: u16,
-    path: &Path,
-    class: u8,
-    ctype: u8,
-) -> Result<Draft, AllocError>
-    requires { IsMessage (contents.Path path.now) }
-    ensures { IfOk result (λ draft. IsDraft draft (failed (V.router view.now) (V.facts view.now) link path.now
-        (unknown_object class ctype)) (V.router view.now) (V.facts view.now)) }
-{
-    failed(alloc, view, link, path, unknown_object(class, ctype))
+    Ok(draft)
 }

@@ -1,107 +1,80 @@
-//! What a PathTear and a PathErr do (RFC 2205, 3.1.5 and 3.1.7).
+//! What a ResvTear does (RFC 2205, 3.1.6).
 
-ghost use Rattle.std.specs.Prelude.{◌≡◌, IfOk, OnErr, false};
-ghost use Rattle.lsr_facts.specs.declared.facts.Facts.{Facts};
-ghost use Rattle.rsvp_contents.specs.Spelling.{IsMessage};
-ghost use Rattle.rsvp_contents.specs.declared.messages.Content.TheVariants as contents;
-ghost use Rattle.abstract_router.specs.MessageLaws.{LeavesRoom};
-ghost use Rattle.abstract_router.specs.Tears.{left_with, path_err_arrival, path_tear_arrival};
-ghost use Rattle.router_steps.specs.Drafts.{IsDraft, edited};
+ghost use Rattle.std.specs.FinMap.Entries.{is_sorted};
+ghost use Rattle.std.specs.List.{list_any};
+ghost use Rattle.std.specs.Prelude.{◌≡◌, IfOk, OnErr, T, false, true};
+ghost use Rattle.lsr_facts.specs.Orders.{key_cmp};
+ghost use Rattle.abstract_paths.specs.Outcomes.{lsp};
+ghost use Rattle.abstract_router.specs.Tearing.{resv_tear_arrival};
+ghost use Rattle.state_views.specs.Drafts.{IsDraft};
+ghost use Rattle.router_steps.specs.Torn.{is_reserved_on, torn_keys};
 
-use crate::draft::{Draft, refused};
-use crate::edits::Edits;
-use crate::told::told_upstream;
-use lsr_facts::{FactsView, Key, Origin, PathFact, Refusal, Reply};
-use path_rules::{Outputs, is_torn_by, leaves_by, lsp, origins_without};
-use rsvp_contents::{PathErr, PathTear};
-use sorted_rows::{Table, TryCopy};
+use lsr_facts::{Key, Refusal, Reply};
+use path_rules::lsp;
+use router_events::Outputs;
+use rsvp_contents::ResvTear;
+use sorted_rows::Table;
+use state_views::{Draft, Edits, StateView, refused, without_resvs};
 use std::alloc::{AllocError, Global};
-use std::net::Ipv4Addr;
 
-/// Bytes of an IPv4 address.
-const ADDRESS_LEN: usize = 4;
-
-/// The edit by which the path is left with these origins: with none, it goes.
-fn left_with(
-    alloc: Global,
-    key: &Key,
-    fact: &PathFact,
-    origins: Table<Ipv4Addr, Origin>,
-) -> Result<Edits, AllocError>
-    ensures { IfOk result (λ edits. (before : Facts) → edited edits before ≡ left_with key.now fact.now origins before) }
+/// Whether the LSP is reserved on a link.
+fn is_reserved_on<V: StateView>(view: &V, link: u16, key: &Key) -> bool
+    ensures { result ≡ is_reserved_on link (V.state view.now).resvs key.now }
 {
-    if origins.as_slice().is_empty() {
-        return Edits::of_path(alloc, *key, None);
+    match view.resv(key) {
+        Some(resv) => resv.link == link,
+        None => false,
     }
-    let mut left = fact.try_copy(alloc)?;
-    left.origins = origins;
-    Edits::of_path(alloc, *key, Some(left))
 }
 
-/// What a PathTear does. The only error is out of memory.
-#[tactic(auto, unfolding(abstract_router::specs::Tears::path_tear_arrival))]
-pub fn path_tear_arrival<V: FactsView>(
+/// The LSPs from which a ResvTear over a link takes the reservation away, as its filters name them: those that are
+/// reserved on the link. Style and hop don't count.
+fn torn_keys<V: StateView>(
     alloc: Global,
     view: &V,
     link: u16,
-    tear: &PathTear,
-) -> Result<Draft, AllocError>
-    ensures draft { IfOk result (λ draft. IsDraft draft (path_tear_arrival (V.facts view.now) link tear.now) (V.router view.now) (V.facts view.now)) }
-    ensures memory { OnErr result ((path_tear_arrival (V.facts view.now) link tear.now).is_silent ≡ false) }
+    tear: &ResvTear,
+) -> Result<Vec<Key>, AllocError>
+    ensures keys { IfOk result (λ keys. keys.items ≡ torn_keys link tear.now (V.state view.now).resvs) }
+    ensures memory { OnErr result (list_any (λ filter. is_reserved_on link (V.state view.now).resvs
+        (lsp tear.now.session filter)) tear.now.filters ≡ true) }
 {
-    let key = lsp(tear.session, tear.sender);
-    let Some(fact) = view.path(&key) else {
-        return Ok(refused(alloc, view, Refusal::NoMatch));
-    };
-    if !is_torn_by(link, tear, fact) {
+    let mut keys = Vec::new(alloc);
+    for filter in tear.filters.as_slice() {
+        let key = lsp(tear.session, *filter);
+        if is_reserved_on(view, link, &key) {
+            keys.push(key)?;
+        }
+    }
+    Ok(keys)
+}
+
+/// What a ResvTear does. The only error is out of memory.
+pub(crate) fn resv_tear_arrival<V: StateView>(
+    alloc: Global,
+    view: &V,
+    link: u16,
+    tear: &ResvTear,
+) -> Result<Draft, AllocError>
+    requires { T (is_sorted key_cmp (V.state view.now).resvs) }
+    ensures draft { IfOk result (λ draft. IsDraft draft
+        (resv_tear_arrival (V.state view.now) link tear.now)
+        (V.router view.now) (V.state view.now)) }
+    ensures memory { OnErr result
+        ((resv_tear_arrival (V.state view.now) link tear.now).is_silent ≡ false) }
+{
+    let torn = torn_keys(alloc, view, link, tear)?;
+    if torn.is_empty() {
         return Ok(refused(alloc, view, Refusal::NoMatch));
     }
-    let origins = origins_without(alloc, tear.sender.sender, fact)?;
     Ok(Draft {
         reply: Reply::Done,
         errors: Outputs::new(alloc),
         due: None,
         is_silent: false,
-        edits: left_with(alloc, &key, fact, origins)?,
-    })
-}
-
-/// That the Tspec of a PathErr leaves room for the rest of it.
-fn leaves_room(error: &PathErr)
-    requires { IsMessage (contents.PathErr error.now) }
-    ensures { LeavesRoom error.now.tspec }
-{
-    prove!(error.session.endpoint.octets().len() == ADDRESS_LEN);
-    prove!(error.session.extended.octets().len() == ADDRESS_LEN);
-    prove!(error.sender.sender.octets().len() == ADDRESS_LEN);
-    prove!(error.error.node.octets().len() == ADDRESS_LEN);
-}
-
-/// What a PathErr does. The only error is out of memory.
-#[tactic(auto, unfolding(abstract_router::specs::Tears::path_err_arrival))]
-pub fn path_err_arrival<V: FactsView>(
-    alloc: Global,
-    view: &V,
-    link: u16,
-    error: &PathErr,
-) -> Result<Draft, AllocError>
-    requires { IsMessage (contents.PathErr error.now) }
-    ensures draft { IfOk result (λ draft. IsDraft draft (path_err_arrival (V.facts view.now) link error.now) (V.router view.now) (V.facts view.now)) }
-    ensures memory { OnErr result ((path_err_arrival (V.facts view.now) link error.now).is_silent ≡ false) }
-{
-    let key = lsp(error.session, error.sender);
-    let Some(fact) = view.path(&key) else {
-        return Ok(refused(alloc, view, Refusal::NoMatch));
-    };
-    if !leaves_by(link, fact) {
-        return Ok(refused(alloc, view, Refusal::NoMatch));
-    }
-    leaves_room(error);
-    Ok(Draft {
-        reply: Reply::Done,
-        errors: told_upstream(alloc, &key, fact, &error.tspec, error.error)?,
-        due: None,
-        is_silent: false,
-        edits: Edits::none(alloc),
+        edits: Edits {
+            resvs: without_resvs(Table::new(alloc), torn.as_slice())?,
+            ..Edits::none(alloc)
+        },
     })
 }

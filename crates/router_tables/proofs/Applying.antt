@@ -1,24 +1,24 @@
 -- The rows of all tables once a change is made, and that they are those of a sound router.
 use Rattle.std.specs.Prelude.{◌≡◌}
+use Rattle.std.specs.Option.{unwrap_or}
 use Rattle.std.specs.Ordering.{nat_cmp}
 use Rattle.std.proofs.Common.{ap, ◌∙◌}
-use Rattle.row_edits.specs.Edits as in_rows
+use Rattle.sorted_rows.specs.Edits as in_rows
 use Rattle.admission.specs.Bandwidths.{claim_edits, with_edits}
 use Rattle.forwarding_table.specs.Actions.{Actions}
 use Rattle.lsr_facts.specs.Orders.{item_cmp, key_cmp}
 use Rattle.resv_facts.specs.Upstreams.{upstream_cmp}
-use Rattle.router_steps.specs.Drafts.{edited}
 use Rattle.router_tables.specs.Changes.{IsChange}
-use Rattle.router_tables.specs.States.{AreTables, facts_of, state_of}
+use Rattle.router_tables.specs.States.{AreTables, state_of}
 use Rattle.router_tables.specs.declared.change.Change.{Change}
 use Rattle.router_tables.specs.declared.rows.Rows.{Rows}
 
 -- the moment, links and paths are edited
 abbrev facts_made : Change → Rows → Rows
 facts_made c t = record t {
-  moment = (edited c.facts (facts_of t)).moment;
-  up = (edited c.facts (facts_of t)).up;
-  paths = (edited c.facts (facts_of t)).paths;
+  moment = unwrap_or c.moment t.moment;
+  up = unwrap_or c.up t.up;
+  paths = in_rows.edited key_cmp c.paths t.paths;
 }
 
 -- then reservations and labels

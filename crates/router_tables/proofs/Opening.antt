@@ -3,14 +3,14 @@ use Rattle.std.specs.Prelude.{◌≡◌, ℕ, Bool, false, List, [], map}
 use Rattle.std.proofs.Common.{sym}
 use Rattle.rsvp_routes.specs.declared.prefix.Prefix.{Prefix}
 use Rattle.admission.specs.Bandwidths.{Bandwidth}
-use Rattle.label_bindings.specs.Bindings.{Bindings}
+use Rattle.label_space.specs.Bindings.{Bindings}
 use Rattle.lsr_facts.specs.declared.key.Item.{Item}
 use Rattle.lsr_facts.specs.declared.key.Key.{Key}
 use Rattle.lsr_facts.specs.declared.path_fact.PathFact.{PathFact}
 use Rattle.lsr_facts.specs.declared.router.Router.{Router}
 use Rattle.refresh_timers.specs.Timers.{Timers}
 use Rattle.resv_facts.specs.declared.upstream.Upstream.{Upstream}
-use Rattle.abstract_lsr.specs.Steps.{opening}
+use Rattle.abstract_router.specs.Steps.{opening}
 
 pub opening_is : (r : Router) (routes : List (Prefix × ℕ)) (up : List (ℕ × Bool)) (paths : List (Key × PathFact)) (timers : Timers Item) (bandwidth : Bandwidth) (labels : Bindings) (upstream : Timers Upstream)
     → up ≡ map (λ l. (l.0, l.1.up)) r.links → paths ≡ [] → timers ≡ record { refresh_ms = r.refresh_ms; sent = [] } → (limits : List (ℕ × ℕ)) → bandwidth ≡ record { resvs = []; claims = []; limits = limits } → labels ≡ record { range = r.labels; labels = [] } → upstream ≡ record { refresh_ms = r.refresh_ms; sent = [] }

@@ -14,17 +14,17 @@ use Rattle.lsr_facts.specs.declared.path_fact.PathFact.{PathFact}
 use Rattle.lsr_facts.specs.declared.router.Router.{Router}
 use Rattle.resv_facts.specs.declared.resv_fact.ResvFact.{ResvFact}
 use Rattle.resv_facts.specs.declared.upstream.Upstream.{Upstream}
-use Rattle.abstract_router.specs.LocalityLaws.{find-made, is_sorted-made}
-use Rattle.abstract_router.specs.Places.{is_up}
-use Rattle.abstract_router.specs.Tears.{leaves_by}
-use Rattle.abstract_router.specs.Wanted.{downstream_row, wanted_of}
-use Rattle.abstract_router.specs.WantedLaws.{wanted-downstream}
-use Rattle.abstract_lsr.specs.Soundness.{IsSound}
-use Rattle.abstract_lsr.specs.States.{State}
-use Rattle.abstract_lsr.specs.Steps.{stands}
-use Rattle.abstract_lsr.specs.UpstreamLaws.{upstream-few}
-use Rattle.abstract_lsr.specs.Upstreams.{upstream_of}
-use Rattle.label_bindings.specs.BindingLaws.{length-labelled}
+use Rattle.abstract_paths.specs.TouchedLaws.{find-made, is_sorted-made}
+use Rattle.abstract_paths.specs.Places.{is_up}
+use Rattle.abstract_paths.specs.Tears.{leaves_by}
+use Rattle.abstract_router.specs.Lsps.{Lsp, around_of, lsp_of, lsps_of}
+use Rattle.abstract_router.specs.Wanted.{downstream_row, items_of}
+use Rattle.abstract_router.specs.Soundness.{IsSound}
+use Rattle.abstract_router.specs.States.{State}
+use Rattle.abstract_router.specs.Steps.{stands}
+use Rattle.abstract_router.specs.UpstreamLaws.{upstream-few}
+use Rattle.abstract_router.specs.Upstreams.{upstream_of}
+use Rattle.abstract_router.specs.LabelLaws.{length-labelled}
 
 -- one more at most
 length_cons : {A : Type 0} (o : Option A) (xs : List A) → length (cons_option o xs) ≤ suc (length xs)
@@ -49,7 +49,7 @@ resvs_of_paths r s is =
     (λ q. find-made key_cmp key_total key_exact (λ (path : Key × PathFact). find key_cmp path.0 s.resvs) q s.facts.paths in_order ∙ by q (find key_cmp q s.facts.paths) (find key_cmp q s.resvs) (find-all_row key_cmp key_exact (λ resv. stands s.facts resv ≡ true) q s.resvs is.standing))
   where
     in_order : T (is_sorted key_cmp s.facts.paths)
-    in_order = is.paths.standing.paths.in_order
+    in_order = is.paths.paths.in_order
 
     nowhere : (up : Bool) → (up && false) ≡ true → ⊥
     nowhere true e = absurd (let f = e in cc)
@@ -62,7 +62,7 @@ resvs_of_paths r s is =
 
 module _ (r : Router) (s : State) (is : IsSound r s) where
   pub few_paths : length s.facts.paths ≤ 1024
-  few_paths = is.paths.standing.paths.few
+  few_paths = is.paths.paths.few
 
   pub few_resvs : length s.resvs ≤ 1024
   few_resvs =
@@ -73,13 +73,15 @@ module _ (r : Router) (s : State) (is : IsSound r s) where
   few_labels = omega (arith, length-labelled r s is.labels, few_paths)
 
   pub few_moments : length s.facts.sent ≤ 1024
+  unfolding items_of lsps_of
   few_moments =
       let as_many = length-map s.facts.sent (λ (row : Item × ℕ). row.0) in
-      let wanted = length-map (wanted_of r s.facts) (λ row. row.0) in
-      omega (arith, as_many, wanted, ap length is.paths.sent, ap length (wanted-downstream r s.facts), length_asked (downstream_row r s.facts.up) s.facts.paths, few_paths)
+      let wanted = length-map (items_of r s) (λ row. row.0) in
+      let lsps = length-map {B = Key × Lsp} s.facts.paths (λ row. (row.0, lsp_of s row.0 row.1)) in
+      omega (arith, as_many, wanted, lsps, ap length is.sent, length_asked (downstream_row (around_of r s)) (lsps_of s), few_paths)
 
   pub few_upstream : length s.sent_upstream ≤ 1024
   few_upstream =
       let as_many = length-map s.sent_upstream (λ (row : Upstream × ℕ). row.0) in
       let wanted = length-map (upstream_of r s) (λ row. row.0) in
-      omega (arith, as_many, wanted, ap length is.sent_upstream, (upstream-few r s s.facts.moment is.paths.standing.paths).1)
+      omega (arith, as_many, wanted, ap length is.sent_upstream, (upstream-few r s s.facts.moment is.paths.paths).1)

@@ -1,21 +1,26 @@
 -- What a change makes of what a router knows.
 use Rattle.std.specs.Prelude.{◌≡◌}
-use Rattle.row_edits.specs.Edits as rows
+use Rattle.std.specs.Option.{unwrap_or}
+use Rattle.sorted_rows.specs.Edits as rows
 use Rattle.lsr_facts.specs.Orders.{item_cmp, key_cmp}
 use Rattle.lsr_facts.specs.declared.router.Router.{Router}
 use Rattle.resv_facts.specs.Upstreams.{upstream_cmp}
-use Rattle.abstract_lsr.specs.Preempting.{claims_of}
-use Rattle.abstract_lsr.specs.Soundness.{IsSound}
-use Rattle.abstract_lsr.specs.States.{State}
+use Rattle.abstract_router.specs.Preempting.{claims_of}
+use Rattle.abstract_router.specs.Soundness.{IsSound}
+use Rattle.abstract_router.specs.States.{State}
 use Rattle.admission.specs.Bandwidths.{AreEdits, claim_edits, resv_edits}
 use Rattle.label_table.specs.Rows.{AreTableEdits}
-use Rattle.router_steps.specs.Drafts.{edited}
 use Rattle.router_tables.specs.declared.change.Change.{Change}
 
 -- what is known after a change
 abbrev pub changed : Change → State → State
 changed c s = record {
-  facts = record (edited c.facts s.facts) { sent = rows.edited item_cmp c.moments s.facts.sent };
+  facts = record s.facts {
+    moment = unwrap_or c.moment s.facts.moment;
+    up = unwrap_or c.up s.facts.up;
+    paths = rows.edited key_cmp c.paths s.facts.paths;
+    sent = rows.edited item_cmp c.moments s.facts.sent;
+  };
   resvs = rows.edited key_cmp (resv_edits c.bandwidth) s.resvs;
   labels = rows.edited key_cmp c.labels s.labels;
   sent_upstream = rows.edited upstream_cmp c.upstream s.sent_upstream;

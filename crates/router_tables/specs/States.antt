@@ -4,11 +4,10 @@ use Rattle.lsr_config.specs.Configs.{Setup}
 use Rattle.lsr_facts.specs.Routers.{IsRouter}
 use Rattle.lsr_facts.specs.declared.facts.Facts.{Facts}
 use Rattle.lsr_facts.specs.declared.router.Router.{Router}
-use Rattle.abstract_lsr.specs.Preempting.{claims_of}
-use Rattle.abstract_lsr.specs.Soundness.{IsSound}
-use Rattle.abstract_lsr.specs.States.{State}
-use Rattle.abstract_lsr.specs.Steps.{opening}
-use Rattle.label_table.specs.Below.views.Views.{Held}
+use Rattle.abstract_router.specs.Preempting.{claims_of}
+use Rattle.abstract_router.specs.Soundness.{IsSound}
+use Rattle.abstract_router.specs.States.{State}
+use Rattle.abstract_router.specs.Steps.{opening}
 use Rattle.label_table.specs.Rows.{IsTableOf}
 use Rattle.router_tables.specs.declared.rows.Rows.{Rows}
 
@@ -16,10 +15,6 @@ use Rattle.router_tables.specs.declared.rows.Rows.{Rows}
 pub record RouterState : Type 0 where
   pub router : Router
   pub state : State
-
--- what it knows beside its paths
-abbrev pub held_of : State → Held
-held_of s = record { resvs = s.resvs; labels = s.labels; sent_upstream = s.sent_upstream }
 
 -- what the rows of a running router say of its paths
 abbrev pub facts_of : Rows → Facts

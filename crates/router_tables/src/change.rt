@@ -1,9 +1,8 @@
 //! The change of a step.
 
 use forwarding_table::Action;
-use lsr_facts::{Item, Key};
+use lsr_facts::{Item, Key, PathFact};
 use resv_facts::{ResvFact, Upstream};
-use router_steps::Edits;
 use sorted_rows::Table;
 
 /// Edits of what LSPs have: from now on this reservation, kept at this priority, or none.
@@ -12,8 +11,12 @@ pub type BandwidthEdits = Table<Key, Option<(ResvFact, u8)>>;
 /// All that a step changes, with all the memory that this takes. Where a row of a table is `None`, it goes.
 #[derive(Debug, Drop)]
 pub struct Change {
-    /// What changes of the moment, of links and of paths.
-    pub facts: Edits,
+    /// The moment from now on, in milliseconds, where one came.
+    pub moment: Option<u64>,
+    /// Of each link whether it is up from now on, where a link came up or went down.
+    pub up: Option<Table<u16, bool>>,
+    /// Of LSPs what is known of their paths from now on.
+    pub paths: Table<Key, Option<PathFact>>,
     /// Of LSPs the reservation that each has from now on, and the priority at which it is kept.
     pub bandwidth: BandwidthEdits,
     /// Of LSPs the label that each has from now on.

@@ -1,26 +1,25 @@
 //! The rows of all tables, and what is made of them.
 
+ghost use Rattle.std.specs.Option.{unwrap_or};
 ghost use Rattle.std.specs.Prelude.{◌≡◌, ◌≤◌, [], length};
-ghost use Rattle.row_edits.specs.Edits as in_rows;
+ghost use Rattle.sorted_rows.specs.Edits as in_rows;
 ghost use Rattle.lsr_facts.specs.Orders.{item_cmp, key_cmp};
 ghost use Rattle.resv_facts.specs.Upstreams.{upstream_cmp};
 ghost use Rattle.admission.specs.Bandwidths.{AreEdits, resv_edits, with_edits};
-ghost use Rattle.label_bindings.specs.Bindings.{AreHeldOf};
-ghost use Rattle.router_steps.specs.Drafts.{edited};
+ghost use Rattle.label_space.specs.Bindings.{AreHeldOf};
 ghost use Rattle.router_tables.specs.Changes.{IsChange, changed};
-ghost use Rattle.router_tables.specs.States.{AreTables, emptied, facts_of, state_of};
+ghost use Rattle.router_tables.specs.States.{AreTables, emptied, state_of};
 
 use crate::change::{BandwidthEdits, Change};
 use admission::Admission;
 use forwarding_table::ForwardingTable;
-use label_bindings::LabelBindings;
+use label_space::LabelBindings;
 use lsr_facts::laws::items_are_in_order;
 use lsr_facts::limits::MAX_LSPS;
-use lsr_facts::{Item, Key, Router};
+use lsr_facts::{Item, Key, PathFact, Router};
 use path_state::PathState;
 use refresh_timers::RefreshTimers;
 use resv_facts::Upstream;
-use router_steps::Edits;
 use rsvp_routes::Prefix;
 use sorted_rows::Table;
 
@@ -50,15 +49,19 @@ pub(crate) struct Rows {
 }
 
 /// Makes edits of the moment, of links and of paths.
-fn edit_facts(rows: &mut Rows, edits: Edits)
-    requires { length (edited edits (facts_of rows.old)).paths ≤ 1024 }
+fn edit_facts(
+    rows: &mut Rows,
+    moment: Option<u64>,
+    up: Option<Table<u16, bool>>,
+    paths: Table<Key, Option<PathFact>>,
+)
+    requires { length (in_rows.edited key_cmp paths rows.old.paths) ≤ 1024 }
     ensures rows { rows.new ≡ record rows.old {
-      moment = (edited edits (facts_of rows.old)).moment;
-      up = (edited edits (facts_of rows.old)).up;
-      paths = (edited edits (facts_of rows.old)).paths;
+      moment = unwrap_or moment rows.old.moment;
+      up = unwrap_or up rows.old.up;
+      paths = in_rows.edited key_cmp paths rows.old.paths;
     } }
 {
-    let Edits { moment, up, paths } = edits;
     if let Some(moment) = moment {
         rows.moment = moment;
     }
@@ -111,7 +114,9 @@ pub(crate) fn apply(rows: &mut Rows, change: Change)
     ensures state { state_of rows.new ≡ changed change (state_of rows.old) }
 {
     let Change {
-        facts,
+        moment,
+        up,
+        paths,
         bandwidth,
         labels,
         moments,
@@ -120,8 +125,8 @@ pub(crate) fn apply(rows: &mut Rows, change: Change)
     } = change;
 
     // That the rows of the label table are in order.
-    let _ = rows.table.label_rows();
-    edit_facts(rows, facts);
+    rows.table.rows_are_in_order();
+    edit_facts(rows, moment, up, paths);
     edit_held(rows, bandwidth, labels);
     edit_moments(rows, moments, upstream);
     rows.table.edit(table);
@@ -135,9 +140,9 @@ pub(crate) fn forget(rows: &mut Rows)
     ensures state { state_of rows.new ≡ emptied (state_of rows.old) }
 {
     rows.paths.clear();
-    rows.timers.set_all(&[]);
+    rows.timers.clear_all();
     rows.bandwidth.clear();
     rows.labels.clear();
-    rows.upstream.set_all(&[]);
+    rows.upstream.clear_all();
     rows.table.clear();
 }

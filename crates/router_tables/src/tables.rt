@@ -1,30 +1,27 @@
-//! The tables of a router: a view of what it knows.
+//! The tables of a router.
 
-ghost use Rattle.std.specs.FinMap.Entries.{is_sorted};
-ghost use Rattle.std.specs.Ordering.{nat_cmp};
-ghost use Rattle.std.specs.Prelude.{◌≡◌, T, IfOk, map, false};
+ghost use Rattle.std.specs.Prelude.{◌≡◌, IfOk, map, false};
 ghost use Rattle.lsr_facts.specs.Routers.{IsRouter};
 ghost use Rattle.resv_facts.specs.Claims.{reserved_of};
-ghost use Rattle.abstract_lsr.specs.Preempting.{claims_of};
-ghost use Rattle.abstract_lsr.specs.Soundness.{IsSound};
-ghost use Rattle.abstract_lsr.specs.Tables.{forwarded, look};
+ghost use Rattle.abstract_router.specs.Preempting.{claims_of};
+ghost use Rattle.abstract_router.specs.Soundness.{IsSound};
+ghost use Rattle.abstract_router.specs.Tables.{forwarded, look};
 ghost use Rattle.label_table.specs.Rows.{IsTableOf};
 ghost use Rattle.router_tables.specs.Changes.{IsChange, changed};
 ghost use Rattle.router_tables.specs.States.{emptied, opened};
 
 use crate::change::Change;
+use crate::export::export;
 use crate::rows::{Rows, apply, forget};
 use admission::Admission;
 use forwarding_table::{Action, Forwarding, ForwardingTable};
-use label_bindings::LabelBindings;
+use label_space::LabelBindings;
 use label_stacks::Stack;
-use label_table::{StateView, WholeState};
 use lsr_config::Config;
-use lsr_facts::{FactsView, Item, Key, Link, Node, PathFact, Router};
+use lsr_facts::{Link, Router};
 use path_state::PathState;
 use refresh_timers::RefreshTimers;
-use resv_facts::{Claim, ResvFact, Upstream};
-use router_steps::WholeView;
+use resv_facts::State;
 use sorted_rows::Table;
 use std::alloc::{AllocError, Global};
 use std::marker::Model;
@@ -33,7 +30,7 @@ use std::marker::Model;
 /// which is sound at any time.
 #[derive(Debug, Drop)]
 pub struct Tables {
-    rows: Rows,
+    pub(crate) rows: Rows,
 }
 
 impl Model for Tables {
@@ -128,12 +125,19 @@ impl Tables {
         self.rows.table.forward(stack)
     }
 
-    /// All labels under which frames may come, in their order, and what is done with them.
-    pub fn label_rows(&self) -> &[(u32, Action)]
-        ensures rows { IsTableOf self.now.state result.now }
-        ensures sorted { T (is_sorted nat_cmp result.now) }
+    /// All labels under which frames may come, in their order, and what is done with them: a copy. The only error is out
+    /// of memory.
+    pub fn actions(&self, alloc: Global) -> Result<Table<u32, Action>, AllocError>
+        ensures { IfOk result (IsTableOf self.now.state) }
     {
-        self.rows.table.label_rows()
+        self.rows.table.labels_copied(alloc)
+    }
+
+    /// All that the router knows, as a value: a copy. The only error is out of memory.
+    pub fn export(&self, alloc: Global) -> Result<State, AllocError>
+        ensures { IfOk result (λ state. state ≡ self.now.state) }
+    {
+        export(alloc, &self.rows)
     }
 
     /// How much of a link is reserved at this priority, 0 (best) to 7, or a better one, in bytes per second.
@@ -151,81 +155,5 @@ impl Tables {
     {
         // Whoever opens the value sees its invariant.
         let _rows = &self.rows;
-    }
-}
-
-impl FactsView for Tables {
-    ghost router = { λ t. t.router };
-
-    ghost facts = { λ t. t.state.facts };
-
-    fn node(&self) -> Node<'_> {
-        Node {
-            router: &self.rows.router,
-            up: &self.rows.up,
-            routes: &self.rows.routes,
-        }
-    }
-
-    fn refresh_ms(&self) -> u32 {
-        self.rows.router.refresh_ms
-    }
-
-    fn moment(&self) -> u64 {
-        self.rows.moment
-    }
-
-    fn path(&self, key: &Key) -> Option<&PathFact> {
-        self.rows.paths.get(key)
-    }
-
-    fn sent_at(&self, item: &Item) -> Option<u64> {
-        self.rows.timers.sent_at(item)
-    }
-}
-
-impl WholeView for Tables {
-    fn paths(&self) -> &[(Key, PathFact)] {
-        self.rows.paths.as_slice()
-    }
-}
-
-impl StateView for Tables {
-    ghost use Rattle.router_tables.specs.States.{held_of};
-
-    ghost held = { λ t. held_of t.state };
-
-    fn resv(&self, key: &Key) -> Option<&ResvFact> {
-        self.rows.bandwidth.get(key)
-    }
-
-    fn label(&self, key: &Key) -> Option<u32> {
-        self.rows.labels.get(key)
-    }
-}
-
-impl WholeState for Tables {
-    fn all_paths(&self) -> &[(Key, PathFact)] {
-        self.rows.paths.as_slice()
-    }
-
-    fn all_resvs(&self) -> &[(Key, ResvFact)] {
-        self.rows.bandwidth.as_slice()
-    }
-
-    fn all_claims(&self) -> &[(Key, Claim)] {
-        self.rows.bandwidth.claims()
-    }
-
-    fn all_sent(&self) -> &[(Item, u64)] {
-        self.rows.timers.as_slice()
-    }
-
-    fn all_sent_upstream(&self) -> &[(Upstream, u64)] {
-        self.rows.upstream.as_slice()
-    }
-
-    fn free_label(&self) -> Option<u32> {
-        self.rows.labels.free_label()
     }
 }

@@ -1,3 +1,4 @@
 pub mod Kept
+pub mod Passes
 pub mod Places
 pub mod ReservedRows

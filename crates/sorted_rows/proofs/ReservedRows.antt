@@ -1,7 +1,7 @@
 -- Each change of a table in reserved memory keeps what always holds of it.
-use Rattle.std.proofs.Common.{◌≡◌, ℕ, ◌≤◌, ◌+◌, suc, T, List, [], ◌∷◌, Bool, true, false, cond, length, map, not, Result, Ok, Err, IsOk, OnOk, arith, ap, refl, sym, subst}
+use Rattle.std.proofs.Common.{◌≡◌, ℕ, ◌≤◌, suc, T, List, [], ◌∷◌, Bool, true, false, cond, length, map, not, Result, Ok, Err, IsOk, OnOk, arith, ap, refl, sym, subst}
 use Rattle.std.specs.Cmp.{IsTotalOrder}
-use Rattle.std.specs.FinMap.Entries.{put, where_key, is_sorted, is_sorted-put, is_sorted-where_key, length_without}
+use Rattle.std.specs.FinMap.Entries.{put, where_key, is_sorted-put, is_sorted-where_key, length_without}
 use Rattle.std.specs.List.{filter}
 use Rattle.std.specs.Ordering.{is_eq}
 use Rattle.std.specs.declared.cmp.Ordering.{Ordering}

@@ -11,11 +11,13 @@ ghost use Rattle.sorted_rows.specs.Closures.{ComputesTest};
 use std::alloc::AllocError;
 
 mod copies;
+mod edits;
 pub mod laws;
 mod reserved;
 mod table;
 
 pub use copies::{TryCopy, copy_plain_rows, copy_rows};
+pub use edits::make_edits;
 pub use reserved::{ReservedTable, Sweep};
 pub use table::Table;
 

@@ -2,7 +2,7 @@
 ghost use Rattle.std.specs.FinMap.Entries.{find, is_sorted, put, where_key};
 ghost use Rattle.std.specs.Option.{option_copied};
 ghost use Rattle.std.specs.Ordering.{is_eq};
-ghost use Rattle.std.specs.Prelude.{◌≡◌, ◌≤◌, Bool, T, [], filter, IfOk, is_some, length, map, not, vec_capacity};
+ghost use Rattle.std.specs.Prelude.{◌≡◌, ◌≤◌, Bool, T, [], filter, IfOk, is_some, length, map, not, slice_get, vec_capacity};
 
 use crate::copies::TryCopy;
 use std::alloc::{AllocError, Global};
@@ -78,6 +78,28 @@ impl<K: Ord, V, const MOST: usize> ReservedTable<K, V, MOST> {
         self.rows.as_slice()
     }
 
+    /// How many rows there are.
+    pub fn len(&self) -> usize
+        ensures { result ≡ length self.now }
+    {
+        self.rows.len()
+    }
+
+    /// The row at a place, in the order of the keys, from 0 on; `None` past the last.
+    pub fn row(&self, place: usize) -> Option<&(K, V)>
+        ensures { option_copied result ≡ slice_get self.now place }
+    {
+        self.rows.get(place)
+    }
+
+    /// The keys rise, and there are at most `MOST` rows. It does nothing when it runs.
+    pub fn rows_are_in_order(&self)
+        ensures sorted { T (is_sorted K.cmp self.now) }
+        ensures few { length self.now ≤ MOST }
+    {
+        let _ = self.as_slice();
+    }
+
     /// The value under a key, or `None` where the table has no such key.
     pub fn get(&self, key: &K) -> Option<&V>
         ensures found { option_copied result ≡ find K.cmp key.now self.now }
@@ -115,18 +137,6 @@ impl<K: Ord + Drop, V: Drop, const MOST: usize> ReservedTable<K, V, MOST> {
     {
         keep_staying(&mut self.rows, sweep);
         leave_values(&mut self.rows, sweep);
-    }
-}
-
-impl<K: Ord + Copy, V: Copy, const MOST: usize> ReservedTable<K, V, MOST> {
-    /// These rows from now on, and no others. It asks for at most `MOST` rows in the order of their keys, no key twice.
-    pub fn set_all(&mut self, rows: &[(K, V)])
-        requires sorted { T (is_sorted K.cmp rows.now) }
-        requires few { length rows.now ≤ MOST }
-        ensures { self.new ≡ rows.now }
-    {
-        self.rows.clear();
-        self.rows.extend_from_slice(rows).unwrap();
     }
 }
 

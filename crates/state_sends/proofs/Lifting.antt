@@ -6,12 +6,12 @@ use Rattle.std.specs.declared.cmp.Ordering.{Ordering}
 use Rattle.std.specs.declared.cmp.Ordering.TheVariants.{Equal}
 use Rattle.std.proofs.Common.{sym, ap, ◌∙◌}
 use Rattle.sorted_rows.specs.Rows.{keys_of}
-use Rattle.row_edits.specs.Edits.{edited}
+use Rattle.sorted_rows.specs.Edits.{edited}
 use Rattle.router_events.specs.declared.events.Output.{Output}
-use Rattle.abstract_router.specs.Outputs.{between, is_due, send_for, tear_for}
-use Rattle.abstract_router.specs.Stamps.{stamps}
-use Rattle.abstract_router.specs.Touched.{moments_between}
-use Rattle.abstract_router.specs.TouchedLaws.{touched_moments, touched_sends, touched_tears}
+use Rattle.abstract_paths.specs.Outputs.{between, is_due, send_for, tear_for}
+use Rattle.abstract_paths.specs.Stamps.{stamps}
+use Rattle.abstract_paths.specs.Touched.{moments_between}
+use Rattle.abstract_paths.specs.TouchedLaws.{touched_moments, touched_sends, touched_tears}
 
 -- what follows from a fact of what there is, if it is
 pub ok_weaker : {A E : Type 0} (r : Result A E) (P Q : A → Type 0) → ((x : A) → P x → Q x) → IfOk r P → IfOk r Q

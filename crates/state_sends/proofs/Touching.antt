@@ -1,20 +1,34 @@
--- One more key among others.
-use Rattle.std.specs.Prelude.{◌≡◌, ◌+◌, ◌<◌, ◌&&◌, ◌||◌, ◌++◌, ℕ, Bool, true, false, cond, List, [], ◌∷◌, Option, Some, None, is_some, length, take}
+-- One more key among others, and what is known of those that aren't among them.
+use Rattle.std.specs.Prelude.{◌≡◌, ◌+◌, ◌<◌, ◌||◌, ◌++◌, ℕ, zero, suc, slice_get, Bool, true, false, cond, List, [], ◌∷◌, Option, Some, None, is_some, length, take}
 use Rattle.std.specs.FinMap.Entries.{find, find-put, put}
-use Rattle.std.specs.Option.{option_or}
+use Rattle.std.specs.Option.{option_map, option_or}
 use Rattle.std.specs.Ordering.{eq_by_cmp}
-use Rattle.std.proofs.Common.{get_or, refl, sym, ap, ◌∙◌}
+use Rattle.std.proofs.Common.{get_or, refl, sym, ap, subst, arith, ◌∙◌}
 use Rattle.std.proofs.lemmas.List.{take_more}
 use Rattle.std.proofs.lemmas.List.Folds.{list_any-append}
 use Rattle.sorted_rows.specs.RowsLaws.{find-append}
-use Rattle.lsr_facts.specs.Lifetimes.{has_waited}
-use Rattle.lsr_facts.specs.OrderLaws.{key_total}
+use Rattle.sorted_rows.specs.EditLaws.{find-edited}
+use Rattle.sorted_rows.specs.Edits as rows
+use Rattle.lsr_facts.specs.OrderLaws.{key_exact, key_total}
 use Rattle.lsr_facts.specs.Orders.{key_cmp}
+use Rattle.lsr_facts.specs.Timeless.{timeless_path}
 use Rattle.lsr_facts.specs.declared.key.Key.{Key}
-use Rattle.abstract_router.specs.Touched.{is_among}
-use Rattle.state_sends.specs.Touching.{has_due}
+use Rattle.lsr_facts.specs.declared.path_fact.PathFact.{PathFact}
+use Rattle.resv_facts.specs.Reservations.{timeless_resv}
+use Rattle.abstract_paths.specs.StampLaws.{none-is, ties}
+use Rattle.abstract_paths.specs.Touched.{is_among}
+use Rattle.abstract_router.specs.Lsps.{Lsp, lsp_at}
+use Rattle.abstract_router.specs.States.{State}
+use Rattle.state_views.specs.Edits.{edited}
+use Rattle.state_views.specs.declared.edits.Edits.{Edits}
+use Rattle.state_sends.specs.Touching.{is_edited, is_lsp_of}
 
--- a key is among rows with one more behind them
+-- neither of two tests passes
+pub neither : (a b : Bool) → (a || b) ≡ false → (a ≡ false) × (b ≡ false)
+neither true b e = absurd (let f = e in cc)
+neither false b e = (refl, e)
+
+-- a key is among rows with one more after them
 among-more : {E : Type 0} (key : Key) (rows : List (Key × E)) (row : Key × E) → is_among key_cmp (rows ++ row ∷ []) key ≡ (is_among key_cmp rows key || eq_by_cmp key_cmp key row.0)
 among-more {E} key rows row = ap is_some (find-append key_cmp key rows (row ∷ [])) ∙ by (find key_cmp key rows) (eq_by_cmp key_cmp key row.0)
   where
@@ -37,6 +51,11 @@ turned true true c = refl
 turned true false c = refl
 turned false b c = refl
 
+-- a test or nothing
+or_false : (b : Bool) → (b || false) ≡ b
+or_false true = refl
+or_false false = refl
+
 -- One more of the rows: its key is put among the keys.
 pub one_more : {E : Type 0} (rows : List (Key × E)) (i : ℕ) (row : Key × E) (keys all after : List (Key × Unit {0})) → i < length rows → row ≡ get_or rows i row → after ≡ put key_cmp row.0 tt all → ((key : Key) → is_among key_cmp all key ≡ (is_among key_cmp (take i rows) key || is_among key_cmp keys key)) → (key : Key) → is_among key_cmp after key ≡ (is_among key_cmp (take (i + 1) rows) key || is_among key_cmp keys key)
 one_more rows i row keys all after within is put known key =
@@ -46,25 +65,80 @@ one_more rows i row keys all after within is put known key =
     ∙ turned (is_among key_cmp (take i rows) key) (eq_by_cmp key_cmp key row.0) (is_among key_cmp keys key)
     ∙ ap (λ b. b || is_among key_cmp keys key) (sym (among-more key (take i rows) row) ∙ sym (ap (λ xs. is_among key_cmp xs key) (take_more rows i row within ∙ ap (λ r. take i rows ++ r ∷ []) (sym is))))
 
--- a test or nothing
-or_false : (b : Bool) → (b || false) ≡ b
-or_false true = refl
-or_false false = refl
+-- the keys of one row more
+among_next : {E : Type 0} (rows : List (Key × E)) (i : ℕ) (row : Key × E) → i < length rows → row ≡ get_or rows i row → (key : Key) → is_among key_cmp (take (i + 1) rows) key ≡ (is_among key_cmp (take i rows) key || eq_by_cmp key_cmp key row.0)
+among_next rows i row within is key =
+    ap (λ xs. is_among key_cmp xs key) (take_more rows i row within ∙ ap (λ r. take i rows ++ r ∷ []) (sym is)) ∙ among-more key (take i rows) row
 
--- a key among others, if it is put
-among-put_if : (key : Key) (row : Key) (keys : List (Key × Unit {0})) (b : Bool) → is_among key_cmp (cond b (put key_cmp row tt keys) keys) key ≡ ((b && eq_by_cmp key_cmp key row) || is_among key_cmp keys key)
-among-put_if key row keys true = among-put key row keys
-among-put_if key row keys false = refl
+-- What holds of each of so many LSPs that isn't among the changed ones: it holds of one more where it holds of that,
+pub one_same : {E : Type 0} (P : Key → Type 0) (lsps : List (Key × E)) (i : ℕ) (row : Key × E) (changed after : List (Key × Unit {0})) → i < length lsps → row ≡ get_or lsps i row → ((key : Key) → is_among key_cmp (take i lsps) key ≡ true → is_among key_cmp changed key ≡ false → P key) → after ≡ changed → P row.0
+    → (key : Key) → is_among key_cmp (take (i + 1) lsps) key ≡ true → is_among key_cmp after key ≡ false → P key
+one_same P lsps i row changed after within is holds stays own key known apart =
+    by (is_among key_cmp (take i lsps) key) (eq_by_cmp key_cmp key row.0) refl refl (sym (among_next lsps i row within is key) ∙ known)
+  where
+    by : (a b : Bool) → is_among key_cmp (take i lsps) key ≡ a → eq_by_cmp key_cmp key row.0 ≡ b → (a || b) ≡ true → P key
+    by true b among tie e = holds key among (sym (ap (λ keys. is_among key_cmp keys key) stays) ∙ apart)
+    by false true among tie e = subst P (sym (key_exact key row.0 (ties (key_cmp key row.0) tie))) own
+    by false false among tie e = absurd (let f = e in cc)
 
--- One more of what was sent: its LSP is put among the keys where it is due.
-pub one_due : {I : Type 0} (of : I → Key) (refresh_ms moment : ℕ) (sent : List (I × ℕ)) (i : ℕ) (row : I × ℕ) (lsp : Key) (is_due : Bool) (keys all after : List (Key × Unit {0})) → i < length sent → row ≡ get_or sent i row → after ≡ cond is_due (put key_cmp lsp tt all) all → lsp ≡ of row.0 → is_due ≡ has_waited refresh_ms row.1 moment
-    → ((key : Key) → is_among key_cmp all key ≡ (has_due of refresh_ms moment (take i sent) key || is_among key_cmp keys key)) → (key : Key) → is_among key_cmp after key ≡ (has_due of refresh_ms moment (take (i + 1) sent) key || is_among key_cmp keys key)
-one_due {I} of refresh_ms moment sent i row lsp is_due keys all after within is put is_lsp due known key =
+-- and where that is put among them.
+pub one_changed : {E : Type 0} (P : Key → Type 0) (lsps : List (Key × E)) (i : ℕ) (row : Key × E) (changed after : List (Key × Unit {0})) → i < length lsps → row ≡ get_or lsps i row → ((key : Key) → is_among key_cmp (take i lsps) key ≡ true → is_among key_cmp changed key ≡ false → P key) → after ≡ put key_cmp row.0 tt changed
+    → (key : Key) → is_among key_cmp (take (i + 1) lsps) key ≡ true → is_among key_cmp after key ≡ false → P key
+one_changed P lsps i row changed after within is holds put known_key known apart =
+    let none = neither (eq_by_cmp key_cmp known_key row.0) (is_among key_cmp changed known_key) (sym (among-put known_key row.0 changed) ∙ sym (ap (λ keys. is_among key_cmp keys known_key) put) ∙ apart) in
+    holds known_key (sym (or_false (is_among key_cmp (take i lsps) known_key)) ∙ ap (λ b. is_among key_cmp (take i lsps) known_key || b) (sym none.0) ∙ sym (among_next lsps i row within is known_key) ∙ known) none.1
+
+-- each place of a list has an element
+pub none_past : {A : Type 0} (xs : List A) (i : ℕ) → i < length xs → slice_get xs i ≡ None → ⊥
+none_past [] i within none = omega (arith, within)
+none_past (x ∷ xs) zero within none = let f = none in cc
+none_past (x ∷ xs) (suc i) within none = none_past xs i (omega (arith, within)) none
+
+-- One more of the items: its LSP is put among the keys.
+pub one_item : {I : Type 0} (of : I → Key) (items : List I) (i : ℕ) (item : I) (lsp : Key) (keys all after : List (Key × Unit {0})) → i < length items → item ≡ get_or items i item → lsp ≡ of item → after ≡ put key_cmp lsp tt all
+    → ((key : Key) → is_among key_cmp all key ≡ (is_lsp_of of (take i items) key || is_among key_cmp keys key)) → (key : Key) → is_among key_cmp after key ≡ (is_lsp_of of (take (i + 1) items) key || is_among key_cmp keys key)
+one_item {I} of items i item lsp keys all after within is is_lsp put known key =
     ap (λ rows. is_among key_cmp rows key) put
-    ∙ among-put_if key lsp all is_due
-    ∙ (λ k. (due k && eq_by_cmp key_cmp key (is_lsp k)) || known key k)
-    ∙ turned (has_due of refresh_ms moment (take i sent) key) (has_waited refresh_ms row.1 moment && eq_by_cmp key_cmp key (of row.0)) (is_among key_cmp keys key)
+    ∙ among-put key lsp all
+    ∙ (λ k. eq_by_cmp key_cmp key (is_lsp k) || known key k)
+    ∙ turned (is_lsp_of of (take i items) key) (eq_by_cmp key_cmp key (of item)) (is_among key_cmp keys key)
     ∙ ap (λ b. b || is_among key_cmp keys key)
-    (ap (λ b. has_due of refresh_ms moment (take i sent) key || b) (sym (or_false (has_waited refresh_ms row.1 moment && eq_by_cmp key_cmp key (of row.0))))
-    ∙ sym (list_any-append (λ (row : I × ℕ). has_waited refresh_ms row.1 moment && eq_by_cmp key_cmp key (of row.0)) (take i sent) (row ∷ []))
-    ∙ sym (ap (λ (rows : List (I × ℕ)). has_due of refresh_ms moment rows key) (take_more sent i row within ∙ ap (λ r. take i sent ++ r ∷ []) (sym is))))
+    (ap (λ b. is_lsp_of of (take i items) key || b) (sym (or_false (eq_by_cmp key_cmp key (of item))))
+    ∙ sym (list_any-append (λ (x : I). eq_by_cmp key_cmp key (of x)) (take i items) (item ∷ []))
+    ∙ sym (ap (λ (xs : List I). is_lsp_of of xs key) (take_more items i item within ∙ ap (λ x. take i items ++ x ∷ []) (sym is))))
+
+-- The same is known of an LSP where path, label and reservation are the same, but for when they expire.
+pub same_lsp : (s t : State) (key : Key) → find key_cmp key s.labels ≡ find key_cmp key t.labels
+    → option_map timeless_resv (find key_cmp key s.resvs) ≡ option_map timeless_resv (find key_cmp key t.resvs)
+    → option_map timeless_path (find key_cmp key s.facts.paths) ≡ option_map timeless_path (find key_cmp key t.facts.paths)
+    → lsp_at s key ≡ lsp_at t key
+same_lsp s t key label resv path = of_path s (find key_cmp key s.facts.paths) ∙ (λ i. option_map (λ (p : PathFact). record { path = p; label = label i; resv = resv i }) (path i)) ∙ sym (of_path t (find key_cmp key t.facts.paths))
+  where
+    of_path : (x : State) (o : Option PathFact)
+        → option_map {U = Lsp} (λ p. record { path = timeless_path p; label = find key_cmp key x.labels; resv = option_map timeless_resv (find key_cmp key x.resvs) }) o
+        ≡ option_map {U = Lsp} (λ p. record { path = p; label = find key_cmp key x.labels; resv = option_map timeless_resv (find key_cmp key x.resvs) }) (option_map timeless_path o)
+    of_path x None = refl
+    of_path x (Some p) = refl
+
+-- what is found where there is no edit
+as_before : {X : Type 0} (key : Key) (edits : List (Key × Option X)) (before : List (Key × X)) → is_among key_cmp edits key ≡ false → find key_cmp key before ≡ find key_cmp key (rows.edited key_cmp edits before)
+as_before key edits before none =
+    sym (find-edited key_cmp key_total key edits before ∙ ap (λ edit. rows.over edit (find key_cmp key before)) (none-is (find key_cmp key edits) none))
+
+-- So it is where the LSP has no edit.
+pub same_unedited : (s : State) (e : Edits) (key : Key) → is_edited e key ≡ false → lsp_at s key ≡ lsp_at (edited e s) key
+same_unedited s e key none =
+    let labels = neither (is_among key_cmp e.labels key) (is_among key_cmp e.resvs key || is_among key_cmp e.paths key) none in
+    let resvs = neither (is_among key_cmp e.resvs key) (is_among key_cmp e.paths key) labels.1 in
+    same_lsp s (edited e s) key (as_before key e.labels s.labels labels.0)
+    (ap (option_map timeless_resv) (as_before key e.resvs s.resvs resvs.0)) (ap (option_map timeless_path) (as_before key e.paths s.facts.paths resvs.1))
+
+-- And so of those that aren't among the edited LSPs of which not the same is known.
+pub same_apart : (s : State) (e : Edits) (lsps changed : List (Key × Unit {0})) → ((key : Key) → is_among key_cmp lsps key ≡ is_edited e key)
+    → ((key : Key) → is_among key_cmp lsps key ≡ true → is_among key_cmp changed key ≡ false → lsp_at s key ≡ lsp_at (edited e s) key)
+    → (key : Key) → is_among key_cmp changed key ≡ false → lsp_at s key ≡ lsp_at (edited e s) key
+same_apart s e lsps changed known same key apart = by (is_among key_cmp lsps key) refl
+  where
+    by : (b : Bool) → is_among key_cmp lsps key ≡ b → lsp_at s key ≡ lsp_at (edited e s) key
+    by true is = same key is apart
+    by false is = same_unedited s e key (sym (known key) ∙ is)

@@ -1,1 +1,2 @@
+pub mod KeptAlive
 pub mod Touching

@@ -2,8 +2,10 @@
 //! each message was sent last.
 #![tactic(auto)]
 
+mod kept_alive;
+mod same;
 mod sends;
 mod touched;
 
-pub use sends::{StateSends, sends_of};
+pub use sends::{StateSends, appended, sends_of};
 pub use touched::edited_lsps;

@@ -1,12 +1,11 @@
--- Reservations that stand no more, and the edits by which they go.
-use Rattle.std.specs.Prelude.{not, Bool, false, if◌then◌else◌, List, [], ◌∷◌, Option, Some, None}
-use Rattle.std.specs.FinMap.Entries.{find, put}
+-- Reservations that stand no more.
+use Rattle.std.specs.Prelude.{not, Bool, false, if◌then◌else◌, Option, Some, None}
+use Rattle.std.specs.FinMap.Entries.{find}
 use Rattle.std.specs.Option.{option_map_or}
 use Rattle.lsr_facts.specs.Orders.{key_cmp}
 use Rattle.lsr_facts.specs.declared.key.Key.{Key}
-use Rattle.resv_facts.specs.declared.resv_fact.ResvFact.{ResvFact}
-use Rattle.abstract_lsr.specs.States.{State}
-use Rattle.abstract_lsr.specs.Steps.{stands}
+use Rattle.abstract_router.specs.States.{State}
+use Rattle.abstract_router.specs.Steps.{stands}
 
 -- the LSP has a reservation that stands no more
 abbrev pub has_fallen : State → Key → Bool
@@ -15,8 +14,3 @@ has_fallen s key = option_map_or (λ resv. not (stands s.facts (key, resv))) (fi
 -- the LSP, where it has
 abbrev pub fallen_key : State → Key → Option Key
 fallen_key s key = if has_fallen s key then Some key else None
-
--- edits by which these LSPs lose their reservations, after others
-abbrev pub without_all : List Key → List (Key × Option ResvFact) → List (Key × Option ResvFact)
-without_all [] edits = edits
-without_all (key ∷ keys) edits = without_all keys (put key_cmp key None edits)

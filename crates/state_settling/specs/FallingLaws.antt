@@ -1,29 +1,30 @@
 -- By these edits exactly those reservations go that stand no more.
-use Rattle.std.specs.Prelude.{◌≡◌, ◌++◌, ◌&&◌, ◌||◌, not, Bool, true, false, cond, if◌then◌else◌, T, List, [], ◌∷◌, filter, filter_map, Option, Some, None, IfSome, is_some}
-use Rattle.std.specs.Bool.{then_some}
+use Rattle.std.specs.Prelude.{◌≡◌, ◌++◌, ◌&&◌, ◌||◌, not, Bool, true, false, cond, if◌then◌else◌, T, List, [], ◌∷◌, filter_map, Option, Some, None, IfSome, is_some}
 use Rattle.std.specs.Cmp.{both_ways}
-use Rattle.std.specs.FinMap.Entries.{find, find-put, is_sorted, put, same_entries}
+use Rattle.std.specs.FinMap.Entries.{find, is_sorted}
 use Rattle.std.specs.List.{AllByRecursion, cons_option}
-use Rattle.std.specs.Option.{option_and_then, option_map_or, unwrap_or}
+use Rattle.std.specs.Option.{option_map_or, unwrap_or}
 use Rattle.std.specs.Ordering.{eq_by_cmp, is_eq}
 use Rattle.std.proofs.Common.{refl, sym, ap, subst, ◌∙◌}
 use Rattle.std.proofs.lemmas.Cmp.{tied_itself}
 use Rattle.std.proofs.lemmas.List.Folds.{list_any-append}
-use Rattle.sorted_rows.specs.RowsLaws.{find-all_row, find-filter, is_sorted-filter, ties}
-use Rattle.row_edits.specs.EditLaws.{find-edited, is_sorted-edited}
-use Rattle.row_edits.specs.Edits as rows
+use Rattle.sorted_rows.specs.ListLaws.{all-weaker, filter_agree_within}
+use Rattle.sorted_rows.specs.RowsLaws.{all_found, find-all_row, ties}
+use Rattle.sorted_rows.specs.EditLaws.{find-edited, is_sorted-edited}
+use Rattle.sorted_rows.specs.Edits as rows
 use Rattle.lsr_facts.specs.OrderLaws.{key_exact, key_total}
 use Rattle.lsr_facts.specs.Orders.{key_cmp}
 use Rattle.lsr_facts.specs.declared.key.Key.{Key}
 use Rattle.lsr_facts.specs.declared.path_fact.PathFact.{PathFact}
 use Rattle.resv_facts.specs.declared.resv_fact.ResvFact.{ResvFact}
-use Rattle.abstract_router.specs.Places.{is_up}
-use Rattle.abstract_router.specs.Tears.{leaves_by}
-use Rattle.abstract_lsr.specs.States.{State, is_among}
-use Rattle.abstract_lsr.specs.Steps.{stands}
-use Rattle.state_views.specs.Views.{edited}
-use Rattle.state_views.specs.declared.edits.StateEdits.{StateEdits}
-use Rattle.state_settling.specs.Falling.{has_fallen, without_all}
+use Rattle.abstract_paths.specs.Places.{is_up}
+use Rattle.abstract_paths.specs.Tears.{leaves_by}
+use Rattle.abstract_router.specs.States.{State, is_among}
+use Rattle.abstract_router.specs.Steps.{left_standing, stands}
+use Rattle.state_views.specs.EditLaws.{resvs_without}
+use Rattle.state_views.specs.Edits.{edited, without_resvs}
+use Rattle.state_views.specs.declared.edits.Edits.{Edits}
+use Rattle.state_settling.specs.Falling.{fallen_key, has_fallen}
 
 -- keys tie one way round as they do the other
 tie-turned : (a b : Key) → is_eq (key_cmp a b) ≡ is_eq (key_cmp b a)
@@ -41,13 +42,6 @@ both-either true b c = by c b
     by false true = refl
     by false false = refl
 both-either false b c = refl
-
--- to choose by one test, and then by another
-either-chosen : {A : Type 0} (a b : Bool) (x y : A) → cond a x (cond b x y) ≡ cond (b || a) x y
-either-chosen true true x y = refl
-either-chosen true false x y = refl
-either-chosen false true x y = refl
-either-chosen false false x y = refl
 
 -- Of rows a key is among those that pass a test where it has a row and passes.
 pub among-passing : {E : Type 0} (p : Key → Bool) (q : Key) (es : List (Key × E)) → is_among (filter_map (λ e. if p e.0 then Some e.0 else None) es) q ≡ (is_some (find key_cmp q es) && p q)
@@ -84,34 +78,16 @@ among-both p q es fs known =
     by false true h = h refl
     by false false h = refl
 
--- what is found among the edits
-find-without : (q : Key) (keys : List Key) (es : List (Key × Option ResvFact)) → find key_cmp q (without_all keys es) ≡ cond (is_among keys q) (Some None) (find key_cmp q es)
-find-without q [] es = refl
-find-without q (key ∷ keys) es =
-    find-without q keys (put key_cmp key None es)
-    ∙ ap (cond (is_among keys q) (Some None)) (find-put key_cmp key_total q key None es ∙ ap (λ b. cond b (Some None) (find key_cmp q es)) (tie-turned q key))
-    ∙ either-chosen (is_among keys q) (is_eq (key_cmp key q)) (Some None) (find key_cmp q es)
+-- what fails to fail
+not_not : (b : Bool) → not (not b) ≡ b
+not_not true = refl
+not_not false = refl
 
--- what there is by a choice of edits
-over-chosen : {X : Type 0} (b : Bool) (edit : Option (Option X)) (was : Option X) → rows.over (cond b (Some None) edit) was ≡ cond b None (rows.over edit was)
-over-chosen true edit was = refl
-over-chosen false edit was = refl
-
--- Where these are the LSPs whose reservations stand no more after edits, the reservations that stand are left.
-pub standing_left : (s : State) (e : StateEdits) (keys : List Key) → T (is_sorted key_cmp s.resvs) → ((q : Key) → is_among keys q ≡ has_fallen (edited e s) q)
-    → rows.edited key_cmp (without_all keys e.resvs) s.resvs ≡ filter (stands (edited e s).facts) (edited e s).resvs
-standing_left s e keys sorted exactly =
-    same_entries key_cmp key_total key_exact _ _
-    (is_sorted-edited key_cmp key_total (without_all keys e.resvs) s.resvs sorted)
-    (is_sorted-filter key_cmp test after (is_sorted-edited key_cmp key_total e.resvs s.resvs sorted))
-    (λ q.
-    find-edited key_cmp key_total q (without_all keys e.resvs) s.resvs
-    ∙ ap (λ edit. rows.over edit (find key_cmp q s.resvs)) (find-without q keys e.resvs)
-    ∙ over-chosen (is_among keys q) (find key_cmp q e.resvs) (find key_cmp q s.resvs)
-    ∙ ap (cond (is_among keys q) None) (sym (find-edited key_cmp key_total q e.resvs s.resvs))
-    ∙ ap (λ b. cond b None (find key_cmp q after)) (exactly q)
-    ∙ kept q (find key_cmp q after)
-    ∙ sym (find-filter key_cmp key_total test q (λ k v tied. ap (λ k. test (k, v)) (sym (key_exact q k tied))) after (is_sorted-edited key_cmp key_total e.resvs s.resvs sorted)))
+-- Where these are the LSPs whose reservations stand no more after edits, those are left that stand.
+pub standing_left : (s : State) (e : Edits) (gone : List Key) → T (is_sorted key_cmp s.resvs) → ((q : Key) → is_among gone q ≡ has_fallen (edited e s) q)
+    → edited (record e { resvs = without_resvs e.resvs gone }) s ≡ left_standing (edited e s)
+standing_left s e gone sorted exactly =
+    λ i. record (edited e s) { resvs = (resvs_without e.resvs gone s.resvs sorted ∙ filter_agree_within (λ resv. not (is_among gone resv.0)) test after alike) i }
   where
     after : List (Key × ResvFact)
     after = (edited e s).resvs
@@ -119,42 +95,47 @@ standing_left s e keys sorted exactly =
     test : Key × ResvFact → Bool
     test = stands (edited e s).facts
 
-    kept : (q : Key) (o : Option ResvFact) → cond (option_map_or (λ resv. not (test (q, resv))) o false) None o ≡ option_and_then (λ v. then_some (test (q, v)) v) o
-    kept q None = refl
-    kept q (Some v) = elim (test (q, v)) as (λ b. cond (not b) None (Some v) ≡ then_some b v) [ true ↦ refl | false ↦ refl ]
+    alike : AllByRecursion (λ (resv : Key × ResvFact). not (is_among gone resv.0) ≡ test resv) after
+    alike =
+        all-weaker (λ (resv : Key × ResvFact). find key_cmp resv.0 after ≡ Some resv.1) (λ resv. not (is_among gone resv.0) ≡ test resv)
+        (λ resv found. ap not (exactly resv.0 ∙ ap (λ o. option_map_or (λ fact. not (test (resv.0, fact))) o false) found) ∙ not_not (test resv))
+        after (all_found key_cmp key_total after (is_sorted-edited key_cmp key_total e.resvs s.resvs sorted))
 
 -- what there is after edits was edited, or there before
-known-over : {X : Type 0} (p : X → Bool) (edit : Option (Option X)) (was : Option X) → option_map_or p (rows.over edit was) false ≡ true → (is_some was || is_some edit) ≡ true
-known-over p (Some now) None h = refl
-known-over p (Some now) (Some x) h = refl
+known-over : {X : Type 0} (p : X → Bool) (edit : Option (Option X)) (was : Option X) → option_map_or p (rows.over edit was) false ≡ true → (is_some edit || is_some was) ≡ true
+known-over p (Some now) was h = refl
 known-over p None None h = h
 known-over p None (Some x) h = refl
 
--- A reservation that stands no more is one of those that there were, or was edited.
-pub fallen-known : (s : State) (e : StateEdits) (q : Key) → has_fallen (edited e s) q ≡ true → (is_some (find key_cmp q s.resvs) || is_some (find key_cmp q e.resvs)) ≡ true
-fallen-known s e q h =
+-- What falls among all that were reserved before, and among the edits, is all that falls.
+pub fallen_of_all : (s : State) (e : Edits) (keys : List Key) → keys ≡ filter_map (λ row. fallen_key (edited e s) row.0) e.resvs ++ filter_map (λ resv. fallen_key (edited e s) resv.0) s.resvs
+    → (q : Key) → is_among keys q ≡ has_fallen (edited e s) q
+fallen_of_all s e keys are q =
+    ap (λ ks. is_among ks q) are
+    ∙ among-both (has_fallen (edited e s)) q e.resvs s.resvs (λ h.
     known-over (λ resv. not (stands (edited e s).facts (q, resv))) (find key_cmp q e.resvs) (find key_cmp q s.resvs)
-    (ap (λ o. option_map_or (λ resv. not (stands (edited e s).facts (q, resv))) o false) (sym (find-edited key_cmp key_total q e.resvs s.resvs)) ∙ h)
+    (ap (λ o. option_map_or (λ resv. not (stands (edited e s).facts (q, resv))) o false) (sym (find-edited key_cmp key_total q e.resvs s.resvs)) ∙ h))
 
--- Where no link changed and all stood, its LSP's path or reservation was edited.
-pub fallen-edited : (s : State) (e : StateEdits) (q : Key) → AllByRecursion (λ resv. stands s.facts resv ≡ true) s.resvs → e.facts.up ≡ None → has_fallen (edited e s) q ≡ true
-    → (is_some (find key_cmp q e.facts.paths) || is_some (find key_cmp q e.resvs)) ≡ true
-fallen-edited s e q stood same fallen =
-    by (find key_cmp q e.facts.paths) (find key_cmp q e.resvs) refl refl
+-- Where no link changed and all stood, what falls is among the edits.
+pub fallen_of_edits : (s : State) (e : Edits) (keys : List Key) → AllByRecursion (λ resv. stands s.facts resv ≡ true) s.resvs → e.up ≡ None
+    → keys ≡ filter_map (λ row. fallen_key (edited e s) row.0) e.resvs ++ filter_map (λ row. fallen_key (edited e s) row.0) e.paths
+    → (q : Key) → is_among keys q ≡ has_fallen (edited e s) q
+fallen_of_edits s e keys stood same are q =
+    ap (λ ks. is_among ks q) are ∙ among-both (has_fallen (edited e s)) q e.resvs e.paths (λ fallen. by (find key_cmp q e.resvs) (find key_cmp q e.paths) refl refl fallen)
   where
-    stays : (resv : ResvFact) → find key_cmp q e.facts.paths ≡ None → stands s.facts (q, resv) ≡ true → stands (edited e s).facts (q, resv) ≡ true
+    stays : (resv : ResvFact) → find key_cmp q e.paths ≡ None → stands s.facts (q, resv) ≡ true → stands (edited e s).facts (q, resv) ≡ true
     stays resv none so =
         (λ i. is_up (ap (λ up. unwrap_or up s.facts.up) same i) resv.link
-        && option_map_or (leaves_by resv.link) ((find-edited key_cmp key_total q e.facts.paths s.facts.paths ∙ ap (λ edit. rows.over edit (find key_cmp q s.facts.paths)) none) i) false)
+        && option_map_or (leaves_by resv.link) ((find-edited key_cmp key_total q e.paths s.facts.paths ∙ ap (λ edit. rows.over edit (find key_cmp q s.facts.paths)) none) i) false)
         ∙ so
 
-    stayed : (o : Option ResvFact) → IfSome o (λ resv. stands s.facts (q, resv) ≡ true) → find key_cmp q e.facts.paths ≡ None → option_map_or (λ resv. not (stands (edited e s).facts (q, resv))) o false ≡ true → false ≡ true
+    stayed : (o : Option ResvFact) → IfSome o (λ resv. stands s.facts (q, resv) ≡ true) → find key_cmp q e.paths ≡ None → option_map_or (λ resv. not (stands (edited e s).facts (q, resv))) o false ≡ true → false ≡ true
     stayed None so none h = h
     stayed (Some resv) so none h = ap not (sym (stays resv none so)) ∙ h
 
-    by : (path : Option (Option PathFact)) (resv : Option (Option ResvFact)) → find key_cmp q e.facts.paths ≡ path → find key_cmp q e.resvs ≡ resv → (is_some path || is_some resv) ≡ true
-    by (Some path) resv is_path is_resv = refl
-    by None (Some resv) is_path is_resv = refl
-    by None None is_path is_resv =
+    by : (resv : Option (Option ResvFact)) (path : Option (Option PathFact)) → find key_cmp q e.resvs ≡ resv → find key_cmp q e.paths ≡ path → has_fallen (edited e s) q ≡ true → (is_some resv || is_some path) ≡ true
+    by (Some resv) path is_resv is_path fallen = refl
+    by None (Some path) is_resv is_path fallen = refl
+    by None None is_resv is_path fallen =
         stayed (find key_cmp q s.resvs) (find-all_row key_cmp key_exact (λ resv. stands s.facts resv ≡ true) q s.resvs stood) is_path
         (ap (λ o. option_map_or (λ resv. not (stands (edited e s).facts (q, resv))) o false) (sym (find-edited key_cmp key_total q e.resvs s.resvs ∙ ap (λ edit. rows.over edit (find key_cmp q s.resvs)) is_resv)) ∙ fallen)

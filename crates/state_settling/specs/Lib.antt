@@ -1,4 +1,5 @@
 pub mod Falling
 pub mod FallingLaws
+pub mod Keeping
 pub mod Relabelling
 pub mod RelabellingLaws

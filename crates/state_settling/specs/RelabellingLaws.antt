@@ -6,19 +6,24 @@ use Rattle.std.specs.List.{IsDistinct, cons_option}
 use Rattle.std.specs.Option.{option_and_then, option_map, option_or}
 use Rattle.std.proofs.Common.{refl, sym, ap, subst, ◌∙◌, inl, inr}
 use Rattle.sorted_rows.specs.Rows.{keys_of}
-use Rattle.sorted_rows.specs.RowsLaws.{find-filter, is_some-find_both, is_sorted-both, is_sorted-filter}
-use Rattle.row_edits.specs.EditLaws.{find-edited, is_sorted-edited}
-use Rattle.row_edits.specs.Edits.{edited, over}
+use Rattle.sorted_rows.specs.RowsLaws.{find-filter, is_some-find_both, is_sorted-filter}
+use Rattle.sorted_rows.specs.EditLaws.{find-edited, is_sorted-edited}
+use Rattle.sorted_rows.specs.Edits.{edited, over}
 use Rattle.lsr_facts.specs.Lifetimes.{begins_here}
 use Rattle.lsr_facts.specs.OrderLaws.{key_exact, key_total}
 use Rattle.lsr_facts.specs.Orders.{key_cmp}
 use Rattle.lsr_facts.specs.declared.key.Key.{Key}
 use Rattle.lsr_facts.specs.declared.path_fact.PathFact.{PathFact}
 use Rattle.lsr_facts.specs.declared.router.Router.{Router}
-use Rattle.abstract_router.specs.LocalityLaws.{find-made, is_sorted-made}
-use Rattle.abstract_lsr.specs.Choosing.{CanLabel}
-use Rattle.abstract_lsr.specs.ChoosingLaws.{new_keys-few}
-use Rattle.abstract_lsr.specs.Labels.{IsLabelling, MayBeGiven, has_free_label, labelled_keys, labels_after, new_keys}
+use Rattle.abstract_paths.specs.TouchedLaws.{find-made, is_sorted-made}
+use Rattle.abstract_router.specs.Choosing.{CanLabel}
+use Rattle.abstract_router.specs.ChoosingLaws.{new_keys-few}
+use Rattle.abstract_router.specs.Labels.{IsLabelling, MayBeGiven, has_free_label, labelled_keys, labels_after, new_keys}
+use Rattle.abstract_router.specs.States.{State}
+use Rattle.abstract_router.specs.Steps.{labelled}
+use Rattle.state_views.specs.EditLaws.{labels_in_order}
+use Rattle.state_views.specs.Edits as views
+use Rattle.state_views.specs.declared.edits.Edits.{Edits}
 use Rattle.state_settling.specs.Relabelling.{is_new, label_becomes, label_edit, label_edits, needs_label}
 
 -- the path doesn't begin here
@@ -73,9 +78,6 @@ module _ (labels chosen : List (Key × ℕ)) (es : List (Key × Option PathFact)
       subst (λ rows. T (is_sorted key_cmp rows)) (sym (of_keys (λ key. option_or (find key_cmp key labels) (find key_cmp key chosen)) (filter ours after)))
       (is_sorted-made key_cmp key_total key_exact (λ row. option_or (find key_cmp row.0 labels) (find key_cmp row.0 chosen)) (filter ours after) (is_sorted-filter key_cmp ours after sorted_after))
 
-  sorted-labels : T (is_sorted key_cmp labels)
-  sorted-labels = subst T (sym (is_sorted-both key_cmp labels (filter ours paths) held)) (is_sorted-filter key_cmp ours paths h)
-
   -- an edit of a label makes of it the one that its LSP is to have
   becomes : (needed : Bool) (given was : Option ℕ) → over (label_becomes needed given was) was ≡ cond needed (option_or was given) None
   becomes true None None = refl
@@ -94,7 +96,7 @@ module _ (labels chosen : List (Key × ℕ)) (es : List (Key × Option PathFact)
   -- The edits of labels lead to the labels after a step.
   pub relabelled : edited key_cmp (label_edits labels chosen es) labels ≡ labels_after labels chosen after
   relabelled =
-      same_entries key_cmp key_total key_exact _ _ (is_sorted-edited key_cmp key_total (label_edits labels chosen es) labels sorted-labels) sorted-labels_after (λ q.
+      same_entries key_cmp key_total key_exact _ _ (is_sorted-edited key_cmp key_total (label_edits labels chosen es) labels (labels_in_order labels paths h held)) sorted-labels_after (λ q.
       find-edited key_cmp key_total q (label_edits labels chosen es) labels
       ∙ ap (λ edit. over edit (find key_cmp q labels)) (find-made key_cmp key_total key_exact (label_edit labels chosen) q es g)
       ∙ by q (find key_cmp q es)
@@ -162,6 +164,12 @@ module _ (labels chosen : List (Key × ℕ)) (es : List (Key × Option PathFact)
       by q None = old q (find key_cmp q paths) (held-where q)
       by q (Some None) = refl
       by q (Some (Some path)) = refl
+
+-- Edits that leave labels as they are, with those of labels that they call for, lead where the labels are given.
+pub labels_given : (s : State) (e : Edits) (chosen : List (Key × ℕ)) → T (is_sorted key_cmp e.paths) → T (is_sorted key_cmp s.facts.paths) → keys_of s.labels ≡ labelled_keys s.facts.paths → (views.edited e s).labels ≡ s.labels
+    → views.edited (record e { labels = label_edits s.labels chosen e.paths }) s ≡ labelled chosen (views.edited e s)
+labels_given s e chosen g h held same =
+    λ i. record (views.edited e s) { labels = (relabelled s.labels chosen e.paths s.facts.paths g h held ∙ ap (λ labels. labels_after labels chosen (views.edited e s).facts.paths) (sym same)) i }
 
 -- none passes a test where the first that does is none
 none-passes : {X : Type 0} (p : X → Bool) (xs : List X) → find_first p xs ≡ None → filter p xs ≡ []

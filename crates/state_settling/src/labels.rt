@@ -4,16 +4,18 @@ ghost use Rattle.std.specs.FinMap.Entries.{is_sorted};
 ghost use Rattle.std.specs.Option.{option_map};
 ghost use Rattle.std.specs.Prelude.{◌≡◌, ◌∷◌, [], IfOk, T, filter_map, find as find_first, not};
 ghost use Rattle.sorted_rows.specs.Rows.{keys_of};
-ghost use Rattle.row_edits.specs.Edits.{edited};
+ghost use Rattle.sorted_rows.specs.Edits as rows;
 ghost use Rattle.lsr_facts.specs.Lifetimes.{begins_here};
 ghost use Rattle.lsr_facts.specs.Orders.{key_cmp};
-ghost use Rattle.abstract_lsr.specs.Choosing.{CanLabel};
-ghost use Rattle.abstract_lsr.specs.Labels.{IsLabelling, labelled_keys, labels_after};
+ghost use Rattle.abstract_router.specs.Choosing.{CanLabel};
+ghost use Rattle.abstract_router.specs.Labels.{IsLabelling, labelled_keys};
+ghost use Rattle.abstract_router.specs.Steps.{labelled};
+ghost use Rattle.state_views.specs.Edits.{edited};
 ghost use Rattle.state_settling.specs.Relabelling.{is_new, label_edit, label_edits, needs_label};
 
 use lsr_facts::{Key, PathFact, Role};
 use sorted_rows::Table;
-use state_views::{StateView, WholeState};
+use state_views::{Edits, StateView, WholeState};
 use std::alloc::{AllocError, Global};
 
 /// Whether an LSP is to have a label of which this is known from now on: it has a path, which doesn't begin here.
@@ -39,14 +41,14 @@ fn begins_here(role: Role) -> bool
 
 /// Whether the LSP of an edit is to have a label, and has none yet.
 fn is_new<V: StateView>(view: &V, edit: &(Key, Option<PathFact>)) -> bool
-    ensures { result ≡ is_new (V.held view.now).labels edit.now }
+    ensures { result ≡ is_new (V.state view.now).labels edit.now }
 {
     needs_label(&edit.1) && view.label(&edit.0).is_none()
 }
 
 /// The first LSP of edits that is to have a label and has none yet.
 fn new_lsp<V: StateView>(view: &V, paths: &[(Key, Option<PathFact>)]) -> Option<Key>
-    ensures { result ≡ option_map (λ edit. edit.0) (find_first (is_new (V.held view.now).labels) paths.now) }
+    ensures { result ≡ option_map (λ edit. edit.0) (find_first (is_new (V.state view.now).labels) paths.now) }
 {
     for edit in paths {
         if is_new(view, edit) {
@@ -73,12 +75,12 @@ pub(crate) fn chosen_labels<V: WholeState>(
     paths: &[(Key, Option<PathFact>)],
 ) -> Result<Table<Key, u32>, AllocError>
     requires order { T (is_sorted key_cmp paths.now) }
-    requires known { T (is_sorted key_cmp (V.facts view.now).paths) }
-    requires held { keys_of (V.held view.now).labels ≡ labelled_keys (V.facts view.now).paths }
-    requires choice { CanLabel (V.router view.now) (V.held view.now).labels
-        (edited key_cmp paths.now (V.facts view.now).paths) }
-    ensures chosen { IfOk result (IsLabelling (V.router view.now) (V.held view.now).labels
-        (edited key_cmp paths.now (V.facts view.now).paths)) }
+    requires known { T (is_sorted key_cmp (V.state view.now).facts.paths) }
+    requires held { keys_of (V.state view.now).labels ≡ labelled_keys (V.state view.now).facts.paths }
+    requires choice { CanLabel (V.router view.now) (V.state view.now).labels
+        (rows.edited key_cmp paths.now (V.state view.now).facts.paths) }
+    ensures chosen { IfOk result (IsLabelling (V.router view.now) (V.state view.now).labels
+        (rows.edited key_cmp paths.now (V.state view.now).facts.paths)) }
 {
     let Some(key) = new_lsp(view, paths) else {
         return Ok(Table::new(alloc));
@@ -93,7 +95,7 @@ fn label_edit<V: StateView>(
     chosen: &Table<Key, u32>,
     edit: &(Key, Option<PathFact>),
 ) -> Option<(Key, Option<u32>)>
-    ensures { result ≡ option_map (λ now. (edit.now.0, now)) (label_edit (V.held view.now).labels chosen.now edit.now) }
+    ensures { result ≡ option_map (λ now. (edit.now.0, now)) (label_edit (V.state view.now).labels chosen.now edit.now) }
 {
     match (needs_label(&edit.1), view.label(&edit.0)) {
         (true, None) => chosen.get(&edit.0).map(|label| (edit.0, Some(*label))),
@@ -105,14 +107,14 @@ fn label_edit<V: StateView>(
 
 /// What becomes of labels by edits of paths: an LSP that is new has the one that is chosen for it, and one that went
 /// has none any more. The only error is out of memory.
-pub(crate) fn label_edits<V: StateView>(
+fn label_edits<V: StateView>(
     alloc: Global,
     view: &V,
     chosen: &Table<Key, u32>,
     paths: &[(Key, Option<PathFact>)],
 ) -> Result<Table<Key, Option<u32>>, AllocError>
     requires { T (is_sorted key_cmp paths.now) }
-    ensures { IfOk result (λ labels. labels ≡ label_edits (V.held view.now).labels chosen.now paths.now) }
+    ensures { IfOk result (λ labels. labels ≡ label_edits (V.state view.now).labels chosen.now paths.now) }
 {
     let mut labels = Vec::new(alloc);
     for edit in paths {
@@ -121,4 +123,23 @@ pub(crate) fn label_edits<V: StateView>(
         }
     }
     Ok(Table::from_rows(labels))
+}
+
+/// Edits, and then an LSP that is new has the label that was chosen for it, and the labels of those that went are free. It
+/// asks for edits that leave the labels as they are. The only error is out of memory.
+#[tactic(auto, using(crate::specs::RelabellingLaws::labels_given))]
+pub(crate) fn labelled<V: StateView>(
+    alloc: Global,
+    view: &V,
+    chosen: &Table<Key, u32>,
+    edits: Edits,
+) -> Result<Edits, AllocError>
+    requires order { T (is_sorted key_cmp (V.state view.now).facts.paths) }
+    requires held { keys_of (V.state view.now).labels ≡ labelled_keys (V.state view.now).facts.paths }
+    requires labels { (edited edits (V.state view.now)).labels ≡ (V.state view.now).labels }
+    ensures { IfOk result (λ e. edited e (V.state view.now)
+        ≡ labelled chosen.now (edited edits (V.state view.now))) }
+{
+    let labels = label_edits(alloc, view, chosen, edits.paths.as_slice())?;
+    Ok(Edits { labels, ..edits })
 }

@@ -1,9 +1,13 @@
-//! What follows from an event's own change: reservations go that stand no more, an LSP that is new gets a label, and
-//! the labels of those that went are free.
+//! What follows from an event's own change, stage after stage, and what the keeper of the bandwidth of links has to be told
+//! of it.
 #![tactic(auto)]
 
+mod claims;
 mod labels;
+mod repair;
 mod settling;
 mod standing;
+mod takeover;
 
+pub use claims::bandwidth_edits;
 pub use settling::{Settled, settle};

@@ -1,23 +1,25 @@
 //! Reservations that stand no more.
 
-ghost use Rattle.std.specs.Prelude.{◌≡◌, ◌++◌, true, IfOk, filter_map};
+ghost use Rattle.std.specs.FinMap.Entries.{is_sorted};
 ghost use Rattle.std.specs.List.{AllByRecursion};
+ghost use Rattle.std.specs.Option.{option_and_then};
+ghost use Rattle.std.specs.Prelude.{◌≡◌, ◌++◌, true, IfOk, T, filter_map, slice_get};
+ghost use Rattle.lsr_facts.specs.Orders.{key_cmp};
 ghost use Rattle.lsr_facts.specs.declared.key.Key.{Key};
-ghost use Rattle.abstract_lsr.specs.States.{is_among};
-ghost use Rattle.abstract_lsr.specs.Steps.{stands};
-ghost use Rattle.state_views.specs.Views.{edited, known};
-ghost use Rattle.state_settling.specs.Falling.{fallen_key, has_fallen, without_all};
+ghost use Rattle.abstract_router.specs.States.{is_among};
+ghost use Rattle.abstract_router.specs.Steps.{left_standing, stands};
+ghost use Rattle.state_views.specs.Edits.{edited};
+ghost use Rattle.state_settling.specs.Falling.{fallen_key, has_fallen};
 
-use lsr_facts::{FactsView, Key};
+use lsr_facts::Key;
 use path_rules::{is_up, leaves_by};
 use resv_facts::ResvFact;
-use sorted_rows::Table;
-use state_views::{ChangedState, StateEdits, StateView, WholeState, node_of};
+use state_views::{Changed, Edits, StateView, WholeState, node_of, without_resvs};
 use std::alloc::{AllocError, Global};
 
 /// Whether a reservation stands on its path: on the link that this leaves by, which is up.
 fn stands<V: StateView>(view: &V, key: &Key, resv: &ResvFact) -> bool
-    ensures { result ≡ stands (V.facts view.now) (key.now, resv.now) }
+    ensures { result ≡ stands (V.state view.now).facts (key.now, resv.now) }
 {
     if !is_up(node_of(view).up, resv.link) {
         return false;
@@ -30,7 +32,7 @@ fn stands<V: StateView>(view: &V, key: &Key, resv: &ResvFact) -> bool
 
 /// The LSP, where it has a reservation that stands no more.
 fn fallen_key<V: StateView>(view: &V, key: &Key) -> Option<Key>
-    ensures { result ≡ fallen_key (known (V.facts view.now) (V.held view.now)) key.now }
+    ensures { result ≡ fallen_key (V.state view.now) key.now }
 {
     let resv = view.resv(key)?;
     if stands(view, key, resv) {
@@ -40,70 +42,80 @@ fn fallen_key<V: StateView>(view: &V, key: &Key) -> Option<Key>
     }
 }
 
-/// Those of the LSPs of these rows that have a reservation that stands no more. The only error is out of memory.
-fn fallen_among<V: StateView, E>(
-    alloc: Global,
-    view: &V,
+/// LSPs, and then those of these rows that have a reservation that stands no more. The only error is out of memory.
+fn with_fallen<A: StateView, E>(
+    mut keys: Vec<Key>,
+    after: &A,
     rows: &[(Key, E)],
 ) -> Result<Vec<Key>, AllocError>
-    ensures { IfOk result (λ keys. keys.items ≡ filter_map
-        (λ row. fallen_key (known (V.facts view.now) (V.held view.now)) row.0) rows.now) }
+    ensures { IfOk result (λ all. all.items
+        ≡ keys.items ++ filter_map (λ row. fallen_key (A.state after.now) row.0) rows.now) }
 {
-    let mut keys = Vec::new(alloc);
     for row in rows {
-        if let Some(key) = fallen_key(view, &row.0) {
+        if let Some(key) = fallen_key(after, &row.0) {
             keys.push(key)?;
         }
     }
     Ok(keys)
 }
 
-/// Those of the LSPs of two tables' rows, one table behind the other. The only error is out of memory.
-fn fallen_among_both<V: StateView, E, F>(
-    alloc: Global,
-    view: &V,
-    rows: &[(Key, E)],
-    others: &[(Key, F)],
-) -> Result<Vec<Key>, AllocError>
-    ensures { IfOk result (λ keys. keys.items
-        ≡ filter_map (λ row. fallen_key (known (V.facts view.now) (V.held view.now)) row.0) rows.now
-        ++ filter_map (λ row. fallen_key (known (V.facts view.now) (V.held view.now)) row.0) others.now) }
+/// The LSP that has the reservation at a place before, where that stands no more after.
+fn fallen_at<V: WholeState, A: StateView>(before: &V, after: &A, place: usize) -> Option<Key>
+    ensures { result ≡ option_and_then (λ resv. fallen_key (A.state after.now) resv.0)
+        (slice_get (V.state before.now).resvs place) }
 {
-    let mut keys = fallen_among(alloc, view, rows)?;
-    let mut more = fallen_among(alloc, view, others)?;
-    keys.append(&mut more)?;
+    let resv = before.resv_at(place)?;
+    fallen_key(after, &resv.0)
+}
+
+/// LSPs, and then all that had a reservation before and have one after that stands no more. The only error is out of
+/// memory.
+fn with_all_fallen<V: WholeState, A: StateView>(
+    mut keys: Vec<Key>,
+    before: &V,
+    after: &A,
+) -> Result<Vec<Key>, AllocError>
+    ensures { IfOk result (λ all. all.items ≡ keys.items
+        ++ filter_map (λ resv. fallen_key (A.state after.now) resv.0) (V.state before.now).resvs) }
+{
+    for place in 0..before.resv_count() {
+        if let Some(key) = fallen_at(before, after, place) {
+            keys.push(key)?;
+        }
+    }
     Ok(keys)
 }
 
-/// The LSPs that have a reservation that stands no more after these edits, where all that there were stood. It goes
-/// over all reservations only where links changed; else over the edits. The only error is out of memory.
-pub(crate) fn fallen<V: WholeState>(
-    alloc: Global,
-    view: &V,
-    edits: &StateEdits,
-) -> Result<Vec<Key>, AllocError>
-    requires { AllByRecursion (λ resv. stands (V.facts view.now) resv ≡ true) (V.held view.now).resvs }
+/// The LSPs that have a reservation after these edits that stands no more. It asks that all there were before stood. It goes
+/// over all of them only where links changed; else over the edits. The only error is out of memory.
+fn fallen<V: WholeState>(alloc: Global, view: &V, edits: &Edits) -> Result<Vec<Key>, AllocError>
+    requires { AllByRecursion (λ resv. stands (V.state view.now).facts resv ≡ true) (V.state view.now).resvs }
     ensures { IfOk result (λ keys. (key : Key) → is_among keys.items key
-        ≡ has_fallen (edited edits.now (known (V.facts view.now) (V.held view.now))) key) }
+        ≡ has_fallen (edited edits.now (V.state view.now)) key) }
 {
-    let changed = ChangedState::new(view, edits);
-    let others = edits.resvs.as_slice();
-    let Some(_) = &edits.facts.up else {
-        return fallen_among_both(alloc, &changed, edits.facts.paths.as_slice(), others);
-    };
-    fallen_among_both(alloc, &changed, view.all_resvs(), others)
+    let after = Changed { under: view, edits };
+    let keys = with_fallen(Vec::new(alloc), &after, edits.resvs.as_slice())?;
+    match edits.up {
+        Some(_) => with_all_fallen(keys, view, &after),
+        None => with_fallen(keys, &after, edits.paths.as_slice()),
+    }
 }
 
-/// These LSPs lose their reservations too. The only error is out of memory.
-pub(crate) fn without_all(
-    keys: &[Key],
-    edits: Table<Key, Option<ResvFact>>,
-) -> Result<Table<Key, Option<ResvFact>>, AllocError>
-    ensures { IfOk result (λ left. left ≡ without_all keys.now edits) }
+/// Edits, and then those reservations go that stand no more. It asks that all there were before the edits stood. The only
+/// error is out of memory.
+#[tactic(auto, using(crate::specs::FallingLaws::standing_left))]
+pub(crate) fn left_standing<V: WholeState>(
+    alloc: Global,
+    view: &V,
+    edits: Edits,
+) -> Result<Edits, AllocError>
+    requires order { T (is_sorted key_cmp (V.state view.now).resvs) }
+    requires stood { AllByRecursion (λ resv. stands (V.state view.now).facts resv ≡ true) (V.state view.now).resvs }
+    ensures { IfOk result (λ e. edited e (V.state view.now) ≡ left_standing (edited edits (V.state view.now))) }
 {
-    let mut left = edits;
-    for key in keys {
-        left.set(*key, None)?;
-    }
-    Ok(left)
+    let gone = fallen(alloc, view, &edits)?;
+    Ok(Edits {
+        resvs: without_resvs(edits.resvs, &gone)?,
+        ..edits
+    })
 }

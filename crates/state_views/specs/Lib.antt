@@ -1,4 +1,4 @@
-pub mod Below
+pub mod Drafts
 pub mod EditLaws
-pub mod StateDrafts
-pub mod Views
+pub mod Edits
+pub mod Joining

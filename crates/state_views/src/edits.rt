@@ -1,55 +1,54 @@
 //! Edits of what a router knows, and what it knows with edits over it.
 
-ghost use Rattle.std.specs.FinMap.Entries.{find};
+ghost use Rattle.std.specs.FinMap.Entries.{find, is_sorted};
 ghost use Rattle.std.specs.Option.{option_copied};
-ghost use Rattle.std.specs.Prelude.{◌≡◌, [], None};
+ghost use Rattle.std.specs.Prelude.{◌≡◌, IfOk, T};
+ghost use Rattle.sorted_rows.specs.Edits as rows;
 ghost use Rattle.lsr_facts.specs.Orders.{key_cmp};
-ghost use Rattle.router_steps.specs.Drafts as paths;
-ghost use Rattle.state_views.specs.Views.{held_with};
+ghost use Rattle.abstract_router.specs.States.{State};
+ghost use Rattle.state_views.specs.Edits.{AreInOrder, edited, unedited, without_resvs};
+ghost use Rattle.state_views.specs.Joining.{joined_rows, later_or};
 
 use crate::views::StateView;
-use lsr_facts::{FactsView, Item, Key, Node, PathFact};
+use lsr_facts::{Key, Node, PathFact};
 use resv_facts::ResvFact;
-use router_steps::{Changed, Edits};
 use sorted_rows::Table;
-use std::alloc::Global;
+use std::alloc::{AllocError, Global};
 
 /// What a step changes, but for the moments at which messages were sent.
 #[derive(Debug, Drop)]
-pub struct StateEdits {
-    /// What changes of the moment, of links and of paths.
-    pub facts: Edits,
+pub struct Edits {
+    /// The moment from now on, in milliseconds, where one came.
+    pub moment: Option<u64>,
+    /// Of each link whether it is up from now on, where a link came up or went down.
+    pub up: Option<Table<u16, bool>>,
+    /// Of LSPs what is known of their paths from now on: `None` where a path goes.
+    pub paths: Table<Key, Option<PathFact>>,
     /// Of LSPs what is known of their reservations from now on: `None` where one goes.
     pub resvs: Table<Key, Option<ResvFact>>,
     /// Of LSPs the label that each has from now on: `None` where it is free again.
     pub labels: Table<Key, Option<u32>>,
 }
 
-impl StateEdits {
-    /// Edits of paths, links and the moment alone. Takes no memory.
-    pub fn of_facts(alloc: Global, facts: Edits) -> StateEdits
-        ensures { result ≡ record { facts = facts; resvs = []; labels = [] } }
+impl Edits {
+    /// Nothing changes. Takes no memory.
+    pub fn none(alloc: Global) -> Edits
+        ensures { result ≡ unedited }
     {
-        StateEdits {
-            facts,
+        Edits {
+            moment: None,
+            up: None,
+            paths: Table::new(alloc),
             resvs: Table::new(alloc),
             labels: Table::new(alloc),
         }
     }
 
-    /// Edits of reservations alone. Takes no memory.
-    pub fn of_resvs(alloc: Global, resvs: Table<Key, Option<ResvFact>>) -> StateEdits
-        ensures { result ≡ record {
-          facts = record { moment = None; up = None; paths = [] };
-          resvs = resvs;
-          labels = [];
-        } }
+    /// The edit of an LSP's path, if there is one.
+    pub fn path(&self, key: &Key) -> Option<&Option<PathFact>>
+        ensures { option_copied result ≡ find key_cmp key.now self.now.paths }
     {
-        StateEdits {
-            facts: Edits::none(alloc),
-            resvs,
-            labels: Table::new(alloc),
-        }
+        self.paths.get(key)
     }
 
     /// The edit of an LSP's reservation, if there is one.
@@ -67,49 +66,108 @@ impl StateEdits {
     }
 }
 
-/// What is known after edits that aren't made.
-#[derive(Debug, Drop)]
-pub struct ChangedState<'a, V> {
-    /// What is known of paths after them.
-    pub facts: Changed<'a, V>,
-    /// The edits.
-    pub edits: &'a StateEdits,
+/// Rows of edits with others that are made after them. The only error is out of memory.
+#[tactic(auto, using(crate::specs::Joining::joined_last))]
+fn joined_rows<V: Drop>(
+    rows: Table<Key, Option<V>>,
+    later: Table<Key, Option<V>>,
+) -> Result<Table<Key, Option<V>>, AllocError>
+    ensures { IfOk result (λ all. all ≡ joined_rows rows later) }
+{
+    let mut all = rows;
+    let mut later = later.into_rows();
+    while let Some((key, now)) = later.pop() {
+        all.set(key, now)?;
+    }
+    Ok(all)
 }
 
-impl<'a, V: StateView> FactsView for ChangedState<'a, V> {
-    ghost router = { λ c. V.router c.facts.under.now };
+/// What is replaced whole: later, if it is then.
+fn later_or<T: Drop>(later: Option<T>, was: Option<T>) -> Option<T>
+    ensures { result ≡ later_or later was }
+{
+    match later {
+        Some(now) => Some(now),
+        None => was,
+    }
+}
 
-    ghost facts = { λ c. paths.edited c.facts.edits.now (V.facts c.facts.under.now) };
+/// Edits, and others that are made after them, as one. It asks of the view that its tables are in order, and takes it for
+/// its contract alone. The only error is out of memory.
+#[tactic(auto, using(crate::specs::Joining::edited_joined))]
+pub fn joined<V: StateView>(_view: &V, edits: Edits, later: Edits) -> Result<Edits, AllocError>
+    requires { AreInOrder (V.state _view.now) }
+    ensures { IfOk result (λ all. edited all (V.state _view.now) ≡ edited later (edited edits (V.state _view.now))) }
+{
+    Ok(Edits {
+        moment: later_or(later.moment, edits.moment),
+        up: later_or(later.up, edits.up),
+        paths: joined_rows(edits.paths, later.paths)?,
+        resvs: joined_rows(edits.resvs, later.resvs)?,
+        labels: joined_rows(edits.labels, later.labels)?,
+    })
+}
+
+/// Edits of reservations, and then these LSPs have none. The only error is out of memory.
+pub fn without_resvs(
+    edits: Table<Key, Option<ResvFact>>,
+    gone: &[Key],
+) -> Result<Table<Key, Option<ResvFact>>, AllocError>
+    ensures { IfOk result (λ left. left ≡ without_resvs edits gone.now) }
+{
+    let mut left = edits;
+    for key in gone {
+        left.set(*key, None)?;
+    }
+    Ok(left)
+}
+
+/// What is known after edits that aren't made.
+#[derive(Debug, Drop)]
+pub struct Changed<'a, V> {
+    /// What is known without them.
+    pub under: &'a V,
+    /// The edits.
+    pub edits: &'a Edits,
+}
+
+impl<'a, V: StateView> StateView for Changed<'a, V> {
+    ghost router = { λ c. V.router c.under.now };
+
+    ghost state = { λ c. edited c.edits.now (V.state c.under.now) };
 
     fn node(&self) -> Node<'_> {
-        self.facts.node()
+        let node = self.under.node();
+        match &self.edits.up {
+            Some(up) => Node { up, ..node },
+            None => node,
+        }
     }
 
     fn refresh_ms(&self) -> u32 {
-        self.facts.refresh_ms()
+        self.under.refresh_ms()
     }
 
     fn moment(&self) -> u64 {
-        self.facts.moment()
+        match self.edits.moment {
+            Some(moment) => moment,
+            None => self.under.moment(),
+        }
     }
 
+    #[tactic(auto, using(crate::specs::EditLaws::path_edited))]
     fn path(&self, key: &Key) -> Option<&PathFact> {
-        self.facts.path(key)
+        match self.edits.path(key) {
+            Some(edit) => edit.as_ref(),
+            None => self.under.path(key),
+        }
     }
-
-    fn sent_at(&self, item: &Item) -> Option<u64> {
-        self.facts.sent_at(item)
-    }
-}
-
-impl<'a, V: StateView> StateView for ChangedState<'a, V> {
-    ghost held = { λ c. held_with c.edits.now (V.held c.facts.under.now) };
 
     #[tactic(auto, using(crate::specs::EditLaws::resv_edited))]
     fn resv(&self, key: &Key) -> Option<&ResvFact> {
         match self.edits.resv(key) {
             Some(edit) => edit.as_ref(),
-            None => self.facts.under.resv(key),
+            None => self.under.resv(key),
         }
     }
 
@@ -117,24 +175,7 @@ impl<'a, V: StateView> StateView for ChangedState<'a, V> {
     fn label(&self, key: &Key) -> Option<u32> {
         match self.edits.label(key) {
             Some(edit) => *edit,
-            None => self.facts.under.label(key),
-        }
-    }
-}
-
-impl<'a, V: StateView> ChangedState<'a, V> {
-    /// What is known where these edits are made.
-    pub fn new(under: &'a V, edits: &'a StateEdits) -> ChangedState<'a, V>
-        ensures under { result.facts.under.now ≡ under.now }
-        ensures facts { result.facts.edits.now ≡ edits.now.facts }
-        ensures edits { result.edits.now ≡ edits.now }
-    {
-        ChangedState {
-            facts: Changed {
-                under,
-                edits: &edits.facts,
-            },
-            edits,
+            None => self.under.label(key),
         }
     }
 }

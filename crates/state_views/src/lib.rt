@@ -1,12 +1,12 @@
-//! What decisions of a label switching router ask of what it knows, whoever keeps it; and what a decision answers: a
-//! reply, errors, and edits of paths, reservations and labels.
+//! What decisions ask of what a router knows, whoever keeps it; and what a decision answers: a reply, errors, and edits of
+//! paths, reservations and labels.
 #![tactic(auto)]
 
 mod draft;
 mod edits;
 mod views;
 
-pub use draft::{StateDraft, of_paths, refused};
-pub use edits::{ChangedState, StateEdits};
-pub use router_steps::{Changed, Edits, WholeView, node_of};
-pub use views::{StateView, WholeState};
+pub use draft::{Draft, refused};
+pub use edits::{Changed, Edits, joined, without_resvs};
+pub use router_events::{Output, Outputs};
+pub use views::{StateView, WholeState, node_of};

@@ -1,4 +1,4 @@
 pub mod Fitting
-pub mod FittingLaws
-pub mod Rows
-pub mod RowsAtKeys
+pub mod PathLaws
+pub mod ResvLaws
+pub mod Telling

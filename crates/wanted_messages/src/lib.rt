@@ -1,7 +1,12 @@
-//! What a router keeps alive at the neighbours downstream (RFC 2205, 3.7): what paths want, whoever keeps the facts.
+//! What the state wants kept alive at the neighbours (RFC 2205, 3.7), by what is known of its LSPs, whoever keeps that:
+//! Paths downstream, and Resvs upstream.
 #![tactic(auto)]
 
-mod rows;
+mod downstream;
+mod records;
+mod reserved;
+mod resvs;
+mod upstream;
 
-pub use path_rules::{is_up, sent_by};
-pub use rows::{Wanted, row_of_key, rows_at_keys};
+pub use downstream::{Wanted, item_row, items_at_keys};
+pub use upstream::{WantedUpstream, upstream_at_keys};

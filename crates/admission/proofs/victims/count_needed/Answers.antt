@@ -5,7 +5,8 @@ use Rattle.lsr_facts.specs.Orders.{key_cmp}
 use Rattle.resv_facts.specs.Admission.{granted, is_enough}
 use Rattle.resv_facts.specs.Claims.{reserved_of}
 use Rattle.admission.specs.Bandwidths.{AreRated}
-use Rattle.admission.proofs.Turns.{left_few, left_next, left_rated, left_sorted, shortest_enough, turn_last, turn_next, without_none}
+use Rattle.admission.specs.RoomLaws.{shortest_enough, without_none}
+use Rattle.admission.proofs.Turns.{left_few, left_next, left_rated, left_sorted, turn_last, turn_next}
 use Rattle.admission.proofs.victims.count_needed.Goals as goal
 
 pub loop-count-init : goal.loop-count-init

@@ -1,5 +1,5 @@
 use Rattle.std.proofs.Common.{◌≡◌, true}
-use Rattle.abstract_router.specs.Places.{is_own}
+use Rattle.abstract_paths.specs.Places.{is_own}
 use Rattle.datagrams.proofs.Read.{message_is_own}
 use Rattle.datagrams.proofs.reading.routed.Goals as goal
 

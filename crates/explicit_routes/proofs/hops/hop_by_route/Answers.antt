@@ -2,7 +2,7 @@ use Rattle.std.proofs.Common.{◌≡◌, List, ◌∙◌, ◌≤◌, ◌∷◌, 
 use Rattle.std.specs.List.{prefix_len}
 use Rattle.rsvp_routes.specs.Steps.{route_bytes}
 use Rattle.rsvp_routes.specs.declared.step.Step.{Step}
-use Rattle.abstract_router.specs.Routing.{leads_here}
+use Rattle.abstract_paths.specs.Routing.{leads_here}
 use Rattle.explicit_routes.proofs.Room.{room_for_one}
 use Rattle.explicit_routes.proofs.hops.hop_by_route.Goals as goal
 

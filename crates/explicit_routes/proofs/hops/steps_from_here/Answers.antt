@@ -4,7 +4,7 @@ use Rattle.std.proofs.lemmas.Iterator.Consumers.{count_from_yields_List}
 use Rattle.std.proofs.lemmas.Iterator.Search.{YieldsList-from_take_while}
 use Rattle.std.proofs.lemmas.List.{take_all}
 use Rattle.std.proofs.lemmas.List.Folds.{length-prefix_len}
-use Rattle.abstract_router.specs.Routing.{leads_here}
+use Rattle.abstract_paths.specs.Routing.{leads_here}
 use Rattle.explicit_routes.proofs.hops.steps_from_here.Goals as goal
 
 pub returns : goal.returns

@@ -4,7 +4,7 @@ use Rattle.std.proofs.lemmas.Map.Lookups.{exact_unsigned}
 use Rattle.std.specs.FinMap.Entries.{find}
 use Rattle.std.specs.Ordering.{nat_cmp}
 use Rattle.sorted_rows.specs.RowsLaws.{find-put_same, find-put_apart, find-removed_same, find-removed_apart}
-use Rattle.row_edits.specs.Edits.{at_key}
+use Rattle.sorted_rows.specs.Edits.{at_key}
 use Rattle.forwarding_table.specs.declared.action.Action.{Action}
 use Rattle.forwarding_table.proofs.laws.change_changes_one_row.Goals as goal
 

@@ -1,8 +1,8 @@
 use Rattle.std.proofs.Common.{◌≡◌, ℕ, true, sym, subst, ◌∙◌, inl, inr}
 use Rattle.forwarding_table.specs.declared.action.Action.TheVariants.{Swap}
-use Rattle.abstract_router.specs.Places.{is_up}
-use Rattle.abstract_lsr.specs.States.{State}
-use Rattle.abstract_lsr.specs.Tables.{IsEntry}
+use Rattle.abstract_paths.specs.Places.{is_up}
+use Rattle.abstract_router.specs.States.{State}
+use Rattle.abstract_router.specs.Tables.{IsEntry}
 use Rattle.label_table.proofs.laws.frames_leave_over_links_that_are_up.Goals as goal
 
 -- an entry that swaps is over a link that is up

@@ -1,5 +1,5 @@
 use Rattle.std.proofs.Common.{rules}
-use Rattle.lsr_facts.specs.Lifetimes.{lives_past, living}
+use Rattle.lsr_facts.specs.Lifetimes.{lives_past}
 use Rattle.lsr_facts.proofs.lifetimes.keep_living.Goals as goal
 
 pub returns : goal.returns

@@ -6,8 +6,7 @@ use Rattle.lsr_facts.specs.Orders.{key_cmp}
 use Rattle.lsr_facts.specs.declared.key.Key.{Key}
 use Rattle.resv_facts.specs.Admission.{granted, without}
 use Rattle.resv_facts.specs.declared.claim.Request.{Request}
-use Rattle.abstract_lsr.specs.Preempting.{claims_of}
-use Rattle.state_views.specs.Views.{known}
+use Rattle.abstract_router.specs.Preempting.{claims_of}
 use Rattle.resv_arrivals.proofs.Claiming.{rate_most}
 use Rattle.resv_arrivals.proofs.Reaching.{granted_leads}
 use Rattle.resv_arrivals.specs.Progresses.{fact_at, resvs_at, told_of, without_edit}
@@ -18,14 +17,14 @@ giving_way-requires-clause-most g c = subst (λ (q : Request). q.claim.rate ≤ 
 
 pub returns : goal.returns
 returns g c =
-    let r = g.V.FactsView.router c.args.view.now in
-    let s = known (g.V.FactsView.facts c.args.view.now) (g.V.StateView.held c.args.view.now) in
+    let r = g.V.StateView.router c.args.view.now in
+    let s = g.V.StateView.state c.args.view.now in
     let p = c.args.progress in
     let request = c.args.request.now in
     let fact = c.in_ok-fact.fact in
-    let both = granted_leads r s p c.args.asked.now request c.in_ok-gone.gone.items fact c.in_ok-errors.errors c.in_ok-edits.edits c.in_ok-claims_with.field-0 c.requires.reached c.requires.granted c.requires.request c.in_ok-gone.ensures
+    let both = granted_leads r s p c.args.asked.now request c.in_ok-gone.gone.items fact c.in_ok-errors.errors c.in_ok-edits.edits c.in_ok-claims_for_next.field-0 c.requires.reached c.requires.own c.requires.granted c.requires.request c.in_ok-gone.ensures
     (c.in_ok-fact.ensures ∙ ap (λ m. fact_at m c.args.asked.now) c.moment.ensures.moment)
     (c.in_ok-errors.ensures ∙ ap (λ (keys : List Key). fold (told_of r (resvs_at s p)) p.errors keys) c.deref.ensures.value)
     (c.in_ok-edits.ensures ∙ ap (λ (keys : List Key). put key_cmp request.key (Some fact) (fold without_edit p.edits keys)) c.deref-2.ensures.value)
-    (c.in_ok-claims_with.ensures ∙ ap (λ (keys : List Key). granted request (without keys (unwrap_or p.claims (claims_of s.facts.paths s.resvs)))) c.deref-3.ensures.value) in
+    (λ more. c.in_ok-claims_for_next.ensures more ∙ ap (λ (keys : List Key). Some (granted request (without keys (unwrap_or p.claims (claims_of s.facts.paths s.resvs))))) c.deref-3.ensures.value) in
     record { carried = both.0; reached = both.1 }

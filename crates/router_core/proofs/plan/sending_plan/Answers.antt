@@ -1,30 +1,36 @@
 -- What follows from a draft makes the state sound, and it is the plan of a step.
-use Rattle.router_core.proofs.Planning.{next_labels, next_resvs, sending}
+use Rattle.std.specs.Prelude.{List, ◌++◌}
+use Rattle.std.proofs.Common.{ap, ◌∙◌}
+use Rattle.abstract_router.specs.Outputs.{outputs_of}
+use Rattle.router_events.specs.declared.events.Output.{Output}
+use Rattle.router_tables.specs.Below.views.Drafts.{due_by, upstream_due_by}
+use Rattle.router_tables.specs.Below.views.Edits.{edited}
+use Rattle.router_core.proofs.Planning.{next_labels, next_rates, next_resvs, sending}
 use Rattle.router_core.proofs.plan.sending_plan.Goals as goal
 
 pub sends_of-requires-clause-resvs : goal.sends_of-requires-clause-resvs
 sends_of-requires-clause-resvs c =
     let t = c.args.tables.now in
     let x = c.in_ok-edits in
-    next_resvs t.router t.state c.soundness.ensures.sound c.args.draft c.requires c.new.result c.new.ensures x.field-0.edits x.field-0.chosen x.ensures.after x.ensures.chosen
+    next_resvs t.router t.state c.soundness.ensures.sound c.args.draft c.requires x.field-0.edits x.field-0.chosen x.ensures.after x.ensures.chosen
 
 pub table_of-requires-clause-labels : goal.table_of-requires-clause-labels
 table_of-requires-clause-labels c =
     let t = c.args.tables.now in
     let x = c.in_ok-edits in
-    next_labels t.router t.state c.soundness.ensures.sound c.args.draft c.requires c.new.result c.new.ensures x.field-0.edits x.field-0.chosen x.ensures.after x.ensures.chosen
+    next_labels t.router t.state c.soundness.ensures.sound c.args.draft c.requires x.field-0.edits x.field-0.chosen x.ensures.after x.ensures.chosen
 
 pub table_of-requires-clause-resvs : goal.table_of-requires-clause-resvs
 table_of-requires-clause-resvs c =
     let t = c.args.tables.now in
     let x = c.in_ok-edits in
-    next_resvs t.router t.state c.soundness.ensures.sound c.args.draft c.requires c.new.result c.new.ensures x.field-0.edits x.field-0.chosen x.ensures.after x.ensures.chosen
+    next_resvs t.router t.state c.soundness.ensures.sound c.args.draft c.requires x.field-0.edits x.field-0.chosen x.ensures.after x.ensures.chosen
 
-pub bandwidth_edits-requires-clause-after : goal.bandwidth_edits-requires-clause-after
-bandwidth_edits-requires-clause-after c =
+pub bandwidth_edits-requires-clause-rated : goal.bandwidth_edits-requires-clause-rated
+bandwidth_edits-requires-clause-rated c =
     let t = c.args.tables.now in
     let x = c.in_ok-edits in
-    next_resvs t.router t.state c.soundness.ensures.sound c.args.draft c.requires c.new.result c.new.ensures x.field-0.edits x.field-0.chosen x.ensures.after x.ensures.chosen
+    next_rates t.router t.state c.soundness.ensures.sound c.args.draft c.requires x.field-0.edits x.field-0.chosen x.ensures.after x.ensures.chosen
 
 pub returns : goal.returns
 returns c =
@@ -32,5 +38,5 @@ returns c =
     let x = c.in_ok-edits in
     let sends = c.in_ok-outputs in
     let bandwidth = c.in_ok-bandwidth in
-    sending t.router t.state c.soundness.ensures.sound c.args.draft c.requires c.new.result c.new.ensures x.field-0.edits x.field-0.chosen x.ensures.after x.ensures.chosen
-    bandwidth.bandwidth sends.field-0.moments sends.field-0.upstream c.in_ok-table.table sends.ensures.moments sends.ensures.upstream bandwidth.ensures.resvs sends.field-0.outputs sends.ensures.outputs bandwidth.ensures.edits bandwidth.ensures.claims c.in_ok-table.ensures
+    sending t.router t.state c.soundness.ensures.sound c.args.draft c.requires x.field-0.edits x.field-0.chosen x.ensures.after x.ensures.chosen
+    bandwidth.bandwidth sends.field-0.moments sends.field-0.upstream c.in_ok-table.table sends.ensures.moments sends.ensures.upstream bandwidth.ensures.resvs sends.field-0.outputs (sends.ensures.outputs ∙ ap (λ (errors : List Output). outputs_of t.router t.state errors (due_by c.args.draft.due t.router t.state) (upstream_due_by c.args.draft.due t.router t.state) (edited x.field-0.edits t.state)) (c.in_ok-errors.ensures ∙ ap (λ (told : List Output). c.args.draft.errors ++ told) x.ensures.told)) bandwidth.ensures.edits bandwidth.ensures.claims c.in_ok-table.ensures

@@ -3,14 +3,13 @@ use Rattle.std.proofs.Common.{ap, cond, false, not, sym, None, Option, Some, ◌
 use Rattle.std.specs.FinMap.Entries.{find}
 use Rattle.std.specs.Option.{option_map_or}
 use Rattle.router_events.specs.declared.events.Output.{Output}
-use Rattle.abstract_router.specs.Outputs.{is_same_frame, rests}
-use Rattle.abstract_router.specs.Stamps.{due_at}
+use Rattle.abstract_paths.specs.Outputs.{is_same_frame, rests}
 use Rattle.router_sends.proofs.rests.fresh.Goals as goal
 
 pub returns-then-branch : goal.returns-then-branch
 returns-then-branch g c =
     let wants = c.args.wants.now in
-    let due = due_at c.args.timing.now.refresh_ms c.args.sent.now c.args.timing.now.due_at in
+    let due = c.args.due.now in
     let so : c.in_ok-rests.field-0 ≡ rests g.I.Ord.cmp due (find g.I.Ord.cmp wants.0 c.args.was.now) wants =
     c.in_ok-rests.ensures ∙ (λ i. not (c.is_due-is_due.ensures i) && option_map_or (λ o. is_same_frame wants.1.frame o.frame) (c.get_ref-known.ensures.found i) false) in
     record { fresh = sym (ap (λ b. cond {A = Option (_ × Output)} b None (Some wants)) (sym so ∙ c.if-branch.true)) }
@@ -18,7 +17,7 @@ returns-then-branch g c =
 pub returns : goal.returns
 returns g c =
     let wants = c.args.wants.now in
-    let due = due_at c.args.timing.now.refresh_ms c.args.sent.now c.args.timing.now.due_at in
+    let due = c.args.due.now in
     let so : c.in_ok-rests.field-0 ≡ rests g.I.Ord.cmp due (find g.I.Ord.cmp wants.0 c.args.was.now) wants =
     c.in_ok-rests.ensures ∙ (λ i. not (c.is_due-is_due.ensures i) && option_map_or (λ o. is_same_frame wants.1.frame o.frame) (c.get_ref-known.ensures.found i) false) in
     record { fresh = ap (λ o. Some (wants.0, o)) c.in_ok-output.ensures ∙ sym (ap (λ b. cond {A = Option (_ × Output)} b None (Some wants)) (sym so ∙ c.if-branch.false)) }

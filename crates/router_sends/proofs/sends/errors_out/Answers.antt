@@ -2,7 +2,7 @@
 use Rattle.std.proofs.Common.{ap, filter, rules, ◌∙◌}
 use Rattle.std.proofs.lemmas.Fn.{filter_same}
 use Rattle.router_events.specs.declared.events.Output.{Output}
-use Rattle.abstract_router.specs.Places.{is_up}
+use Rattle.abstract_paths.specs.Places.{is_up}
 use Rattle.router_sends.proofs.sends.errors_out.Goals as goal
 
 pub returns : goal.returns

@@ -4,9 +4,8 @@ use Rattle.std.proofs.Math.Seq.{take-length}
 use Rattle.std.specs.FinMap.Entries.{find}
 use Rattle.std.specs.Option.{option_map}
 use Rattle.router_events.specs.declared.events.Output.{Output}
-use Rattle.abstract_router.specs.Outputs.{rests, send_for}
-use Rattle.abstract_router.specs.Stamps.{due_at}
-use Rattle.abstract_router.specs.Touched.{renewed}
+use Rattle.abstract_paths.specs.Outputs.{rests, send_for}
+use Rattle.abstract_paths.specs.Touched.{renewed}
 use Rattle.router_sends.specs.Placing.{placed}
 use Rattle.router_sends.proofs.Asking.{one_behind, one_placed}
 use Rattle.router_sends.proofs.sends.kept.Goals as goal
@@ -23,8 +22,8 @@ moment_then false moment wants = refl
 pub loop-wants-preserved : goal.loop-wants-preserved
 loop-wants-preserved g c =
     let cmp = g.I.Ord.cmp in
-    let moment = c.args.timing.now.moment in
-    let due = due_at c.args.timing.now.refresh_ms c.args.sent.now c.args.timing.now.due_at in
+    let moment = c.args.moment in
+    let due = c.args.due.now in
     let was = c.args.was.now in
     let rows = c.args.is.now in
     let at = c.loop-wants.wants-index in
@@ -38,8 +37,8 @@ loop-wants-preserved g c =
 pub returns-clause-moments : goal.returns-clause-moments
 returns-clause-moments g c =
     let cmp = g.I.Ord.cmp in
-    let due = due_at c.args.timing.now.refresh_ms c.args.sent.now c.args.timing.now.due_at in
-    let told = λ (row : _ × Output). renewed cmp due c.args.timing.now.moment (find cmp row.0 c.args.was.now) row in
+    let due = c.args.due.now in
+    let told = λ (row : _ × Output). renewed cmp due c.args.moment (find cmp row.0 c.args.was.now) row in
     let rows = c.args.is.now in
     let at_end : c.loop-wants.wants-index ≡ length rows = omega arith in
     c.loop-wants.invariant.1

@@ -1,9 +1,8 @@
 -- What goes is forgotten first, and what is sent is renewed then.
 use Rattle.std.proofs.Common.{ap, ◌∙◌}
 use Rattle.std.specs.FinMap.Entries.{find}
-use Rattle.abstract_router.specs.Outputs.{between}
-use Rattle.abstract_router.specs.Stamps.{due_at}
-use Rattle.abstract_router.specs.Touched.{renewed}
+use Rattle.abstract_paths.specs.Outputs.{between}
+use Rattle.abstract_paths.specs.Touched.{renewed}
 use Rattle.router_sends.specs.Placing.{placed}
 use Rattle.router_sends.proofs.Placing.{find-become}
 use Rattle.router_sends.proofs.sends.sends_between.Goals as goal
@@ -11,10 +10,9 @@ use Rattle.router_sends.proofs.sends.sends_between.Goals as goal
 pub returns-clause-moments : goal.returns-clause-moments
 returns-clause-moments g c =
     let cmp = g.I.Ord.cmp in
-    let timing = c.args.timing.now in
-    let due = due_at timing.refresh_ms c.args.sent.now timing.due_at in
+    let due = c.args.due.now in
     let was = c.args.was.now in
     let is = c.args.is.now in
     λ item.
-    ap (find cmp item) (c.in_ok-sends.ensures.moments ∙ ap (λ told. placed cmp told (between cmp (renewed cmp due timing.moment) is was)) c.in_ok-told.ensures.moments)
-    ∙ find-become cmp g.met.I.Ord.total due timing.moment was is c.requires.was c.requires.is item
+    ap (find cmp item) (c.in_ok-sends.ensures.moments ∙ ap (λ told. placed cmp told (between cmp (renewed cmp due c.args.moment) is was)) c.in_ok-told.ensures.moments)
+    ∙ find-become cmp g.met.I.Ord.total due c.args.moment was is c.requires.was c.requires.is item

@@ -2,8 +2,8 @@
 use Rattle.std.proofs.Common.{[], ap, filter_map, ◌∙◌}
 use Rattle.std.proofs.lemmas.List.{take_all}
 use Rattle.std.specs.FinMap.Entries.{find}
-use Rattle.abstract_router.specs.Outputs.{tear_for}
-use Rattle.abstract_router.specs.Touched.{forgotten}
+use Rattle.abstract_paths.specs.Outputs.{tear_for}
+use Rattle.abstract_paths.specs.Touched.{forgotten}
 use Rattle.router_sends.specs.Placing.{placed}
 use Rattle.router_sends.proofs.Asking.{one_behind, one_placed}
 use Rattle.router_sends.proofs.sends.torn.Goals as goal

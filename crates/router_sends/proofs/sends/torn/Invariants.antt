@@ -1,7 +1,7 @@
 use Rattle.std.proofs.Common.{◌≡◌, [], filter_map, take}
 use Rattle.std.specs.FinMap.Entries.{find}
-use Rattle.abstract_router.specs.Outputs.{tear_for}
-use Rattle.abstract_router.specs.Touched.{forgotten}
+use Rattle.abstract_paths.specs.Outputs.{tear_for}
+use Rattle.abstract_paths.specs.Touched.{forgotten}
 use Rattle.router_sends.specs.Placing.{placed}
 use Rattle.router_sends.proofs.sends.torn.Given as goal
 

@@ -1,10 +1,10 @@
 -- A change of a sound router finds room, and leaves the tables of one.
 use Rattle.std.proofs.Common.{◌≡◌, ◌≤◌, ap, nat_cmp, length, subst, sym, ℕ, List}
-use Rattle.row_edits.specs.Edits as in_rows
+use Rattle.sorted_rows.specs.Edits as in_rows
 use Rattle.admission.specs.Bandwidths.{resv_edits}
 use Rattle.forwarding_table.specs.declared.action.Action.{Action}
-use Rattle.label_bindings.specs.BindingLaws.{held-labelled}
-use Rattle.label_bindings.specs.Bindings.{AreHeldOf}
+use Rattle.abstract_router.specs.LabelLaws.{held-labelled}
+use Rattle.label_space.specs.Bindings.{AreHeldOf}
 use Rattle.lsr_facts.specs.Orders.{item_cmp, key_cmp}
 use Rattle.lsr_facts.specs.declared.router.LabelRange.{LabelRange}
 use Rattle.resv_facts.specs.Upstreams.{upstream_cmp}
@@ -54,7 +54,7 @@ pub edit-requires-clause-room : goal.edit-requires-clause-room
 edit-requires-clause-room c =
     let t = c.args.rows.now in
     let room : List (ℕ × Action) → Type 0 = λ labels. length (in_rows.edited nat_cmp c.args.change.table labels) ≤ 1024 in
-    let rows = c.requires.change.table.room t.table.labels c.label_rows.ensures.sorted c.requires.tables.table in
+    let rows = c.requires.change.table.room t.table.labels c.rows_are_in_order.ensures.labels_sorted c.requires.tables.table in
     subst (λ (rows : Rows). room rows.table.labels) (sym c.edit_moments.ensures.rows)
     (subst (λ (rows : Rows). room rows.table.labels) (sym c.edit_held.ensures.rows)
     (subst (λ (rows : Rows). room rows.table.labels) (sym c.edit_facts.ensures.rows) rows))

@@ -1,7 +1,7 @@
 use Rattle.std.proofs.Common.{◌≡◌, ◌≤◌, arith, length, subst, sym}
 use Rattle.std.specs.declared.cmp.Ordering.{Ordering}
 use Rattle.std.specs.declared.cmp.Ordering.TheVariants.{Equal}
-use Rattle.row_edits.specs.Edits as in_rows
+use Rattle.sorted_rows.specs.Edits as in_rows
 use Rattle.lsr_facts.specs.OrderLaws.{item_exact}
 use Rattle.lsr_facts.specs.declared.key.Item.{Item}
 use Rattle.resv_facts.specs.UpstreamOrder.{upstream_exact}

@@ -2,15 +2,15 @@ use Rattle.std.proofs.Common.{◌≡◌, ap, refl, subst, sym, ◌∙◌, ℕ, L
 use Rattle.admission.specs.Bandwidths.{Bandwidth}
 use Rattle.forwarding_table.specs.Actions.{Actions}
 use Rattle.forwarding_table.specs.declared.action.Action.{Action}
-use Rattle.label_bindings.specs.Bindings.{Bindings}
+use Rattle.label_space.specs.Bindings.{Bindings}
 use Rattle.label_table.specs.RowLaws.{table-no_path}
 use Rattle.label_table.specs.Rows.{IsTableOf}
 use Rattle.lsr_facts.specs.declared.key.Item.{Item}
 use Rattle.refresh_timers.specs.Timers.{Timers}
 use Rattle.resv_facts.specs.declared.upstream.Upstream.{Upstream}
-use Rattle.abstract_lsr.specs.Preempting.{claims_of}
-use Rattle.abstract_lsr.specs.Soundness.{IsSound}
-use Rattle.abstract_lsr.specs.States.{State}
+use Rattle.abstract_router.specs.Preempting.{claims_of}
+use Rattle.abstract_router.specs.Soundness.{IsSound}
+use Rattle.abstract_router.specs.States.{State}
 use Rattle.router_tables.specs.States.{emptied, facts_of, state_of}
 use Rattle.router_tables.proofs.Emptying.{sound_emptied}
 use Rattle.router_tables.proofs.rows.forget.Goals as goal
@@ -19,18 +19,18 @@ pub returns-clause-tables : goal.returns-clause-tables
 unfolding claims_of
 returns-clause-tables c =
     let t = c.args.rows.now in
-    let state : state_of (record t { paths = c.clear.new.self; timers = c.set_all.new.self; bandwidth = c.clear-2.new.self; labels = c.clear-3.new.self; upstream = c.set_all-2.new.self; table = c.clear-4.new.self }) ≡ emptied (state_of t) =
+    let state : state_of (record t { paths = c.clear.new.self; timers = c.clear_all.new.self; bandwidth = c.clear-2.new.self; labels = c.clear-3.new.self; upstream = c.clear_all-2.new.self; table = c.clear-4.new.self }) ≡ emptied (state_of t) =
     λ i. record {
-      facts = record (facts_of t) { paths = c.clear.ensures i; sent = (c.set_all.ensures i).sent };
+      facts = record (facts_of t) { paths = c.clear.ensures i; sent = (c.clear_all.ensures i).sent };
       resvs = (c.clear-2.ensures i).resvs;
       labels = (c.clear-3.ensures i).labels;
-      sent_upstream = (c.set_all-2.ensures i).sent;
+      sent_upstream = (c.clear_all-2.ensures i).sent;
     } in
     record {
       router = c.requires.router;
       sound = subst (IsSound t.router) (sym state) (sound_emptied t.router (state_of t) refl c.requires.sound);
-      period = ap (λ (timers : Timers Item). timers.refresh_ms) c.set_all.ensures ∙ c.requires.period;
-      upstream_period = ap (λ (timers : Timers Upstream). timers.refresh_ms) c.set_all-2.ensures ∙ c.requires.upstream_period;
+      period = ap (λ (timers : Timers Item). timers.refresh_ms) c.clear_all.ensures ∙ c.requires.period;
+      upstream_period = ap (λ (timers : Timers Upstream). timers.refresh_ms) c.clear_all-2.ensures ∙ c.requires.upstream_period;
       claims = ap (λ (b : Bandwidth). b.claims) c.clear-2.ensures ∙ sym (λ i. claims_of (c.clear.ensures i) (c.clear-2.ensures i).resvs);
       range = ap (λ (labels : Bindings). labels.range) c.clear-3.ensures ∙ c.requires.range;
       table = subst (λ (s : State). IsTableOf s c.clear-4.new.self.labels) (sym state) (subst (λ (rows : List (ℕ × Action)). IsTableOf (emptied (state_of t)) rows) (sym (ap (λ (table : Actions). table.labels) c.clear-4.ensures)) (table-no_path (emptied (state_of t)) refl));

@@ -1,4 +1,4 @@
-use Rattle.std.proofs.Common.{◌≡◌, ◌<◌, length, arith, ap, sym, set, get_or, ◌∙◌}
+use Rattle.std.proofs.Common.{◌<◌, length, arith, ap, sym, set, get_or, ◌∙◌}
 use Rattle.std.proofs.lemmas.List.Edits.{map_over_more}
 use Rattle.sorted_rows.proofs.reserved.leave_values.Goals as goal
 

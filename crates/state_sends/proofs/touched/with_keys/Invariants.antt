@@ -2,7 +2,7 @@ use Rattle.std.proofs.Common.{◌≡◌, take}
 use Rattle.std.specs.Prelude.{◌||◌}
 use Rattle.lsr_facts.specs.Orders.{key_cmp}
 use Rattle.lsr_facts.specs.declared.key.Key.{Key}
-use Rattle.abstract_router.specs.Touched.{is_among}
+use Rattle.abstract_paths.specs.Touched.{is_among}
 use Rattle.state_sends.proofs.touched.with_keys.Given as goal
 
 -- so many keys are among them

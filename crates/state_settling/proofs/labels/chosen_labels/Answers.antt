@@ -1,18 +1,18 @@
 -- The label that is chosen may be.
 use Rattle.std.proofs.Common.{◌≡◌, ℕ, ◌∷◌, [], List, Option, IfSome, sym, subst, ◌∙◌}
 use Rattle.std.proofs.lemmas.Result.{IfOk-weaker}
-use Rattle.row_edits.specs.Edits.{edited}
+use Rattle.sorted_rows.specs.Edits.{edited}
 use Rattle.lsr_facts.specs.Orders.{key_cmp}
 use Rattle.lsr_facts.specs.declared.key.Key.{Key}
-use Rattle.abstract_lsr.specs.Labels.{IsLabelling, MayBeGiven}
+use Rattle.abstract_router.specs.Labels.{IsLabelling, MayBeGiven}
 use Rattle.state_settling.specs.RelabellingLaws.{none_chosen, one_chosen}
 use Rattle.state_settling.proofs.labels.chosen_labels.Goals as goal
 
 pub returns-in_default : goal.returns-in_default
 returns-in_default g c =
-    let r = g.V.FactsView.router c.args.view.now in
-    let labels = (g.V.StateView.held c.args.view.now).labels in
-    let paths = (g.V.FactsView.facts c.args.view.now).paths in
+    let r = g.V.StateView.router c.args.view.now in
+    let labels = (g.V.StateView.state c.args.view.now).labels in
+    let paths = (g.V.StateView.state c.args.view.now).facts.paths in
     let edits = c.args.paths.now in
     record {
       chosen = subst (λ (chosen : List (Key × ℕ)). IsLabelling r labels (edited key_cmp edits paths) chosen) (sym c.new.ensures)
@@ -21,16 +21,16 @@ returns-in_default g c =
 
 pub unwrap-label-requires : goal.unwrap-label-requires
 unwrap-label-requires g c =
-    let r = g.V.FactsView.router c.args.view.now in
-    let labels = (g.V.StateView.held c.args.view.now).labels in
-    let paths = (g.V.FactsView.facts c.args.view.now).paths in
+    let r = g.V.StateView.router c.args.view.now in
+    let labels = (g.V.StateView.state c.args.view.now).labels in
+    let paths = (g.V.StateView.state c.args.view.now).facts.paths in
     c.free_label.ensures.free ∙ (one_chosen r labels c.args.paths.now paths c.requires.order c.requires.known c.requires.held c.in-Some.key c.requires.choice (sym c.new_lsp.ensures ∙ c.in-Some.is)).0
 
 pub returns : goal.returns
 returns g c =
-    let r = g.V.FactsView.router c.args.view.now in
-    let labels = (g.V.StateView.held c.args.view.now).labels in
-    let paths = (g.V.FactsView.facts c.args.view.now).paths in
+    let r = g.V.StateView.router c.args.view.now in
+    let labels = (g.V.StateView.state c.args.view.now).labels in
+    let paths = (g.V.StateView.state c.args.view.now).facts.paths in
     let edits = c.args.paths.now in
     let may : MayBeGiven r labels c.unwrap-label.result = subst (λ (o : Option ℕ). IfSome o (MayBeGiven r labels)) c.unwrap-label.ensures c.free_label.ensures.given in
     let is = (one_chosen r labels edits paths c.requires.order c.requires.known c.requires.held c.in-Some.key c.requires.choice (sym c.new_lsp.ensures ∙ c.in-Some.is)).1 c.unwrap-label.result may in

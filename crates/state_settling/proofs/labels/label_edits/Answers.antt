@@ -5,15 +5,15 @@ use Rattle.std.specs.Option.{option_map}
 use Rattle.std.proofs.lemmas.List.{take_all}
 use Rattle.lsr_facts.specs.OrderLaws.{key_exact, key_total}
 use Rattle.lsr_facts.specs.Orders.{key_cmp}
-use Rattle.abstract_router.specs.LocalityLaws.{is_sorted-made}
-use Rattle.abstract_router.specs.RowLaws.{one_more}
+use Rattle.abstract_paths.specs.TouchedLaws.{is_sorted-made}
+use Rattle.abstract_paths.specs.RowLaws.{one_more}
 use Rattle.state_settling.specs.Relabelling.{label_edit, label_edits}
 use Rattle.state_settling.proofs.labels.label_edits.Goals as goal
 use Rattle.state_settling.proofs.labels.label_edits.Goals.{in-Some+in_ok-push, in_default}
 
 pub loop-edit-preserved : goal.loop-edit-preserved
 loop-edit-preserved g c =
-    let labels = (g.V.StateView.held c.args.view.now).labels in
+    let labels = (g.V.StateView.state c.args.view.now).labels in
     let chosen = c.args.chosen.now in
     let becomes = λ (edit : _ × _). option_map (λ now. (edit.0, now)) (label_edit labels chosen edit) in
     let before = c.loop-edit.labels.items in
@@ -28,7 +28,7 @@ loop-edit-preserved g c =
 
 pub from_rows-requires : goal.from_rows-requires
 from_rows-requires g c =
-    let labels = (g.V.StateView.held c.args.view.now).labels in
+    let labels = (g.V.StateView.state c.args.view.now).labels in
     let chosen = c.args.chosen.now in
     let edits = c.args.paths.now in
     subst (λ rows. T (is_sorted key_cmp rows)) (sym (c.loop-edit.invariant ∙ ap (label_edits labels chosen) (take_all c.loop-edit.edit-index edits c.loop-edit-test.false)))

@@ -6,5 +6,5 @@ use Rattle.state_settling.proofs.labels.new_lsp.Given as goal
 -- none of those before is new
 abbrev pub invariant-loop-edit : goal.invariant-loop-edit
 invariant-loop-edit g l =
-    let labels = (g.V.StateView.held l.fn.view).labels in
+    let labels = (g.V.StateView.state l.fn.view).labels in
     find_first (is_new labels) (drop l.edit-index l.paths) ≡ find_first (is_new labels) l.paths

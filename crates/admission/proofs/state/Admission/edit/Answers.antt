@@ -2,8 +2,8 @@ use Rattle.std.proofs.Common.{◌≡◌, ℕ, T, subst, ◌∙◌}
 use Rattle.std.specs.FinMap.Entries.{is_sorted}
 use Rattle.std.specs.Option.{option_map}
 use Rattle.lsr_facts.specs.Orders.{key_cmp}
-use Rattle.row_edits.specs.Edits.{edited}
-use Rattle.row_edits.specs.InTurn.{given, in_turn}
+use Rattle.sorted_rows.specs.Edits.{edited}
+use Rattle.sorted_rows.specs.InTurn.{given, in_turn}
 use Rattle.resv_facts.specs.Claims.{claim_of}
 use Rattle.resv_facts.specs.declared.resv_fact.ResvFact.{ResvFact}
 use Rattle.admission.specs.Bandwidths.{Bandwidth, claim_edits, resv_edits}
@@ -14,13 +14,13 @@ use Rattle.admission.proofs.state.Admission.edit.Goals.{After-take}
 -- the reservations after both passes
 given_resvs : (c : After-take) → in_turn (given key_cmp) (resv_edits c.into_rows-edits.result.items) c.take.new.self.resvs ≡ edited key_cmp (resv_edits c.args.edits) c.args.self.now.resvs
 given_resvs c =
-    let sorted = subst (λ (b : Bandwidth). T (is_sorted key_cmp b.resvs)) c.self.view_is c.as_slice.ensures.sorted in
+    let sorted = subst (λ (b : Bandwidth). T (is_sorted key_cmp b.resvs)) c.self.view_is c.rows_are_in_order.ensures.sorted in
     passes_by (option_map (λ (given : ResvFact × ℕ). given.0)) c.args.edits c.into_rows-edits.result.items c.deref.result.now c.args.self.now.resvs c.take.new.self.resvs c.into_rows-edits.ensures.rows c.deref.ensures.value c.take.ensures.resvs c.into_rows-edits.ensures.sorted sorted
 
 -- and what they take
 given_claims : (c : After-take) → in_turn (given key_cmp) (claim_edits c.into_rows-edits.result.items) c.take.new.self.claims ≡ edited key_cmp (claim_edits c.args.edits) c.args.self.now.claims
 given_claims c =
-    let sorted = subst (λ (b : Bandwidth). T (is_sorted key_cmp b.claims)) c.self.view_is c.as_slice-2.ensures.sorted in
+    let sorted = subst (λ (b : Bandwidth). T (is_sorted key_cmp b.claims)) c.self.view_is c.rows_are_in_order-2.ensures.sorted in
     passes_by (option_map (λ (given : ResvFact × ℕ). claim_of given.0 given.1)) c.args.edits c.into_rows-edits.result.items c.deref.result.now c.args.self.now.claims c.take.new.self.claims c.into_rows-edits.ensures.rows c.deref.ensures.value c.take.ensures.claims c.into_rows-edits.ensures.sorted sorted
 
 pub give-requires-clause-room : goal.give-requires-clause-room

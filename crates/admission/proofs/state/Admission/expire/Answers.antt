@@ -19,7 +19,7 @@ pub invariant_of-self : goal.invariant_of-self
 unfolding expire
 invariant_of-self c =
     rw (c.expire.ensures, left ((goal.at.invariant_of-self c).After-sweep))
-    (matched_claims_of (λ (resv : Key × ResvFact). lives_past c.args.moment resv.1) c.self.inside.resvs c.self.inside.claims c.as_slice.ensures.sorted c.self.invariant)
+    (matched_claims_of (λ (resv : Key × ResvFact). lives_past c.args.moment resv.1) c.self.inside.resvs c.self.inside.claims c.rows_are_in_order.ensures.sorted c.self.invariant)
 
 pub returns : goal.returns
 returns c =

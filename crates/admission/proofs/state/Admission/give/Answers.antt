@@ -2,8 +2,8 @@ use Rattle.std.proofs.Common.{◌≡◌, ◌≤◌, ◌∷◌, ◌++◌, [], Som
 use Rattle.std.specs.FinMap.Entries.{put}
 use Rattle.std.proofs.lemmas.List.{reverse-append}
 use Rattle.lsr_facts.specs.Orders.{key_cmp}
-use Rattle.row_edits.proofs.Passes.{length_in_turn}
-use Rattle.row_edits.specs.InTurn.{given, in_turn}
+use Rattle.sorted_rows.proofs.Passes.{length_in_turn}
+use Rattle.sorted_rows.specs.InTurn.{given, in_turn}
 use Rattle.admission.specs.Bandwidths.{resv_edits}
 use Rattle.admission.proofs.state.Admission.give.Goals as goal
 

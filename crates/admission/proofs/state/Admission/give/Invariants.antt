@@ -1,6 +1,6 @@
 use Rattle.std.proofs.Common.{◌≡◌, reverse}
 use Rattle.lsr_facts.specs.Orders.{key_cmp}
-use Rattle.row_edits.specs.InTurn.{given, in_turn}
+use Rattle.sorted_rows.specs.InTurn.{given, in_turn}
 use Rattle.admission.specs.Bandwidths.{AreEdits, claim_edits, resv_edits}
 use Rattle.admission.proofs.state.Admission.give.Given as goal
 

@@ -1,6 +1,6 @@
 use Rattle.std.proofs.Common.{◌≡◌, drop}
 use Rattle.lsr_facts.specs.Orders.{key_cmp}
-use Rattle.row_edits.specs.InTurn.{in_turn, taken}
+use Rattle.sorted_rows.specs.InTurn.{in_turn, taken}
 use Rattle.admission.specs.Bandwidths.{claim_edits, resv_edits}
 use Rattle.admission.proofs.state.Admission.take.Given as goal
 

@@ -1,7 +1,7 @@
 use Rattle.std.proofs.Common.{◌≤◌, length, arith}
 use Rattle.lsr_facts.specs.Orders.{key_cmp}
 use Rattle.lsr_facts.specs.OrderLaws.{key_exact}
-use Rattle.row_edits.specs.Edits.{edited}
+use Rattle.sorted_rows.specs.Edits.{edited}
 use Rattle.path_state.proofs.state.PathState.edit.Goals as goal
 
 pub make_edits-requires : goal.make_edits-requires

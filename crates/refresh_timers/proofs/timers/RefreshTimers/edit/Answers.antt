@@ -1,5 +1,5 @@
 use Rattle.std.proofs.Common.{◌≤◌, ap, arith, length, rules}
-use Rattle.row_edits.specs.Edits.{edited}
+use Rattle.sorted_rows.specs.Edits.{edited}
 use Rattle.refresh_timers.specs.Timers.{Timers}
 use Rattle.refresh_timers.proofs.timers.RefreshTimers.edit.Goals as goal
 

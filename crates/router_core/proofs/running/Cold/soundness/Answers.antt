@@ -1,5 +1,5 @@
 use Rattle.std.proofs.Common.{subst}
-use Rattle.abstract_lsr.specs.Soundness.{IsSound}
+use Rattle.abstract_router.specs.Soundness.{IsSound}
 use Rattle.router_tables.specs.States.{RouterState}
 use Rattle.router_core.proofs.Starting.{sound_stopped}
 use Rattle.router_core.proofs.running.Cold.soundness.Goals as goal

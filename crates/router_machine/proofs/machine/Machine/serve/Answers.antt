@@ -6,6 +6,8 @@ use Rattle.router_machine.proofs.machine.Machine.serve.Goals as goal
 
 pub returns-in-Datagram-clause-served : goal.returns-in-Datagram-clause-served
 returns-in-Datagram-clause-served c =
-    let after = c.serve_datagram.result in
-    subst (λ (input : Input). IsInputServed c.args.self.router c.args.self.state input after.0.state after.1) (sym c.in-Datagram.is)
-    (subst (λ (bytes : List ℕ). IsDatagramServed c.args.self.router c.args.self.state c.in-Datagram.link bytes after.0.state after.1) c.deref.ensures.value c.serve_datagram.ensures.served)
+    let old = c.args.self.now in
+    let after = c.serve_datagram.new.self.state in
+    let answer = c.serve_datagram.result in
+    subst (λ (input : Input). IsInputServed old.router old.state input after answer) (sym c.in-Datagram.is)
+    (subst (λ (bytes : List ℕ). IsDatagramServed old.router old.state c.in-Datagram.link bytes after answer) c.deref.ensures.value c.serve_datagram.ensures.served)

@@ -1,11 +1,13 @@
-use Rattle.std.proofs.Common.{◌≡◌, take}
-use Rattle.router_machine.specs.Machines.{AreServed}
+use Rattle.std.proofs.Common.{◌≡◌, ◌≤◌, length, take}
+use Rattle.std.specs.Prelude.{vec_capacity}
+use Rattle.router_machine.specs.Machines.{AreAnswered}
 use Rattle.router_machine.proofs.machine.Machine.serve_all.Given as goal
 
--- so many inputs are served
+-- the inputs so far are answered, and there is room for all answers
 abbrev pub invariant-loop-input : goal.invariant-loop-input
 invariant-loop-input l = record {
-  count : l.count ≡ l.input-index;
-  taken : AreServed l.fn.self.router l.fn.self.state (take l.input-index l.inputs) l.served.items l.machine.state;
-  router : l.machine.router ≡ l.fn.self.router;
+  answered : AreAnswered l.fn.self.router l.fn.self.state (take l.input-index l.inputs) l.answers.items l.self.state;
+  count : length l.answers.items ≡ l.input-index;
+  room : length l.inputs ≤ vec_capacity l.answers;
+  router : l.self.router ≡ l.fn.self.router;
 }

@@ -1,21 +1,21 @@
 use Rattle.std.proofs.Common.{T, ap, map, nat_cmp, refl, subst, sym, ◌∙◌, ℕ, List}
 use Rattle.sorted_rows.specs.Rows.{keys_of}
 use Rattle.sorted_rows.specs.RowsLaws.{is_sorted-both}
-use Rattle.abstract_router.specs.RowLaws.{keys-map}
+use Rattle.abstract_paths.specs.RowLaws.{keys-map}
 use Rattle.admission.specs.Bandwidths.{Bandwidth}
 use Rattle.forwarding_table.specs.Actions.{Actions}
 use Rattle.forwarding_table.specs.declared.action.Action.{Action}
-use Rattle.label_bindings.specs.Bindings.{Bindings}
+use Rattle.label_space.specs.Bindings.{Bindings}
 use Rattle.label_table.specs.RowLaws.{table-no_path}
 use Rattle.label_table.specs.Rows.{IsTableOf}
 use Rattle.lsr_facts.specs.declared.key.Item.{Item}
 use Rattle.refresh_timers.specs.Timers.{Timers}
 use Rattle.resv_facts.specs.declared.upstream.Upstream.{Upstream}
-use Rattle.abstract_lsr.proofs.Running.{sound_opening}
-use Rattle.abstract_lsr.specs.Preempting.{claims_of}
-use Rattle.abstract_lsr.specs.Soundness.{IsSound}
-use Rattle.abstract_lsr.specs.States.{State}
-use Rattle.abstract_lsr.specs.Steps.{opening}
+use Rattle.router_soundness.proofs.Running.{sound_opening}
+use Rattle.abstract_router.specs.Preempting.{claims_of}
+use Rattle.abstract_router.specs.Soundness.{IsSound}
+use Rattle.abstract_router.specs.States.{State}
+use Rattle.abstract_router.specs.Steps.{opening}
 use Rattle.router_tables.specs.States.{opened}
 use Rattle.router_tables.proofs.Opening.{opening_is}
 use Rattle.router_tables.proofs.tables.Tables.new.Goals as goal

@@ -1,6 +1,0 @@
--- An entry comes of a path, and a reservation stands on it.
-use Rattle.abstract_lsr.proofs.Entries.{entry_stands}
-use Rattle.abstract_lsr.proofs.laws.entries_stand_on_live_state.Goals as goal
-
-pub returns : goal.returns
-returns c = entry_stands

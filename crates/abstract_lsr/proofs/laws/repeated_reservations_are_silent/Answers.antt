@@ -1,6 +1,0 @@
--- Each descriptor leaves the state as it is, and so does what follows.
-use Rattle.abstract_lsr.proofs.Repeating.{repeated_is_silent}
-use Rattle.abstract_lsr.proofs.laws.repeated_reservations_are_silent.Goals as goal
-
-pub returns : goal.returns
-returns c = repeated_is_silent

@@ -1,0 +1,155 @@
+-- Whatever an event does to paths, links and time leaves them as they should be: each by its few primitives.
+use Rattle.std.proofs.Common.{refl, ap, sym, subst, ◌∙◌, arith}
+use Rattle.std.proofs.lemmas.Bool.{and_parts, cond_both, eqb-true, ltb-false, not-false}
+use Rattle.std.specs.FinMap.Entries.{find, put, where_key, length-put}
+use Rattle.std.specs.Option.{option_map_or}
+use Rattle.std.specs.Ordering.{is_eq}
+use Rattle.std.specs.Prelude.{◌≡◌, ℕ, ◌+◌, ◌≤◌, Bool, true, false, cond, not, ◌&&◌, ◌==◌, nat_le, nat_lt, ◌^◌, IsTrue, List, [], ◌∷◌, length, Option, Some, None, is_some, is_none, Result, Ok, Err, IfSome}
+use Rattle.std.specs.declared.net.ipv4_addr.Ipv4Addr.{Ipv4Addr}
+use Rattle.abstract_paths.proofs.NextHops.{Leads, IsPlace, next_hop-leads}
+use Rattle.abstract_paths.proofs.PathTable.{IsTaken, way_of-leads, path_sound, path_left_sound, path_known, put_few}
+use Rattle.abstract_paths.proofs.Primitives.{sound_with_path, sound_where, sound_expire, sound_started, sound_restarted, sound_with_link}
+use Rattle.abstract_paths.specs.Links.{link_change}
+use Rattle.abstract_paths.specs.MessageLaws.{tspec-whole}
+use Rattle.abstract_paths.specs.Outcomes.{Outcome, done, lsp, refused}
+use Rattle.abstract_paths.specs.Paths.{key_of, is_same_route, way_of, way_for, path_by, has_loop, failed, taken, path_on_its_way, path_arrival}
+use Rattle.abstract_paths.specs.Places.{is_up, place_of}
+use Rattle.abstract_paths.specs.Relays.{relay, relayed_by}
+use Rattle.abstract_paths.specs.Routing.{next_hop, route_to}
+use Rattle.abstract_paths.specs.Soundness.{IsPath, IsStanding}
+use Rattle.abstract_paths.specs.Tears.{is_torn_by, leaves_by, left_with, origins_without, torn, path_tear_arrival, passed_on, path_err_arrival}
+use Rattle.abstract_paths.specs.Time.{tick}
+use Rattle.lsr_facts.specs.Errors.{system_error}
+use Rattle.lsr_facts.specs.OrderLaws.{key_total}
+use Rattle.lsr_facts.specs.Orders.{address_cmp, key_cmp}
+use Rattle.lsr_facts.specs.Routers.{HasLink, IsRouter, link_at}
+use Rattle.lsr_facts.specs.declared.choice.Choice.{Choice}
+use Rattle.lsr_facts.specs.declared.errors.RsvpError.{RsvpError}
+use Rattle.lsr_facts.specs.declared.facts.Facts.{Facts}
+use Rattle.lsr_facts.specs.declared.key.Key.{Key}
+use Rattle.lsr_facts.specs.declared.path_fact.Origin.{Origin}
+use Rattle.lsr_facts.specs.declared.path_fact.PathFact.{PathFact}
+use Rattle.lsr_facts.specs.declared.refusal.Refusal.TheVariants.{BadMoment, Late, LinkDown, NoMatch, UnknownLink}
+use Rattle.lsr_facts.specs.declared.router.Router.{Router}
+use Rattle.router_events.specs.declared.ways.ArrivalWay.{ArrivalWay}
+use Rattle.router_events.specs.declared.ways.ArrivalWay.TheVariants as ways
+use Rattle.router_events.specs.declared.ways.Arrive.{Arrive}
+use Rattle.router_events.specs.declared.ways.Relay.{Relay}
+use Rattle.router_events.specs.declared.events.Event.TheVariants as events
+use Rattle.router_events.specs.declared.events.Event.{Event}
+use Rattle.rsvp_contents.proofs.Fitted.{message_fits}
+use Rattle.rsvp_contents.specs.Fitting.{fits_path, written_len}
+use Rattle.rsvp_contents.specs.Picking.{content_in}
+use Rattle.rsvp_contents.specs.Spelling.{IsMessage}
+use Rattle.rsvp_contents.specs.declared.message.Reading.TheVariants as readings
+use Rattle.rsvp_contents.specs.declared.message.Reading.{Reading}
+use Rattle.rsvp_contents.specs.declared.messages.Content.TheVariants as contents
+use Rattle.rsvp_contents.specs.declared.messages.Content.{Content}
+use Rattle.rsvp_contents.specs.declared.messages.Path.{Path}
+use Rattle.rsvp_contents.specs.declared.messages.PathErr.{PathErr}
+use Rattle.rsvp_contents.specs.declared.messages.PathTear.{PathTear}
+use Rattle.rsvp_traffic.specs.TokenBuckets.{token_rate}
+
+-- What an outcome leaves of paths, links, routes and time is as it should be.
+abbrev pub LeavesStanding : Router → Outcome → Type 0
+LeavesStanding r o = IsStanding r o.after
+
+-- the parts of a Path that is a message fit
+pub path_fits : (p : Path) → IsMessage (contents.Path p) → IsTrue (fits_path p)
+path_fits p is = (and_parts (fits_path p) (nat_le (written_len (contents.Path p)) 4096) (message_fits (contents.Path p) is)).0
+
+-- a router's place can be
+place_sound : (r : Router) (s : Facts) → IsRouter r → IsStanding r s → IsPlace (place_of r s)
+place_sound r s router is = record { router = router; routes = is.routes }
+
+-- The way of a Path leads on, be it that of the path which is known or the next hop.
+way_for-leads : (r : Router) (s : Facts) (known : Option PathFact) (p : Path) → IsRouter r → IsStanding r s → IfSome known (λ fact. IsPath r s.moment (key_of p, fact)) → IsTrue (fits_path p) → Leads r (way_for (place_of r s) known p)
+unfolding way_for
+way_for-leads r s None p router is knows whole = next_hop-leads (place_of r s) p.route p.session.endpoint (place_sound r s router is) (and_parts _ _ whole).0
+way_for-leads r s (Some fact) p router is knows whole =
+    cond_both (is_same_route fact.given p.route) (Ok (way_of fact)) (next_hop (place_of r s) p.route p.session.endpoint) (Leads r)
+    (λ same. way_of-leads r s.moment (key_of p, fact) knows)
+    (λ other. next_hop-leads (place_of r s) p.route p.session.endpoint (place_sound r s router is) (and_parts _ _ whole).0)
+
+-- a Path whose way was asked for
+path_on_its_way-stands : (r : Router) (s : Facts) (link : ℕ) (p : Path) (way : Result Choice RsvpError) → s.cold ≡ false → IsStanding r s → IsTaken r link p → Leads r way → LeavesStanding r (path_on_its_way r s (find key_cmp (key_of p) s.paths) link p way)
+unfolding path_on_its_way
+path_on_its_way-stands r s link p (Err e) runs is can leads = is
+path_on_its_way-stands r s link p (Ok way) runs is can leads =
+    let known = find key_cmp (key_of p) s.paths in
+    cond_both (is_none known && nat_le 1024 (length s.paths)) (failed r s link p system_error) (taken r s known link p way) (LeavesStanding r)
+    (λ full. is)
+    (λ room.
+    sound_with_path r s (key_of p) (path_by s.moment known link p way) runs is
+    (path_sound r s.moment known link p way can (path_known r s.moment (key_of p) s.paths is.paths) leads)
+    (put_few (key_of p) (path_by s.moment known link p way) s.paths is.paths.in_order is.paths.few room))
+
+-- a Path that is read whole
+pub path_arrival-stands : (r : Router) (s : Facts) (link : ℕ) (p : Path) → IsRouter r → s.cold ≡ false → IsStanding r s → HasLink r link → IsTrue (fits_path p) → LeavesStanding r (path_arrival r s link p)
+unfolding path_arrival
+path_arrival-stands r s link p router runs is there whole =
+    let known = find key_cmp (key_of p) s.paths in
+    let knows = path_known r s.moment (key_of p) s.paths is.paths in
+    cond_both (not (p.label_request.l3pid == 0x0800)) _ _ (LeavesStanding r) (λ other. is)
+    (λ carries.
+    cond_both (is_none (token_rate 1 p.tspec)) _ _ (LeavesStanding r) (λ none. is)
+    (λ rate.
+    cond_both (has_loop r p.recorded) _ _ (LeavesStanding r) (λ loops. is)
+    (λ straight.
+    path_on_its_way-stands r s link p (way_for (place_of r s) known p) runs is
+    (record { over_link = there; fits = whole; whole_tspec = tspec-whole p.tspec (not-false _ rate) })
+    (way_for-leads r s known p router is knows whole))))
+
+-- a path that is left with some origins, or with none
+left_with-stands : (r : Router) (s : Facts) (key : Key) (fact : PathFact) (p : Ipv4Addr → Bool) (origins : List (Ipv4Addr × Origin)) → s.cold ≡ false → IsStanding r s → IfSome (find key_cmp key s.paths) (λ known. IsPath r s.moment (key, known)) → find key_cmp key s.paths ≡ Some fact → where_key address_cmp p fact.origins ≡ origins → IsStanding r (left_with key fact origins s)
+left_with-stands r s key fact p [] runs is knows found left = sound_where r s (λ k. not (is_eq (key_cmp key k))) is
+left_with-stands r s key fact p (o ∷ os) runs is knows found left =
+    let path : IsPath r s.moment (key, fact) = subst (λ (known : Option PathFact). IfSome known (λ f. IsPath r s.moment (key, f))) found knows in
+    let some : 1 ≤ length (where_key address_cmp p fact.origins) = subst (λ (xs : List (Ipv4Addr × Origin)). 1 ≤ length xs) (sym left) (omega arith) in
+    let after : IsPath r s.moment (key, record fact { origins = o ∷ os }) =
+    subst (λ (xs : List (Ipv4Addr × Origin)). IsPath r s.moment (key, record fact { origins = xs })) left (path_left_sound r s.moment key fact p some path) in
+    let same : length (put key_cmp key (record fact { origins = o ∷ os }) s.paths) ≡ cond (is_some (find key_cmp key s.paths)) (length s.paths) (length s.paths + 1) = length-put key_cmp key_total key (record fact { origins = o ∷ os }) s.paths is.paths.in_order in
+    sound_with_path r s key (record fact { origins = o ∷ os }) runs is after
+    (subst (λ (n : ℕ). n ≤ 1024) (sym (same ∙ ap (λ known. cond (is_some known) (length s.paths) (length s.paths + 1)) found)) is.paths.few)
+
+-- a PathTear
+pub torn-stands : (r : Router) (s : Facts) (link : ℕ) (t : PathTear) (known : Option PathFact) → s.cold ≡ false → IsStanding r s → find key_cmp (lsp t.session t.sender) s.paths ≡ known → LeavesStanding r (torn s link t known)
+torn-stands r s link t None runs is found = is
+torn-stands r s link t (Some fact) runs is found =
+    cond_both (is_torn_by link t fact) _ (refused s NoMatch) (LeavesStanding r)
+    (λ matches.
+    left_with-stands r s (lsp t.session t.sender) fact (λ k. not (is_eq (address_cmp t.sender.sender k))) (origins_without t.sender.sender fact) runs is (path_known r s.moment (lsp t.session t.sender) s.paths is.paths) found refl)
+    (λ other. is)
+
+-- a PathErr
+pub passed_on-stands : (r : Router) (s : Facts) (link : ℕ) (e : PathErr) (known : Option PathFact) → IsStanding r s → LeavesStanding r (passed_on s link e known)
+passed_on-stands r s link e None is = is
+passed_on-stands r s link e (Some fact) is = cond_both (leaves_by link fact) _ (refused s NoMatch) (LeavesStanding r) (λ leaves. is) (λ other. is)
+
+-- a message for another router
+pub relay-stands : (r : Router) (s : Facts) (m : Relay) → IsStanding r s → LeavesStanding r (relay r s m)
+unfolding relay
+relay-stands r s m is =
+    cond_both (is_none (link_at r m.link)) (refused s UnknownLink) _ (LeavesStanding r) (λ none. is)
+    (λ there.
+    cond_both (not (is_up s.up m.link)) (refused s LinkDown) _ (LeavesStanding r) (λ down. is)
+    (λ up. by (route_to (place_of r s) m.to)))
+  where
+    by : (way : Option ℕ) → LeavesStanding r (option_map_or (λ link. done (relayed_by m link ∷ []) s) way (refused s NoMatch))
+    by None = is
+    by (Some link) = is
+
+-- a link that comes up or goes down
+pub link_change-stands : (r : Router) (s : Facts) (number : ℕ) (up : Bool) → IsRouter r → IsStanding r s → LeavesStanding r (link_change r s number up)
+unfolding link_change
+link_change-stands r s number up router is =
+    cond_both (is_none (link_at r number)) (refused s UnknownLink) _ (LeavesStanding r) (λ none. is) (λ there. sound_with_link r s number up router is (not-false _ there))
+
+-- a moment that comes
+pub tick-stands : (r : Router) (s : Facts) (n : ℕ) → IsStanding r s → LeavesStanding r (tick r s n)
+unfolding tick
+tick-stands r s n is =
+    cond_both (nat_lt (2 ^ 62) n) (refused s BadMoment) _ (LeavesStanding r) (λ above. is)
+    (λ most.
+    cond_both (nat_lt n s.moment) (refused s Late) _ (LeavesStanding r) (λ below. is)
+    (λ later. sound_expire r s n is (ltb-false n s.moment later) (ltb-false (2 ^ 62) n most)))

@@ -1,0 +1,221 @@
+-- The table of paths keeps what holds of it, whichever primitive changes it.
+use Rattle.std.specs.Prelude.{◌≡◌, ◌≢◌, ℕ, ◌+◌, ◌≤◌, Bool, true, false, cond, not, ◌&&◌, ◌||◌, if◌then◌else◌, nat_le, IsTrue, T, List, [], ◌∷◌, map, filter, length, Option, Some, None, is_some, is_none, IfSome}
+use Rattle.std.specs.FinMap.Entries.{find, put, where_key, is_sorted, is_sorted-put, is_sorted-where_key, length-put}
+use Rattle.std.specs.List.{AllByRecursion, list_any}
+use Rattle.std.specs.Option.{option_map_or}
+use Rattle.std.specs.declared.net.ipv4_addr.Ipv4Addr.{Ipv4Addr}
+use Rattle.std.proofs.Common.{refl, sym, subst, arith}
+use Rattle.std.proofs.lemmas.Bool.{and_parts, leb-false, ltb-true}
+use Rattle.rsvp_routes.specs.declared.step.Step.{Step}
+use Rattle.rsvp_traffic.specs.TokenBuckets.{token_rate}
+use Rattle.rsvp_contents.specs.Fitting.{fits_path, are_passed_on, has_adspec_last}
+use Rattle.rsvp_contents.specs.Limits.{is_short_route, is_short_record, is_short_passing}
+use Rattle.rsvp_contents.specs.declared.messages.Path.{Path}
+use Rattle.sorted_rows.specs.ListLaws.{all-both, all-filter, all-filter_passes, all-map}
+use Rattle.sorted_rows.specs.RowsLaws.{all-put, all-put_row, find-all_row, is_sorted-both, is_sorted-filter}
+use Rattle.lsr_facts.specs.OrderLaws.{address_exact, address_total, key_total, key_exact}
+use Rattle.lsr_facts.specs.Orders.{address_cmp, key_cmp}
+use Rattle.lsr_facts.specs.Routers.{HasLink}
+use Rattle.lsr_facts.specs.declared.choice.Choice.{Choice}
+use Rattle.lsr_facts.specs.declared.choice.Choice.TheVariants as choices
+use Rattle.lsr_facts.specs.declared.key.Key.{Key}
+use Rattle.lsr_facts.specs.declared.path_fact.Origin.{Origin}
+use Rattle.lsr_facts.specs.declared.path_fact.PathFact.{PathFact}
+use Rattle.lsr_facts.specs.declared.path_fact.Role.{Role}
+use Rattle.lsr_facts.specs.declared.path_fact.Role.TheVariants as roles
+use Rattle.lsr_facts.specs.declared.router.Router.{Router}
+use Rattle.abstract_paths.specs.Paths.{key_of, goes_on, way_of, role_of, link_of, rest_of, origin_of, origins_of, path_by}
+use Rattle.abstract_paths.specs.OriginLaws.{one_origin}
+use Rattle.abstract_paths.specs.RowLaws.{keys-map, length-filter_most, length-put_some}
+use Rattle.abstract_paths.specs.Soundness.{IsOrigin, AreOrigins, ArePaths, IsCountAs, IsWayAs, IsWithinLimits, IsPath}
+use Rattle.lsr_facts.specs.Lifetimes.{begins_here, expire, lives_on, lives_past, with_living}
+use Rattle.abstract_paths.proofs.NextHops.{LeadsOn}
+
+-- Origins that may not be there yet: as those of a path, but for their number.
+record AreBefore (r : Router) (moment : ℕ) (key : Key) (origins : List (Ipv4Addr × Origin)) : Type 0 where
+  in_order : T (is_sorted address_cmp origins)
+  own : AllByRecursion (λ o. o.0 ≡ key.sender.sender) origins
+  each : AllByRecursion (λ o. IsOrigin r moment o.1) origins
+
+-- those of a path that may be known
+origins_before : (r : Router) (moment : ℕ) (key : Key) (known : Option PathFact) → IfSome known (λ fact. IsPath r moment (key, fact)) → AreBefore r moment key (origins_of known)
+origins_before r moment key None is = record { in_order = tt; own = tt; each = tt }
+origins_before r moment key (Some fact) is = record { in_order = is.origins.in_order; own = is.origins.own; each = is.origins.each }
+
+-- a path of this way that doesn't begin here may have one origin
+one_counts : (way : Choice) (n : ℕ) → 1 ≤ n → n ≤ 1 → IsCountAs (role_of way) n
+one_counts choices.Tail n some most = (some, omega arith)
+one_counts (choices.Link link rest) n some most = (some, omega arith)
+
+-- and fewer of those that it has, as long as some are left
+fewer_count : (role : Role) (n m : ℕ) → role ≢ roles.Head → IsCountAs role m → 1 ≤ n → n ≤ m → IsCountAs role n
+fewer_count roles.Tail n m elsewhere counts some fewer = (some, omega (arith, counts.1))
+fewer_count roles.Transit n m elsewhere counts some fewer = (some, omega (arith, counts.1))
+fewer_count roles.Head n m elsewhere counts some fewer = absurd (elsewhere refl)
+
+-- An origin of the key's own sender is put.
+origins_put : (r : Router) (moment : ℕ) (key : Key) (way : Choice) (o : Origin) (origins : List (Ipv4Addr × Origin)) → IsOrigin r moment o → AreBefore r moment key origins → AreOrigins r moment key (role_of way) (put address_cmp key.sender.sender o origins)
+origins_put r moment key way o origins is before =
+    let in_order = is_sorted-put address_cmp address_total key.sender.sender o origins before.in_order in
+    let own = all-put_row address_cmp (λ row. row.0 ≡ key.sender.sender) key.sender.sender o (λ sender tied. sym (address_exact key.sender.sender sender tied)) refl origins before.own in
+    record {
+      in_order = in_order;
+      count = one_counts way _ (length-put_some address_cmp key.sender.sender o origins) (one_origin key.sender.sender (put address_cmp key.sender.sender o origins) in_order own);
+      own = own;
+      each = all-put address_cmp (IsOrigin r moment) key.sender.sender o is origins before.each;
+    }
+
+-- A path has other origins.
+with_origins : (r : Router) (moment later : ℕ) (key : Key) (fact : PathFact) (origins : List (Ipv4Addr × Origin)) → IsPath r moment (key, fact) → AreOrigins r later key fact.role origins → IsPath r later (key, record fact { origins = origins })
+with_origins r moment later key fact origins is others = record {
+  from_elsewhere = is.from_elsewhere;
+  origins = others;
+  way = is.way;
+  whole_tspec = is.whole_tspec;
+  limits = record {
+    given = is.limits.given;
+    rest = is.limits.rest;
+    recorded = is.limits.recorded;
+    passing = is.limits.passing;
+    passed_on = is.limits.passed_on;
+    adspec_last = is.limits.adspec_last;
+    one_fast_reroute = is.limits.one_fast_reroute;
+  };
+}
+
+-- the way of a path leads on
+way-leads : (r : Router) (role : Role) (link : ℕ) (rest : Option (List Step)) → role ≢ roles.Head → IsWayAs r role link rest → IsTrue (option_map_or is_short_route rest true) → LeadsOn r (if goes_on role then choices.Link link rest else choices.Tail)
+way-leads r roles.Tail link rest not_head is short = tt
+way-leads r roles.Transit link rest not_head is short = (is, short)
+way-leads r roles.Head link rest not_head is short = (is, short)
+
+pub way_of-leads : (r : Router) (moment : ℕ) (path : Key × PathFact) → IsPath r moment path → LeadsOn r (way_of path.1)
+way_of-leads r moment path is = way-leads r path.1.role path.1.out_link path.1.rest is.from_elsewhere is.way is.limits.rest
+
+-- a way that leads on makes a path of its role
+role_of-elsewhere : (way : Choice) → role_of way ≢ roles.Head
+role_of-elsewhere choices.Tail is = cc
+role_of-elsewhere (choices.Link link rest) is = cc
+
+way-as : (r : Router) (way : Choice) → LeadsOn r way → IsWayAs r (role_of way) (link_of way) (rest_of way)
+way-as r choices.Tail leads = (refl, refl)
+way-as r (choices.Link link rest) leads = leads.0
+
+rest_of-short : (r : Router) (way : Choice) → LeadsOn r way → IsTrue (option_map_or is_short_route (rest_of way) true)
+rest_of-short r choices.Tail leads = refl
+rest_of-short r (choices.Link link rest) leads = leads.1
+
+-- what a Path that fits carries is within the limits
+limits_fit : (moment : ℕ) (known : Option PathFact) (link : ℕ) (p : Path) (way : Choice) → IsTrue (fits_path p) → IsTrue (option_map_or is_short_route (rest_of way) true) → IsWithinLimits (path_by moment known link p way)
+limits_fit moment known link p way fits rest =
+    let a = and_parts (option_map_or is_short_route p.route true) _ fits in
+    let b = and_parts (option_map_or is_short_record p.recorded true) _ a.1 in
+    let c = and_parts (is_short_passing p.passing) _ b.1 in
+    let d = and_parts (are_passed_on p.passing) _ c.1 in
+    let e = and_parts (has_adspec_last p.passing) _ d.1 in
+    record { given = a.0; rest = rest; recorded = b.0; passing = c.0; passed_on = d.0; adspec_last = e.0; one_fast_reroute = e.1 }
+
+-- what a Path says that is taken: it came over a link of the router, it fits, it carries IPv4, its rate is defined
+pub record IsTaken (r : Router) (link : ℕ) (p : Path) : Type 0 where
+  pub over_link : HasLink r link
+  pub fits : IsTrue (fits_path p)
+  pub whole_tspec : length p.tspec ≡ 32
+
+-- The path that a Path makes or renews stands as paths do.
+pub path_sound : (r : Router) (moment : ℕ) (known : Option PathFact) (link : ℕ) (p : Path) (way : Choice) → IsTaken r link p → IfSome known (λ fact. IsPath r moment (key_of p, fact)) → LeadsOn r way → IsPath r moment (key_of p, path_by moment known link p way)
+path_sound r moment known link p way is knows leads = record {
+  from_elsewhere = role_of-elsewhere way;
+  origins = origins_put r moment (key_of p) way (origin_of moment link p) (origins_of known) (record { over_link = is.over_link; live = omega arith }) (origins_before r moment (key_of p) known knows);
+  way = way-as r way leads;
+  whole_tspec = is.whole_tspec;
+  limits = limits_fit moment known link p way is.fits (rest_of-short r way leads);
+}
+
+-- A path that is left with some of its origins stands as paths do.
+pub path_left_sound : (r : Router) (moment : ℕ) (key : Key) (fact : PathFact) (p : Ipv4Addr → Bool) → 1 ≤ length (where_key address_cmp p fact.origins) → IsPath r moment (key, fact) → IsPath r moment (key, record fact { origins = where_key address_cmp p fact.origins })
+path_left_sound r moment key fact p some is =
+    with_origins r moment moment key fact (where_key address_cmp p fact.origins) is (record {
+      in_order = is_sorted-where_key address_cmp p fact.origins is.origins.in_order;
+      count = fewer_count fact.role _ (length fact.origins) is.from_elsewhere is.origins.count some (length-filter_most (λ (o : Ipv4Addr × Origin). p o.0) fact.origins);
+      own = all-filter (λ (o : Ipv4Addr × Origin). o.0 ≡ key.sender.sender) (λ o. p o.0) fact.origins is.origins.own;
+      each = all-filter (λ (o : Ipv4Addr × Origin). IsOrigin r moment o.1) (λ o. p o.0) fact.origins is.origins.each;
+    })
+
+-- what is known under a key
+pub path_known : (r : Router) (moment : ℕ) (key : Key) (paths : List (Key × PathFact)) → ArePaths r moment paths → IfSome (find key_cmp key paths) (λ fact. IsPath r moment (key, fact))
+path_known r moment key paths are = find-all_row key_cmp key_exact (IsPath r moment) key paths are.each
+
+-- A path is put.
+pub paths_put : (r : Router) (moment : ℕ) (key : Key) (fact : PathFact) (paths : List (Key × PathFact)) → ArePaths r moment paths → IsPath r moment (key, fact) → length (put key_cmp key fact paths) ≤ 1024 → ArePaths r moment (put key_cmp key fact paths)
+paths_put r moment key fact paths are is few = record {
+  in_order = is_sorted-put key_cmp key_total key fact paths are.in_order;
+  few = few;
+  each = all-put_row key_cmp (IsPath r moment) key fact (λ k tied. subst (λ (q : Key). IsPath r moment (q, fact)) (key_exact key k tied) is) is paths are.each;
+}
+
+-- Paths are taken away by a test of their keys.
+pub paths_where : (r : Router) (moment : ℕ) (p : Key → Bool) (paths : List (Key × PathFact)) → ArePaths r moment paths → ArePaths r moment (where_key key_cmp p paths)
+paths_where r moment p paths are = record {
+  in_order = is_sorted-where_key key_cmp p paths are.in_order;
+  few = omega (arith, are.few, length-filter_most (λ (path : Key × PathFact). p path.0) paths);
+  each = all-filter (IsPath r moment) (λ path. p path.0) paths are.each;
+}
+
+-- a list that grows by a key that is new has room for it
+grown_few : (there : Bool) (n m : ℕ) → n ≤ 1024 → (not there && nat_le 1024 n) ≡ false → m ≡ cond there n (n + 1) → m ≤ 1024
+grown_few true n m few room is = omega (arith, few, is)
+grown_few false n m few room is = omega (arith, leb-false 1024 n room, is)
+
+-- so a put has, where the key is known or there are fewer paths
+pub put_few : (key : Key) (fact : PathFact) (paths : List (Key × PathFact)) → T (is_sorted key_cmp paths) → length paths ≤ 1024 → (is_none (find key_cmp key paths) && nat_le 1024 (length paths)) ≡ false → length (put key_cmp key fact paths) ≤ 1024
+put_few key fact paths in_order few room =
+    grown_few (is_some (find key_cmp key paths)) (length paths) (length (put key_cmp key fact paths)) few room (length-put key_cmp key_total key fact paths in_order)
+
+-- where an element passes a test, one is left by it
+length-filter_some : {A : Type 0} (p : A → Bool) (xs : List A) → list_any p xs ≡ true → 1 ≤ length (filter p xs)
+length-filter_some p [] any = absurd (let e = any in cc)
+length-filter_some p (x ∷ xs) any =
+    elim (p x) as (λ b. (b || list_any p xs) ≡ true → 1 ≤ length (cond b (x ∷ filter p xs) (filter p xs))) [ true ↦ λ passes. omega arith | false ↦ λ later. length-filter_some p xs later ] any
+
+-- a list has so many elements as what f gives of them
+length-map_same : {A B : Type 0} (f : A → B) (xs : List A) → length (map f xs) ≡ length xs
+length-map_same f [] = refl
+length-map_same f (x ∷ xs) = omega (arith, length-map_same f xs)
+
+-- a path that doesn't begin here lives on by an origin
+by_origin : (n : ℕ) (role : Role) (origins : List (Ipv4Addr × Origin)) → role ≢ roles.Head → (begins_here role || list_any (lives_past n) origins) ≡ true → list_any (lives_past n) origins ≡ true
+by_origin n roles.Tail origins not_head lives = lives
+by_origin n roles.Transit origins not_head lives = lives
+by_origin n roles.Head origins not_head lives = absurd (not_head refl)
+
+module _ (r : Router) (moment n : ℕ) where
+  -- an origin that lives past a moment stands at it
+  origin_lives : (o : Ipv4Addr × Origin) → IsOrigin r moment o.1 → lives_past n o ≡ true → IsOrigin r n o.1
+  origin_lives o is lives = let above = ltb-true n o.1.expiry lives in record { over_link = is.over_link; live = omega arith }
+
+  -- a path that lives on stands
+  path_lives : (path : Key × PathFact) → IsPath r moment path → lives_on n path ≡ true → IsPath r n (with_living n path)
+  path_lives path is lives =
+      with_origins r moment n path.0 path.1 (filter (lives_past n) path.1.origins) is (record {
+        in_order = is_sorted-filter address_cmp (lives_past n) path.1.origins is.origins.in_order;
+        count = fewer_count path.1.role _ (length path.1.origins) is.from_elsewhere is.origins.count (length-filter_some (lives_past n) path.1.origins (by_origin n path.1.role path.1.origins is.from_elsewhere lives)) (length-filter_most (lives_past n) path.1.origins);
+        own = all-filter (λ (o : Ipv4Addr × Origin). o.0 ≡ path.0.sender.sender) (lives_past n) path.1.origins is.origins.own;
+        each = all-both (λ (o : Ipv4Addr × Origin). IsOrigin r moment o.1) (λ (o : Ipv4Addr × Origin). lives_past n o ≡ true) (λ (o : Ipv4Addr × Origin). IsOrigin r n o.1) origin_lives
+            (filter (lives_past n) path.1.origins)
+            (all-filter (λ (o : Ipv4Addr × Origin). IsOrigin r moment o.1) (lives_past n) path.1.origins is.origins.each)
+            (all-filter_passes (λ (o : Ipv4Addr × Origin). lives_past n o ≡ true) (lives_past n) (λ o passes. passes) path.1.origins);
+      })
+
+  -- Paths expire: those that are left stand at the moment that has come.
+  pub paths_expire : (paths : List (Key × PathFact)) → ArePaths r moment paths → ArePaths r n (expire n paths)
+  unfolding expire
+  paths_expire paths are =
+      let living = filter (lives_on n) paths in
+      record {
+        in_order = subst T (sym (is_sorted-both key_cmp (map (with_living n) living) living (keys-map (λ (e : Key × PathFact). (with_living n e).1) living))) (is_sorted-filter key_cmp (lives_on n) paths are.in_order);
+        few = omega (arith, are.few, length-filter_most (lives_on n) paths, length-map_same (with_living n) living);
+        each = all-map (IsPath r n) (with_living n) living
+            (all-both (IsPath r moment) (λ path. lives_on n path ≡ true) (λ path. IsPath r n (with_living n path)) path_lives living
+            (all-filter (IsPath r moment) (lives_on n) paths are.each)
+            (all-filter_passes (λ path. lives_on n path ≡ true) (lives_on n) (λ path passes. passes) paths));
+      }

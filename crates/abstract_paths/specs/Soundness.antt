@@ -1,0 +1,87 @@
+-- What holds of paths, links, routes and time in every state that a router comes to.
+use Rattle.std.specs.Prelude.{◌≡◌, ◌≢◌, ℕ, ◌^◌, ◌≤◌, true, List, [], length, Option, None, is_some, IsTrue, T}
+use Rattle.std.specs.FinMap.Entries.{is_sorted}
+use Rattle.std.specs.List.{AllByRecursion}
+use Rattle.std.specs.Option.{option_map_or}
+use Rattle.std.specs.declared.net.ipv4_addr.Ipv4Addr.{Ipv4Addr}
+use Rattle.rsvp_routes.specs.declared.step.Step.{Step}
+use Rattle.rsvp_traffic.specs.TokenBuckets.{token_rate}
+use Rattle.rsvp_contents.specs.Fitting.{are_passed_on, has_adspec_last, has_one_fast_reroute}
+use Rattle.rsvp_contents.specs.Limits.{is_short_route, is_short_record, is_short_passing}
+use Rattle.sorted_rows.specs.Rows.{keys_of}
+use Rattle.lsr_facts.specs.Orders.{address_cmp, key_cmp}
+use Rattle.lsr_facts.specs.Routers.{AreRoutes, HasLink}
+use Rattle.lsr_facts.specs.declared.facts.Facts.{Facts}
+use Rattle.lsr_facts.specs.declared.key.Key.{Key}
+use Rattle.lsr_facts.specs.declared.path_fact.Origin.{Origin}
+use Rattle.lsr_facts.specs.declared.path_fact.PathFact.{PathFact}
+use Rattle.lsr_facts.specs.declared.path_fact.Role.{Role}
+use Rattle.lsr_facts.specs.declared.path_fact.Role.TheVariants as roles
+use Rattle.lsr_facts.specs.declared.path_fact.Via.{Via}
+use Rattle.lsr_facts.specs.declared.path_fact.Via.TheVariants as vias
+use Rattle.lsr_facts.specs.declared.router.Router.{Router}
+
+-- The Paths of an origin come over a link of the router. None come through a stack of labels yet.
+abbrev pub IsVia : Router → Via → Type 0
+IsVia r (vias.Link number) = HasLink r number
+IsVia r vias.Stack = ⊥
+
+-- an origin at a moment: over a link of the router, and its expiry isn't below the moment (at refresh 0 they are
+-- equal)
+pub record IsOrigin (r : Router) (moment : ℕ) (origin : Origin) : Type 0 where
+  pub over_link : IsVia r origin.via
+  pub live : moment ≤ origin.expiry
+
+-- How many origins a path has, by its role: one that begins here has none, any other one to four.
+abbrev pub IsCountAs : Role → ℕ → Type 0
+IsCountAs roles.Head count = count ≡ 0
+IsCountAs role count = (1 ≤ count) × (count ≤ 4)
+
+-- The origins of a path, in the order of their senders. A neighbour's Paths name the LSP's own sender.
+pub record AreOrigins (r : Router) (moment : ℕ) (key : Key) (role : Role) (origins : List (Ipv4Addr × Origin)) : Type 0 where
+  pub in_order : T (is_sorted address_cmp origins)
+  pub count : IsCountAs role (length origins)
+  pub own : AllByRecursion (λ o. o.0 ≡ key.sender.sender) origins
+  pub each : AllByRecursion (λ o. IsOrigin r moment o.1) origins
+
+-- The way of a path, by its role: one that ends here has none, another leaves by a link of the router.
+abbrev pub IsWayAs : Router → Role → ℕ → Option (List Step) → Type 0
+IsWayAs r roles.Tail link rest = (link ≡ 0) × (rest ≡ None)
+IsWayAs r roles.Transit link rest = HasLink r link
+IsWayAs r roles.Head link rest = HasLink r link
+
+-- and that of a path that is known
+abbrev pub IsWay : Router → PathFact → Type 0
+IsWay r fact = IsWayAs r fact.role fact.out_link fact.rest
+
+-- what a path carries fits a message
+pub record IsWithinLimits (fact : PathFact) : Type 0 where
+  pub given : IsTrue (option_map_or is_short_route fact.given true)
+  pub rest : IsTrue (option_map_or is_short_route fact.rest true)
+  pub recorded : IsTrue (option_map_or is_short_record fact.recorded true)
+  pub passing : IsTrue (is_short_passing fact.passing)
+  pub passed_on : IsTrue (are_passed_on fact.passing)
+  pub adspec_last : IsTrue (has_adspec_last fact.passing)
+  pub one_fast_reroute : IsTrue (has_one_fast_reroute fact.fast_reroute fact.passing)
+
+-- A path at a moment: its Tspec is a whole token bucket, and it stands as said above. No path begins here yet.
+pub record IsPath (r : Router) (moment : ℕ) (path : Key × PathFact) : Type 0 where
+  pub from_elsewhere : path.1.role ≢ roles.Head
+  pub origins : AreOrigins r moment path.0 path.1.role path.1.origins
+  pub way : IsWay r path.1
+  pub whole_tspec : length path.1.tspec ≡ 32
+  pub limits : IsWithinLimits path.1
+
+-- the paths: one of each LSP, in the order of keys, at most 1,024
+pub record ArePaths (r : Router) (moment : ℕ) (paths : List (Key × PathFact)) : Type 0 where
+  pub in_order : T (is_sorted key_cmp paths)
+  pub few : length paths ≤ 1024
+  pub each : AllByRecursion (IsPath r moment) paths
+
+-- What holds in every state. A cold router knows no path.
+pub record IsStanding (r : Router) (s : Facts) : Type 0 where
+  pub moment : s.moment ≤ 2 ^ 62
+  pub links : keys_of s.up ≡ keys_of r.links
+  pub routes : AreRoutes r s.routes
+  pub paths : ArePaths r s.moment s.paths
+  pub cold : s.cold ≡ true → s.paths ≡ []

@@ -1,6 +1,0 @@
-pub mod EventSoundness
-pub mod NextHops
-pub mod PathTable
-pub mod Primitives
-pub mod SoundRuns
-pub mod StepFacts

@@ -1,0 +1,113 @@
+-- What events do: messages that come, moments, links, a restart and a start.
+use Rattle.std.specs.Prelude.{ℕ, ◌&&◌, not, Bool, true, false, if◌then◌else◌, List, [], is_none}
+use Rattle.std.specs.FinMap.Entries.{find}
+use Rattle.rsvp_contents.specs.declared.message.Reading.TheVariants as readings
+use Rattle.rsvp_contents.specs.declared.message.Reading.{Reading}
+use Rattle.rsvp_contents.specs.declared.messages.Content.TheVariants as contents
+use Rattle.rsvp_contents.specs.declared.messages.Content.{Content}
+use Rattle.rsvp_contents.specs.declared.messages.Path.{Path}
+use Rattle.lsr_facts.specs.Orders.{key_cmp}
+use Rattle.lsr_facts.specs.Routers.{link_at}
+use Rattle.lsr_facts.specs.declared.refusal.Refusal.TheVariants.{LinkDown, NoMatch, NoMerge, UnknownLink}
+use Rattle.lsr_facts.specs.declared.reply.Reply.TheVariants as replies
+use Rattle.lsr_facts.specs.declared.reply.Reply.{Reply}
+use Rattle.lsr_facts.specs.declared.router.Router.{Router}
+use Rattle.resv_facts.specs.Reservations.{expire}
+use Rattle.router_events.specs.declared.ways.ArrivalWay.{ArrivalWay}
+use Rattle.router_events.specs.declared.ways.ArrivalWay.TheVariants as ways
+use Rattle.router_events.specs.declared.ways.Arrive.{Arrive}
+use Rattle.router_events.specs.declared.events.Event.TheVariants as events
+use Rattle.router_events.specs.declared.events.Event.{Event}
+use Rattle.abstract_paths.specs.Links.{link_change}
+use Rattle.abstract_paths.specs.Paths.{failed, key_of, path_arrival, unknown_object}
+use Rattle.abstract_paths.specs.Places.{is_up}
+use Rattle.abstract_paths.specs.Relays.{relay}
+use Rattle.abstract_paths.specs.Stamps.{due_among}
+use Rattle.abstract_paths.specs.Restarts.{restarted, started}
+use Rattle.abstract_paths.specs.Tears.{path_err_arrival, path_tear_arrival}
+use Rattle.abstract_paths.specs.Time.{tick}
+use Rattle.abstract_router.specs.Errors.{no_label}
+use Rattle.abstract_router.specs.Labels.{has_free_label}
+use Rattle.abstract_router.specs.Outcomes.{Outcome, of_paths, refused}
+use Rattle.abstract_router.specs.Reserving.{resv_arrival, unknown_resv}
+use Rattle.resv_facts.specs.declared.upstream.Upstream.{Upstream}
+use Rattle.abstract_router.specs.States.{State}
+use Rattle.abstract_router.specs.Tearing.{resv_err_arrival, resv_tear_arrival}
+
+-- the reply is that it was done
+abbrev pub is_done : Reply → Bool
+is_done replies.Done = true
+is_done _ = false
+
+-- A Path does what it does of itself; but one that would be taken, of a new LSP, is in error where no label is free
+-- for it (RFC 3209, 4.2.4 and 7.3).
+unfoldable pub labelled_path_arrival : Router → State → ℕ → Path → Outcome
+labelled_path_arrival r s link p =
+    let o = path_arrival r s.facts link p in
+    if is_done o.reply && is_none (find key_cmp (key_of p) s.facts.paths) && not (has_free_label r s.labels)
+    then of_paths s (failed r s.facts link p no_label)
+    else of_paths s o
+
+-- what a message does that is read whole
+abbrev pub message_arrival : Router → State → ℕ → Content → Outcome
+message_arrival r s link (contents.Path p) = labelled_path_arrival r s link p
+message_arrival r s link (contents.Resv v) = resv_arrival r s link v
+message_arrival r s link (contents.PathErr e) = of_paths s (path_err_arrival s.facts link e)
+message_arrival r s link (contents.ResvErr e) = resv_err_arrival r s link e
+message_arrival r s link (contents.PathTear t) = of_paths s (path_tear_arrival s.facts link t)
+message_arrival r s link (contents.ResvTear t) = resv_tear_arrival s link t
+
+-- A Path or a Resv with an object that it doesn't know is in error (RFC 2205, 3.10). Another message is as without that.
+abbrev pub unknown_arrival : Router → State → ℕ → Content → ℕ → ℕ → Outcome
+unknown_arrival r s link (contents.Path p) class ctype = of_paths s (failed r s.facts link p (unknown_object class ctype))
+unknown_arrival r s link (contents.Resv v) class ctype = unknown_resv r s link v class ctype
+unknown_arrival r s link content class ctype = message_arrival r s link content
+
+-- what a message does, whole or with an object that it doesn't know
+abbrev pub reading_arrival : Router → State → ℕ → Reading → Outcome
+reading_arrival r s link (readings.Whole content) = message_arrival r s link content
+reading_arrival r s link (readings.Unknown content class ctype) = unknown_arrival r s link content class ctype
+
+-- What a message does, by the way in which it came. No path has merged here yet for which one comes through a stack of
+-- labels, and no LSP is repaired for which one comes in a Routed frame (RFC 4090, 6.4 and 7).
+abbrev pub arrival_by : Router → State → ArrivalWay → ℕ → Reading → Outcome
+arrival_by r s ways.Hop link reading = reading_arrival r s link reading
+arrival_by r s ways.Stack link reading = refused s NoMerge
+arrival_by r s ways.Routed link reading = refused s NoMatch
+
+-- A message that comes over no link of this router, or over one that is down, is refused.
+unfoldable pub arrival : Router → State → Arrive → Outcome
+arrival r s a =
+    if is_none (link_at r a.link) then refused s UnknownLink
+    else if not (is_up s.facts.up a.link) then refused s LinkDown
+    else arrival_by r s a.way a.link a.reading
+
+-- the Resvs that were sent last a refresh period ago or longer
+abbrev pub due_upstream : ℕ → List (Upstream × ℕ) → ℕ → List Upstream
+due_upstream refresh_ms sent_upstream moment = due_among refresh_ms sent_upstream moment
+
+-- where the moment may come, it comes for reservations too: those that have expired go (RFC 2205, 2.3), and Resvs are due
+abbrev pub for_reservations : Router → State → ℕ → Outcome → Outcome
+for_reservations r s n o =
+    if o.is_silent then o
+    else record o { after = record o.after { resvs = expire n s.resvs }; upstream_due = due_upstream r.refresh_ms s.sent_upstream n }
+
+-- A moment comes.
+unfoldable pub moment_comes : Router → State → ℕ → Outcome
+moment_comes r s n = for_reservations r s n (of_paths s (tick r s.facts n))
+
+-- A restart: what messages set up is lost, reservations and labels too.
+abbrev pub lost : State → Outcome
+lost s =
+    let o = of_paths s (restarted s.facts) in
+    record o { after = record o.after { resvs = []; labels = []; sent_upstream = [] } }
+
+-- What an event does of itself.
+abbrev pub outcome : Router → State → Event → Outcome
+outcome r s (events.Arrive a) = arrival r s a
+outcome r s (events.Relay m) = of_paths s (relay r s.facts m)
+outcome r s (events.Tick n) = moment_comes r s n
+outcome r s (events.LinkUp number) = of_paths s (link_change r s.facts number true)
+outcome r s (events.LinkDown number) = of_paths s (link_change r s.facts number false)
+outcome r s events.Restart = lost s
+outcome r s events.Start = of_paths s (started s.facts)

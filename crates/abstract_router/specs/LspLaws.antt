@@ -1,0 +1,51 @@
+-- Laws of LSPs as a list in the order of their keys.
+use Rattle.std.specs.Prelude.{◌≡◌, Bool, true, false, cond, not, T, List, [], ◌∷◌, filter_map, map, Option, Some, None}
+use Rattle.std.specs.Cmp.{IsTotalOrder}
+use Rattle.std.specs.FinMap.Entries.{find, is_sorted, where_key}
+use Rattle.std.specs.Option.{option_and_then, option_map}
+use Rattle.std.specs.Ordering.{eq_by_cmp}
+use Rattle.std.specs.declared.cmp.Ordering.{Ordering}
+use Rattle.std.specs.declared.cmp.Ordering.TheVariants.{Equal}
+use Rattle.std.proofs.Common.{refl, sym, ap, subst, ◌∙◌}
+use Rattle.sorted_rows.specs.Rows.{keys_of}
+use Rattle.sorted_rows.specs.RowsLaws.{is_sorted-both}
+use Rattle.lsr_facts.specs.OrderLaws.{key_exact, key_total}
+use Rattle.lsr_facts.specs.Orders.{key_cmp}
+use Rattle.lsr_facts.specs.declared.key.Key.{Key}
+use Rattle.lsr_facts.specs.declared.path_fact.PathFact.{PathFact}
+use Rattle.lsr_facts.specs.declared.router.Router.{Router}
+use Rattle.abstract_paths.specs.RowLaws.{keys-map}
+use Rattle.abstract_paths.specs.StampLaws.{find-map_row}
+use Rattle.abstract_paths.specs.Touched.{found_rows, is_among}
+use Rattle.abstract_paths.specs.TouchedLaws.{same_elsewhere, where_key-among}
+use Rattle.abstract_router.specs.Lsps.{Lsp, lsp_at, lsp_of, lsps_of}
+use Rattle.abstract_router.specs.States.{State}
+use Rattle.abstract_router.specs.Touched.{IsSameElsewhere}
+
+-- Exactly the LSPs are there whose paths are.
+pub keys-lsps : (s : State) → keys_of (lsps_of s) ≡ keys_of s.facts.paths
+unfolding lsps_of
+keys-lsps s = keys-map (λ row. lsp_of s row.0 row.1) s.facts.paths
+
+-- They stand in order where the paths do.
+pub is_sorted-lsps : (s : State) → T (is_sorted key_cmp s.facts.paths) → T (is_sorted key_cmp (lsps_of s))
+is_sorted-lsps s h = subst T (sym (is_sorted-both key_cmp (lsps_of s) s.facts.paths (keys-lsps s))) h
+
+-- What is found of them is what is known of the LSP.
+pub find-lsps : (key : Key) (s : State) → find key_cmp key (lsps_of s) ≡ lsp_at s key
+unfolding lsps_of
+find-lsps key s = find-map_row key_cmp key_exact (λ row. lsp_of s row.0 row.1) key s.facts.paths
+
+-- Of LSPs that aren't touched the same is known.
+pub lsps-elsewhere : (r : Router) (touched : Key → Bool) (before after : State) → T (is_sorted key_cmp before.facts.paths) → T (is_sorted key_cmp after.facts.paths) → IsSameElsewhere r touched before after
+    → where_key key_cmp (λ key. not (touched key)) (lsps_of before) ≡ where_key key_cmp (λ key. not (touched key)) (lsps_of after)
+lsps-elsewhere r touched before after g h same =
+    same_elsewhere key_cmp key_total key_exact touched (lsps_of before) (lsps_of after) (is_sorted-lsps before g) (is_sorted-lsps after h)
+    (λ key apart. find-lsps key before ∙ same.lsps key apart ∙ sym (find-lsps key after))
+
+-- The LSPs under the keys of rows in order are what look-ups at these keys find.
+pub lsps-among : {E : Type 0} (s : State) (es : List (Key × E)) → T (is_sorted key_cmp es) → T (is_sorted key_cmp s.facts.paths)
+    → where_key key_cmp (is_among key_cmp es) (lsps_of s) ≡ filter_map (λ e. option_map (λ lsp. (e.0, lsp)) (lsp_at s e.0)) es
+lsps-among s es g h =
+    where_key-among key_cmp key_total key_exact es (lsps_of s) g (is_sorted-lsps s h)
+    ∙ (λ i. filter_map (λ e. option_map (λ lsp. (e.0, lsp)) (find-lsps e.0 s i)) es)

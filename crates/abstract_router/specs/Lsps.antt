@@ -1,0 +1,40 @@
+-- One LSP, and what all LSPs share. All messages that the state wants sent are functions of the two.
+use Rattle.std.specs.Prelude.{ℕ, List, map, Option}
+use Rattle.std.specs.FinMap.Entries.{find}
+use Rattle.std.specs.Option.{option_map}
+use Rattle.lsr_facts.specs.Orders.{key_cmp}
+use Rattle.lsr_facts.specs.Timeless.{timeless_path}
+use Rattle.lsr_facts.specs.declared.key.Key.{Key}
+use Rattle.lsr_facts.specs.declared.path_fact.PathFact.{PathFact}
+use Rattle.lsr_facts.specs.declared.router.Router.{Router}
+use Rattle.resv_facts.specs.Reservations.{timeless_resv}
+use Rattle.resv_facts.specs.declared.resv_fact.ResvFact.{ResvFact}
+use Rattle.abstract_paths.specs.Places.{Place, place_of}
+use Rattle.abstract_router.specs.States.{State}
+
+-- All that is known of one LSP but its key, and but for when it expires: its path, its label if it has one, and its
+-- reservation if it has one.
+pub record Lsp : Type 0 where
+  pub path : PathFact
+  pub label : Option ℕ
+  pub resv : Option ResvFact
+
+-- What all LSPs share: where the router stands, with its links that are up and its static routes.
+pub record Around : Type 0 where
+  pub place : Place
+
+-- by what is known
+abbrev pub around_of : Router → State → Around
+around_of r s = record { place = place_of r s.facts }
+
+-- the LSP whose path this is
+abbrev pub lsp_of : State → Key → PathFact → Lsp
+lsp_of s key path = record { path = timeless_path path; label = find key_cmp key s.labels; resv = option_map timeless_resv (find key_cmp key s.resvs) }
+
+-- the LSP of a key, if it is known
+abbrev pub lsp_at : State → Key → Option Lsp
+lsp_at s key = option_map (lsp_of s key) (find key_cmp key s.facts.paths)
+
+-- all LSPs, in the order of their keys
+unfoldable pub lsps_of : State → List (Key × Lsp)
+lsps_of s = map (λ row. (row.0, lsp_of s row.0 row.1)) s.facts.paths

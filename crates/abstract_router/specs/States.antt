@@ -1,0 +1,34 @@
+-- What a label switching router knows, and the changes that events make of it.
+pub use Rattle.resv_facts.specs.declared.state.State.{State}
+use Rattle.std.specs.Prelude.{ℕ, not, Bool, List, filter, is_some}
+use Rattle.std.specs.FinMap.Entries.{find, put}
+use Rattle.std.specs.List.{list_any}
+use Rattle.std.specs.Ordering.{is_eq}
+use Rattle.lsr_facts.specs.Orders.{key_cmp}
+use Rattle.lsr_facts.specs.declared.facts.Facts.{Facts}
+use Rattle.lsr_facts.specs.declared.key.Key.{Key}
+use Rattle.resv_facts.specs.declared.resv_fact.ResvFact.{ResvFact}
+
+-- what is known of links, routes, time and paths is replaced
+abbrev pub with_facts : Facts → State → State
+with_facts facts s = record s { facts = facts }
+
+-- the LSP has a reservation
+abbrev pub is_reserved : State → Key → Bool
+is_reserved s key = is_some (find key_cmp key s.resvs)
+
+-- the reservation of an LSP is put
+abbrev pub with_resv : Key → ResvFact → State → State
+with_resv key fact s = record s { resvs = put key_cmp key fact s.resvs }
+
+-- the reservations that pass the test are kept
+abbrev pub with_resvs_where : (Key × ResvFact → Bool) → State → State
+with_resvs_where test s = record s { resvs = filter test s.resvs }
+
+-- the key is one of these
+abbrev pub is_among : List Key → Key → Bool
+is_among keys key = list_any (λ k. is_eq (key_cmp k key)) keys
+
+-- the reservations of these LSPs go
+abbrev pub without_resvs : List Key → State → State
+without_resvs keys s = with_resvs_where (λ resv. not (is_among keys resv.0)) s

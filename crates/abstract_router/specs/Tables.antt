@@ -1,0 +1,54 @@
+-- The label table that a state stands for, and what becomes of labelled frames by it (RFC 3031, 3.10 to 3.13).
+use Rattle.std.specs.Prelude.{◌≡◌, ◌⊎◌, ℕ, ◌==◌, false, true, if◌then◌else◌, List, filter_map, find, Option, Some}
+use Rattle.std.specs.FinMap.Entries as rows
+use Rattle.std.specs.Option.{option_and_then, option_map}
+use Rattle.lsr_facts.specs.Orders.{key_cmp}
+use Rattle.lsr_facts.specs.declared.key.Key.{Key}
+use Rattle.lsr_facts.specs.declared.path_fact.PathFact.{PathFact}
+use Rattle.resv_facts.specs.declared.resv_fact.ResvFact.{ResvFact}
+use Rattle.forwarding_table.specs.Forwarding.{forward_of}
+use Rattle.forwarding_table.specs.declared.action.Action.{Action}
+use Rattle.forwarding_table.specs.declared.action.Action.TheVariants.{Pop, Swap}
+use Rattle.forwarding_table.specs.declared.forwarding.Forwarding.{Forwarding}
+use Rattle.label_stacks.specs.declared.entry.StackEntry.{StackEntry}
+use Rattle.abstract_paths.specs.Paths.{goes_on}
+use Rattle.abstract_paths.specs.Places.{is_up}
+use Rattle.abstract_router.specs.States.{State}
+
+-- what is done with a frame of an LSP: it ends here, or it goes on with its next hop's label where it is reserved
+abbrev pub action_of : List (Key × ResvFact) → Key × PathFact → Option Action
+action_of resvs path =
+    if goes_on path.1.role then option_map (λ resv. Swap resv.label resv.link) (rows.find key_cmp path.0 resvs) else Some Pop
+
+-- and under which label
+abbrev pub entry_of : State → Key × PathFact → Option (ℕ × Action)
+entry_of s path =
+    option_and_then (λ label. option_map (λ action. (label, action)) (action_of s.resvs path)) (rows.find key_cmp path.0 s.labels)
+
+-- The label table: an entry for each LSP that ends here or is reserved, and nothing else.
+unfoldable pub table_of : State → List (ℕ × Action)
+table_of s = filter_map (entry_of s) s.facts.paths
+
+-- the action of a label
+unfoldable pub look : State → ℕ → Option Action
+look s label = option_map (λ entry. entry.1) (find (λ entry. entry.0 == label) (table_of s))
+
+-- why an action is one of a path's: it ends here and the label is popped, or it is reserved, over a link that is up, and
+-- the label is swapped for the next hop's
+abbrev pub IsActionOf : State → Key → PathFact → Action → Type 0
+IsActionOf s key path action =
+    ((goes_on path.role ≡ false) × (action ≡ Pop))
+    ⊎ ((resv : ResvFact) × (rows.find key_cmp key s.resvs ≡ Some resv) × (action ≡ Swap resv.label resv.link) × (is_up s.facts.up resv.link ≡ true))
+
+-- An entry of the table: a path has the label, and the action is that path's.
+pub record IsEntry (s : State) (label : ℕ) (action : Action) : Type 0 where
+  pub key : Key
+  pub path : PathFact
+  pub known : rows.find key_cmp key s.facts.paths ≡ Some path
+  pub held : rows.find key_cmp key s.labels ≡ Some label
+  pub stands : IsActionOf s key path action
+
+-- What becomes of a stack of labels by that table: it is sent on, its payload is for this router, or it is dropped. It
+-- is no event, and nothing that the router knows changes.
+abbrev pub forwarded : State → List StackEntry → Forwarding
+forwarded s stack = forward_of (look s) stack

@@ -1,0 +1,127 @@
+-- The Resvs that the state wants kept alive at the neighbours upstream (RFC 2205, 3.1.4 and 3.7; RFC 3209, 2.2 and 4.4).
+use Rattle.std.specs.Prelude.{ℕ, ◌%◌, ◌/◌, ◌==◌, ◌++◌, Bool, false, if◌then◌else◌, List, [], ◌∷◌, filter_map, Option, Some, None}
+use Rattle.std.specs.FinMap.Entries.{where_key}
+use Rattle.std.specs.List.{flat_map}
+use Rattle.std.specs.Option.{option_and_then, option_map, option_map_or, unwrap_or}
+use Rattle.std.specs.declared.net.ipv4_addr.Ipv4Addr.{Ipv4Addr}
+use Rattle.rsvp_contents.specs.Limits.{is_short_record}
+use Rattle.rsvp_contents.specs.declared.messages.Content.TheVariants as contents
+use Rattle.rsvp_contents.specs.declared.messages.Resv.{Resv}
+use Rattle.rsvp_objects.specs.Raw.{Raw}
+use Rattle.rsvp_routes.specs.declared.trace.Trace.{Trace}
+use Rattle.rsvp_routes.specs.declared.trace.Trace.TheVariants as traces
+use Rattle.rsvp_traffic.specs.Traffic.{flowspec_of}
+use Rattle.session_attribute.specs.declared.attr.Attr.{Attr}
+use Rattle.lsr_facts.specs.Orders.{key_cmp}
+use Rattle.lsr_facts.specs.Origins.{number_of, via_link}
+use Rattle.lsr_facts.specs.Routers.{link_at}
+use Rattle.lsr_facts.specs.declared.key.Key.{Key}
+use Rattle.lsr_facts.specs.declared.path_fact.Origin.{Origin}
+use Rattle.lsr_facts.specs.declared.path_fact.PathFact.{PathFact}
+use Rattle.lsr_facts.specs.declared.router.Link.{Link}
+use Rattle.lsr_facts.specs.declared.router.Router.{Router}
+use Rattle.resv_facts.specs.declared.resv_fact.ResvFact.{ResvFact}
+use Rattle.resv_facts.specs.declared.resv_fact.ResvStyle.{ResvStyle}
+use Rattle.resv_facts.specs.declared.resv_fact.ResvStyle.TheVariants.{FixedFilter, SharedExplicit}
+use Rattle.router_events.specs.declared.events.Output.{Output}
+use Rattle.abstract_paths.specs.Outcomes.{sent_by}
+use Rattle.abstract_paths.specs.Paths.{goes_on}
+use Rattle.abstract_paths.specs.Places.{is_up}
+use Rattle.abstract_router.specs.Errors.{style_word}
+use Rattle.resv_facts.specs.declared.upstream.Upstream.{Upstream}
+use Rattle.abstract_router.specs.Lsps.{Around, Lsp, around_of, lsp_at, lsps_of}
+use Rattle.abstract_router.specs.States.{State}
+
+-- the Path asks for its labels to be recorded (RFC 3209, 4.7.1: flag 0x02)
+abbrev pub records_labels : Option Attr → Bool
+records_labels attr = option_map_or (λ a. a.flags / 0x02 % 2 == 1) attr false
+
+-- the Path asks for a reservation that its session shares (RFC 3209, 4.7.1: flag 0x04)
+abbrev pub wants_sharing : Option Attr → Bool
+wants_sharing attr = option_map_or (λ a. a.flags / 0x04 % 2 == 1) attr false
+
+-- What a Resv says of an LSP: style, traffic, the route that it took so far, and what it passes on.
+pub record Reserved : Type 0 where
+  pub style : ResvStyle
+  pub flowspec : List ℕ
+  pub recorded : List Trace
+  pub passing : List Raw
+
+-- Of an LSP that ends here the router itself reserves: in the style that the Path asks for, for its traffic (RFC 3209, 2.4).
+abbrev pub reserved_by_end : PathFact → Reserved
+reserved_by_end path = record {
+  style = if wants_sharing path.attr then SharedExplicit else FixedFilter;
+  flowspec = flowspec_of path.tspec;
+  recorded = [];
+  passing = [];
+}
+
+-- Of any other LSP, what its next hop reserved is passed on.
+abbrev pub reserved_by_next : ResvFact → Reserved
+reserved_by_next resv = record { style = resv.style; flowspec = resv.flowspec; recorded = unwrap_or resv.recorded []; passing = resv.passing }
+
+-- what is said of an LSP to its origins, if it is reserved
+abbrev pub reserved_for : Lsp → Option Reserved
+reserved_for lsp = if goes_on lsp.path.role then option_map reserved_by_next lsp.resv else Some (reserved_by_end lsp.path)
+
+-- this router's label as a record says it: flag 0x01, since it holds on every link (RFC 3209, 4.4.1.3)
+abbrev pub label_entry : ℕ → Trace
+label_entry label = traces.Label 0x01 label
+
+-- The record of a Resv, which begins with this router: its id, and its label where the Path asks for that
+-- (RFC 3209, 4.4.3). None where the Path has no record, or where it would be above this router's limit of 64 entries
+-- and 1,024 bytes.
+unfoldable pub record_upstream : Router → PathFact → ℕ → List Trace → Option (List Trace)
+record_upstream r path label recorded =
+    let here = traces.Ipv4 (record { address = r.id; length = 32 }) 0 in
+    let own = if records_labels path.attr then here ∷ label_entry label ∷ [] else here ∷ [] in
+    option_and_then (λ came. if is_short_record (own ++ recorded) then Some (own ++ recorded) else None) path.recorded
+
+-- The Resv to an origin: this router is its hop, with the interface handle that the origin named; the label is its own
+-- (RFC 2205, 3.1.4; RFC 3209, 4.1.1).
+abbrev pub resv_to : Router → Key → PathFact → Origin → Link → ℕ → Reserved → Resv
+resv_to r key path origin link label a = record {
+  session = key.session;
+  hop = record { address = link.address; interface = origin.hop.interface };
+  time = record { refresh_ms = r.refresh_ms };
+  passing = a.passing;
+  style = style_word a.style;
+  descriptors = record {
+    flowspec = a.flowspec;
+    filter = key.sender;
+    label = record { number = label };
+    recorded = record_upstream r path label a.recorded;
+  } ∷ [];
+}
+
+-- the item of an origin
+abbrev pub upstream_to : Key → Ipv4Addr × Origin → Upstream
+upstream_to key origin = record { key = key; sender = origin.0; link = number_of origin.1.via; hop = origin.1.hop.address }
+
+-- what a neighbour is sent over a link: nothing where that is down
+abbrev pub upstream_over : Around → Key × Lsp → ℕ → Reserved → Ipv4Addr × Origin → ℕ → Option (Upstream × Output)
+upstream_over a lsp label said origin number =
+    if is_up a.place.up number
+    then option_map (λ link. (upstream_to lsp.0 origin, sent_by number (contents.Resv (resv_to a.place.router lsp.0 lsp.1.path origin.1 link label said)))) (link_at a.place.router number)
+    else None
+
+-- what an origin is sent, where it is a neighbour: no LSP has another yet
+abbrev pub upstream_row : Around → Key × Lsp → ℕ → Reserved → Ipv4Addr × Origin → Option (Upstream × Output)
+upstream_row a lsp label said origin = option_and_then (upstream_over a lsp label said origin) (via_link origin.1.via)
+
+-- what all origins of an LSP are sent, in the order of their senders
+abbrev pub upstream_rows : Around → Key × Lsp → List (Upstream × Output)
+upstream_rows a lsp =
+    option_map_or (λ label. option_map_or (λ said. filter_map (upstream_row a lsp label said) lsp.1.path.origins) (reserved_for lsp.1) []) lsp.1.label []
+
+-- All Resvs that the state wants, in the order of the LSPs.
+unfoldable pub upstream_of : Router → State → List (Upstream × Output)
+upstream_of r s = flat_map (upstream_rows (around_of r s)) (lsps_of s)
+
+-- those of some LSPs
+unfoldable pub upstream_at : Router → State → (Key → Bool) → List (Upstream × Output)
+upstream_at r s touched = flat_map (upstream_rows (around_of r s)) (where_key key_cmp touched (lsps_of s))
+
+-- those of one LSP
+abbrev pub upstream_at_key : Router → State → Key → List (Upstream × Output)
+upstream_at_key r s key = option_map_or (λ lsp. upstream_rows (around_of r s) (key, lsp)) (lsp_at s key) []

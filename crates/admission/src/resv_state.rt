@@ -1,0 +1,203 @@
+//! The reservations that a router knows, by LSP, in memory that is taken when the table is made.
+
+ghost use Rattle.std.specs.FinMap.Entries.{find, is_sorted, put, where_key};
+ghost use Rattle.std.specs.Option.{option_copied, option_map};
+ghost use Rattle.std.specs.Ordering.{is_eq};
+ghost use Rattle.std.specs.Prelude.{◌≡◌, ◌≤◌, T, [], IfOk, filter, find as find_first, length, not, slice_get};
+ghost use Rattle.lsr_facts.specs.Orders.{key_cmp};
+ghost use Rattle.resv_facts.specs.Conflicts.{conflicts};
+ghost use Rattle.resv_facts.specs.Reservations.{expire, lives_past};
+ghost use Rattle.sorted_rows.specs.Edits.{edited};
+ghost use Rattle.sorted_rows.specs.Rows.{keys_of};
+
+use lsr_facts::Key;
+use lsr_facts::limits::MAX_LSPS;
+use resv_facts::{ResvFact, ResvStyle, is_same_session, is_same_style};
+use sorted_rows::{ReservedTable, Sweep, Table, TryCopy, copy_rows, make_edits};
+use std::alloc::{AllocError, Global};
+use std::marker::Model;
+
+/// What a router knows of the reservation of each LSP (RFC 2205, 2.3): at most 1,024 LSPs, in the order of their keys.
+/// Contracts see the list of keys and facts.
+#[derive(Debug, Drop)]
+pub(crate) struct ResvState {
+    rows: ReservedTable<Key, ResvFact, MAX_LSPS>,
+}
+
+impl Model for ResvState {
+    ghost use Rattle.std.specs.Prelude.{List};
+    ghost use Rattle.lsr_facts.specs.declared.key.Key.{Key};
+    ghost use Rattle.resv_facts.specs.declared.resv_fact.ResvFact.{ResvFact};
+
+    ghost Value = { List (Key × ResvFact) };
+
+    ghost view = { λ s. s.rows };
+}
+
+/// The reservations that have not expired at a moment, in milliseconds.
+#[derive(Drop)]
+struct Survivors {
+    moment: u64,
+}
+
+impl Sweep<Key, ResvFact> for Survivors {
+    ghost use Rattle.resv_facts.specs.Reservations.{lives_past};
+
+    ghost stays = { λ s resv. lives_past s.moment resv.1 };
+
+    ghost left = { λ s fact. fact };
+
+    fn stays(&self, resv: &(Key, ResvFact)) -> bool {
+        resv.1.lives_past(self.moment)
+    }
+
+    fn leave(&self, _fact: &mut ResvFact) {}
+}
+
+/// Whether a reservation is that of another LSP of the session, on the link, in the other style.
+fn conflicts(link: u16, style: ResvStyle, key: &Key, resv: &(Key, ResvFact)) -> bool
+    ensures { result ≡ conflicts link style key.now resv.now }
+{
+    is_same_session(&key.session, &resv.0.session)
+        && key.cmp(&resv.0).is_ne()
+        && resv.1.link == link
+        && !is_same_style(style, resv.1.style)
+}
+
+/// The style of the first reservation that is another LSP's of the session, on the link, in the other style.
+fn style_in_the_way(
+    link: u16,
+    style: ResvStyle,
+    key: &Key,
+    resvs: &[(Key, ResvFact)],
+) -> Option<ResvStyle>
+    ensures { result ≡ option_map (λ other. other.1.style) (find_first (conflicts link style key.now) resvs.now) }
+{
+    for resv in resvs {
+        if conflicts(link, style, key, resv) {
+            return Some(resv.1.style);
+        }
+    }
+    None
+}
+
+impl ResvState {
+    /// No reservations. It reserves the memory of all reservations that it may ever hold; the only error is that there
+    /// is too little memory.
+    pub(crate) fn new(alloc: Global) -> Result<ResvState, AllocError>
+        ensures { IfOk result (λ state. state ≡ []) }
+    {
+        Ok(ResvState {
+            rows: ReservedTable::new(alloc)?,
+        })
+    }
+
+    /// How many LSPs have a reservation.
+    pub(crate) fn len(&self) -> usize
+        ensures { result ≡ length self.now }
+    {
+        self.rows.len()
+    }
+
+    /// The reservation at a place, in the order of the keys, from 0 on; `None` past the last.
+    pub(crate) fn row(&self, place: usize) -> Option<&(Key, ResvFact)>
+        ensures { option_copied result ≡ slice_get self.now place }
+    {
+        self.rows.row(place)
+    }
+
+    /// The keys rise, and there are at most 1,024 reservations. It does nothing when it runs.
+    pub(crate) fn rows_are_in_order(&self)
+        ensures sorted { T (is_sorted key_cmp self.now) }
+        ensures few { length self.now ≤ 1024 }
+    {
+        self.rows.rows_are_in_order();
+    }
+
+    /// The LSPs whose reservations expire at a moment, in milliseconds (RFC 2205, 2.3), in the order of their keys.
+    /// The only error is out of memory.
+    pub(crate) fn expiring(&self, alloc: Global, moment: u64) -> Result<Vec<Key>, AllocError>
+        ensures { IfOk result (λ keys. keys.items ≡ keys_of (filter (λ resv. not (lives_past moment resv.1)) self.now)) }
+    {
+        self.rows
+            .as_slice()
+            .iter()
+            .filter(|resv| !resv.1.lives_past(moment))
+            .map(|resv| resv.0)
+            .collect(alloc)
+    }
+
+    /// How another LSP of the session is reserved on a link, where that is in the other style: the first of them.
+    pub(crate) fn conflicting_style(
+        &self,
+        link: u16,
+        style: ResvStyle,
+        key: &Key,
+    ) -> Option<ResvStyle>
+        ensures { result ≡ option_map (λ other. other.1.style) (find_first (conflicts link style key.now) self.now) }
+    {
+        style_in_the_way(link, style, key, self.rows.as_slice())
+    }
+
+    /// The reservations as a table of their own: a copy. The only error is out of memory.
+    pub fn copied(&self, alloc: Global) -> Result<Table<Key, ResvFact>, AllocError>
+        ensures { IfOk result (λ resvs. resvs ≡ self.now) }
+    {
+        Ok(Table::from_rows(copy_rows(alloc, self.rows.as_slice())?))
+    }
+
+    /// What is known of an LSP's reservation, or `None` where the LSP has none.
+    pub(crate) fn get(&self, key: &Key) -> Option<&ResvFact>
+        ensures { option_copied result ≡ find key_cmp key.now self.now }
+    {
+        self.rows.get(key)
+    }
+
+    /// This is known of an LSP's reservation from now on, in place of what was known. It asks that at most 1,024 LSPs
+    /// have one then. Takes no memory.
+    pub(crate) fn put(&mut self, key: Key, fact: ResvFact)
+        requires { length (put key_cmp key fact self.old) ≤ 1024 }
+        ensures { self.new ≡ put key_cmp key fact self.old }
+    {
+        self.rows.set(key, fact);
+    }
+
+    /// An LSP has no reservation any more. Where it has none, nothing changes. Takes no memory.
+    pub(crate) fn remove(&mut self, key: &Key)
+        ensures { self.new ≡ where_key key_cmp (λ k. not (is_eq (key_cmp key.now k))) self.old }
+    {
+        self.rows.remove(key);
+    }
+
+    /// Makes edits: each LSP that they name has this reservation from now on, or none. It asks that at most 1,024 LSPs
+    /// have one then. Takes no memory.
+    pub(crate) fn edit(&mut self, edits: Table<Key, Option<ResvFact>>)
+        requires { length (edited key_cmp edits self.old) ≤ 1024 }
+        ensures { self.new ≡ edited key_cmp edits self.old }
+    {
+        make_edits(&mut self.rows, edits);
+    }
+
+    /// No LSP has a reservation any more. Takes no memory.
+    pub(crate) fn clear(&mut self)
+        ensures { self.new ≡ [] }
+    {
+        self.rows.clear();
+    }
+
+    /// A moment comes, in milliseconds: each reservation goes whose expiry isn't above it (RFC 2205, 2.3). Takes no
+    /// memory.
+    pub(crate) fn expire(&mut self, moment: u64)
+        ensures { self.new ≡ expire moment self.old }
+    {
+        self.rows.sweep(&Survivors { moment });
+    }
+}
+
+impl TryCopy for ResvState {
+    fn try_copy(&self, alloc: Global) -> Result<ResvState, AllocError> {
+        Ok(ResvState {
+            rows: self.rows.try_copy(alloc)?,
+        })
+    }
+}

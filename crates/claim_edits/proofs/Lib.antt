@@ -1,2 +1,0 @@
-pub mod Editing
-pub mod Moving

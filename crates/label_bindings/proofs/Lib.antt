@@ -1,3 +1,0 @@
-pub mod Binding
-pub mod Giving
-pub mod Turning

@@ -1,5 +1,0 @@
-use Rattle.label_bindings.proofs.Giving.{bound_new}
-use Rattle.label_bindings.proofs.bindings.LabelBindings.new.Goals as goal
-
-pub invariant_of-result : goal.invariant_of-result
-invariant_of-result c = rw (c.in_ok-new.ensures, c.in_ok-new-2.ensures) (bound_new c.args.range c.requires)

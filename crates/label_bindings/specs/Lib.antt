@@ -1,3 +1,0 @@
-pub mod BindingLaws
-pub mod Bindings
-pub mod Turns

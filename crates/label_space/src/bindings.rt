@@ -1,0 +1,183 @@
+//! The labels that LSPs hold, and those that are free.
+
+ghost use Rattle.std.specs.FinMap.Entries.{find, is_sorted, put};
+ghost use Rattle.std.specs.Option.{option_copied};
+ghost use Rattle.std.specs.Prelude.{◌≡◌, ◌≤◌, T, [], IfOk, IfSome, is_some, length, slice_get};
+ghost use Rattle.lsr_facts.specs.Orders.{key_cmp};
+ghost use Rattle.lsr_facts.specs.Routers.{AreLabels};
+ghost use Rattle.lsr_facts.specs.declared.router.Router.{Router};
+ghost use Rattle.sorted_rows.specs.Edits.{at_key, edited};
+ghost use Rattle.sorted_rows.specs.InTurn.{given, in_turn};
+ghost use Rattle.label_space.specs.FreeLabels.{MayBeGiven, has_free_label};
+ghost use Rattle.label_space.specs.Bindings.{AreBound, AreHeldOf};
+ghost use Rattle.label_space.specs.Turns.{CanHold, MayHold, emptied};
+
+use crate::space::LabelSpace;
+use lsr_facts::limits::MAX_LSPS;
+use lsr_facts::{Key, LabelRange};
+use sorted_rows::{ReservedTable, Table, TryCopy, copy_plain_rows};
+use std::alloc::{AllocError, Global};
+use std::marker::Model;
+
+/// The labels that a router's LSPs hold (RFC 3031, 3.1 and 3.14), at most 1,024, each held by one LSP, and beside them
+/// the labels of the router's range that are free. All memory is taken when it is made. Contracts see the range, and
+/// the list of keys and labels in the order of the keys.
+#[derive(Debug, Drop)]
+pub struct LabelBindings {
+    by_lsp: ReservedTable<Key, u32, MAX_LSPS>,
+    space: LabelSpace,
+}
+
+impl Model for LabelBindings {
+    ghost use Rattle.label_space.specs.Bindings.{AreBound, Bindings};
+
+    ghost Value = { Bindings };
+
+    ghost view = { λ b. record { range = b.space.range; labels = b.by_lsp } };
+
+    ghost invariant = { λ b. AreBound b.space b.by_lsp };
+}
+
+/// All labels that LSPs hold are free again. The rows are of the LSPs, each with its label.
+fn release_held(space: &mut LabelSpace, rows: &[(Key, u32)])
+    requires { AreBound space.old rows.now }
+    ensures free { AreBound space.new [] }
+    ensures range { space.new.range ≡ space.old.range }
+{
+    for row in rows {
+        space.release(row.1);
+    }
+}
+
+impl LabelBindings {
+    /// All labels of a range, held by no LSP. It reserves the memory of all that LSPs may ever hold; the only error is
+    /// that there is too little. It asks for labels that may be given out.
+    pub fn new(alloc: Global, range: LabelRange) -> Result<LabelBindings, AllocError>
+        requires { AreLabels range }
+        ensures { IfOk result (λ bindings. bindings ≡ record { range = range; labels = [] }) }
+    {
+        Ok(LabelBindings {
+            by_lsp: ReservedTable::new(alloc)?,
+            space: LabelSpace::new(alloc, range)?,
+        })
+    }
+
+    /// The label that an LSP holds, or `None` where it holds none.
+    pub fn get(&self, key: &Key) -> Option<u32>
+        ensures { result ≡ find key_cmp key.now self.now.labels }
+    {
+        self.by_lsp.get(key).copied()
+    }
+
+    /// How many LSPs hold a label.
+    pub fn len(&self) -> usize
+        ensures { result ≡ length self.now.labels }
+    {
+        self.by_lsp.len()
+    }
+
+    /// The LSP at a place, in the order of the keys, from 0 on, with the label that it holds; `None` past the last.
+    pub fn row(&self, place: usize) -> Option<&(Key, u32)>
+        ensures { option_copied result ≡ slice_get self.now.labels place }
+    {
+        self.by_lsp.row(place)
+    }
+
+    /// The keys rise, at most 1,024 LSPs hold a label, each another one, and all labels are of the range. It does
+    /// nothing when it runs.
+    pub fn rows_are_in_order(&self)
+        ensures sorted { T (is_sorted key_cmp self.now.labels) }
+        ensures few { length self.now.labels ≤ 1024 }
+        ensures held { AreHeldOf self.now.range self.now.labels }
+    {
+        self.by_lsp.rows_are_in_order();
+    }
+
+    /// The LSPs that hold a label, each with its label, as a table of their own: a copy. The only error is out of memory.
+    pub fn copied(&self, alloc: Global) -> Result<Table<Key, u32>, AllocError>
+        ensures { IfOk result (λ labels. labels ≡ self.now.labels) }
+    {
+        Ok(Table::from_rows(copy_plain_rows(alloc, self.by_lsp.as_slice())?))
+    }
+
+    /// A label of the range that no LSP holds: of these the one that has been free longest. `None` where LSPs hold all.
+    /// It is free until an LSP holds it.
+    pub fn free_label(&self) -> Option<u32>
+        ensures given { (r : Router) → r.labels ≡ self.now.range → IfSome result (MayBeGiven r self.now.labels) }
+        ensures free { (r : Router) → r.labels ≡ self.now.range → is_some result ≡ has_free_label r self.now.labels }
+    {
+        self.space.give()
+    }
+
+    /// An LSP holds no label any more. Where it holds none, nothing changes.
+    fn release(&mut self, key: Key)
+        ensures { self.new ≡ record self.old { labels = at_key key_cmp key None self.old.labels } }
+    {
+        if let Some(label) = self.by_lsp.get(&key).copied() {
+            self.by_lsp.remove(&key);
+            self.space.release(label);
+        }
+    }
+
+    /// An LSP that holds none holds a free label from now on.
+    fn hold(&mut self, key: Key, label: u32)
+        requires { MayHold self.old.range key label self.old.labels }
+        ensures { self.new ≡ record self.old { labels = put key_cmp key label self.old.labels } }
+    {
+        self.by_lsp.set(key, label);
+        self.space.hold(label);
+    }
+
+    /// None of the LSPs that the edits name holds a label any more.
+    fn release_all(&mut self, edits: &[(Key, Option<u32>)])
+        ensures { self.new ≡ record self.old { labels = in_turn (emptied key_cmp) edits.now self.old.labels } }
+    {
+        for edit in edits {
+            self.release(edit.0);
+        }
+    }
+
+    /// Each LSP to which an edit gives a label holds it from now on.
+    fn hold_all(&mut self, edits: &[(Key, Option<u32>)])
+        requires { CanHold self.old.range edits.now self.old.labels }
+        ensures { self.new ≡ record self.old { labels = in_turn (given key_cmp) edits.now self.old.labels } }
+    {
+        for edit in edits {
+            if let Some(label) = edit.1 {
+                self.hold(edit.0, label);
+            }
+        }
+    }
+
+    /// Makes edits: each LSP that they name holds this label from now on, or none. All that these LSPs held is free
+    /// before the first of them holds another, so a label may go from one of them to another. It asks that at most
+    /// 1,024 LSPs hold a label then, each another one, and all of the range. Takes no memory.
+    pub fn edit(&mut self, edits: Table<Key, Option<u32>>)
+        requires room { length (edited key_cmp edits self.old.labels) ≤ 1024 }
+        requires held { AreHeldOf self.old.range (edited key_cmp edits self.old.labels) }
+        ensures { self.new ≡ record self.old { labels = edited key_cmp edits self.old.labels } }
+    {
+        // The two passes make the edits, because the labels are in the order of their keys.
+        self.rows_are_in_order();
+        let edits = edits.as_slice();
+        self.release_all(edits);
+        self.hold_all(edits);
+    }
+
+    /// No LSP holds a label any more: all are free. Takes no memory.
+    pub fn clear(&mut self)
+        ensures { self.new ≡ record self.old { labels = [] } }
+    {
+        release_held(&mut self.space, self.by_lsp.as_slice());
+        self.by_lsp.clear();
+    }
+}
+
+impl TryCopy for LabelBindings {
+    fn try_copy(&self, alloc: Global) -> Result<LabelBindings, AllocError> {
+        Ok(LabelBindings {
+            by_lsp: self.by_lsp.try_copy(alloc)?,
+            space: self.space.try_copy(alloc)?,
+        })
+    }
+}

@@ -1,3 +1,0 @@
-pub mod Staying
-pub mod Onward
-pub mod Outcomes

@@ -1,0 +1,2 @@
+pub mod Expiries
+pub mod Staying

@@ -1,0 +1,28 @@
+use Rattle.std.proofs.Common.{arith, List, Option, T, filter_map, ap, subst, sym, ◌∙◌}
+use Rattle.std.specs.FinMap.Entries.{is_sorted}
+use Rattle.std.proofs.lemmas.Grind.{common_steps}
+use Rattle.std.proofs.lemmas.List.{take_all}
+use Rattle.std.proofs.lemmas.List.Elements.{filter_map-append}
+use Rattle.sorted_rows.specs.Edits.{edited}
+use Rattle.lsr_facts.specs.Orders.{key_cmp}
+use Rattle.lsr_facts.specs.declared.key.Key.{Key}
+use Rattle.lsr_facts.specs.declared.path_fact.PathFact.{PathFact}
+use Rattle.path_steps.specs.Expiring.{expiry_at}
+use Rattle.path_steps.proofs.Expiries.{edited_expire, is_sorted-expiries}
+use Rattle.path_steps.proofs.ticks.path_expiries.Goals as goal
+
+pub loop-key-preserved : goal.loop-key-preserved
+loop-key-preserved g c = grind (arith, common_steps, filter_map-append)
+
+pub from_rows-requires : goal.from_rows-requires
+from_rows-requires g c =
+    let paths = (g.V.StateView.state c.args.view.now).facts.paths in
+    let all = ap (filter_map (expiry_at c.args.moment paths)) (take_all c.loop-key.key-index c.as_slice-key-items.result.now c.loop-key-test.false ∙ c.as_slice-key-items.ensures.value ∙ c.in_ok-keys.ensures.expiring) in
+    subst (λ (edits : List (Key × Option PathFact)). T (is_sorted key_cmp edits)) (sym (c.loop-key.invariant ∙ all)) (is_sorted-expiries c.args.moment paths c.requires)
+
+pub returns : goal.returns
+returns g c =
+    let paths = (g.V.StateView.state c.args.view.now).facts.paths in
+    let all = ap (filter_map (expiry_at c.args.moment paths)) (take_all c.loop-key.key-index c.as_slice-key-items.result.now c.loop-key-test.false ∙ c.as_slice-key-items.ensures.value ∙ c.in_ok-keys.ensures.expiring) in
+    ap (λ (edits : List (Key × Option PathFact)). edited key_cmp edits paths) (c.from_rows.ensures ∙ c.loop-key.invariant ∙ all)
+    ∙ edited_expire c.args.moment paths c.requires

@@ -1,0 +1,20 @@
+-- What a moment takes away from paths, by LSP.
+use Rattle.std.specs.Prelude.{ℕ, if◌then◌else◌, List, Option, Some, None}
+use Rattle.std.specs.FinMap.Entries.{find}
+use Rattle.std.specs.Option.{option_map}
+use Rattle.lsr_facts.specs.Lifetimes.{lives_on, living}
+use Rattle.lsr_facts.specs.Orders.{key_cmp}
+use Rattle.lsr_facts.specs.declared.key.Key.{Key}
+use Rattle.lsr_facts.specs.declared.path_fact.PathFact.{PathFact}
+
+-- what a moment leaves of a path: nothing, or the path with the origins that live past it
+abbrev pub left_of : ℕ → Key × PathFact → Option PathFact
+left_of moment path = if lives_on moment path then Some (living moment path.1) else None
+
+-- what it leaves of an LSP's path, if one is known
+abbrev pub left_at : ℕ → List (Key × PathFact) → Key → Option (Option PathFact)
+left_at moment paths key = option_map (λ fact. left_of moment (key, fact)) (find key_cmp key paths)
+
+-- and so as an edit
+abbrev pub expiry_at : ℕ → List (Key × PathFact) → Key → Option (Key × Option PathFact)
+expiry_at moment paths key = option_map (λ left. (key, left)) (left_at moment paths key)

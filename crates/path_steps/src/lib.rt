@@ -1,0 +1,17 @@
+//! What messages, links and time do of themselves to the paths of a label switching router, whoever keeps what it knows:
+//! each decision of a step, once, as a draft that holds the answer, the errors and the edits.
+#![tactic(auto)]
+
+mod links;
+mod paths;
+mod relays;
+mod tears;
+mod ticks;
+mod told;
+
+pub use links::link_change;
+pub use paths::{path_arrival, unknown_path_arrival};
+pub use relays::{exceeds_hop_limit, relay};
+pub use tears::{path_err_arrival, path_tear_arrival};
+pub use ticks::tick;
+pub use told::failed;

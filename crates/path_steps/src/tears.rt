@@ -1,0 +1,114 @@
+//! What a PathTear and a PathErr do (RFC 2205, 3.1.5 and 3.1.7).
+
+ghost use Rattle.std.specs.Prelude.{◌≡◌, IfOk, OnErr, false};
+ghost use Rattle.rsvp_contents.specs.Spelling.{IsMessage};
+ghost use Rattle.rsvp_contents.specs.declared.messages.Content.TheVariants as contents;
+ghost use Rattle.abstract_paths.specs.MessageLaws.{LeavesRoom};
+ghost use Rattle.abstract_paths.specs.Tears.{left_with, path_err_arrival, path_tear_arrival};
+ghost use Rattle.abstract_router.specs.Outcomes.{of_paths};
+ghost use Rattle.abstract_router.specs.States.{State, with_facts};
+ghost use Rattle.state_views.specs.Drafts.{IsDraft};
+ghost use Rattle.state_views.specs.Edits.{edited};
+
+use crate::paths::path_edit;
+use crate::told::told_upstream;
+use lsr_facts::{Key, Origin, PathFact, Refusal, Reply};
+use path_rules::{Outputs, is_torn_by, leaves_by, lsp, origins_without};
+use rsvp_contents::{PathErr, PathTear};
+use sorted_rows::{Table, TryCopy};
+use state_views::{Draft, Edits, StateView, refused};
+use std::alloc::{AllocError, Global};
+use std::net::Ipv4Addr;
+
+/// Bytes of an IPv4 address.
+const ADDRESS_LEN: usize = 4;
+
+/// The edit by which the path is left with these origins: with none, it goes.
+fn left_with(
+    alloc: Global,
+    key: &Key,
+    fact: &PathFact,
+    origins: Table<Ipv4Addr, Origin>,
+) -> Result<Edits, AllocError>
+    ensures { IfOk result (λ edits. (before : State) → edited edits before
+        ≡ with_facts (left_with key.now fact.now origins before.facts) before) }
+{
+    if origins.as_slice().is_empty() {
+        return path_edit(alloc, *key, None);
+    }
+    let mut left = fact.try_copy(alloc)?;
+    left.origins = origins;
+    path_edit(alloc, *key, Some(left))
+}
+
+/// What a PathTear does. The only error is out of memory.
+#[tactic(auto, unfolding(abstract_paths::specs::Tears::path_tear_arrival))]
+pub fn path_tear_arrival<V: StateView>(
+    alloc: Global,
+    view: &V,
+    link: u16,
+    tear: &PathTear,
+) -> Result<Draft, AllocError>
+    ensures draft { IfOk result (λ draft. IsDraft draft
+        (of_paths (V.state view.now) (path_tear_arrival (V.state view.now).facts link tear.now))
+        (V.router view.now) (V.state view.now)) }
+    ensures memory { OnErr result ((path_tear_arrival (V.state view.now).facts link tear.now).is_silent ≡ false) }
+{
+    let key = lsp(tear.session, tear.sender);
+    let Some(fact) = view.path(&key) else {
+        return Ok(refused(alloc, view, Refusal::NoMatch));
+    };
+    if !is_torn_by(link, tear, fact) {
+        return Ok(refused(alloc, view, Refusal::NoMatch));
+    }
+    let origins = origins_without(alloc, tear.sender.sender, fact)?;
+    Ok(Draft {
+        reply: Reply::Done,
+        errors: Outputs::new(alloc),
+        due: None,
+        is_silent: false,
+        edits: left_with(alloc, &key, fact, origins)?,
+    })
+}
+
+/// That the Tspec of a PathErr leaves room for the rest of it.
+fn leaves_room(error: &PathErr)
+    requires { IsMessage (contents.PathErr error.now) }
+    ensures { LeavesRoom error.now.tspec }
+{
+    prove!(error.session.endpoint.octets().len() == ADDRESS_LEN);
+    prove!(error.session.extended.octets().len() == ADDRESS_LEN);
+    prove!(error.sender.sender.octets().len() == ADDRESS_LEN);
+    prove!(error.error.node.octets().len() == ADDRESS_LEN);
+}
+
+/// What a PathErr does. The only error is out of memory.
+#[tactic(auto, unfolding(abstract_paths::specs::Tears::path_err_arrival))]
+pub fn path_err_arrival<V: StateView>(
+    alloc: Global,
+    view: &V,
+    link: u16,
+    error: &PathErr,
+) -> Result<Draft, AllocError>
+    requires { IsMessage (contents.PathErr error.now) }
+    ensures draft { IfOk result (λ draft. IsDraft draft
+        (of_paths (V.state view.now) (path_err_arrival (V.state view.now).facts link error.now))
+        (V.router view.now) (V.state view.now)) }
+    ensures memory { OnErr result ((path_err_arrival (V.state view.now).facts link error.now).is_silent ≡ false) }
+{
+    let key = lsp(error.session, error.sender);
+    let Some(fact) = view.path(&key) else {
+        return Ok(refused(alloc, view, Refusal::NoMatch));
+    };
+    if !leaves_by(link, fact) {
+        return Ok(refused(alloc, view, Refusal::NoMatch));
+    }
+    leaves_room(error);
+    Ok(Draft {
+        reply: Reply::Done,
+        errors: told_upstream(alloc, &key, fact, &error.tspec, error.error)?,
+        due: None,
+        is_silent: false,
+        edits: Edits::none(alloc),
+    })
+}

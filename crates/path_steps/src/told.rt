@@ -1,0 +1,137 @@
+//! The errors of paths, and whom they are told (RFC 2205, 3.1.7).
+
+ghost use Rattle.std.specs.Option.{option_copied};
+ghost use Rattle.std.specs.Prelude.{◌≡◌, IfOk, IsTrue, is_some};
+ghost use Rattle.rsvp_contents.specs.Spelling.{IsMessage};
+ghost use Rattle.rsvp_contents.specs.declared.messages.Content.TheVariants as contents;
+ghost use Rattle.rsvp_traffic.specs.TokenBuckets.{token_rate};
+ghost use Rattle.abstract_paths.specs.MessageLaws.{LeavesRoom};
+ghost use Rattle.abstract_paths.specs.Outcomes.{path_err, told_to, told_upstream};
+ghost use Rattle.abstract_paths.specs.Paths.{failed, record_errors};
+ghost use Rattle.abstract_router.specs.Outcomes.{of_paths};
+ghost use Rattle.state_views.specs.Drafts.{IsDraft};
+
+use lsr_facts::{Key, Node, Origin, PathFact, Reply, RsvpError};
+use path_rules::{Output, Outputs, drops_record, found_here, knows_record, sent_by};
+use rsvp_contents::{Content, Message, Path, PathErr};
+use rsvp_objects::{ErrorSpec, Session, Template};
+use rsvp_traffic::Tspec;
+use state_views::{Draft, Edits, StateView};
+use std::alloc::{AllocError, Global};
+use std::net::Ipv4Addr;
+
+/// A PathErr. It asks for a Tspec, if any, that leaves room for the rest of the message.
+fn path_err(session: Session, sender: Template, tspec: Option<Tspec>, error: ErrorSpec) -> Message
+    requires { LeavesRoom tspec }
+    ensures { result ≡ path_err session sender tspec error }
+{
+    let content = Content::PathErr(PathErr {
+        session,
+        error,
+        sender,
+        tspec,
+    });
+    Message::checked(content).unwrap()
+}
+
+/// An error of a path, told to one of its origins, where that is a neighbour.
+fn told_to(
+    key: &Key,
+    tspec: &Option<Tspec>,
+    error: ErrorSpec,
+    origin: &(Ipv4Addr, Origin),
+) -> Result<Option<Output>, AllocError>
+    requires { LeavesRoom tspec.now }
+    ensures { IfOk result (λ told. told ≡ told_to key.now tspec.now error origin.now) }
+{
+    let Some(link) = origin.1.via.link() else {
+        return Ok(None);
+    };
+    let sender = Template {
+        sender: origin.0,
+        lsp: key.sender.lsp,
+    };
+    let message = path_err(key.session, sender, tspec.clone()?, error);
+    Ok(Some(sent_by(link, message)))
+}
+
+/// An error of a path, told to each of its origins.
+pub(crate) fn told_upstream(
+    alloc: Global,
+    key: &Key,
+    fact: &PathFact,
+    tspec: &Option<Tspec>,
+    error: ErrorSpec,
+) -> Result<Outputs, AllocError>
+    requires { LeavesRoom tspec.now }
+    ensures { IfOk result (λ told. told ≡ told_upstream key.now fact.now tspec.now error) }
+{
+    let mut told = Outputs::new(alloc);
+    for origin in fact.origins.as_slice() {
+        if let Some(output) = told_to(key, tspec, error, origin)? {
+            told.push(output)?;
+        }
+    }
+    Ok(told)
+}
+
+/// That a record is dropped is told upstream where the path or its record is new.
+#[tactic(auto, using(abstract_paths::specs::MessageLaws::rated_leaves_room), unfolding(abstract_paths::specs::Paths::record_errors))]
+pub(crate) fn record_errors(
+    alloc: Global,
+    node: &Node,
+    key: &Key,
+    known: Option<&PathFact>,
+    fact: &PathFact,
+) -> Result<Outputs, AllocError>
+    requires { IsTrue (is_some (token_rate 1 fact.now.tspec)) }
+    ensures { IfOk result (λ errors. errors ≡ record_errors node.now.router.now key.now (option_copied known.entry) fact.now) }
+{
+    if !drops_record(node, fact) || knows_record(alloc, known, fact)? {
+        return Ok(Outputs::new(alloc));
+    }
+    let error = found_here(node.router, RsvpError::RECORD_TOO_LONG);
+    told_upstream(alloc, key, fact, &Some(fact.tspec.clone()?), error)
+}
+
+/// The PathErr that answers a Path that meets an error.
+fn answer<V: StateView>(
+    alloc: Global,
+    view: &V,
+    link: u16,
+    path: &Path,
+    error: RsvpError,
+) -> Result<Outputs, AllocError>
+    requires { IsMessage (contents.Path path.now) }
+    ensures { IfOk result (λ errors. errors ≡ (failed (V.router view.now) (V.state view.now).facts link path.now error).errors) }
+{
+    let tspec = Some(path.tspec.clone()?);
+    let error = found_here(view.node().router, error);
+    let message = path_err(path.session, path.sender, tspec, error);
+    let mut errors = Outputs::new(alloc);
+    errors.push(sent_by(link, message))?;
+    Ok(errors)
+}
+
+/// A Path that meets an error: it is told to the neighbour that sent it, and changes nothing. The only error is out of
+/// memory.
+pub fn failed<V: StateView>(
+    alloc: Global,
+    view: &V,
+    link: u16,
+    path: &Path,
+    error: RsvpError,
+) -> Result<Draft, AllocError>
+    requires { IsMessage (contents.Path path.now) }
+    ensures { IfOk result (λ draft. IsDraft draft (of_paths (V.state view.now)
+        (failed (V.router view.now) (V.state view.now).facts link path.now error))
+        (V.router view.now) (V.state view.now)) }
+{
+    Ok(Draft {
+        reply: Reply::Error(error),
+        errors: answer(alloc, view, link, path, error)?,
+        due: None,
+        is_silent: false,
+        edits: Edits::none(alloc),
+    })
+}

@@ -1,0 +1,31 @@
+//! All that a router knows, as a value.
+
+use crate::resv_fact::ResvFact;
+use crate::upstream::Upstream;
+use lsr_facts::{Facts, Key};
+use sorted_rows::{Table, TryCopy};
+use std::alloc::{AllocError, Global};
+
+/// All that a label switching router knows and that events change.
+#[derive(Debug, Drop)]
+pub struct State {
+    /// What it knows of links, static routes, time and paths.
+    pub facts: Facts,
+    /// The reservations, by LSP.
+    pub resvs: Table<Key, ResvFact>,
+    /// The label of each LSP that doesn't begin here.
+    pub labels: Table<Key, u32>,
+    /// Of each Resv that is kept alive at a neighbour the moment when it was sent last, in milliseconds.
+    pub sent_upstream: Table<Upstream, u64>,
+}
+
+impl TryCopy for State {
+    fn try_copy(&self, alloc: Global) -> Result<State, AllocError> {
+        Ok(State {
+            facts: self.facts.try_copy(alloc)?,
+            resvs: self.resvs.try_copy(alloc)?,
+            labels: self.labels.try_copy(alloc)?,
+            sent_upstream: self.sent_upstream.try_copy(alloc)?,
+        })
+    }
+}

@@ -1,0 +1,135 @@
+-- Where an event of itself leaves a sound state as it was, so does its step; and nothing is sent but its errors.
+use Rattle.std.specs.Prelude.{◌≡◌, ◌++◌, ℕ, not, Bool, true, if◌then◌else◌, T, List, [], ◌∷◌, filter, filter_map, Option, Some, None}
+use Rattle.std.specs.FinMap.Entries.{find, is_sorted, same_entries}
+use Rattle.std.specs.List.{AllByRecursion, cons_option}
+use Rattle.std.specs.Option.{option_map, option_or}
+use Rattle.std.specs.Cmp.{IsTotalOrder}
+use Rattle.std.specs.declared.cmp.Ordering.{Ordering}
+use Rattle.std.specs.declared.cmp.Ordering.TheVariants.{Equal}
+use Rattle.std.proofs.Common.{refl, sym, ap, subst, ◌∙◌}
+use Rattle.sorted_rows.specs.ListLaws.{all-weaker, filter-all_pass}
+use Rattle.sorted_rows.specs.Rows.{keys_of}
+use Rattle.sorted_rows.specs.RowsLaws.{all_found, is_sorted-both, is_sorted-filter}
+use Rattle.lsr_facts.specs.Lifetimes.{begins_here}
+use Rattle.lsr_facts.specs.OrderLaws.{item_exact, item_total, key_total}
+use Rattle.lsr_facts.specs.Orders.{item_cmp, key_cmp}
+use Rattle.lsr_facts.specs.declared.key.Key.{Key}
+use Rattle.lsr_facts.specs.declared.path_fact.PathFact.{PathFact}
+use Rattle.lsr_facts.specs.declared.reply.Reply.{Reply}
+use Rattle.lsr_facts.specs.declared.reply.Reply.TheVariants as replies
+use Rattle.lsr_facts.specs.declared.router.Router.{Router}
+use Rattle.resv_facts.specs.UpstreamOrder.{upstream_exact, upstream_total}
+use Rattle.resv_facts.specs.Upstreams.{upstream_cmp}
+use Rattle.router_events.specs.declared.events.Event.{Event}
+use Rattle.router_events.specs.declared.events.Made.{Made}
+use Rattle.router_events.specs.declared.events.Output.{Output}
+use Rattle.abstract_paths.specs.Outputs.{between, send_for, tear_for}
+use Rattle.abstract_paths.specs.StampLaws.{keys-stamps}
+use Rattle.abstract_paths.specs.Stamps.{stamps}
+use Rattle.abstract_paths.specs.TouchedLaws.{rests_same, stamps-elsewhere}
+use Rattle.abstract_router.specs.Arrivals.{outcome}
+use Rattle.abstract_router.specs.Labels.{labels_after}
+use Rattle.abstract_router.specs.Outcomes.{Outcome, replied}
+use Rattle.abstract_router.specs.Outputs.{item_stamps, outputs_of, upstream_stamps}
+use Rattle.abstract_router.specs.Soundness.{IsSound}
+use Rattle.abstract_router.specs.States.{State}
+use Rattle.abstract_router.specs.Steps.{Step, known_after, sent_in, settled, stands, taken_over, told_repaired, with_moments}
+use Rattle.abstract_router.specs.UpstreamLaws.{is_sorted-upstream_sound}
+use Rattle.abstract_router.specs.Upstreams.{upstream_of}
+use Rattle.abstract_router.specs.Wanted.{items_of}
+use Rattle.abstract_router.specs.WantedLaws.{is_sorted-items}
+use Rattle.router_laws.proofs.Led.{answered, led, sends}
+
+-- where g gives nothing of each, it gives nothing
+filter_map-none : {A B : Type 0} (g : A → Option B) (xs : List A) → AllByRecursion (λ x. g x ≡ None) xs → filter_map g xs ≡ []
+filter_map-none g [] h = refl
+filter_map-none g (x ∷ xs) h = ap (λ o. cons_option o (filter_map g xs)) h.0 ∙ filter_map-none g xs h.1
+
+-- between rows and themselves nothing comes of what is quiet
+between-itself : {K C O : Type 0} (cmp : K → K → Ordering) (total : IsTotalOrder cmp) (f : Option C → K × C → Option O) (rows : List (K × C)) → T (is_sorted cmp rows) → ((k : K) (c : C) → f (Some c) (k, c) ≡ None) → between cmp f rows rows ≡ []
+between-itself cmp total f rows h quiet =
+    filter_map-none (λ row. f (find cmp row.0 rows) row) rows
+    (all-weaker (λ row. find cmp row.0 rows ≡ Some row.1) (λ row. f (find cmp row.0 rows) row ≡ None) (λ row found. ap (λ o. f o row) found ∙ quiet row.0 row.1) rows (all_found cmp total rows h))
+
+-- what is wanted as it was, and isn't due, keeps its moments
+stamps-same : {I : Type 0} (cmp : I → I → Ordering) (total : IsTotalOrder cmp) (exact : (x y : I) → cmp x y ≡ Equal → x ≡ y) (was : List (I × Output)) (sent : List (I × ℕ)) (now : ℕ) → T (is_sorted cmp was) → keys_of sent ≡ keys_of was → stamps cmp [] was sent now was ≡ sent
+stamps-same cmp total exact was sent now h known =
+    same_entries cmp total exact (stamps cmp [] was sent now was) sent
+    (subst T (sym (is_sorted-both cmp (stamps cmp [] was sent now was) was (keys-stamps cmp [] was sent now was))) h) (subst T (sym (is_sorted-both cmp sent was known)) h)
+    (λ item. stamps-elsewhere cmp total exact [] was sent now was item known refl refl)
+
+-- and nothing is sent for it
+sends-none : {I : Type 0} (cmp : I → I → Ordering) (total : IsTotalOrder cmp) (was : List (I × Output)) → T (is_sorted cmp was) → between cmp (send_for cmp []) was was ≡ []
+sends-none cmp total was h = between-itself cmp total (send_for cmp []) was h (λ item o. ap (λ b. if b then None else Some o) (rests_same cmp [] item o refl))
+
+-- An outcome after which all is as it was, and nothing is sent.
+abbrev pub IsStill : Router → State → Outcome → Type 0
+IsStill r s o = (chosen : List (Key × ℕ)) → (known_after r s chosen o ≡ s) × (sent_in r s o s ≡ [])
+
+module _ (r : Router) (s : State) (is : IsSound r s) where
+  -- all reservations stand, and each label is held still
+  resvs-stand : filter (stands s.facts) s.resvs ≡ s.resvs
+  resvs-stand = filter-all_pass (stands s.facts) s.resvs is.standing
+
+  labels-held : (chosen : List (Key × ℕ)) → labels_after s.labels chosen s.facts.paths ≡ s.labels
+  unfolding labels_after
+  labels-held chosen =
+      ap (filter_map given) (sym is.labels.of_lsps)
+      ∙ held s.labels (all_found key_cmp key_total s.labels (subst T (sym (is_sorted-both key_cmp s.labels (filter ours s.facts.paths) is.labels.of_lsps)) (is_sorted-filter key_cmp ours s.facts.paths is.paths.paths.in_order)))
+    where
+      ours : Key × PathFact → Bool
+      ours path = not (begins_here path.1.role)
+
+      given : Key → Option (Key × ℕ)
+      given key = option_map (λ label. (key, label)) (option_or (find key_cmp key s.labels) (find key_cmp key chosen))
+
+      held : (rows : List (Key × ℕ)) → AllByRecursion (λ row. find key_cmp row.0 s.labels ≡ Some row.1) rows → filter_map given (keys_of rows) ≡ rows
+      held [] h = refl
+      held (row ∷ rows) h = λ i. cons_option (option_map (λ label. (row.0, label)) (option_or (h.0 i) (find key_cmp row.0 chosen))) (held rows h.1 i)
+
+  settled-same : (chosen : List (Key × ℕ)) → settled r chosen s ≡ s
+  settled-same chosen = λ i. record s { resvs = resvs-stand i; labels = labels-held chosen i }
+
+  -- all moments stay
+  items_in_order : T (is_sorted item_cmp (items_of r s))
+  items_in_order = is_sorted-items r s is.paths.paths.in_order
+
+  upstream_in_order : T (is_sorted upstream_cmp (upstream_of r s))
+  upstream_in_order = is_sorted-upstream_sound r s s.facts.moment is.paths.paths
+
+  sent-same : item_stamps r s [] s ≡ s.facts.sent
+  unfolding item_stamps
+  sent-same = stamps-same item_cmp item_total item_exact (items_of r s) s.facts.sent s.facts.moment items_in_order is.sent
+
+  sent_upstream-same : upstream_stamps r s [] s ≡ s.sent_upstream
+  unfolding upstream_stamps
+  sent_upstream-same = stamps-same upstream_cmp upstream_total upstream_exact (upstream_of r s) s.sent_upstream s.facts.moment upstream_in_order is.sent_upstream
+
+  -- What is known after an outcome that leaves the state as it was, whatever it answers and whichever errors it meets.
+  pub known-same : (reply : Reply) (errors : List Output) (chosen : List (Key × ℕ)) → known_after r s chosen (replied reply errors s) ≡ s
+  known-same reply errors chosen =
+      ap (with_moments r s (replied reply errors s)) (settled-same chosen) ∙ (λ i. record s { facts = record s.facts { sent = sent-same i }; sent_upstream = sent_upstream-same i })
+
+  -- and nothing is sent
+  pub sends-nothing : outputs_of r s [] [] [] s ≡ []
+  unfolding outputs_of
+  sends-nothing =
+      let items = items_of r s in
+      let upstream = upstream_of r s in
+      λ i. between-itself item_cmp item_total (tear_for s.facts.up) items items_in_order (λ item o. refl) i
+      ++ between-itself upstream_cmp upstream_total (tear_for s.facts.up) upstream upstream_in_order (λ u o. refl) i
+      ++ sends-none item_cmp item_total items items_in_order i
+      ++ sends-none upstream_cmp upstream_total upstream upstream_in_order i
+
+  pub refused-still : (o : Outcome) → o.is_silent ≡ true → o.after ≡ s → IsStill r s o
+  refused-still o silent same chosen =
+      (ap (λ b. if b then o.after else with_moments r s o (settled r chosen o.after)) silent ∙ same, ap (λ b. if b then [] else outputs_of r s (o.errors ++ told_repaired r (taken_over r o.after)) o.due o.upstream_due s) silent)
+
+  pub done-still : IsStill r s (replied replies.Done [] s)
+  done-still chosen = (known-same replies.Done [] chosen, sends-nothing)
+
+-- A step whose event leaves all as it was.
+pub still_step : (r : Router) (before after : State) (made : Made) (event : Event) (o : Outcome) → Step r before made after → made.event ≡ event → outcome r before event ≡ o → IsStill r before o → (made.reply ≡ o.reply) × (made.outputs ≡ []) × (after ≡ before)
+still_step r before after made event o x is does still =
+    let came : after ≡ before = led r before after made event o x is does ∙ (still made.labels).0 in
+    (answered r before after made event o x is does, sends r before after made event o x is does ∙ ap (sent_in r before o) came ∙ (still made.labels).1, came)

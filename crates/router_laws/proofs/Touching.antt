@@ -1,0 +1,357 @@
+-- The LSPs that a message touches, and that its step leaves all others as they were.
+use Rattle.std.specs.Prelude.{◌≡◌, ◌&&◌, ◌||◌, ◌==◌, ℕ, not, nat_le, Bool, true, false, if◌then◌else◌, T, List, [], ◌∷◌, filter, filter_map, fold, length, map, Option, Some, None, is_none, is_some, IfSome, Result, Ok, Err}
+use Rattle.std.specs.Bool.{then_some}
+use Rattle.std.specs.FinMap.Entries.{find, find-where_key, is_sorted, is_sorted-put, is_sorted-where_key, put}
+use Rattle.std.specs.List.{cons_option, list_any}
+use Rattle.std.specs.Option.{option_and_then, option_map, option_map_or, option_or}
+use Rattle.std.specs.Ordering.{is_eq}
+use Rattle.std.specs.declared.net.ipv4_addr.Ipv4Addr.{Ipv4Addr}
+use Rattle.std.proofs.Common.{refl, sym, ap, subst, ◌∙◌}
+use Rattle.std.proofs.lemmas.Bool.{cond_both}
+use Rattle.std.proofs.lemmas.Cmp.{eq_by_cmp_equiv}
+use Rattle.std.proofs.lemmas.List.Folds.{list_any-append}
+use Rattle.rsvp_contents.specs.declared.message.Reading.TheVariants as readings
+use Rattle.rsvp_contents.specs.declared.message.Reading.{Reading}
+use Rattle.rsvp_contents.specs.declared.messages.Content.TheVariants as contents
+use Rattle.rsvp_contents.specs.declared.messages.Content.{Content}
+use Rattle.rsvp_contents.specs.declared.messages.Path.{Path}
+use Rattle.rsvp_contents.specs.declared.messages.PathErr.{PathErr}
+use Rattle.rsvp_contents.specs.declared.messages.PathTear.{PathTear}
+use Rattle.rsvp_contents.specs.declared.messages.Resv.{Resv}
+use Rattle.rsvp_contents.specs.declared.messages.ResvErr.{ResvErr}
+use Rattle.rsvp_contents.specs.declared.messages.ResvTear.{ResvTear}
+use Rattle.rsvp_flows.specs.declared.descriptors.FlowDescriptor.{FlowDescriptor}
+use Rattle.rsvp_objects.specs.declared.values.Template.{Template}
+use Rattle.rsvp_traffic.specs.TokenBuckets.{token_rate}
+use Rattle.sorted_rows.specs.Rows.{keys_of}
+use Rattle.sorted_rows.specs.RowsLaws.{find-all_row, find-filter, find-put_other, find-removed_other, is_some-find_both, is_sorted-filter}
+use Rattle.lsr_facts.specs.Errors.{system_error}
+use Rattle.lsr_facts.specs.Lifetimes.{begins_here}
+use Rattle.lsr_facts.specs.OrderLaws.{key_exact, key_total}
+use Rattle.lsr_facts.specs.Orders.{key_cmp}
+use Rattle.lsr_facts.specs.Routers.{link_at}
+use Rattle.lsr_facts.specs.declared.choice.Choice.{Choice}
+use Rattle.lsr_facts.specs.declared.errors.RsvpError.{RsvpError}
+use Rattle.lsr_facts.specs.declared.facts.Facts.{Facts}
+use Rattle.lsr_facts.specs.declared.key.Key.{Key}
+use Rattle.lsr_facts.specs.declared.path_fact.Origin.{Origin}
+use Rattle.lsr_facts.specs.declared.path_fact.PathFact.{PathFact}
+use Rattle.lsr_facts.specs.declared.refusal.Refusal.TheVariants.{LinkDown, NoMatch, UnknownLink}
+use Rattle.lsr_facts.specs.declared.router.Router.{Router}
+use Rattle.resv_facts.specs.Reservations.{style_of}
+use Rattle.resv_facts.specs.declared.resv_fact.ResvFact.{ResvFact}
+use Rattle.resv_facts.specs.declared.resv_fact.ResvStyle.{ResvStyle}
+use Rattle.router_events.specs.declared.ways.ArrivalWay.{ArrivalWay}
+use Rattle.router_events.specs.declared.ways.ArrivalWay.TheVariants as ways
+use Rattle.router_events.specs.declared.ways.Arrive.{Arrive}
+use Rattle.router_events.specs.declared.events.Event.TheVariants as events
+use Rattle.router_events.specs.declared.events.Made.{Made}
+use Rattle.router_events.specs.declared.events.Output.{Output}
+use Rattle.abstract_paths.specs.Outcomes as paths
+use Rattle.abstract_paths.specs.Outcomes.{lsp}
+use Rattle.abstract_paths.specs.Paths.{failed, has_loop, key_of, path_arrival, path_by, path_on_its_way, taken, way_for}
+use Rattle.abstract_paths.specs.Places.{is_up, place_of}
+use Rattle.abstract_paths.specs.StampLaws.{none-is}
+use Rattle.abstract_paths.specs.Tears.{left_with, origins_without, passed_on, path_err_arrival, path_tear_arrival, torn}
+use Rattle.abstract_paths.specs.Tears as tears
+use Rattle.abstract_paths.specs.Tears.{leaves_by}
+use Rattle.abstract_paths.specs.TouchedLaws.{find-made}
+use Rattle.abstract_router.specs.Arrivals.{arrival_by, arrival, is_done, labelled_path_arrival, message_arrival, reading_arrival}
+use Rattle.abstract_router.specs.Errors.{unknown_style}
+use Rattle.abstract_router.specs.Labels.{has_free_label, labels_after}
+use Rattle.abstract_router.specs.Outcomes.{Outcome, of_paths, refused}
+use Rattle.abstract_router.specs.Preempting.{giving_way}
+use Rattle.abstract_router.specs.Reserving.{Failed, Granted, PassedOver, Progress, Verdict, all_descriptors, carried_on, key_in, next_descriptor, resv_arrival, resv_by, resv_failed, resv_replied, unknown_resv, verdict_of}
+use Rattle.abstract_router.specs.Soundness.{IsSound}
+use Rattle.abstract_router.specs.States.{State, is_among}
+use Rattle.abstract_router.specs.Steps.{Step, known_after, settled, stands, with_moments}
+use Rattle.abstract_router.specs.Tearing.{err_onward, is_torn_by, passed_on as err_passed_on, resv_err_arrival, resv_tear_arrival}
+use Rattle.router_laws.specs.TouchedBy.{touched_by, touched_by_descriptors, touched_by_message, touched_by_reading, touched_by_resv, touched_by_verdict}
+use Rattle.router_laws.proofs.Led.{led}
+
+-- neither of two tests passes
+neither : (a b : Bool) → (a || b) ≡ false → (a ≡ false) × (b ≡ false)
+neither true b h = absurd (let e = h in cc)
+neither false b h = (refl, h)
+
+-- keys that don't tie don't the other way round
+apart-back : (k q : Key) → is_eq (key_cmp k q) ≡ false → is_eq (key_cmp q k) ≡ false
+apart-back k q apart = (eq_by_cmp_equiv key_total).symm q k ∙ apart
+
+-- What an event does of itself: the same links are up, no label changes, and the LSPs that aren't touched have the path
+-- and the reservation that they had.
+record Keeps (touched : Key → Bool) (before after : State) : Type 0 where
+  up : after.facts.up ≡ before.facts.up
+  labels : after.labels ≡ before.labels
+  paths_in_order : T (is_sorted key_cmp after.facts.paths)
+  resvs_in_order : T (is_sorted key_cmp after.resvs)
+  paths : (key : Key) → touched key ≡ false → find key_cmp key after.facts.paths ≡ find key_cmp key before.facts.paths
+  resvs : (key : Key) → touched key ≡ false → find key_cmp key after.resvs ≡ find key_cmp key before.resvs
+
+-- What is left of LSPs that aren't touched: each has the path, the reservation and the label that it had, and the same
+-- links are up.
+pub record IsLeft (touched : Key → Bool) (before after : State) : Type 0 where
+  pub up : after.facts.up ≡ before.facts.up
+  pub paths : (key : Key) → touched key ≡ false → find key_cmp key after.facts.paths ≡ find key_cmp key before.facts.paths
+  pub resvs : (key : Key) → touched key ≡ false → find key_cmp key after.resvs ≡ find key_cmp key before.resvs
+  pub labels : (key : Key) → touched key ≡ false → find key_cmp key after.labels ≡ find key_cmp key before.labels
+
+-- and what one does of itself to paths
+record KeepsPaths (touched : Key → Bool) (before after : Facts) : Type 0 where
+  up : after.up ≡ before.up
+  in_order : T (is_sorted key_cmp after.paths)
+  paths : (key : Key) → touched key ≡ false → find key_cmp key after.paths ≡ find key_cmp key before.paths
+
+module _ (touched : Key → Bool) (s : Facts) (sorted : T (is_sorted key_cmp s.paths)) where
+  paths-stay : KeepsPaths touched s s
+  paths-stay = record { up = refl; in_order = sorted; paths = λ key apart. refl }
+
+  module _ (own : Key) (apart : (key : Key) → touched key ≡ false → is_eq (key_cmp own key) ≡ false) where
+    path-put : (fact : PathFact) → KeepsPaths touched s (record s { paths = put key_cmp own fact s.paths })
+    path-put fact = record {
+      up = refl;
+      in_order = is_sorted-put key_cmp key_total own fact s.paths sorted;
+      paths = λ key other. find-put_other key_cmp key_total key own fact s.paths (apart-back own key (apart key other));
+    }
+
+    path-left : (fact : PathFact) (origins : List (Ipv4Addr × Origin)) → KeepsPaths touched s (left_with own fact origins s)
+    path-left fact [] = record {
+      up = refl;
+      in_order = is_sorted-filter key_cmp (λ path. not (is_eq (key_cmp own path.0))) s.paths sorted;
+      paths = λ key other. find-removed_other key_cmp key_total key own s.paths (apart key other);
+    }
+    path-left fact (o ∷ os) = path-put (record fact { origins = o ∷ os })
+
+  path-keeps : (r : Router) (link : ℕ) (p : Path) → ((key : Key) → touched key ≡ false → is_eq (key_cmp (key_of p) key) ≡ false) → KeepsPaths touched s (path_arrival r s link p).after
+  unfolding path_arrival path_on_its_way
+  path-keeps r link p apart =
+      cond_both (not (p.label_request.l3pid == 0x0800)) _ _ After (λ a. paths-stay)
+      (λ a. cond_both (is_none (token_rate 1 p.tspec)) _ _ After (λ b. paths-stay)
+      (λ b. cond_both (has_loop r p.recorded) _ _ After (λ c. paths-stay)
+      (λ c. on_way (way_for (place_of r s) (find key_cmp (key_of p) s.paths) p))))
+    where
+      After : paths.Outcome → Type 0
+      After o = KeepsPaths touched s o.after
+
+      on_way : (way : Result Choice RsvpError) → After (path_on_its_way r s (find key_cmp (key_of p) s.paths) link p way)
+      on_way (Err e) = paths-stay
+      on_way (Ok way) =
+          cond_both (is_none (find key_cmp (key_of p) s.paths) && nat_le 1024 (length s.paths)) (failed r s link p system_error) (taken r s (find key_cmp (key_of p) s.paths) link p way) After
+          (λ full. paths-stay) (λ room. path-put (key_of p) apart (path_by s.moment (find key_cmp (key_of p) s.paths) link p way))
+
+  tear-keeps : (link : ℕ) (t : PathTear) → ((key : Key) → touched key ≡ false → is_eq (key_cmp (lsp t.session t.sender) key) ≡ false) → KeepsPaths touched s (path_tear_arrival s link t).after
+  unfolding path_tear_arrival
+  tear-keeps link t apart = by (find key_cmp (lsp t.session t.sender) s.paths)
+    where
+      by : (known : Option PathFact) → KeepsPaths touched s (torn s link t known).after
+      by None = paths-stay
+      by (Some fact) = cond_both (tears.is_torn_by link t fact) _ _ (λ (o : paths.Outcome). KeepsPaths touched s o.after) (λ a. path-left (lsp t.session t.sender) apart fact (origins_without t.sender.sender fact)) (λ a. paths-stay)
+
+  err-keeps : (link : ℕ) (e : PathErr) → KeepsPaths touched s (path_err_arrival s link e).after
+  unfolding path_err_arrival
+  err-keeps link e = by (find key_cmp (lsp e.session e.sender) s.paths)
+    where
+      by : (known : Option PathFact) → KeepsPaths touched s (passed_on s link e known).after
+      by None = paths-stay
+      by (Some fact) = cond_both (leaves_by link fact) _ _ (λ (o : paths.Outcome). KeepsPaths touched s o.after) (λ a. paths-stay) (λ a. paths-stay)
+
+-- no LSP that isn't touched is one of these
+abbrev AreTouched : (Key → Bool) → List Key → Type 0
+AreTouched touched keys = (key : Key) → touched key ≡ false → is_among keys key ≡ false
+
+module _ (r : Router) (touched : Key → Bool) (s : State) (is : IsSound r s) where
+  stays : Keeps touched s s
+  stays = record { up = refl; labels = refl; paths_in_order = is.paths.paths.in_order; resvs_in_order = is.held.in_order; paths = λ key apart. refl; resvs = λ key apart. refl }
+
+  of_paths-keeps : (o : paths.Outcome) → KeepsPaths touched s.facts o.after → Keeps touched s (of_paths s o).after
+  of_paths-keeps o keeps = record { up = keeps.up; labels = refl; paths_in_order = keeps.in_order; resvs_in_order = is.held.in_order; paths = keeps.paths; resvs = λ key apart. refl }
+
+  -- one descriptor
+  verdict-keeps : (link : ℕ) (v : Resv) (d : FlowDescriptor) (fact : ResvFact) (progress : Progress) (verdict : Verdict) → AreTouched touched (touched_by_verdict r progress.state (key_in v d) fact verdict) → Keeps touched s progress.state
+      → Keeps touched s (carried_on r link v d fact progress verdict).state
+  verdict-keeps link v d fact progress (Failed e) among keeps = keeps
+  verdict-keeps link v d fact progress PassedOver among keeps = keeps
+  verdict-keeps link v d fact progress Granted among keeps =
+      let own = key_in v d in
+      let gone = giving_way r progress.state own fact in
+      let left : Key → Bool = λ k. not (is_among gone k) in
+      record {
+        up = keeps.up;
+        labels = keeps.labels;
+        paths_in_order = keeps.paths_in_order;
+        resvs_in_order = is_sorted-put key_cmp key_total own fact (filter (λ resv. left resv.0) progress.state.resvs) (is_sorted-where_key key_cmp left progress.state.resvs keeps.resvs_in_order);
+        paths = keeps.paths;
+        resvs = λ key apart.
+            let other = neither (is_eq (key_cmp own key)) (is_among gone key) (among key apart) in
+            find-put_other key_cmp key_total key own fact (filter (λ resv. left resv.0) progress.state.resvs) (apart-back own key other.0)
+            ∙ find-where_key key_cmp left key (λ x tie. ap left (sym (key_exact key x tie))) progress.state.resvs
+            ∙ ap (λ b. if not b then find key_cmp key progress.state.resvs else None) other.1
+            ∙ keeps.resvs key apart;
+      }
+
+  -- and all of them
+  descriptors-keep : (link : ℕ) (style : ResvStyle) (v : Resv) (ds : List FlowDescriptor) (progress : Progress) → AreTouched touched (touched_by_descriptors r link style v progress ds) → Keeps touched s progress.state
+      → Keeps touched s (fold (next_descriptor r link style v) progress ds).state
+  descriptors-keep link style v [] progress among keeps = keeps
+  descriptors-keep link style v (d ∷ ds) progress among keeps =
+      let fact = resv_by progress.state.facts.moment link style v d in
+      let verdict = verdict_of r progress.state (key_in v d) fact in
+      let next = next_descriptor r link style v progress d in
+      let each = λ (key : Key) (apart : touched key ≡ false). neither _ _ (sym (list_any-append (λ k. is_eq (key_cmp k key)) (touched_by_verdict r progress.state (key_in v d) fact verdict) (touched_by_descriptors r link style v next ds)) ∙ among key apart) in
+      descriptors-keep link style v ds next (λ key apart. (each key apart).1) (verdict-keeps link v d fact progress verdict (λ key apart. (each key apart).0) keeps)
+
+  resv-keeps : (link : ℕ) (v : Resv) → AreTouched touched (touched_by_resv r s link v) → Keeps touched s (resv_arrival r s link v).after
+  unfolding resv_arrival
+  resv-keeps link v = by_style (style_of v.style)
+    where
+      by_first : (progress : Progress) → Keeps touched s progress.state → (first : Option RsvpError) → Keeps touched s (resv_replied s progress first).after
+      by_first progress keeps (Some e) = keeps
+      by_first progress keeps None = cond_both progress.has_granted _ (refused s NoMatch) (λ (o : Outcome). Keeps touched s o.after) (λ some. keeps) (λ none. stays)
+
+      by_style : (style : Option ResvStyle)
+          → AreTouched touched (option_map_or (λ style. touched_by_descriptors r link style v (record { state = s; errors = []; first = None; has_granted = false }) v.descriptors) style [])
+          → Keeps touched s (option_map_or (λ style. let progress = all_descriptors r s link style v in resv_replied s progress progress.first) style (resv_failed r s link v false [] unknown_style)).after
+      by_style None among = stays
+      by_style (Some style) among =
+          let progress = all_descriptors r s link style v in
+          by_first progress (descriptors-keep link style v v.descriptors (record { state = s; errors = []; first = None; has_granted = false }) among stays) progress.first
+
+  resv_tear-keeps : (link : ℕ) (t : ResvTear) → AreTouched touched (map (lsp t.session) t.filters) → Keeps touched s (resv_tear_arrival s link t).after
+  unfolding resv_tear_arrival
+  resv_tear-keeps link t among =
+      cond_both (list_any (is_torn_by link t) s.resvs) _ (refused s NoMatch) (λ (o : Outcome). Keeps touched s o.after)
+      (λ some. record {
+        up = refl;
+        labels = refl;
+        paths_in_order = is.paths.paths.in_order;
+        resvs_in_order = is_sorted-filter key_cmp left s.resvs is.held.in_order;
+        paths = λ key apart. refl;
+        resvs = λ key apart.
+            find-filter key_cmp key_total left key (λ k v tied. ap (λ q. left (q, v)) (sym (key_exact key k tied))) s.resvs is.held.in_order
+            ∙ kept key (find key_cmp key s.resvs) (named key t.filters ∙ among key apart);
+      })
+      (λ none. stays)
+    where
+      left : Key × ResvFact → Bool
+      left resv = not (is_torn_by link t resv)
+
+      named : (key : Key) (filters : List Template) → list_any (λ f. is_eq (key_cmp (lsp t.session f) key)) filters ≡ is_among (map (lsp t.session) filters) key
+      named key [] = refl
+      named key (f ∷ fs) = ap (λ b. is_eq (key_cmp (lsp t.session f) key) || b) (named key fs)
+
+      none_torn : (on : Bool) → not (on && false) ≡ true
+      none_torn true = refl
+      none_torn false = refl
+
+      kept : (key : Key) (o : Option ResvFact) → list_any (λ f. is_eq (key_cmp (lsp t.session f) key)) t.filters ≡ false → option_and_then (λ v. then_some (left (key, v)) v) o ≡ o
+      kept key None other = refl
+      kept key (Some v) other = ap (λ b. then_some (not ((v.link == link) && b)) v) other ∙ ap (λ b. then_some b v) (none_torn (v.link == link))
+
+  resv_err-keeps : (link : ℕ) (e : ResvErr) → Keeps touched s (resv_err_arrival r s link e).after
+  unfolding resv_err_arrival
+  resv_err-keeps link e = by (filter_map (err_onward r s link e) e.descriptors)
+    where
+      by : (matched : List (List Output)) → Keeps touched s (err_passed_on s matched).after
+      by [] = stays
+      by (one ∷ more) = stays
+
+  -- the one LSP of a Path or a PathTear
+  one : (own : Key) → AreTouched touched (own ∷ []) → (key : Key) → touched key ≡ false → is_eq (key_cmp own key) ≡ false
+  one own among key apart = (neither (is_eq (key_cmp own key)) false (among key apart)).0
+
+  labelled_path-keeps : (link : ℕ) (p : Path) → AreTouched touched (key_of p ∷ []) → Keeps touched s (labelled_path_arrival r s link p).after
+  unfolding labelled_path_arrival
+  labelled_path-keeps link p among =
+      cond_both (is_done (path_arrival r s.facts link p).reply && is_none (find key_cmp (key_of p) s.facts.paths) && not (has_free_label r s.labels)) _ _ (λ (o : Outcome). Keeps touched s o.after) (λ full. stays)
+      (λ room. of_paths-keeps (path_arrival r s.facts link p) (path-keeps touched s.facts is.paths.paths.in_order r link p (one (key_of p) among)))
+
+  message-keeps : (link : ℕ) (content : Content) → AreTouched touched (touched_by_message r s link content) → Keeps touched s (message_arrival r s link content).after
+  message-keeps link (contents.Path p) among = labelled_path-keeps link p among
+  message-keeps link (contents.Resv v) among = resv-keeps link v among
+  message-keeps link (contents.PathErr e) among = of_paths-keeps (path_err_arrival s.facts link e) (err-keeps touched s.facts is.paths.paths.in_order link e)
+  message-keeps link (contents.ResvErr e) among = resv_err-keeps link e
+  message-keeps link (contents.PathTear t) among = of_paths-keeps (path_tear_arrival s.facts link t) (tear-keeps touched s.facts is.paths.paths.in_order link t (one (lsp t.session t.sender) among))
+  message-keeps link (contents.ResvTear t) among = resv_tear-keeps link t among
+
+  reading-keeps : (link : ℕ) (reading : Reading) → AreTouched touched (touched_by_reading r s link reading) → Keeps touched s (reading_arrival r s link reading).after
+  unfolding unknown_resv
+  reading-keeps link (readings.Whole content) among = message-keeps link content among
+  reading-keeps link (readings.Unknown (contents.Path p) class ctype) among = stays
+  reading-keeps link (readings.Unknown (contents.Resv v) class ctype) among = stays
+  reading-keeps link (readings.Unknown (contents.PathErr e) class ctype) among = message-keeps link (contents.PathErr e) among
+  reading-keeps link (readings.Unknown (contents.ResvErr e) class ctype) among = message-keeps link (contents.ResvErr e) among
+  reading-keeps link (readings.Unknown (contents.PathTear t) class ctype) among = message-keeps link (contents.PathTear t) among
+  reading-keeps link (readings.Unknown (contents.ResvTear t) class ctype) among = message-keeps link (contents.ResvTear t) among
+
+  way-keeps : (way : ArrivalWay) (link : ℕ) (reading : Reading) → AreTouched touched (touched_by_reading r s link reading) → Keeps touched s (arrival_by r s way link reading).after
+  way-keeps ways.Hop link reading among = reading-keeps link reading among
+  way-keeps ways.Stack link reading among = stays
+  way-keeps ways.Routed link reading among = stays
+
+  arrival-keeps : (a : Arrive) → AreTouched touched (touched_by r s a) → Keeps touched s (arrival r s a).after
+  unfolding arrival
+  arrival-keeps a among =
+      cond_both (is_none (link_at r a.link)) (refused s UnknownLink) _ (λ (o : Outcome). Keeps touched s o.after) (λ none. stays)
+      (λ there. cond_both (not (is_up s.facts.up a.link)) (refused s LinkDown) _ (λ (o : Outcome). Keeps touched s o.after) (λ down. stays) (λ up. way-keeps a.way a.link a.reading among))
+
+  -- What follows from it leaves those LSPs as they were.
+  module _ (after : State) (keeps : Keeps touched s after) (key : Key) (apart : touched key ≡ false) where
+    -- their reservations stand as they stood
+    resv-stays : find key_cmp key (filter (stands after.facts) after.resvs) ≡ find key_cmp key s.resvs
+    resv-stays =
+        find-filter key_cmp key_total (stands after.facts) key (λ k v tied. ap (λ q. stands after.facts (q, v)) (sym (key_exact key k tied))) after.resvs keeps.resvs_in_order
+        ∙ ap (option_and_then (λ v. then_some (stands after.facts (key, v)) v)) (keeps.resvs key apart)
+        ∙ stood (find key_cmp key s.resvs) (find-all_row key_cmp key_exact (λ resv. stands s.facts resv ≡ true) key s.resvs is.standing)
+      where
+        alike : (v : ResvFact) → stands after.facts (key, v) ≡ stands s.facts (key, v)
+        alike v = λ i. is_up (keeps.up i) v.link && option_map_or (leaves_by v.link) (keeps.paths key apart i) false
+
+        stood : (o : Option ResvFact) → IfSome o (λ v. stands s.facts (key, v) ≡ true) → option_and_then (λ v. then_some (stands after.facts (key, v)) v) o ≡ o
+        stood None h = refl
+        stood (Some v) h = ap (λ b. then_some b v) (alike v ∙ h)
+
+    -- the paths that a label is for
+    abbrev ours : Key × PathFact → Bool
+    ours path = not (begins_here path.1.role)
+
+    -- what is labelled of the key, by its path
+    label-of : (rows : List (Key × PathFact)) → T (is_sorted key_cmp rows) → find key_cmp key (filter ours rows) ≡ option_and_then (λ path. then_some (ours (key, path)) path) (find key_cmp key rows)
+    label-of rows h = find-filter key_cmp key_total ours key (λ k v tied. refl) rows h
+
+    -- their labels stay
+    label-stays : (chosen : List (Key × ℕ)) → find key_cmp key (labels_after after.labels chosen after.facts.paths) ≡ find key_cmp key s.labels
+    unfolding labels_after
+    label-stays chosen =
+        ap (find key_cmp key) (rowed (filter ours after.facts.paths))
+        ∙ find-made key_cmp key_total key_exact given key (filter ours after.facts.paths) (is_sorted-filter key_cmp ours after.facts.paths keeps.paths_in_order)
+        ∙ ap (option_and_then (λ path. given (key, path))) (label-of after.facts.paths keeps.paths_in_order ∙ ap (option_and_then (λ path. then_some (ours (key, path)) path)) (keeps.paths key apart) ∙ sym (label-of s.facts.paths is.paths.paths.in_order))
+        ∙ by (find key_cmp key (filter ours s.facts.paths)) (find key_cmp key s.labels) (ap (find key_cmp key) keeps.labels) (is_some-find_both key_cmp key s.labels (filter ours s.facts.paths) is.labels.of_lsps)
+      where
+        given : Key × PathFact → Option ℕ
+        given path = option_or (find key_cmp path.0 after.labels) (find key_cmp path.0 chosen)
+
+        rowed : (rows : List (Key × PathFact)) → filter_map {Y = Key × ℕ} (λ k. option_map (λ label. (k, label)) (option_or (find key_cmp k after.labels) (find key_cmp k chosen))) (keys_of rows) ≡ filter_map {Y = Key × ℕ} (λ row. option_map (λ label. (row.0, label)) (given row)) rows
+        rowed [] = refl
+        rowed (row ∷ rows) = ap (cons_option (option_map (λ label. (row.0, label)) (given row))) (rowed rows)
+
+        by : (path : Option PathFact) (label : Option ℕ) → find key_cmp key after.labels ≡ label → is_some label ≡ is_some path → option_and_then (λ path. given (key, path)) path ≡ label
+        by None label was same = sym (none-is label same)
+        by (Some path) None was same = absurd (let e = same in cc)
+        by (Some path) (Some label) was same = ap (λ o. option_or o (find key_cmp key chosen)) was
+
+  -- so a step does
+  step-keeps : (o : Outcome) (chosen : List (Key × ℕ)) → Keeps touched s o.after → IsLeft touched s (known_after r s chosen o)
+  step-keeps o chosen keeps = by o.is_silent
+    where
+      by : (silent : Bool) → IsLeft touched s (if silent then o.after else with_moments r s o (settled r chosen o.after))
+      by true = record { up = keeps.up; paths = keeps.paths; resvs = keeps.resvs; labels = λ key apart. ap (find key_cmp key) keeps.labels }
+      by false = record { up = keeps.up; paths = keeps.paths; resvs = resv-stays o.after keeps; labels = λ key apart. label-stays o.after keeps key apart chosen }
+
+-- In a step of a message the LSPs that it doesn't touch have the path, the reservation and the label that they had, and
+-- the same links are up.
+pub left-message : (r : Router) (before after : State) (made : Made) (arrived : Arrive) → IsSound r before → Step r before made after → made.event ≡ events.Arrive arrived
+    → IsLeft (is_among (touched_by r before arrived)) before after
+left-message r before after made arrived is step event =
+    let touched = is_among (touched_by r before arrived) in
+    subst (IsLeft touched before) (sym (led r before after made (events.Arrive arrived) (arrival r before arrived) step event refl))
+    (step-keeps r touched before is (arrival r before arrived) made.labels (arrival-keeps r touched before is arrived (λ key apart. apart)))

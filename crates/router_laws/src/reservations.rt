@@ -1,0 +1,78 @@
+//! What becomes of reservations, step by step. Each law is the contract of a function that does nothing.
+
+ghost use Rattle.std.specs.FinMap.Entries.{find, is_sorted};
+ghost use Rattle.std.specs.Prelude.{◌≡◌, ◌≢◌, ◌≤◌, ℕ, All, [], Some, T, false, length, true};
+ghost use Rattle.rsvp_contents.specs.declared.messages.Content.TheVariants as contents;
+ghost use Rattle.rsvp_contents.specs.declared.messages.Resv.{Resv};
+ghost use Rattle.rsvp_flows.specs.declared.descriptors.FlowDescriptor.{FlowDescriptor};
+ghost use Rattle.lsr_facts.specs.Lifetimes.{lives_on};
+ghost use Rattle.lsr_facts.specs.Orders.{key_cmp};
+ghost use Rattle.lsr_facts.specs.declared.path_fact.PathFact.{PathFact};
+ghost use Rattle.resv_facts.specs.Reservations.{lives_past, style_of};
+ghost use Rattle.resv_facts.specs.Upstreams.{upstream_cmp};
+ghost use Rattle.resv_facts.specs.declared.resv_fact.ResvFact.{ResvFact};
+ghost use Rattle.resv_facts.specs.declared.resv_fact.ResvStyle.{ResvStyle};
+ghost use Rattle.router_laws.specs.TouchedBy.{touched_by};
+ghost use Rattle.abstract_router.specs.Reserving.{Granted, Progress, Verdict, carried_on, key_in, resv_by};
+ghost use Rattle.lsr_facts.specs.declared.key.Key.{Key};
+ghost use Rattle.lsr_facts.specs.declared.reply.Reply.TheVariants as replies;
+ghost use Rattle.lsr_facts.specs.declared.router.Router.{Router};
+ghost use Rattle.router_events.specs.Arrivals.{comes};
+ghost use Rattle.router_events.specs.declared.ways.Arrive.{Arrive};
+ghost use Rattle.router_events.specs.declared.events.Event.TheVariants as events;
+ghost use Rattle.router_events.specs.declared.events.Made.{Made};
+ghost use Rattle.abstract_router.specs.Soundness.{IsSound};
+ghost use Rattle.abstract_router.specs.States.{State, is_among};
+ghost use Rattle.abstract_router.specs.Steps.{Step};
+ghost use Rattle.abstract_router.specs.Upstreams.{upstream_of};
+
+/// A moment takes no reservation that was refreshed in time: where its expiry is above the moment, and its path lives
+/// on, it stands as it was.
+pub fn refreshed_reservations_stay()
+    ensures { (r : Router) (before after : State) (made : Made) (n : ℕ) (key : Key) (resv : ResvFact) (path : PathFact) →
+        IsSound r before → Step r before made after → made.event ≡ events.Tick n → made.reply ≡ replies.Done →
+        find key_cmp key before.resvs ≡ Some resv → lives_past n resv ≡ true →
+        find key_cmp key before.facts.paths ≡ Some path → lives_on n (key, path) ≡ true →
+        find key_cmp key after.resvs ≡ Some resv }
+{}
+
+/// A descriptor that is in error, or passed over, changes nothing that is known: an old reservation of its LSP stays as
+/// it was, and so do all others.
+pub fn refused_descriptors_change_nothing()
+    ensures { (r : Router) (link : ℕ) (v : Resv) (d : FlowDescriptor) (fact : ResvFact) (progress : Progress) (verdict : Verdict) →
+        verdict ≢ Granted → (carried_on r link v d fact progress verdict).state ≡ progress.state }
+{}
+
+/// In a step of a message every LSP but those that the message touches has the path, the reservation and the label that
+/// it had; and the same links are up. A Path or a PathTear touches its own LSP; a Resv those of the descriptors that
+/// are granted, and those that give way to them; a ResvTear those of its filters; a PathErr or a ResvErr none.
+pub fn a_message_touches_its_own_lsps()
+    ensures others { (r : Router) (before after : State) (made : Made) (arrived : Arrive) (key : Key) →
+        IsSound r before → Step r before made after → made.event ≡ events.Arrive arrived →
+        is_among (touched_by r before arrived) key ≡ false →
+        (find key_cmp key after.facts.paths ≡ find key_cmp key before.facts.paths)
+        × (find key_cmp key after.resvs ≡ find key_cmp key before.resvs)
+        × (find key_cmp key after.labels ≡ find key_cmp key before.labels) }
+    ensures links { (r : Router) (before after : State) (made : Made) (arrived : Arrive) →
+        IsSound r before → Step r before made after → made.event ≡ events.Arrive arrived →
+        after.facts.up ≡ before.facts.up }
+{}
+
+/// A Resv that asks for just what is reserved changes nothing, and nothing is sent for it: so one that comes once more
+/// at the same moment, while each of its LSPs has the very reservation that it asks for.
+pub fn repeated_reservations_are_silent()
+    ensures { (r : Router) (before after : State) (made : Made) (link : ℕ) (v : Resv) (style : ResvStyle) →
+        IsSound r before → Step r before made after →
+        made.event ≡ comes link (contents.Resv v) →
+        style_of v.style ≡ Some style →
+        All (λ d. find key_cmp (key_in v d) before.resvs ≡ Some (resv_by before.facts.moment link style v d))
+        v.descriptors →
+        (after ≡ before) × (made.outputs ≡ []) }
+{}
+
+/// The Resvs that a sound state wants at the neighbours upstream stand in order, and there are no more of them than
+/// paths.
+pub fn wanted_resvs_stand_in_order()
+    ensures in_order { (r : Router) (s : State) → IsSound r s → T (is_sorted upstream_cmp (upstream_of r s)) }
+    ensures few { (r : Router) (s : State) → IsSound r s → length (upstream_of r s) ≤ length s.facts.paths }
+{}

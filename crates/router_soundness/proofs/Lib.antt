@@ -1,0 +1,11 @@
+pub mod Choosing
+pub mod Claiming
+pub mod Drafting
+pub mod Entries
+pub mod Granting
+pub mod Holding
+pub mod Labelling
+pub mod Running
+pub mod Settling
+pub mod Silence
+pub mod Stepping

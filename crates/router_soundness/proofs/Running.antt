@@ -1,0 +1,42 @@
+-- A router is opened sound, and each step and each run keeps it so.
+use Rattle.std.specs.Prelude.{ℕ, List, [], ◌∷◌}
+use Rattle.std.specs.List.{IsDistinct}
+use Rattle.std.proofs.Common.{refl, sym, subst, arith}
+use Rattle.rsvp_routes.specs.declared.prefix.Prefix.{Prefix}
+use Rattle.lsr_facts.specs.Routers.{AreRoutes, IsRouter}
+use Rattle.lsr_facts.specs.declared.router.Router.{Router}
+use Rattle.router_events.specs.declared.events.Made.{Made}
+use Rattle.resv_facts.specs.Claims.{rate_of_all, reserved_of}
+use Rattle.abstract_paths.proofs.Primitives.{opening_stands}
+use Rattle.abstract_router.specs.Lsps.{lsps_of}
+use Rattle.abstract_router.specs.Wanted.{items_of}
+use Rattle.router_soundness.proofs.Drafting.{outcome-leaves}
+use Rattle.router_soundness.proofs.Settling.{sound_after}
+use Rattle.abstract_router.specs.Arrivals.{outcome}
+use Rattle.abstract_router.specs.Preempting.{claims_of}
+use Rattle.abstract_router.specs.Soundness.{IsSound}
+use Rattle.abstract_router.specs.States.{State}
+use Rattle.abstract_router.specs.Steps.{Run, Step, opening}
+use Rattle.abstract_router.specs.Upstreams.{upstream_of}
+
+-- A router is opened sound.
+pub sound_opening : (r : Router) (routes : List (Prefix × ℕ)) → IsRouter r → AreRoutes r routes → IsSound r (opening r routes)
+unfolding claims_of reserved_of rate_of_all items_of upstream_of lsps_of IsDistinct
+sound_opening r routes router are = record {
+  paths = opening_stands r routes are;
+  held = record { in_order = tt; each = tt; one_style = λ a b x y at_a at_b. absurd (let e = at_a in cc); within = λ link priority most. omega arith };
+  standing = tt;
+  labels = record { of_lsps = refl; from_first = tt; to_last = tt; apart = tt };
+  sent = refl;
+  sent_upstream = refl;
+}
+
+-- A step keeps it so.
+pub sound_step : (r : Router) (before : State) (made : Made) (after : State) → IsRouter r → IsSound r before → Step r before made after → IsSound r after
+sound_step r before made after router is step =
+    subst (IsSound r) (sym step.changed) (sound_after r before (outcome r before made.event) made.labels is.labels (outcome-leaves r before made.event router is step.possible step.awake) step.chosen)
+
+-- So do steps, one after the other.
+pub sound_run : (r : Router) (before : State) (run : List Made) (after : State) → IsRouter r → IsSound r before → Run r before run after → IsSound r after
+sound_run r before [] after router is run = subst (IsSound r) (sym run) is
+sound_run r before (made ∷ more) after router is run = sound_run r run.0 more after router (sound_step r before made run.0 router is run.1) run.2

@@ -1,0 +1,64 @@
+-- What follows from an event's own change makes the state sound again.
+use Rattle.std.specs.Prelude.{◌≡◌, ℕ, Bool, true, false, if◌then◌else◌, List}
+use Rattle.sorted_rows.specs.ListLaws.{all-filter_passes}
+use Rattle.sorted_rows.specs.Rows.{keys_of}
+use Rattle.lsr_facts.specs.declared.key.Key.{Key}
+use Rattle.lsr_facts.specs.declared.router.Router.{Router}
+use Rattle.abstract_paths.proofs.Primitives.{sound_sent}
+use Rattle.abstract_paths.specs.StampLaws.{keys-stamps}
+use Rattle.resv_facts.specs.Upstreams.{upstream_cmp}
+use Rattle.router_soundness.proofs.Holding.{held_where}
+use Rattle.router_soundness.proofs.Labelling.{labelled_after}
+use Rattle.abstract_router.specs.Upstreams.{upstream_of}
+use Rattle.abstract_router.specs.Labels.{IsLabelling}
+use Rattle.abstract_router.specs.Outcomes.{Outcome}
+use Rattle.abstract_router.specs.Choosing.{CanLabel}
+use Rattle.abstract_router.specs.Lsps.{lsps_of}
+use Rattle.router_soundness.specs.Drafted.{IsDrafted}
+use Rattle.abstract_router.specs.Outputs.{item_stamps, upstream_stamps}
+use Rattle.abstract_router.specs.Wanted.{items_of}
+use Rattle.lsr_facts.specs.Orders.{item_cmp}
+use Rattle.abstract_router.specs.Soundness.{AreHeld, AreLabelled, IsSound}
+use Rattle.abstract_router.specs.States.{State}
+use Rattle.abstract_router.specs.Steps.{settled, stands, with_moments, known_after, MayChoose, MayChooseBy}
+
+-- an outcome leaves the state sound, or such that what follows makes it so
+abbrev pub LeavesBy : Router → State → Bool → State → Type 0
+LeavesBy r before true after = IsSound r after
+LeavesBy r before false after = IsDrafted r before after
+
+abbrev pub Leaves : Router → State → Outcome → Type 0
+Leaves r before o = LeavesBy r before o.is_silent o.after
+
+-- exactly the Paths and the Resvs that are wanted have a moment
+stamped_items : (r : Router) (before : State) (o : Outcome) (s : State) → keys_of (item_stamps r before o.due s) ≡ keys_of (items_of r (with_moments r before o s))
+unfolding item_stamps items_of lsps_of
+stamped_items r before o s = keys-stamps item_cmp o.due (items_of r before) before.facts.sent s.facts.moment (items_of r s)
+
+stamped_upstream : (r : Router) (before : State) (o : Outcome) (s : State) → keys_of (upstream_stamps r before o.upstream_due s) ≡ keys_of (upstream_of r (with_moments r before o s))
+unfolding upstream_stamps upstream_of lsps_of
+stamped_upstream r before o s = keys-stamps upstream_cmp o.upstream_due (upstream_of r before) before.sent_upstream s.facts.moment (upstream_of r s)
+
+-- The state is sound once all that follows has been done.
+pub sound_settled : (r : Router) (before : State) (o : Outcome) (chosen : List (Key × ℕ)) → AreLabelled r before → IsDrafted r before o.after → IsLabelling r before.labels o.after.facts.paths chosen
+    → IsSound r (with_moments r before o (settled r chosen o.after))
+sound_settled r before o chosen were drafted may =
+    let standing = held_where r o.after (stands o.after.facts) drafted.held in
+    let labels = labelled_after r before o.after chosen were drafted.labels drafted.paths.paths.in_order may in
+    record {
+      paths = sound_sent r o.after.facts (item_stamps r before o.due (settled r chosen o.after)) drafted.paths;
+      held = record { in_order = standing.in_order; each = standing.each; one_style = standing.one_style; within = standing.within };
+      standing = all-filter_passes (λ resv. stands o.after.facts resv ≡ true) (stands o.after.facts) (λ resv passes. passes) o.after.resvs;
+      labels = record { of_lsps = labels.of_lsps; from_first = labels.from_first; to_last = labels.to_last; apart = labels.apart };
+      sent = stamped_items r before o (settled r chosen o.after);
+      sent_upstream = stamped_upstream r before o (settled r chosen o.after);
+    }
+
+-- What is known after a step is sound, where the event leaves the state so.
+pub sound_after : (r : Router) (before : State) (o : Outcome) (chosen : List (Key × ℕ)) → AreLabelled r before → Leaves r before o → MayChoose r before o chosen → IsSound r (known_after r before chosen o)
+sound_after r before o chosen were = by o.is_silent
+  where
+    by : (silent : Bool) → LeavesBy r before silent o.after → MayChooseBy silent r before.labels o.after.facts.paths chosen
+        → IsSound r (if silent then o.after else with_moments r before o (settled r chosen o.after))
+    by true h may = h
+    by false h may = sound_settled r before o chosen were h may

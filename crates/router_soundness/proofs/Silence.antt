@@ -1,0 +1,162 @@
+-- An event that is silent changes nothing, but for a restart, and a start of a router that is cold.
+use Rattle.router_soundness.proofs.Drafting.{puts_path}
+use Rattle.abstract_router.specs.Arrivals.{arrival, arrival_by, for_reservations, is_done, labelled_path_arrival, message_arrival, moment_comes, outcome, reading_arrival}
+use Rattle.abstract_router.specs.Errors.{unknown_style}
+use Rattle.abstract_router.specs.Labels.{has_free_label}
+use Rattle.abstract_router.specs.Outcomes.{Outcome, of_paths, refused}
+use Rattle.abstract_router.specs.Reserving.{Progress, all_descriptors, resv_arrival, resv_failed, resv_replied, unknown_resv}
+use Rattle.abstract_router.specs.States.{State, with_facts}
+use Rattle.abstract_router.specs.Tearing.{err_onward, is_torn_by as is_resv_torn_by, passed_on as err_passed_on, resv_err_arrival, resv_tear_arrival}
+use Rattle.abstract_paths.specs.Links.{link_change}
+use Rattle.abstract_paths.specs.Outcomes as path_outcomes
+use Rattle.abstract_paths.specs.Outcomes.{lsp}
+use Rattle.abstract_paths.specs.Paths.{key_of, path_arrival}
+use Rattle.abstract_paths.specs.Places.{is_up, place_of}
+use Rattle.abstract_paths.specs.Relays.{relay, relayed_by}
+use Rattle.abstract_paths.specs.Routing.{route_to}
+use Rattle.abstract_paths.specs.Tears.{is_torn_by, leaves_by, passed_on, path_err_arrival, path_tear_arrival, torn}
+use Rattle.abstract_paths.specs.Time.{tick}
+use Rattle.lsr_facts.specs.Orders.{key_cmp}
+use Rattle.lsr_facts.specs.Routers.{link_at}
+use Rattle.lsr_facts.specs.declared.errors.RsvpError.{RsvpError}
+use Rattle.lsr_facts.specs.declared.facts.Facts.{Facts}
+use Rattle.lsr_facts.specs.declared.path_fact.PathFact.{PathFact}
+use Rattle.lsr_facts.specs.declared.refusal.Refusal.TheVariants.{LinkDown, NoMatch, UnknownLink}
+use Rattle.lsr_facts.specs.declared.router.Router.{Router}
+use Rattle.resv_facts.specs.Reservations.{style_of}
+use Rattle.resv_facts.specs.declared.resv_fact.ResvStyle.{ResvStyle}
+use Rattle.router_events.specs.declared.ways.ArrivalWay.{ArrivalWay}
+use Rattle.router_events.specs.declared.ways.ArrivalWay.TheVariants as ways
+use Rattle.router_events.specs.declared.ways.Arrive.{Arrive}
+use Rattle.router_events.specs.declared.ways.Relay.{Relay}
+use Rattle.router_events.specs.declared.events.Event.TheVariants as events
+use Rattle.router_events.specs.declared.events.Event.{Event}
+use Rattle.router_events.specs.declared.events.Output.{Output}
+use Rattle.rsvp_contents.specs.declared.message.Reading.TheVariants as readings
+use Rattle.rsvp_contents.specs.declared.message.Reading.{Reading}
+use Rattle.rsvp_contents.specs.declared.messages.Content.TheVariants as contents
+use Rattle.rsvp_contents.specs.declared.messages.Content.{Content}
+use Rattle.rsvp_contents.specs.declared.messages.Path.{Path}
+use Rattle.rsvp_contents.specs.declared.messages.PathErr.{PathErr}
+use Rattle.rsvp_contents.specs.declared.messages.PathTear.{PathTear}
+use Rattle.rsvp_contents.specs.declared.messages.Resv.{Resv}
+use Rattle.rsvp_contents.specs.declared.messages.ResvErr.{ResvErr}
+use Rattle.rsvp_contents.specs.declared.messages.ResvTear.{ResvTear}
+use Rattle.std.proofs.Common.{ap, refl, sym, ◌∙◌}
+use Rattle.std.proofs.lemmas.Bool.{cond_both}
+use Rattle.std.specs.FinMap.Entries.{find}
+use Rattle.std.specs.List.{list_any}
+use Rattle.std.specs.Option.{option_map_or}
+use Rattle.std.specs.Prelude.{ℕ, Bool, List, None, Option, Some, [], false, filter_map, is_none, nat_lt, not, true, ◌&&◌, ◌^◌, ◌∷◌, ◌≡◌, ◌≢◌}
+
+-- an outcome that is silent leaves the state as it was
+abbrev pub KeepsSilently : State → Outcome → Type 0
+KeepsSilently s o = o.is_silent ≡ true → o.after ≡ s
+
+-- so it is with paths
+abbrev PathsKeep : Facts → path_outcomes.Outcome → Type 0
+PathsKeep s o = o.is_silent ≡ true → o.after ≡ s
+
+torn-keeps : (s : Facts) (link : ℕ) (t : PathTear) (known : Option PathFact) → PathsKeep s (torn s link t known)
+torn-keeps s link t None = λ silent. refl
+torn-keeps s link t (Some fact) = cond_both (is_torn_by link t fact) _ _ (PathsKeep s) (λ gone silent. absurd (let e = silent in cc)) (λ other silent. refl)
+
+err-keeps : (s : Facts) (link : ℕ) (e : PathErr) (known : Option PathFact) → PathsKeep s (passed_on s link e known)
+err-keeps s link e None = λ silent. refl
+err-keeps s link e (Some fact) = cond_both (leaves_by link fact) _ _ (PathsKeep s) (λ goes silent. absurd (let e = silent in cc)) (λ other silent. refl)
+
+link-keeps : (r : Router) (s : Facts) (number : ℕ) (up : Bool) → PathsKeep s (link_change r s number up)
+unfolding link_change
+link-keeps r s number up = cond_both (is_none (link_at r number)) _ _ (PathsKeep s) (λ unknown silent. refl) (λ known silent. absurd (let e = silent in cc))
+
+module _ (r : Router) (s : State) where
+  -- what the router of paths does
+  of_paths-keeps : (o : path_outcomes.Outcome) → PathsKeep s.facts o → KeepsSilently s (of_paths s o)
+  of_paths-keeps o keeps silent = ap (λ facts. with_facts facts s) (keeps silent)
+
+  path-keeps : (link : ℕ) (p : Path) → KeepsSilently s (labelled_path_arrival r s link p)
+  unfolding labelled_path_arrival
+  path-keeps link p =
+      cond_both (is_done (path_arrival r s.facts link p).reply && is_none (find key_cmp (key_of p) s.facts.paths) && not (has_free_label r s.labels)) _ _ (KeepsSilently s)
+      (λ full silent. absurd (let e = silent in cc)) (λ room silent. absurd (let e = sym (puts_path r s.facts link p).0 ∙ silent in cc))
+
+  resv-keeps : (link : ℕ) (v : Resv) → KeepsSilently s (resv_arrival r s link v)
+  unfolding resv_arrival
+  resv-keeps link v = by_style (style_of v.style)
+    where
+      by_first : (progress : Progress) (first : Option RsvpError) → KeepsSilently s (resv_replied s progress first)
+      by_first progress (Some e) = λ silent. absurd (let f = silent in cc)
+      by_first progress None = cond_both progress.has_granted _ (refused s NoMatch) (KeepsSilently s) (λ some silent. absurd (let f = silent in cc)) (λ none silent. refl)
+
+      by_style : (style : Option ResvStyle) → KeepsSilently s (option_map_or (λ style. let progress = all_descriptors r s link style v in resv_replied s progress progress.first) style (resv_failed r s link v false [] unknown_style))
+      by_style None = λ silent. absurd (let f = silent in cc)
+      by_style (Some style) = by_first (all_descriptors r s link style v) (all_descriptors r s link style v).first
+
+  resv_tear-keeps : (link : ℕ) (t : ResvTear) → KeepsSilently s (resv_tear_arrival s link t)
+  unfolding resv_tear_arrival
+  resv_tear-keeps link t = cond_both (list_any (is_resv_torn_by link t) s.resvs) _ (refused s NoMatch) (KeepsSilently s) (λ some silent. absurd (let f = silent in cc)) (λ none silent. refl)
+
+  resv_err-keeps : (link : ℕ) (e : ResvErr) → KeepsSilently s (resv_err_arrival r s link e)
+  unfolding resv_err_arrival
+  resv_err-keeps link e = by (filter_map (err_onward r s link e) e.descriptors)
+    where
+      by : (matched : List (List Output)) → KeepsSilently s (err_passed_on s matched)
+      by [] = λ silent. refl
+      by (one ∷ more) = λ silent. absurd (let f = silent in cc)
+
+  message-keeps : (link : ℕ) (content : Content) → KeepsSilently s (message_arrival r s link content)
+  unfolding path_err_arrival path_tear_arrival
+  message-keeps link (contents.Path p) = path-keeps link p
+  message-keeps link (contents.Resv v) = resv-keeps link v
+  message-keeps link (contents.PathErr e) = of_paths-keeps (path_err_arrival s.facts link e) (err-keeps s.facts link e (find key_cmp (lsp e.session e.sender) s.facts.paths))
+  message-keeps link (contents.ResvErr e) = resv_err-keeps link e
+  message-keeps link (contents.PathTear t) = of_paths-keeps (path_tear_arrival s.facts link t) (torn-keeps s.facts link t (find key_cmp (lsp t.session t.sender) s.facts.paths))
+  message-keeps link (contents.ResvTear t) = resv_tear-keeps link t
+
+  reading-keeps : (link : ℕ) (reading : Reading) → KeepsSilently s (reading_arrival r s link reading)
+  unfolding unknown_resv
+  reading-keeps link (readings.Whole content) = message-keeps link content
+  reading-keeps link (readings.Unknown (contents.Path p) class ctype) = λ silent. absurd (let f = silent in cc)
+  reading-keeps link (readings.Unknown (contents.Resv v) class ctype) = λ silent. absurd (let f = silent in cc)
+  reading-keeps link (readings.Unknown (contents.PathErr e) class ctype) = message-keeps link (contents.PathErr e)
+  reading-keeps link (readings.Unknown (contents.ResvErr e) class ctype) = message-keeps link (contents.ResvErr e)
+  reading-keeps link (readings.Unknown (contents.PathTear t) class ctype) = message-keeps link (contents.PathTear t)
+  reading-keeps link (readings.Unknown (contents.ResvTear t) class ctype) = message-keeps link (contents.ResvTear t)
+
+  way-keeps : (way : ArrivalWay) (link : ℕ) (reading : Reading) → KeepsSilently s (arrival_by r s way link reading)
+  way-keeps ways.Hop link reading = reading-keeps link reading
+  way-keeps ways.Stack link reading = λ silent. refl
+  way-keeps ways.Routed link reading = λ silent. refl
+
+  relay-keeps : (m : Relay) → KeepsSilently s (of_paths s (relay r s.facts m))
+  unfolding relay
+  relay-keeps m =
+      cond_both (is_none (link_at r m.link)) _ _ (λ o. KeepsSilently s (of_paths s o)) (λ none silent. refl)
+      (λ there. cond_both (not (is_up s.facts.up m.link)) _ _ (λ o. KeepsSilently s (of_paths s o)) (λ down silent. refl)
+      (λ up. by (route_to (place_of r s.facts) m.to)))
+    where
+      by : (way : Option ℕ) → KeepsSilently s (of_paths s (option_map_or (λ link. path_outcomes.done (relayed_by m link ∷ []) s.facts) way (path_outcomes.refused s.facts NoMatch)))
+      by None = λ silent. refl
+      by (Some link) = λ silent. absurd (let f = silent in cc)
+
+  arrival-keeps : (a : Arrive) → KeepsSilently s (arrival r s a)
+  unfolding arrival
+  arrival-keeps a =
+      cond_both (is_none (link_at r a.link)) (refused s UnknownLink) _ (KeepsSilently s) (λ none silent. refl)
+      (λ there. cond_both (not (is_up s.facts.up a.link)) (refused s LinkDown) _ (KeepsSilently s) (λ down silent. refl) (λ up. way-keeps a.way a.link a.reading))
+
+  tick-keeps : (n : ℕ) → KeepsSilently s (moment_comes r s n)
+  unfolding moment_comes tick
+  tick-keeps n =
+      cond_both (nat_lt (2 ^ 62) n) _ _ (λ o. KeepsSilently s (for_reservations r s n (of_paths s o))) (λ above silent. refl)
+      (λ most. cond_both (nat_lt n s.facts.moment) _ _ (λ o. KeepsSilently s (for_reservations r s n (of_paths s o))) (λ below silent. refl) (λ later silent. absurd (let f = silent in cc)))
+
+  -- A silent event leaves a running router as it was, but for a restart.
+  pub silent_keeps : (event : Event) → s.facts.cold ≡ false → event ≢ events.Restart → KeepsSilently s (outcome r s event)
+  silent_keeps (events.Arrive a) runs other = arrival-keeps a
+  silent_keeps (events.Relay m) runs other = relay-keeps m
+  silent_keeps (events.Tick n) runs other = tick-keeps n
+  silent_keeps (events.LinkUp number) runs other = of_paths-keeps (link_change r s.facts number true) (link-keeps r s.facts number true)
+  silent_keeps (events.LinkDown number) runs other = of_paths-keeps (link_change r s.facts number false) (link-keeps r s.facts number false)
+  silent_keeps events.Restart runs other = absurd (other refl)
+  silent_keeps events.Start runs other = λ silent. ap (λ cold. with_facts (record s.facts { cold = cold }) s) (sym runs)

@@ -1,0 +1,59 @@
+//! What holds of each step of the abstract router, and of its label table.
+
+ghost use Rattle.std.specs.Prelude.{◌≡◌, ℕ, List, [], Some, false, true};
+ghost use Rattle.lsr_facts.specs.Routers.{IsRouter};
+ghost use Rattle.lsr_facts.specs.declared.key.Key.{Key};
+ghost use Rattle.lsr_facts.specs.declared.refusal.Refusal.{Refusal};
+ghost use Rattle.lsr_facts.specs.declared.reply.Reply.TheVariants as replies;
+ghost use Rattle.lsr_facts.specs.declared.router.Router.{Router};
+ghost use Rattle.forwarding_table.specs.declared.action.Action.{Action};
+ghost use Rattle.router_events.specs.declared.events.Event.{Event};
+ghost use Rattle.router_events.specs.declared.events.Event.TheVariants as events;
+ghost use Rattle.router_events.specs.declared.events.Made.{Made};
+ghost use Rattle.abstract_paths.specs.Relays.{exceeds_hop_limit};
+ghost use Rattle.abstract_router.specs.Steps.{IsEvent};
+ghost use Rattle.abstract_router.specs.Arrivals.{outcome};
+ghost use Rattle.abstract_router.specs.Soundness.{IsSound};
+ghost use Rattle.abstract_router.specs.States.{State};
+ghost use Rattle.abstract_router.specs.Steps.{MayChoose, Step};
+ghost use Rattle.abstract_router.specs.Tables.{IsEntry, look};
+
+/// A step is determined by the state, the event and the labels that are chosen: its reply, what is sent, and what is
+/// known after it.
+pub fn one_step()
+    ensures { (r : Router) (before a b : State) (one other : Made) →
+        one.event ≡ other.event → one.labels ≡ other.labels →
+        Step r before one a → Step r before other b → (one ≡ other) × (a ≡ b) }
+{}
+
+/// A running router has a step for each event that can be, but for a message for another router whose limit ran out;
+/// whichever labels are chosen for it that may be; and in a sound state some may: where a step makes an LSP that needs a
+/// label, one is free. A cold router has no step but its start.
+pub fn running_routers_take_every_event()
+    ensures any { (r : Router) (before : State) (event : Event) (labels : List (Key × ℕ)) →
+        before.facts.cold ≡ false → IsEvent event → exceeds_hop_limit r before.facts event ≡ false →
+        MayChoose r before (outcome r before event) labels →
+        (made : Made) × (made.event ≡ event) × (made.labels ≡ labels)
+        × (after : State) × Step r before made after }
+    ensures some { (r : Router) (before : State) (event : Event) →
+        IsRouter r → IsSound r before → IsEvent event → (before.facts.cold ≡ true → event ≡ events.Start) →
+        (labels : List (Key × ℕ)) × MayChoose r before (outcome r before event) labels }
+    ensures limit { (r : Router) (before : State) (made : Made) (after : State) →
+        Step r before made after → exceeds_hop_limit r before.facts made.event ≡ false }
+    ensures cold { (r : Router) (before : State) (made : Made) (after : State) →
+        before.facts.cold ≡ true → Step r before made after → made.event ≡ events.Start }
+{}
+
+/// What is refused changes nothing, and nothing is sent for it.
+pub fn refusals_are_silent()
+    ensures { (r : Router) (before : State) (made : Made) (after : State) (refusal : Refusal) →
+        Step r before made after → made.reply ≡ replies.Refused refusal →
+        (made.outputs ≡ []) × (after ≡ before) }
+{}
+
+/// Each entry of the label table stands on a path that is known: on one that ends here, or on a live reservation
+/// whose link is up.
+pub fn entries_stand_on_live_state()
+    ensures { (r : Router) (s : State) (label : ℕ) (action : Action) →
+        IsSound r s → look s label ≡ Some action → IsEntry s label action }
+{}

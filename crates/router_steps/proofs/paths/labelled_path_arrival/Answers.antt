@@ -1,0 +1,21 @@
+use Rattle.std.proofs.Common.{IfOk, subst, sym, ◌∙◌}
+use Rattle.abstract_router.specs.Outcomes.{Outcome}
+use Rattle.state_views.specs.Drafts.{IsDraft}
+use Rattle.router_steps.proofs.Labelling.{with_label, without_label}
+use Rattle.router_steps.proofs.paths.labelled_path_arrival.Goals as goal
+
+pub returns-then-lacks_label-clause-draft : goal.returns-then-lacks_label-clause-draft
+returns-then-lacks_label-clause-draft g c =
+    let r = g.V.StateView.router c.args.view.now in
+    let s = g.V.StateView.state c.args.view.now in
+    subst (λ (o : Outcome). IfOk c.failed.result (λ draft. IsDraft draft o r s))
+    (without_label r s c.args.link c.args.path.now c.in_ok-draft.draft.reply c.in_ok-draft.ensures.reply (sym c.lacks_label.ensures ∙ c.if-lacks_label.true))
+    c.failed.ensures
+
+pub returns-clause-draft : goal.returns-clause-draft
+returns-clause-draft g c =
+    let r = g.V.StateView.router c.args.view.now in
+    let s = g.V.StateView.state c.args.view.now in
+    subst (λ (o : Outcome). IsDraft c.in_ok-draft.draft o r s)
+    (with_label r s c.args.link c.args.path.now c.in_ok-draft.draft.reply c.in_ok-draft.ensures.reply (sym c.lacks_label.ensures ∙ c.if-lacks_label.false))
+    c.in_ok-draft.ensures

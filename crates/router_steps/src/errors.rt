@@ -1,0 +1,135 @@
+//! What a ResvErr does (RFC 2205, 3.1.8).
+
+ghost use Rattle.std.specs.List.{flat_map, list_any};
+ghost use Rattle.std.specs.Option.{option_map};
+ghost use Rattle.std.specs.Prelude.{◌≡◌, ◌∷◌, [], IfOk, OnErr, false, filter_map, is_some, map, true};
+ghost use Rattle.rsvp_contents.specs.Spelling.{IsMessage};
+ghost use Rattle.rsvp_contents.specs.declared.messages.Content.TheVariants as contents;
+ghost use Rattle.resv_arrivals.specs.Below.rules.Rooms.{HaveRoom};
+ghost use Rattle.abstract_router.specs.Outcomes.{listed};
+ghost use Rattle.abstract_router.specs.Tearing.{err_onward, is_from_origin, resv_err_arrival};
+ghost use Rattle.state_views.specs.Drafts.{IsDraft};
+
+use lsr_facts::{PathFact, Refusal, Reply};
+use path_rules::{goes_on, is_from, lsp};
+use resv_arrivals::{resv_err_leaves_room, told_downstream};
+use router_events::{Output, Outputs};
+use rsvp_contents::ResvErr;
+use rsvp_flows::ErrorDescriptor;
+use state_views::{Draft, Edits, StateView, refused};
+use std::alloc::{AllocError, Global};
+
+/// Whether the path came from the neighbour that sent the ResvErr over a link. The interface handle doesn't count.
+fn is_from_origin(link: u16, error: &ResvErr, path: &PathFact) -> bool
+    ensures { result ≡ is_from_origin link error.now path.now }
+{
+    path.origins
+        .as_slice()
+        .iter()
+        .any(|origin| is_from(link, error.hop.address, &origin.1))
+}
+
+/// What comes of a descriptor of a ResvErr: `None` where it matches nothing here; else the ResvErr that goes on for its
+/// LSP, if one does.
+fn err_onward<V: StateView>(
+    alloc: Global,
+    view: &V,
+    link: u16,
+    error: &ResvErr,
+    descriptor: &ErrorDescriptor,
+) -> Result<Option<Option<Output>>, AllocError>
+    requires { HaveRoom (descriptor.now ∷ []) }
+    ensures told { IfOk result (λ told. option_map listed told ≡ err_onward (V.router view.now)
+        (V.state view.now) link error.now descriptor.now) }
+    ensures memory { OnErr result (is_some (err_onward (V.router view.now)
+        (V.state view.now) link error.now descriptor.now) ≡ true) }
+{
+    let key = lsp(error.session, descriptor.filter);
+    let Some(path) = view.path(&key) else {
+        return Ok(None);
+    };
+    if !is_from_origin(link, error, path) {
+        return Ok(None);
+    }
+    if !goes_on(path.role) {
+        return Ok(Some(None));
+    }
+    let Some(resv) = view.resv(&key) else {
+        return Ok(None);
+    };
+    let router = view.node().router;
+    let named = Some(descriptor.clone()?);
+    let told = told_downstream(
+        alloc,
+        router,
+        resv.link,
+        error.session,
+        error.error,
+        error.style,
+        named,
+    )?;
+    Ok(Some(told))
+}
+
+/// What comes of the descriptors of a ResvErr, of each that matches something here.
+fn errs_onward<V: StateView>(
+    alloc: Global,
+    view: &V,
+    link: u16,
+    error: &ResvErr,
+) -> Result<Vec<Option<Output>>, AllocError>
+    requires { IsMessage (contents.ResvErr error.now) }
+    ensures told { IfOk result (λ told. map listed told.items ≡ filter_map (err_onward (V.router view.now)
+        (V.state view.now) link error.now) error.now.descriptors) }
+    ensures memory { OnErr result (list_any (λ d. is_some (err_onward (V.router view.now)
+        (V.state view.now) link error.now d)) error.now.descriptors ≡ true) }
+{
+    resv_err_leaves_room(error);
+    let mut onward = Vec::new(alloc);
+    for descriptor in error.descriptors.as_slice() {
+        if let Some(told) = err_onward(alloc, view, link, error, descriptor)? {
+            onward.push(told)?;
+        }
+    }
+    Ok(onward)
+}
+
+/// Those of the messages that go on.
+fn outputs_of(alloc: Global, told: Vec<Option<Output>>) -> Result<Outputs, AllocError>
+    ensures { IfOk result (λ outputs. outputs ≡ flat_map listed told.items) }
+{
+    let mut outputs = Outputs::new(alloc);
+    for one in told {
+        if let Some(output) = one {
+            outputs.push(output)?;
+        }
+    }
+    Ok(outputs)
+}
+
+/// What a ResvErr does, descriptor by descriptor. The only error is out of memory.
+pub(crate) fn resv_err_arrival<V: StateView>(
+    alloc: Global,
+    view: &V,
+    link: u16,
+    error: &ResvErr,
+) -> Result<Draft, AllocError>
+    requires { IsMessage (contents.ResvErr error.now) }
+    ensures draft { IfOk result (λ draft. IsDraft draft
+        (resv_err_arrival (V.router view.now) (V.state view.now) link error.now)
+        (V.router view.now) (V.state view.now)) }
+    ensures memory { OnErr result ((resv_err_arrival (V.router view.now)
+        (V.state view.now) link error.now).is_silent ≡ false) }
+{
+    let onward = errs_onward(alloc, view, link, error)?;
+    if onward.is_empty() {
+        return Ok(refused(alloc, view, Refusal::NoMatch));
+    }
+    Ok(Draft {
+        reply: Reply::Done,
+        errors: outputs_of(alloc, onward)?,
+        due: None,
+        is_silent: false,
+        edits: Edits::none(alloc),
+    })
+}

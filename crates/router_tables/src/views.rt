@@ -1,0 +1,129 @@
+//! The tables of a router as a view of what it knows.
+
+ghost use Rattle.std.specs.Prelude.{◌≡◌};
+ghost use Rattle.abstract_router.specs.Preempting.{limit_of};
+
+use crate::tables::Tables;
+use explicit_routes::link_at;
+use lsr_facts::{Item, Key, Node, PathFact};
+use resv_facts::{Claim, Request, ResvFact, ResvStyle, Upstream};
+use rsvp_objects::Session;
+use sorted_rows::Table;
+use state_views::{StateView, WholeState};
+use std::alloc::{AllocError, Global};
+
+impl StateView for Tables {
+    ghost router = { λ t. t.router };
+
+    ghost state = { λ t. t.state };
+
+    fn node(&self) -> Node<'_> {
+        Node {
+            router: &self.rows.router,
+            up: &self.rows.up,
+            routes: &self.rows.routes,
+        }
+    }
+
+    fn refresh_ms(&self) -> u32 {
+        self.rows.router.refresh_ms
+    }
+
+    fn moment(&self) -> u64 {
+        self.rows.moment
+    }
+
+    fn path(&self, key: &Key) -> Option<&PathFact> {
+        self.rows.paths.get(key)
+    }
+
+    fn resv(&self, key: &Key) -> Option<&ResvFact> {
+        self.rows.bandwidth.get(key)
+    }
+
+    fn label(&self, key: &Key) -> Option<u32> {
+        self.rows.labels.get(key)
+    }
+}
+
+impl Tables {
+    /// How much of a link may be reserved, in bytes per second: nothing of one that there isn't.
+    #[tactic(auto, unfolding(lsr_facts::specs::Routers::link_at))]
+    fn limit_of(&self, link: u16) -> u64
+        ensures { result ≡ limit_of self.now.router link }
+    {
+        match link_at(&self.rows.router, link) {
+            Some(link) => link.limit,
+            None => 0,
+        }
+    }
+}
+
+impl WholeState for Tables {
+    fn path_count(&self) -> usize {
+        self.rows.paths.len()
+    }
+
+    fn path_at(&self, place: usize) -> Option<&(Key, PathFact)> {
+        self.rows.paths.row(place)
+    }
+
+    fn resv_count(&self) -> usize {
+        self.rows.bandwidth.len()
+    }
+
+    fn resv_at(&self, place: usize) -> Option<&(Key, ResvFact)> {
+        self.rows.bandwidth.row(place)
+    }
+
+    fn sent_at(&self, item: &Item) -> Option<u64> {
+        self.rows.timers.sent_at(item)
+    }
+
+    fn sent_upstream_at(&self, item: &Upstream) -> Option<u64> {
+        self.rows.upstream.sent_at(item)
+    }
+
+    #[tactic(auto, unfolding(lsr_facts::specs::Lifetimes::due_items))]
+    fn due(&self, alloc: Global, moment: u64) -> Result<Vec<Item>, AllocError> {
+        self.rows.timers.due(alloc, moment)
+    }
+
+    fn due_upstream(&self, alloc: Global, moment: u64) -> Result<Vec<Upstream>, AllocError> {
+        self.rows.upstream.due(alloc, moment)
+    }
+
+    fn expiring_paths(&self, alloc: Global, moment: u64) -> Result<Vec<Key>, AllocError> {
+        self.rows.paths.expiring(alloc, moment)
+    }
+
+    fn expiring_resvs(&self, alloc: Global, moment: u64) -> Result<Vec<Key>, AllocError> {
+        self.rows.bandwidth.expiring(alloc, moment)
+    }
+
+    fn knows_session(&self, session: &Session) -> bool {
+        self.rows.paths.knows_session(session)
+    }
+
+    fn conflicting_style(&self, link: u16, style: ResvStyle, key: &Key) -> Option<ResvStyle> {
+        self.rows.bandwidth.conflicting_style(link, style, key)
+    }
+
+    fn fits(&self, request: &Request) -> bool {
+        let limit = self.limit_of(request.claim.link);
+        self.rows.bandwidth.fits_within(limit, request)
+    }
+
+    fn victims(&self, alloc: Global, request: &Request) -> Result<Vec<Key>, AllocError> {
+        let limit = self.limit_of(request.claim.link);
+        self.rows.bandwidth.victims_within(alloc, limit, request)
+    }
+
+    fn claims(&self, alloc: Global) -> Result<Table<Key, Claim>, AllocError> {
+        self.rows.bandwidth.claims_copied(alloc)
+    }
+
+    fn free_label(&self) -> Option<u32> {
+        self.rows.labels.free_label()
+    }
+}

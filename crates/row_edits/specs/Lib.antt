@@ -1,3 +1,0 @@
-pub mod EditLaws
-pub mod Edits
-pub mod InTurn

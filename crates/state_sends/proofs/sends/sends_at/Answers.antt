@@ -1,0 +1,84 @@
+-- What comes of the touched LSPs is all that is sent.
+use Rattle.std.proofs.Common.{◌≡◌, IfOk, List, Option, T, ℕ, subst, sym, ◌∙◌}
+use Rattle.std.specs.FinMap.Entries.{find, is_sorted, where_key}
+use Rattle.std.specs.declared.cmp.Ordering.{Ordering}
+use Rattle.sorted_rows.specs.Edits as edits
+use Rattle.sorted_rows.specs.Rows.{keys_of}
+use Rattle.lsr_facts.specs.Orders.{key_cmp}
+use Rattle.router_events.specs.declared.events.Output.{Output}
+use Rattle.abstract_paths.specs.Outputs.{between, send_for, tear_for}
+use Rattle.abstract_paths.specs.Stamps.{stamps}
+use Rattle.abstract_paths.specs.Touched.{is_among, moments_between}
+use Rattle.abstract_router.specs.Lsps.{around_of, lsps_of}
+use Rattle.state_views.specs.Edits.{edited}
+use Rattle.state_sends.proofs.Lifting.{ok_weaker}
+use Rattle.state_sends.proofs.Sending.{sorted_some, step_moments, step_sends, step_tears}
+use Rattle.state_sends.proofs.sends.sends_at.Goals as goal
+
+pub sends_between-requires-clause-was : goal.sends_between-requires-clause-was
+sends_between-requires-clause-was g c =
+    let r = g.V.StateView.router c.args.view.now in
+    let s = g.V.StateView.state c.args.view.now in
+    let laws = g.met.I.KeptAlive in
+    let kind = g.I.KeptAlive in
+    subst (λ (cmp : _ → _ → Ordering). T (is_sorted cmp c.as_slice.result.now)) (sym c.are_in_order.ensures)
+    (subst (λ (rows : List (_ × Output)). T (is_sorted kind.order rows)) (sym (c.as_slice.ensures.value ∙ c.in_ok-was.ensures.rows))
+    (sorted_some kind.order laws.total laws.exact kind.of kind.rows laws.none laws.parts laws.in_order r s c.args.edits.now c.args.touched.now s c.requires.before.paths.paths))
+
+pub sends_between-requires-clause-is : goal.sends_between-requires-clause-is
+sends_between-requires-clause-is g c =
+    let r = g.V.StateView.router c.args.view.now in
+    let s = g.V.StateView.state c.args.view.now in
+    let laws = g.met.I.KeptAlive in
+    let kind = g.I.KeptAlive in
+    subst (λ (cmp : _ → _ → Ordering). T (is_sorted cmp c.as_slice-2.result.now)) (sym c.are_in_order.ensures)
+    (subst (λ (rows : List (_ × Output)). T (is_sorted kind.order rows)) (sym (c.as_slice-2.ensures.value ∙ c.in_ok-is.ensures.rows))
+    (sorted_some kind.order laws.total laws.exact kind.of kind.rows laws.none laws.parts laws.in_order r s c.args.edits.now c.args.touched.now (edited c.args.edits.now s) c.requires.paths))
+
+pub returns-clause-tears : goal.returns-clause-tears
+returns-clause-tears g c =
+    let r = g.V.StateView.router c.args.view.now in
+    let s = g.V.StateView.state c.args.view.now in
+    let e = c.args.edits.now in
+    let laws = g.met.I.KeptAlive in
+    let kind = g.I.KeptAlive in
+    let was = c.as_slice.ensures.value ∙ c.in_ok-was.ensures.rows in
+    let is = c.as_slice-2.ensures.value ∙ c.in_ok-is.ensures.rows in
+    subst (λ (tears : List Output). IfOk c.sends_between.result (λ sends. sends.tears ≡ tears))
+    ((λ i. between (c.are_in_order.ensures i) (tear_for (c.up_after-up.ensures i)) (was i) (is i))
+    ∙ step_tears kind.order laws.total laws.exact kind.of kind.rows laws.none laws.parts laws.in_order r s e c.args.touched.now c.requires.touched c.requires.before.paths.paths c.requires.paths c.args.due.now c.requires.lsps (edited e s).facts.up)
+    c.sends_between.ensures.tears
+
+pub returns-clause-sends : goal.returns-clause-sends
+returns-clause-sends g c =
+    let r = g.V.StateView.router c.args.view.now in
+    let s = g.V.StateView.state c.args.view.now in
+    let e = c.args.edits.now in
+    let laws = g.met.I.KeptAlive in
+    let kind = g.I.KeptAlive in
+    let was = c.as_slice.ensures.value ∙ c.in_ok-was.ensures.rows in
+    let is = c.as_slice-2.ensures.value ∙ c.in_ok-is.ensures.rows in
+    subst (λ (out : List Output). IfOk c.sends_between.result (λ sends. sends.sends ≡ out))
+    ((λ i. between (c.are_in_order.ensures i) (send_for (c.are_in_order.ensures i) c.args.due.now) (is i) (was i))
+    ∙ step_sends kind.order laws.total laws.exact kind.of kind.rows laws.none laws.parts laws.in_order r s e c.args.touched.now c.requires.touched c.requires.before.paths.paths c.requires.paths c.args.due.now c.requires.lsps)
+    c.sends_between.ensures.sends
+
+pub returns-clause-moments : goal.returns-clause-moments
+returns-clause-moments g c =
+    let r = g.V.StateView.router c.args.view.now in
+    let s = g.V.StateView.state c.args.view.now in
+    let e = c.args.edits.now in
+    let laws = g.met.I.KeptAlive in
+    let kind = g.I.KeptAlive in
+    let all = c.args.touched.now in
+    let due = c.args.due.now in
+    let was = c.as_slice.ensures.value ∙ c.in_ok-was.ensures.rows in
+    let is = c.as_slice-2.ensures.value ∙ c.in_ok-is.ensures.rows in
+    ok_weaker c.sends_between.result
+    (λ sends. (item : _) → find kind.order item sends.moments ≡ find kind.order item (moments_between kind.order due (edited e s).facts.moment (kind.rows (around_of r s) (where_key key_cmp (is_among key_cmp all) (lsps_of s))) (kind.rows (around_of r (edited e s)) (where_key key_cmp (is_among key_cmp all) (lsps_of (edited e s))))))
+    (λ sends. (sent : List (_ × ℕ)) → keys_of sent ≡ keys_of (kind.rows (around_of r s) (lsps_of s)) → edits.edited kind.order sends.moments sent ≡ stamps kind.order due (kind.rows (around_of r s) (lsps_of s)) sent (edited e s).facts.moment (kind.rows (around_of r (edited e s)) (lsps_of (edited e s))))
+    (λ sends become. step_moments kind.order laws.total laws.exact kind.of kind.rows laws.none laws.parts laws.in_order r s e all c.requires.touched c.requires.before.paths.paths c.requires.paths due c.requires.lsps (edited e s).facts.moment sends.moments become)
+    (subst (λ (moments : List (_ × Option ℕ)). IfOk c.sends_between.result (λ sends. (item : _) → find kind.order item sends.moments ≡ find kind.order item moments))
+    (λ i. moments_between kind.order due (c.moment.ensures.moment i) (was i) (is i))
+    (subst (λ (cmp : _ → _ → Ordering). IfOk c.sends_between.result (λ sends. (item : _) → find cmp item sends.moments ≡ find cmp item (moments_between cmp due c.moment.result c.as_slice.result.now c.as_slice-2.result.now))) c.are_in_order.ensures
+    c.sends_between.ensures.moments))

@@ -1,0 +1,3 @@
+pub mod Editing
+pub mod Moving
+pub mod Places

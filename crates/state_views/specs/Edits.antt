@@ -1,0 +1,37 @@
+-- Edits of what a router knows.
+use Rattle.std.specs.Prelude.{◌≡◌, List, [], ◌∷◌, Option, None, T}
+use Rattle.std.specs.FinMap.Entries.{is_sorted, put}
+use Rattle.std.specs.Option.{unwrap_or}
+use Rattle.sorted_rows.specs.Edits as rows
+use Rattle.lsr_facts.specs.Orders.{key_cmp}
+use Rattle.lsr_facts.specs.declared.key.Key.{Key}
+use Rattle.resv_facts.specs.declared.resv_fact.ResvFact.{ResvFact}
+use Rattle.abstract_router.specs.States.{State}
+use Rattle.state_views.specs.declared.edits.Edits.{Edits}
+
+-- nothing changes
+abbrev pub unedited : Edits
+unedited = record { moment = None; up = None; paths = []; resvs = []; labels = [] }
+
+-- what is known after edits; the moments at which messages were sent are no part of them
+abbrev pub edited : Edits → State → State
+edited e s = record s {
+  facts = record s.facts {
+    moment = unwrap_or e.moment s.facts.moment;
+    up = unwrap_or e.up s.facts.up;
+    paths = rows.edited key_cmp e.paths s.facts.paths;
+  };
+  resvs = rows.edited key_cmp e.resvs s.resvs;
+  labels = rows.edited key_cmp e.labels s.labels;
+}
+
+-- the tables that edits go by the keys of are in order
+pub record AreInOrder (s : State) : Type 0 where
+  pub paths : T (is_sorted key_cmp s.facts.paths)
+  pub resvs : T (is_sorted key_cmp s.resvs)
+  pub labels : T (is_sorted key_cmp s.labels)
+
+-- edits of reservations, and then these LSPs have none
+abbrev pub without_resvs : List (Key × Option ResvFact) → List Key → List (Key × Option ResvFact)
+without_resvs edits [] = edits
+without_resvs edits (key ∷ gone) = without_resvs (put key_cmp key None edits) gone

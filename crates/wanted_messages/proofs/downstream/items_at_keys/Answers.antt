@@ -1,0 +1,14 @@
+-- What each of some LSPs wants is what is wanted of them all.
+use Rattle.std.proofs.Common.{IfOk, List, subst, ◌≡◌}
+use Rattle.lsr_facts.specs.declared.key.Item.{Item}
+use Rattle.router_events.specs.declared.events.Output.{Output}
+use Rattle.abstract_router.specs.WantedLaws.{items-among}
+use Rattle.wanted_messages.proofs.downstream.items_at_keys.Goals as goal
+
+pub returns : goal.returns
+returns g c =
+    let r = g.V.StateView.router c.args.view.now in
+    let s = g.V.StateView.state c.args.view.now in
+    record {
+      rows = subst (λ (wants : List (Item × Output)). IfOk c.asked_in_turn.result (λ rows. rows.items ≡ wants)) (items-among r s c.args.touched.now c.requires.order c.requires.paths.in_order) c.asked_in_turn.ensures;
+    }

@@ -1,0 +1,96 @@
+//! The route that a Resv records on its way upstream (RFC 3209, 4.4.3).
+
+ghost use Rattle.std.specs.Option.{option_and_then};
+ghost use Rattle.std.specs.Prelude.{◌≡◌, ◌++◌, IfOk};
+ghost use Rattle.rsvp_contents.specs.Limits.{is_short_record};
+ghost use Rattle.lsr_facts.specs.Timeless.{timeless_path};
+ghost use Rattle.abstract_router.specs.Upstreams.{label_entry, record_upstream};
+ghost use Rattle.explicit_routes.specs.Entries.{entry_of};
+ghost use Rattle.wanted_messages.specs.Telling.{own_entries, short_only};
+
+use crate::reserved::records_labels;
+use lsr_facts::{PathFact, Router};
+use rsvp_contents::limits::is_short_record;
+use rsvp_routes::{Prefix, Record, Trace};
+use std::alloc::{AllocError, Global};
+
+/// The flag of a label that holds on every link of its node (RFC 3209, 4.4.1.3).
+const GLOBAL_LABEL: u8 = 0x01;
+/// The length of a prefix that is one address.
+const HOST_LENGTH: u8 = 32;
+
+/// The entry that names this router.
+fn entry_of(router: &Router) -> Trace
+    ensures { result ≡ entry_of router.now }
+{
+    Trace::Ipv4 {
+        prefix: Prefix {
+            address: router.id,
+            length: HOST_LENGTH,
+        },
+        flags: 0,
+    }
+}
+
+/// The entry of this router's label.
+fn label_entry(label: u32) -> Trace
+    ensures { result ≡ label_entry label }
+{
+    Trace::Label {
+        flags: GLOBAL_LABEL,
+        label,
+    }
+}
+
+/// The entries of a record after those of this router. The only error is out of memory.
+fn after_own(
+    alloc: Global,
+    router: &Router,
+    path: &PathFact,
+    label: u32,
+    recorded: &Record,
+) -> Result<Vec<Trace>, AllocError>
+    ensures { IfOk result (λ entries. entries.items ≡ own_entries router.now path.now label ++ recorded.now) }
+{
+    let mut entries = Vec::from_clones(alloc, recorded.as_slice())?;
+    if records_labels(&path.attr) {
+        entries.insert(0, label_entry(label))?;
+    }
+    entries.insert(0, entry_of(router))?;
+    Ok(entries)
+}
+
+/// The record of these entries, or `None` where they are above the router's limits.
+fn short_record(entries: Vec<Trace>) -> Option<Record>
+    ensures { result ≡ short_only entries.items }
+{
+    if !Record::fits(&entries) {
+        return None;
+    }
+    let whole = Record::from_vec(entries);
+    if is_short_record(&whole) {
+        Some(whole)
+    } else {
+        None
+    }
+}
+
+/// The record of a Resv that goes upstream, which begins with this router: its id, and its label where the Path asks
+/// for that. `None` where the Path has no record, or where it would be above the router's limits. The only error is
+/// out of memory.
+#[tactic(auto, unfolding(abstract_router::specs::Upstreams::record_upstream))]
+pub(crate) fn record_upstream(
+    alloc: Global,
+    router: &Router,
+    path: &PathFact,
+    label: u32,
+    recorded: &Record,
+) -> Result<Option<Record>, AllocError>
+    ensures { IfOk result (λ whole. whole
+        ≡ record_upstream router.now (timeless_path path.now) label recorded.now) }
+{
+    if path.recorded.is_none() {
+        return Ok(None);
+    }
+    Ok(short_record(after_own(alloc, router, path, label, recorded)?))
+}

@@ -1,0 +1,172 @@
+//! The Resv that each origin of an LSP is sent (RFC 2205, 3.1.4; RFC 3209, 4.1.1).
+
+ghost use Rattle.std.specs.Prelude.{◌≡◌, IfOk};
+ghost use Rattle.rsvp_objects.specs.Ranges.{IsAddress};
+ghost use Rattle.lsr_facts.specs.Timeless.{timeless_path};
+ghost use Rattle.abstract_router.specs.Errors.{style_word};
+ghost use Rattle.abstract_router.specs.Lsps.{around_of, lsp_of};
+ghost use Rattle.abstract_router.specs.Upstreams.{record_upstream, resv_to, upstream_over, upstream_row, upstream_to};
+ghost use Rattle.wanted_messages.specs.Fitting.{IsFitting};
+ghost use Rattle.wanted_messages.specs.Telling.{said};
+
+use crate::records::record_upstream;
+use crate::reserved::Reserved;
+use crate::upstream::WantedUpstream;
+use lsr_facts::{Key, Link, Origin, PathFact, Router};
+use path_rules::{is_up, link_at, sent_by};
+use resv_facts::{ResvStyle, Upstream};
+use rsvp_contents::numbers::ADDRESS_LEN;
+use rsvp_contents::{Content, Message, Resv};
+use rsvp_flows::{FlowDescriptor, FlowDescriptors};
+use rsvp_objects::{Hop, Label, Style, Template, TimeValues};
+use state_views::{StateView, node_of};
+use std::alloc::{AllocError, Global};
+use std::net::Ipv4Addr;
+
+/// The style word of a fixed filter, FF: 01010 (RFC 2205, A.7).
+const FIXED_FILTER: u32 = 10;
+/// The style word of a shared explicit, SE: 10010 (RFC 2205, A.7).
+const SHARED_EXPLICIT: u32 = 18;
+
+/// An LSP that has a label and is reserved, as its origins are told of it.
+#[derive(Debug, Drop)]
+pub(crate) struct ToldLsp<'a> {
+    /// The LSP.
+    pub key: &'a Key,
+    /// Its path.
+    pub path: &'a PathFact,
+    /// The label that this router takes it with.
+    pub label: u32,
+    /// What is said of it.
+    pub reserved: Reserved,
+}
+
+/// A style as this router writes it.
+fn style_word(style: ResvStyle) -> Style
+    ensures { result ≡ style_word style }
+{
+    match style {
+        ResvStyle::FixedFilter => Style { word: FIXED_FILTER },
+        ResvStyle::SharedExplicit => Style {
+            word: SHARED_EXPLICIT,
+        },
+    }
+}
+
+/// That the address of an LSP's head has four octets: so much room is there for its filter.
+fn has_address(filter: &Template)
+    ensures { IsAddress filter.now.sender }
+{
+    prove!(filter.sender.octets().len() == ADDRESS_LEN);
+}
+
+/// The flow descriptor of an LSP. The only error is out of memory.
+fn descriptor_of(
+    alloc: Global,
+    router: &Router,
+    lsp: &ToldLsp,
+) -> Result<FlowDescriptor, AllocError>
+    ensures { IfOk result (λ d. d ≡ record {
+      flowspec = lsp.now.reserved.flowspec;
+      filter = lsp.now.key.now.sender;
+      label = record { number = lsp.now.label };
+      recorded = record_upstream router.now (timeless_path lsp.now.path.now) lsp.now.label lsp.now.reserved.recorded;
+    }) }
+{
+    Ok(FlowDescriptor {
+        flowspec: lsp.reserved.flowspec.clone()?,
+        filter: lsp.key.sender,
+        label: Label { number: lsp.label },
+        recorded: record_upstream(alloc, router, lsp.path, lsp.label, &lsp.reserved.recorded)?,
+    })
+}
+
+/// The Resv to an origin: this router is its hop, with the interface handle that the origin named; the label is its
+/// own. The only error is out of memory.
+fn resv_to(
+    alloc: Global,
+    router: &Router,
+    lsp: &ToldLsp,
+    origin: &Origin,
+    link: &Link,
+) -> Result<Resv, AllocError>
+    ensures { IfOk result (λ resv. resv ≡ resv_to router.now lsp.now.key.now (timeless_path lsp.now.path.now)
+        origin.now link.now lsp.now.label (said lsp.now.reserved)) }
+{
+    let mut descriptors = FlowDescriptors::new(alloc);
+    descriptors.push(descriptor_of(alloc, router, lsp)?)?;
+    Ok(Resv {
+        session: lsp.key.session,
+        hop: Hop {
+            address: link.address,
+            interface: origin.hop.interface,
+        },
+        time: TimeValues {
+            refresh_ms: router.refresh_ms,
+        },
+        passing: lsp.reserved.passing.clone()?,
+        style: style_word(lsp.reserved.style),
+        descriptors,
+    })
+}
+
+/// The item of an origin.
+fn upstream_to(key: &Key, sender: Ipv4Addr, origin: &Origin) -> Upstream
+    ensures { result ≡ upstream_to key.now (sender, origin.now) }
+{
+    Upstream {
+        key: *key,
+        sender,
+        link: origin.via.number(),
+        hop: origin.hop.address,
+    }
+}
+
+/// What a neighbour is sent over the link of this number: nothing where that is down. The only error is out of memory.
+fn upstream_over<V: StateView>(
+    alloc: Global,
+    view: &V,
+    lsp: &ToldLsp,
+    origin: &(Ipv4Addr, Origin),
+    number: u16,
+) -> Result<Option<WantedUpstream>, AllocError>
+    requires { IsFitting (said lsp.now.reserved) }
+    ensures { IfOk result (λ row. row ≡ upstream_over
+        (around_of (V.router view.now) (V.state view.now))
+        (lsp.now.key.now, lsp_of (V.state view.now) lsp.now.key.now lsp.now.path.now)
+        lsp.now.label (said lsp.now.reserved) origin.now number) }
+{
+    let node = node_of(view);
+    if !is_up(node.up, number) {
+        return Ok(None);
+    }
+    let Some(link) = link_at(node.router, number) else {
+        return Ok(None);
+    };
+    let resv = resv_to(alloc, node.router, lsp, &origin.1, link)?;
+    has_address(&lsp.key.sender);
+    let message = Message::checked(Content::Resv(resv)).unwrap();
+    Ok(Some((
+        upstream_to(lsp.key, origin.0, &origin.1),
+        sent_by(number, message),
+    )))
+}
+
+/// What an origin is sent, where it is a neighbour. The only error is out of memory.
+pub(crate) fn upstream_row<V: StateView>(
+    alloc: Global,
+    view: &V,
+    lsp: &ToldLsp,
+    origin: &(Ipv4Addr, Origin),
+) -> Result<Option<WantedUpstream>, AllocError>
+    requires { IsFitting (said lsp.now.reserved) }
+    ensures { IfOk result (λ row. row ≡ upstream_row
+        (around_of (V.router view.now) (V.state view.now))
+        (lsp.now.key.now, lsp_of (V.state view.now) lsp.now.key.now lsp.now.path.now)
+        lsp.now.label (said lsp.now.reserved) origin.now) }
+{
+    match origin.1.via.link() {
+        Some(number) => upstream_over(alloc, view, lsp, origin, number),
+        None => Ok(None),
+    }
+}
