@@ -8,9 +8,7 @@ ghost use Rattle.resv_rules.specs.Conflicts.{conflicts};
 
 use lsr_facts::{Key, Router};
 use path_rules::link_at;
-use resv_facts::{
-    Claim, Request, ResvStyle, holding_of, is_same_session, is_same_style, setup_of,
-};
+use resv_facts::{Claim, Request, ResvStyle, holding_of, is_same_session, is_same_style, setup_of};
 use rsvp_objects::Attr;
 
 /// How much of a link may be reserved, in bytes per second: nothing of a link that the router doesn't have.

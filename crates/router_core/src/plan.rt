@@ -18,11 +18,9 @@ ghost use Rattle.router_core.specs.Plans.{IsOutFor, IsPlanOf, IsSendingPlan, dra
 
 use forwarding_table::Action;
 use lsr_facts::{Key, Refusal, Reply};
-use router_steps::{draft_of, exceeds_hop_limit};
 use router_events::{Event, Outputs};
-use router_tables::{
-    Change, Changed, Draft, Edits, Tables, edits_leave_other_lsps, table_edits,
-};
+use router_steps::{draft_of, exceeds_hop_limit};
+use router_tables::{Change, Changed, Draft, Edits, Tables, edits_leave_other_lsps, table_edits};
 use rsvp_contents::Reading;
 use sorted_rows::Table;
 use state_sends::{StateSends, appended, edited_lsps, sends_of};
