@@ -1,23 +1,23 @@
 -- Whatever an event does to paths, links and time leaves them as they should be: each by its few primitives.
 use Rattle.std.proofs.Common.{refl, ap, sym, subst, ◌∙◌, arith}
-use Rattle.std.proofs.lemmas.Bool.{and_parts, cond_both, eqb-true, ltb-false, not-false}
+use Rattle.std.proofs.lemmas.Bool.{and_parts, cond_both, ltb-false, not-false}
 use Rattle.std.specs.FinMap.Entries.{find, put, where_key, length-put}
 use Rattle.std.specs.Option.{option_map_or}
 use Rattle.std.specs.Ordering.{is_eq}
-use Rattle.std.specs.Prelude.{◌≡◌, ℕ, ◌+◌, ◌≤◌, Bool, true, false, cond, not, ◌&&◌, ◌==◌, nat_le, nat_lt, ◌^◌, IsTrue, List, [], ◌∷◌, length, Option, Some, None, is_some, is_none, Result, Ok, Err, IfSome}
+use Rattle.std.specs.Prelude.{◌≡◌, ℕ, ◌+◌, ◌≤◌, Bool, false, cond, not, ◌&&◌, ◌==◌, nat_le, nat_lt, ◌^◌, IsTrue, List, [], ◌∷◌, length, Option, Some, None, is_some, is_none, Result, Ok, Err, IfSome}
 use Rattle.std.specs.declared.net.ipv4_addr.Ipv4Addr.{Ipv4Addr}
 use Rattle.abstract_paths.proofs.NextHops.{Leads, IsPlace, next_hop-leads}
 use Rattle.abstract_paths.proofs.PathTable.{IsTaken, way_of-leads, path_sound, path_left_sound, path_known, put_few}
-use Rattle.abstract_paths.proofs.Primitives.{sound_with_path, sound_where, sound_expire, sound_started, sound_restarted, sound_with_link}
+use Rattle.abstract_paths.proofs.Primitives.{sound_with_path, sound_where, sound_expire, sound_with_link}
 use Rattle.abstract_paths.specs.Links.{link_change}
 use Rattle.abstract_paths.specs.MessageLaws.{tspec-whole}
-use Rattle.abstract_paths.specs.Outcomes.{Outcome, done, lsp, refused}
+use Rattle.abstract_paths.specs.Outcomes.{PathOutcome, done, lsp, refused}
 use Rattle.abstract_paths.specs.Paths.{key_of, is_same_route, way_of, way_for, path_by, has_loop, failed, taken, path_on_its_way, path_arrival}
 use Rattle.abstract_paths.specs.Places.{is_up, place_of}
 use Rattle.abstract_paths.specs.Relays.{relay, relayed_by}
 use Rattle.abstract_paths.specs.Routing.{next_hop, route_to}
 use Rattle.abstract_paths.specs.Soundness.{IsPath, IsStanding}
-use Rattle.abstract_paths.specs.Tears.{is_torn_by, leaves_by, left_with, origins_without, torn, path_tear_arrival, passed_on, path_err_arrival}
+use Rattle.abstract_paths.specs.Tears.{is_torn_by, leaves_by, left_with, origins_without, torn, path_err_passed_on}
 use Rattle.abstract_paths.specs.Time.{tick}
 use Rattle.lsr_facts.specs.Errors.{system_error}
 use Rattle.lsr_facts.specs.OrderLaws.{key_total}
@@ -31,27 +31,18 @@ use Rattle.lsr_facts.specs.declared.path_fact.Origin.{Origin}
 use Rattle.lsr_facts.specs.declared.path_fact.PathFact.{PathFact}
 use Rattle.lsr_facts.specs.declared.refusal.Refusal.TheVariants.{BadMoment, Late, LinkDown, NoMatch, UnknownLink}
 use Rattle.lsr_facts.specs.declared.router.Router.{Router}
-use Rattle.router_events.specs.declared.ways.ArrivalWay.{ArrivalWay}
-use Rattle.router_events.specs.declared.ways.ArrivalWay.TheVariants as ways
-use Rattle.router_events.specs.declared.ways.Arrive.{Arrive}
 use Rattle.router_events.specs.declared.ways.Relay.{Relay}
-use Rattle.router_events.specs.declared.events.Event.TheVariants as events
-use Rattle.router_events.specs.declared.events.Event.{Event}
 use Rattle.rsvp_contents.proofs.Fitted.{message_fits}
 use Rattle.rsvp_contents.specs.Fitting.{fits_path, written_len}
-use Rattle.rsvp_contents.specs.Picking.{content_in}
 use Rattle.rsvp_contents.specs.Spelling.{IsMessage}
-use Rattle.rsvp_contents.specs.declared.message.Reading.TheVariants as readings
-use Rattle.rsvp_contents.specs.declared.message.Reading.{Reading}
 use Rattle.rsvp_contents.specs.declared.messages.Content.TheVariants as contents
-use Rattle.rsvp_contents.specs.declared.messages.Content.{Content}
 use Rattle.rsvp_contents.specs.declared.messages.Path.{Path}
 use Rattle.rsvp_contents.specs.declared.messages.PathErr.{PathErr}
 use Rattle.rsvp_contents.specs.declared.messages.PathTear.{PathTear}
 use Rattle.rsvp_traffic.specs.TokenBuckets.{token_rate}
 
 -- What an outcome leaves of paths, links, routes and time is as it should be.
-abbrev pub LeavesStanding : Router → Outcome → Type 0
+abbrev pub LeavesStanding : Router → PathOutcome → Type 0
 LeavesStanding r o = IsStanding r o.after
 
 -- the parts of a Path that is a message fit
@@ -122,9 +113,9 @@ torn-stands r s link t (Some fact) runs is found =
     (λ other. is)
 
 -- a PathErr
-pub passed_on-stands : (r : Router) (s : Facts) (link : ℕ) (e : PathErr) (known : Option PathFact) → IsStanding r s → LeavesStanding r (passed_on s link e known)
-passed_on-stands r s link e None is = is
-passed_on-stands r s link e (Some fact) is = cond_both (leaves_by link fact) _ (refused s NoMatch) (LeavesStanding r) (λ leaves. is) (λ other. is)
+pub path_err_passed_on-stands : (r : Router) (s : Facts) (link : ℕ) (e : PathErr) (known : Option PathFact) → IsStanding r s → LeavesStanding r (path_err_passed_on s link e known)
+path_err_passed_on-stands r s link e None is = is
+path_err_passed_on-stands r s link e (Some fact) is = cond_both (leaves_by link fact) _ (refused s NoMatch) (LeavesStanding r) (λ leaves. is) (λ other. is)
 
 -- a message for another router
 pub relay-stands : (r : Router) (s : Facts) (m : Relay) → IsStanding r s → LeavesStanding r (relay r s m)

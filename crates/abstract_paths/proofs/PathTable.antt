@@ -7,7 +7,6 @@ use Rattle.std.specs.declared.net.ipv4_addr.Ipv4Addr.{Ipv4Addr}
 use Rattle.std.proofs.Common.{refl, sym, subst, arith}
 use Rattle.std.proofs.lemmas.Bool.{and_parts, leb-false, ltb-true}
 use Rattle.rsvp_routes.specs.declared.step.Step.{Step}
-use Rattle.rsvp_traffic.specs.TokenBuckets.{token_rate}
 use Rattle.rsvp_contents.specs.Fitting.{fits_path, are_passed_on, has_adspec_last}
 use Rattle.rsvp_contents.specs.Limits.{is_short_route, is_short_record, is_short_passing}
 use Rattle.rsvp_contents.specs.declared.messages.Path.{Path}

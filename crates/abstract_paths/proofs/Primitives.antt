@@ -14,14 +14,14 @@ use Rattle.lsr_facts.specs.declared.key.Key.{Key}
 use Rattle.lsr_facts.specs.declared.path_fact.PathFact.{PathFact}
 use Rattle.lsr_facts.specs.declared.router.Router.{Router}
 use Rattle.abstract_paths.specs.Changes.{with_link, with_path}
-use Rattle.abstract_paths.specs.Restarts.{opening}
+use Rattle.abstract_paths.specs.Restarts.{opening_facts}
 use Rattle.abstract_paths.specs.RowLaws.{keys-map}
 use Rattle.abstract_paths.specs.Soundness.{IsPath, IsStanding}
 use Rattle.lsr_facts.specs.Lifetimes.{expire}
 use Rattle.abstract_paths.proofs.PathTable.{paths_expire, paths_put, paths_where}
 
 -- A router is opened so.
-pub opening_stands : (r : Router) (routes : List (Prefix × ℕ)) → AreRoutes r routes → IsStanding r (opening r routes)
+pub opening_stands : (r : Router) (routes : List (Prefix × ℕ)) → AreRoutes r routes → IsStanding r (opening_facts r routes)
 opening_stands r routes are = record {
   moment = omega arith;
   links = keys-map (λ l. l.1.up) r.links;

@@ -1,8 +1,8 @@
 -- What is refused of events that change paths, links and time is silent, and leaves what is known.
-use Rattle.std.specs.Prelude.{◌≡◌, ◌&&◌, ℕ, Bool, not, ◌==◌, nat_le, nat_lt, ◌^◌, true, false, if◌then◌else◌, List, [], ◌∷◌, length, Option, Some, None, is_none, Result, Ok, Err}
+use Rattle.std.specs.Prelude.{◌≡◌, ◌&&◌, ℕ, Bool, not, ◌==◌, nat_le, nat_lt, ◌^◌, true, [], ◌∷◌, length, Option, Some, None, is_none, Result, Ok, Err}
 use Rattle.std.specs.FinMap.Entries.{find}
 use Rattle.std.specs.Option.{option_map_or}
-use Rattle.std.proofs.Common.{refl, ap, sym, ◌∙◌}
+use Rattle.std.proofs.Common.{refl}
 use Rattle.std.proofs.lemmas.Bool.{cond_both}
 use Rattle.rsvp_contents.specs.declared.messages.Path.{Path}
 use Rattle.rsvp_contents.specs.declared.messages.PathErr.{PathErr}
@@ -13,7 +13,6 @@ use Rattle.lsr_facts.specs.Routers.{link_at}
 use Rattle.lsr_facts.specs.declared.choice.Choice.{Choice}
 use Rattle.lsr_facts.specs.declared.errors.RsvpError.{RsvpError}
 use Rattle.lsr_facts.specs.declared.facts.Facts.{Facts}
-use Rattle.lsr_facts.specs.declared.key.Key.{Key}
 use Rattle.lsr_facts.specs.declared.path_fact.PathFact.{PathFact}
 use Rattle.lsr_facts.specs.declared.refusal.Refusal.{Refusal}
 use Rattle.lsr_facts.specs.declared.refusal.Refusal.TheVariants.{BadMoment, Late, LinkDown, NoMatch, UnknownLink}
@@ -21,16 +20,16 @@ use Rattle.lsr_facts.specs.declared.reply.Reply.TheVariants as replies
 use Rattle.lsr_facts.specs.declared.router.Router.{Router}
 use Rattle.router_events.specs.declared.ways.Relay.{Relay}
 use Rattle.abstract_paths.specs.Links.{link_change}
-use Rattle.abstract_paths.specs.Outcomes.{Outcome, done, lsp, refused}
+use Rattle.abstract_paths.specs.Outcomes.{PathOutcome, done, lsp, refused}
 use Rattle.abstract_paths.specs.Paths.{has_loop, key_of, path_arrival, path_on_its_way, way_for}
 use Rattle.abstract_paths.specs.Places.{is_up, place_of}
 use Rattle.abstract_paths.specs.Relays.{relay, relayed_by}
 use Rattle.abstract_paths.specs.Routing.{route_to}
-use Rattle.abstract_paths.specs.Tears.{is_torn_by, leaves_by, passed_on, path_err_arrival, path_tear_arrival, torn}
+use Rattle.abstract_paths.specs.Tears.{is_torn_by, leaves_by, path_err_passed_on, path_err_arrival, path_tear_arrival, torn}
 use Rattle.abstract_paths.specs.Time.{tick}
 
 -- An outcome that is refused is silent, and leaves the facts as they were.
-abbrev pub RefusesSilently : Facts → Outcome → Type 0
+abbrev pub RefusesSilently : Facts → PathOutcome → Type 0
 RefusesSilently s o = (refusal : Refusal) → o.reply ≡ replies.Refused refusal → (o.is_silent ≡ true) × (o.after ≡ s)
 
 module _ (r : Router) (s : Facts) where
@@ -47,7 +46,7 @@ module _ (r : Router) (s : Facts) where
   torn_refuses link t None = refuses NoMatch
   torn_refuses link t (Some fact) = cond_both (is_torn_by link t fact) _ (refused s NoMatch) (RefusesSilently s) (λ matches refusal is. cc) (λ other. refuses NoMatch)
 
-  err_refuses : (link : ℕ) (e : PathErr) (known : Option PathFact) → RefusesSilently s (passed_on s link e known)
+  err_refuses : (link : ℕ) (e : PathErr) (known : Option PathFact) → RefusesSilently s (path_err_passed_on s link e known)
   err_refuses link e None = refuses NoMatch
   err_refuses link e (Some fact) = cond_both (leaves_by link fact) _ (refused s NoMatch) (RefusesSilently s) (λ leaves refusal is. cc) (λ other. refuses NoMatch)
 

@@ -6,11 +6,11 @@ use Rattle.lsr_facts.specs.declared.facts.Facts.{Facts}
 use Rattle.lsr_facts.specs.declared.refusal.Refusal.TheVariants.{UnknownLink}
 use Rattle.lsr_facts.specs.declared.router.Router.{Router}
 use Rattle.abstract_paths.specs.Changes.{with_link}
-use Rattle.abstract_paths.specs.Outcomes.{Outcome, done, refused}
+use Rattle.abstract_paths.specs.Outcomes.{PathOutcome, done, refused}
 
 -- A link comes up or goes down: that is refused where the router has no such link. Paths, routes and the moment
 -- stay; what is wanted over the link follows from it.
-unfoldable pub link_change : Router → Facts → ℕ → Bool → Outcome
+unfoldable pub link_change : Router → Facts → ℕ → Bool → PathOutcome
 link_change r s number is_up =
     if is_none (link_at r number) then refused s UnknownLink
     else done [] (with_link number is_up s)

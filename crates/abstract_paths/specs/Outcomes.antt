@@ -27,9 +27,9 @@ abbrev pub lsp : Session → Template → Key
 lsp session sender = record { session = session; sender = sender }
 
 -- What an event does of itself: the answer, the errors in the order found, the items that are due again though
--- nothing about them changed, the facts after, and whether it is silent. A silent event sends nothing, and the
--- moments at which messages were sent stay.
-pub record Outcome : Type 0 where
+-- nothing about them changed, the facts after, and whether it is silent: then nothing is sent for it, and nothing follows
+-- from it.
+pub record PathOutcome : Type 0 where
   pub reply : Reply
   pub errors : List Output
   pub due : List Item
@@ -37,15 +37,15 @@ pub record Outcome : Type 0 where
   pub is_silent : Bool
 
 -- done, with these errors told to others
-abbrev pub done : List Output → Facts → Outcome
+abbrev pub done : List Output → Facts → PathOutcome
 done errors after = record { reply = replies.Done; errors = errors; due = []; after = after; is_silent = false }
 
 -- answered, and silent
-abbrev pub silent : Reply → Facts → Outcome
+abbrev pub silent : Reply → Facts → PathOutcome
 silent reply after = record { reply = reply; errors = []; due = []; after = after; is_silent = true }
 
 -- refused: nothing changes
-abbrev pub refused : Facts → Refusal → Outcome
+abbrev pub refused : Facts → Refusal → PathOutcome
 refused s refusal = silent (replies.Refused refusal) s
 
 -- a message that goes out by a link

@@ -1,5 +1,5 @@
 -- What is sent between what was wanted and what is, for items of any kind.
-use Rattle.std.specs.Prelude.{ℕ, ◌&&◌, ◌++◌, ◌==◌, not, nat_eq, Bool, false, if◌then◌else◌, List, filter, filter_map, length, map, Option, Some, None, is_none}
+use Rattle.std.specs.Prelude.{ℕ, ◌&&◌, ◌==◌, not, nat_eq, Bool, false, if◌then◌else◌, List, filter, filter_map, length, map, Option, Some, None, is_none}
 use Rattle.std.specs.Cmp.Lexicographic.{pointwise}
 use Rattle.std.specs.FinMap.Entries.{find}
 use Rattle.std.specs.List.{list_any}
@@ -13,10 +13,6 @@ use Rattle.router_events.specs.Frames.{frame_bytes}
 use Rattle.router_events.specs.Frame.{Frame}
 use Rattle.router_events.specs.Frame.TheVariants as frames
 use Rattle.router_events.specs.Payload.TheVariants as payloads
-use Rattle.lsr_facts.specs.Orders.{item_cmp}
-use Rattle.lsr_facts.specs.declared.facts.Facts.{Facts}
-use Rattle.lsr_facts.specs.declared.key.Item.{Item}
-use Rattle.lsr_facts.specs.declared.router.Router.{Router}
 use Rattle.router_events.specs.declared.events.Output.{Output}
 use Rattle.abstract_paths.specs.Outcomes.{sent_by}
 use Rattle.abstract_paths.specs.Places.{is_up}
@@ -47,7 +43,7 @@ abbrev pub is_same_frame : Frame → Frame → Bool
 is_same_frame a b = pointwise nat_eq (frame_bytes a) (frame_bytes b)
 
 -- The item was wanted, and is no more: it is torn down over the link that it went over, where that is up
--- (RFC 2205, 2.3). Items are of any kind that has an order.
+-- (RFC 2205, 2.4). Items are of any kind that has an order.
 abbrev pub tear_for : {I : Type 0} → List (ℕ × Bool) → Option Output → I × Output → Option Output
 tear_for up now was = if is_none now && is_up up was.1.link then tear_by was.1.link was.1.frame else None
 

@@ -33,7 +33,7 @@ use Rattle.lsr_facts.specs.declared.reply.Reply.TheVariants as replies
 use Rattle.lsr_facts.specs.declared.router.Router.{Router}
 use Rattle.router_events.specs.declared.events.Output.{Output}
 use Rattle.abstract_paths.specs.Changes.{with_path}
-use Rattle.abstract_paths.specs.Outcomes.{Outcome, done, lsp, sent_by, found_here, path_err, told_upstream}
+use Rattle.abstract_paths.specs.Outcomes.{PathOutcome, done, lsp, sent_by, found_here, path_err, told_upstream}
 use Rattle.abstract_paths.specs.Places.{Place, is_own, place_of}
 use Rattle.abstract_paths.specs.Routing.{next_hop}
 
@@ -65,12 +65,17 @@ is_same_route = option_eq (λ a b. pointwise nat_eq (route_bytes a) (route_bytes
 abbrev pub is_same_record : Option (List Trace) → Option (List Trace) → Bool
 is_same_record = option_eq (λ a b. pointwise nat_eq (record_bytes a) (record_bytes b))
 
--- The record that a path goes on with: this router's id in front (RFC 3209, 4.4.3). None, where that is above
--- this router's limit of 64 entries and 1,024 bytes.
+-- the entry of a record that names this router: its id alone, without flags (RFC 3209, 4.4.1.1)
+abbrev pub own_entry : Router → Trace
+own_entry r = Ipv4 (record { address = r.id; length = 32 }) 0
+
+-- a record, where it is within this router's limit of 64 entries and 1,024 bytes
+abbrev pub short_only : List Trace → Option (List Trace)
+short_only entries = if is_short_record entries then Some entries else None
+
+-- The record that a path goes on with: this router in front (RFC 3209, 4.4.3).
 unfoldable pub grown : Router → List Trace → Option (List Trace)
-grown r entries =
-    let whole = Ipv4 (record { address = r.id; length = 32 }) 0 ∷ entries in
-    if is_short_record whole then Some whole else None
+grown r entries = short_only (own_entry r ∷ entries)
 
 -- a path that doesn't end here
 abbrev pub goes_on : Role → Bool
@@ -82,7 +87,8 @@ goes_on roles.Head = true
 abbrev pub way_of : PathFact → Choice
 way_of fact = if goes_on fact.role then Link fact.out_link fact.rest else Tail
 
--- The way of a Path: that of the path which stands, where the explicit route is the same; else the next hop.
+-- The way of a Path: that of the path which stands, where the explicit route is the same, be its link up or down (RFC 2205,
+-- 3.6 would have routing asked again); else the next hop.
 unfoldable pub way_for : Place → Option PathFact → Path → Result Choice RsvpError
 way_for n known p =
     option_map_or (λ fact. if is_same_route fact.given p.route then Ok (way_of fact) else next_hop n p.route p.session.endpoint)
@@ -138,7 +144,7 @@ record_errors r key known fact =
     else []
 
 -- A Path that meets an error: it is told to the neighbour that sent it, and changes nothing (RFC 2205, 3.1.7).
-abbrev pub failed : Router → Facts → ℕ → Path → RsvpError → Outcome
+abbrev pub failed : Router → Facts → ℕ → Path → RsvpError → PathOutcome
 failed r s link p e = record {
   reply = replies.Error e;
   errors = sent_by link (path_err p.session p.sender (Some p.tspec) (found_here r e)) ∷ [];
@@ -148,20 +154,20 @@ failed r s link p e = record {
 }
 
 -- A Path that is taken.
-abbrev pub taken : Router → Facts → Option PathFact → ℕ → Path → Choice → Outcome
+abbrev pub taken : Router → Facts → Option PathFact → ℕ → Path → Choice → PathOutcome
 taken r s known link p way =
     let fact = path_by s.moment known link p way in
     done (record_errors r (key_of p) known fact) (with_path (key_of p) fact s)
 
 -- A Path whose way is asked for: no way leads on; there is no room for another LSP (RFC 2205, B, 23); or it is taken.
-unfoldable pub path_on_its_way : Router → Facts → Option PathFact → ℕ → Path → Result Choice RsvpError → Outcome
+unfoldable pub path_on_its_way : Router → Facts → Option PathFact → ℕ → Path → Result Choice RsvpError → PathOutcome
 path_on_its_way r s known link p (Err e) = failed r s link p e
 path_on_its_way r s known link p (Ok way) =
     if is_none known && nat_le 1024 (length s.paths) then failed r s link p system_error else taken r s known link p way
 
 -- A Path that is read whole: the first of these that holds (the type of what it is to carry: RFC 3209, 4.2.4; its Tspec:
 -- RFC 2210, 3.1; its record: RFC 3209, 4.4.4).
-unfoldable pub path_arrival : Router → Facts → ℕ → Path → Outcome
+unfoldable pub path_arrival : Router → Facts → ℕ → Path → PathOutcome
 path_arrival r s link p =
     let known = find key_cmp (key_of p) s.paths in
     if not (p.label_request.l3pid == 0x0800) then failed r s link p unsupported_l3pid

@@ -10,7 +10,7 @@ use Rattle.router_events.specs.declared.events.Event.{Event}
 use Rattle.router_events.specs.declared.events.Event.TheVariants as events
 use Rattle.router_events.specs.declared.events.Output.{Output}
 use Rattle.router_events.specs.declared.ways.Relay.{Relay}
-use Rattle.abstract_paths.specs.Outcomes.{Outcome, done, refused}
+use Rattle.abstract_paths.specs.Outcomes.{PathOutcome, done, refused}
 use Rattle.abstract_paths.specs.Places.{is_up, place_of}
 use Rattle.abstract_paths.specs.Routing.{route_to}
 
@@ -28,7 +28,7 @@ abbrev pub relayed_by : Relay → ℕ → Output
 relayed_by m link = record { link = link; frame = frames.Relayed m.to (m.limit - 1) m.message }
 
 -- It goes on over the link that leads to its address, also back where it came from. Where none does, nothing matches.
-unfoldable pub relay : Router → Facts → Relay → Outcome
+unfoldable pub relay : Router → Facts → Relay → PathOutcome
 relay r s m =
     if is_none (link_at r m.link) then refused s UnknownLink
     else if not (is_up s.up m.link) then refused s LinkDown

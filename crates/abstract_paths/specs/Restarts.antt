@@ -4,17 +4,17 @@ use Rattle.rsvp_routes.specs.declared.prefix.Prefix.{Prefix}
 use Rattle.lsr_facts.specs.declared.facts.Facts.{Facts}
 use Rattle.lsr_facts.specs.declared.reply.Reply.TheVariants as replies
 use Rattle.lsr_facts.specs.declared.router.Router.{Router}
-use Rattle.abstract_paths.specs.Outcomes.{Outcome, silent}
+use Rattle.abstract_paths.specs.Outcomes.{PathOutcome, silent}
 
 -- A router as it is opened: running, at moment 0, its links and static routes as configured, no path, nothing sent.
-abbrev pub opening : Router → List (Prefix × ℕ) → Facts
-opening r routes = record { cold = false; moment = 0; up = map (λ l. (l.0, l.1.up)) r.links; routes = routes; paths = []; sent = [] }
+abbrev pub opening_facts : Router → List (Prefix × ℕ) → Facts
+opening_facts r routes = record { cold = false; moment = 0; up = map (λ l. (l.0, l.1.up)) r.links; routes = routes; paths = []; sent = [] }
 
 -- Start makes a cold router run; a running one stays as it is.
-abbrev pub started : Facts → Outcome
+abbrev pub started : Facts → PathOutcome
 started s = silent replies.Done (record s { cold = false })
 
 -- A restart: what messages set up is lost, and the router is cold. Links, static routes and the moment stay. No
 -- tear goes out for what is lost.
-abbrev pub restarted : Facts → Outcome
+abbrev pub restarted : Facts → PathOutcome
 restarted s = silent replies.Done (record s { cold = true; paths = []; sent = [] })

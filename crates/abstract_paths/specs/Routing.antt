@@ -22,7 +22,7 @@ longer p q = if nat_lt p.0.length q.0.length then q else p
 abbrev pub routes_to : Place → Ipv4Addr → List (Prefix × ℕ)
 routes_to n a = filter (λ route. contains route.0 a && is_up n.up route.1) n.routes
 
--- The link that leads to an address: to a neighbour of this address, else by the longest static route.
+-- The link that leads to an address: to a neighbour of this address, else by the longest static route (RFC 1812, 5.2.4.3).
 unfoldable pub route_to : Place → Ipv4Addr → Option ℕ
 route_to n a = option_or (option_map (λ l. l.0) (neighbour (is_same a) n)) (option_map (λ route. route.1) (reduce longer (routes_to n a)))
 
@@ -62,7 +62,7 @@ hop_to_step n loose nodes steps =
     (if not loose then Err bad_strict_node
     else ok_or (option_map (λ link. Link link (Some (with_neighbour n.router steps link))) (route_to n nodes.address)) bad_loose_node)
 
--- What is left of the route once the steps that lead here are taken off its front.
+-- The next hop by what is left of a route, once the steps that lead here are taken off its front.
 unfoldable pub hop_by_rest : Place → List Step → Ipv4Addr → Result Choice RsvpError
 hop_by_rest n [] endpoint = hop_to_endpoint n endpoint
 hop_by_rest n (step ∷ steps) endpoint =

@@ -1,11 +1,10 @@
 -- What holds of paths, links, routes and time in every state that a router comes to.
-use Rattle.std.specs.Prelude.{◌≡◌, ◌≢◌, ℕ, ◌^◌, ◌≤◌, true, List, [], length, Option, None, is_some, IsTrue, T}
+use Rattle.std.specs.Prelude.{◌≡◌, ◌≢◌, ℕ, ◌^◌, ◌≤◌, true, List, [], length, Option, None, IsTrue, T}
 use Rattle.std.specs.FinMap.Entries.{is_sorted}
 use Rattle.std.specs.List.{AllByRecursion}
 use Rattle.std.specs.Option.{option_map_or}
 use Rattle.std.specs.declared.net.ipv4_addr.Ipv4Addr.{Ipv4Addr}
 use Rattle.rsvp_routes.specs.declared.step.Step.{Step}
-use Rattle.rsvp_traffic.specs.TokenBuckets.{token_rate}
 use Rattle.rsvp_contents.specs.Fitting.{are_passed_on, has_adspec_last, has_one_fast_reroute}
 use Rattle.rsvp_contents.specs.Limits.{is_short_route, is_short_record, is_short_passing}
 use Rattle.sorted_rows.specs.Rows.{keys_of}
@@ -64,7 +63,7 @@ pub record IsWithinLimits (fact : PathFact) : Type 0 where
   pub adspec_last : IsTrue (has_adspec_last fact.passing)
   pub one_fast_reroute : IsTrue (has_one_fast_reroute fact.fast_reroute fact.passing)
 
--- A path at a moment: its Tspec is a whole token bucket, and it stands as said above. No path begins here yet.
+-- A path at a moment: its Tspec is as long as that of a token bucket (RFC 2210, 3.1), and it stands as said above. No path begins here yet.
 pub record IsPath (r : Router) (moment : ℕ) (path : Key × PathFact) : Type 0 where
   pub from_elsewhere : path.1.role ≢ roles.Head
   pub origins : AreOrigins r moment path.0 path.1.role path.1.origins

@@ -7,19 +7,14 @@ use Rattle.std.specs.Option.{option_and_then, option_map, option_map_or}
 use Rattle.std.specs.Ordering.{eq_by_cmp, is_eq}
 use Rattle.std.specs.declared.cmp.Ordering.{Ordering}
 use Rattle.std.specs.declared.cmp.Ordering.TheVariants.{Less, Equal, Greater}
-use Rattle.std.proofs.Common.{refl, sym, ap, subst, ◌∙◌}
+use Rattle.std.proofs.Common.{refl, sym, ap, ◌∙◌}
 use Rattle.sorted_rows.specs.Rows.{keys_of}
-use Rattle.sorted_rows.specs.RowsLaws.{find-filter, is_sorted-both}
-use Rattle.lsr_facts.specs.OrderLaws.{item_exact, item_total}
+use Rattle.sorted_rows.specs.RowsLaws.{find-filter}
 use Rattle.lsr_facts.specs.Lifetimes.{due_items, has_waited}
-use Rattle.lsr_facts.specs.Orders.{key_cmp, item_cmp}
-use Rattle.lsr_facts.specs.declared.facts.Facts.{Facts}
-use Rattle.lsr_facts.specs.declared.key.Item.{Item}
-use Rattle.lsr_facts.specs.declared.router.Router.{Router}
 use Rattle.router_events.specs.declared.events.Output.{Output}
 use Rattle.abstract_paths.specs.Outputs.{is_due}
 use Rattle.abstract_paths.specs.RowLaws.{keys-map}
-use Rattle.abstract_paths.specs.Stamps.{due_among, stamp, stamps}
+use Rattle.abstract_paths.specs.Stamps.{stamp, stamps}
 
 -- what `is_eq` says
 pub ties : (o : Ordering) → is_eq o ≡ true → o ≡ Equal
@@ -56,18 +51,9 @@ module _ {I : Type 0} (cmp : I → I → Ordering) where
   find-stamps exact due was sent now is item = find-map_row cmp exact (stamp cmp due was sent now) item is
 
   -- An item is due where it was sent last a refresh period ago or longer.
-  pub is_due-due_among : IsTotalOrder cmp → (refresh_ms : ℕ) (sent : List (I × ℕ)) (moment : ℕ) (item : I) → T (is_sorted cmp sent) → is_due cmp (due_among refresh_ms sent moment) item ≡ option_map_or (λ at. has_waited refresh_ms at moment) (find cmp item sent) false
-  is_due-due_among total refresh_ms sent moment item h =
+  pub is_due-due_items : IsTotalOrder cmp → (refresh_ms : ℕ) (sent : List (I × ℕ)) (moment : ℕ) (item : I) → T (is_sorted cmp sent) → is_due cmp (due_items refresh_ms sent moment) item ≡ option_map_or (λ at. has_waited refresh_ms at moment) (find cmp item sent) false
+  is_due-due_items total refresh_ms sent moment item h =
       let old = λ (row : I × ℕ). has_waited refresh_ms row.1 moment in
       sym (is_some-find cmp item (filter old sent))
       ∙ ap is_some (find-filter cmp total old item (λ x v tied. refl) sent h)
       ∙ kept (λ at. has_waited refresh_ms at moment) (find cmp item sent)
-
--- The Paths that are due, in the words of items of any kind.
-pub due_items-among : (refresh_ms : ℕ) (sent : List (Item × ℕ)) (moment : ℕ) → due_items refresh_ms sent moment ≡ due_among refresh_ms sent moment
-unfolding due_items
-due_items-among refresh_ms sent moment = refl
-
-pub is_due-due_items : (refresh_ms : ℕ) (sent : List (Item × ℕ)) (moment : ℕ) (item : Item) → T (is_sorted item_cmp sent) → is_due item_cmp (due_items refresh_ms sent moment) item ≡ option_map_or (λ at. has_waited refresh_ms at moment) (find item_cmp item sent) false
-unfolding due_items
-is_due-due_items refresh_ms sent moment item h = is_due-due_among item_cmp item_total refresh_ms sent moment item h

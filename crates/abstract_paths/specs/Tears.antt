@@ -15,7 +15,7 @@ use Rattle.lsr_facts.specs.declared.path_fact.Via.{Via}
 use Rattle.lsr_facts.specs.declared.path_fact.PathFact.{PathFact}
 use Rattle.lsr_facts.specs.declared.refusal.Refusal.TheVariants.{NoMatch}
 use Rattle.abstract_paths.specs.Changes.{with_path, without_path}
-use Rattle.abstract_paths.specs.Outcomes.{Outcome, done, lsp, refused, told_upstream}
+use Rattle.abstract_paths.specs.Outcomes.{PathOutcome, done, lsp, refused, told_upstream}
 use Rattle.abstract_paths.specs.Paths.{goes_on}
 use Rattle.lsr_facts.specs.Routers.{is_same}
 
@@ -41,7 +41,7 @@ left_with key fact [] s = without_path key s
 left_with key fact origins s = with_path key (record fact { origins = origins }) s
 
 -- A PathTear takes its origin from the path that is known; one that matches none is refused.
-abbrev pub torn : Facts → ℕ → PathTear → Option PathFact → Outcome
+abbrev pub torn : Facts → ℕ → PathTear → Option PathFact → PathOutcome
 torn s link t None = refused s NoMatch
 torn s link t (Some fact) =
     if is_torn_by link t fact
@@ -49,7 +49,7 @@ torn s link t (Some fact) =
     else refused s NoMatch
 
 -- What a PathTear does (RFC 2205, 3.1.5).
-unfoldable pub path_tear_arrival : Facts → ℕ → PathTear → Outcome
+unfoldable pub path_tear_arrival : Facts → ℕ → PathTear → PathOutcome
 path_tear_arrival s link t = torn s link t (find key_cmp (lsp t.session t.sender) s.paths)
 
 -- the path leaves by this link
@@ -58,13 +58,13 @@ leaves_by link fact = goes_on fact.role && (fact.out_link == link)
 
 -- A PathErr that comes by the link that its path leaves by goes on upstream with its error unchanged; one that
 -- matches none is refused.
-abbrev pub passed_on : Facts → ℕ → PathErr → Option PathFact → Outcome
-passed_on s link e None = refused s NoMatch
-passed_on s link e (Some fact) =
+abbrev pub path_err_passed_on : Facts → ℕ → PathErr → Option PathFact → PathOutcome
+path_err_passed_on s link e None = refused s NoMatch
+path_err_passed_on s link e (Some fact) =
     if leaves_by link fact
     then done (told_upstream (lsp e.session e.sender) fact e.tspec e.error) s
     else refused s NoMatch
 
 -- What a PathErr does (RFC 2205, 3.1.7).
-unfoldable pub path_err_arrival : Facts → ℕ → PathErr → Outcome
-path_err_arrival s link e = passed_on s link e (find key_cmp (lsp e.session e.sender) s.paths)
+unfoldable pub path_err_arrival : Facts → ℕ → PathErr → PathOutcome
+path_err_arrival s link e = path_err_passed_on s link e (find key_cmp (lsp e.session e.sender) s.paths)

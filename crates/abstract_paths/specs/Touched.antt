@@ -1,12 +1,9 @@
 -- The rows under some keys, and what becomes of the moments at which items were sent.
-use Rattle.std.specs.Prelude.{◌≡◌, ◌++◌, ℕ, not, Bool, if◌then◌else◌, List, filter_map, Option, Some, None, is_none, is_some}
-use Rattle.std.specs.FinMap.Entries.{find, where_key}
+use Rattle.std.specs.Prelude.{◌++◌, ℕ, Bool, if◌then◌else◌, List, filter_map, Option, Some, None, is_none, is_some}
+use Rattle.std.specs.FinMap.Entries.{find}
 use Rattle.std.specs.Option.{option_map}
 use Rattle.std.specs.declared.cmp.Ordering.{Ordering}
-use Rattle.lsr_facts.specs.Orders.{key_cmp}
 pub use Rattle.lsr_facts.specs.Orders.{key_of_item}
-use Rattle.lsr_facts.specs.declared.facts.Facts.{Facts}
-use Rattle.lsr_facts.specs.declared.key.Key.{Key}
 use Rattle.router_events.specs.declared.events.Output.{Output}
 use Rattle.abstract_paths.specs.Outputs.{between, rests}
 

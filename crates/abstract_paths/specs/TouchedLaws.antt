@@ -200,13 +200,6 @@ module _ {I : Type 0} (cmp : I → I → Ordering) (total : IsTotalOrder cmp) (e
       find-stamps cmp exact due was sent now is item
       ∙ stamp-rests cmp due was sent now item (find cmp item is) (find cmp item sent) (sym found) refl (is_some-find_both cmp item sent was known ∙ ap is_some (sym found)) none
 
-  -- That of an item that is touched comes of what was wanted and what is of those.
-  pub stamps-touched : (touched : I → Bool) (due : List I) (was : List (I × Output)) (sent : List (I × ℕ)) (now : ℕ) (is : List (I × Output)) (item : I) → touched item ≡ true → find cmp item (stamps cmp due was sent now is) ≡ find cmp item (stamps cmp due (where_key cmp touched was) sent now (where_key cmp touched is))
-  stamps-touched touched due was sent now is item so =
-      find-stamps cmp exact due was sent now is item
-      ∙ (λ i. option_map (λ o. cond (rests cmp due (sym (find-touched cmp total exact touched item was so) i) (item, o)) (unwrap_or (find cmp item sent) now) now) (sym (find-touched cmp total exact touched item is so) i))
-      ∙ sym (find-stamps cmp exact due (where_key cmp touched was) sent now (where_key cmp touched is) item)
-
   -- what becomes of the moment of an item
   find-moments_between : (item : I) (due : List I) (moment : ℕ) (was is : List (I × Output)) → T (is_sorted cmp was) → T (is_sorted cmp is)
       → find cmp item (moments_between cmp due moment was is)

@@ -1,6 +1,7 @@
 -- What events do: messages that come, moments, links, a restart and a start.
-use Rattle.std.specs.Prelude.{ℕ, ◌&&◌, not, Bool, true, false, if◌then◌else◌, List, [], is_none}
+use Rattle.std.specs.Prelude.{ℕ, ◌&&◌, not, Bool, true, false, if◌then◌else◌, [], is_none}
 use Rattle.std.specs.FinMap.Entries.{find}
+use Rattle.rsvp_contents.specs.Picking.{content_in}
 use Rattle.rsvp_contents.specs.declared.message.Reading.TheVariants as readings
 use Rattle.rsvp_contents.specs.declared.message.Reading.{Reading}
 use Rattle.rsvp_contents.specs.declared.messages.Content.TheVariants as contents
@@ -8,6 +9,7 @@ use Rattle.rsvp_contents.specs.declared.messages.Content.{Content}
 use Rattle.rsvp_contents.specs.declared.messages.Path.{Path}
 use Rattle.lsr_facts.specs.Orders.{key_cmp}
 use Rattle.lsr_facts.specs.Routers.{link_at}
+use Rattle.lsr_facts.specs.declared.refusal.Refusal.{Refusal}
 use Rattle.lsr_facts.specs.declared.refusal.Refusal.TheVariants.{LinkDown, NoMatch, NoMerge, UnknownLink}
 use Rattle.lsr_facts.specs.declared.reply.Reply.TheVariants as replies
 use Rattle.lsr_facts.specs.declared.reply.Reply.{Reply}
@@ -22,7 +24,7 @@ use Rattle.abstract_paths.specs.Links.{link_change}
 use Rattle.abstract_paths.specs.Paths.{failed, key_of, path_arrival, unknown_object}
 use Rattle.abstract_paths.specs.Places.{is_up}
 use Rattle.abstract_paths.specs.Relays.{relay}
-use Rattle.abstract_paths.specs.Stamps.{due_among}
+use Rattle.lsr_facts.specs.Lifetimes.{due_items}
 use Rattle.abstract_paths.specs.Restarts.{restarted, started}
 use Rattle.abstract_paths.specs.Tears.{path_err_arrival, path_tear_arrival}
 use Rattle.abstract_paths.specs.Time.{tick}
@@ -30,7 +32,6 @@ use Rattle.abstract_router.specs.Errors.{no_label}
 use Rattle.abstract_router.specs.Labels.{has_free_label}
 use Rattle.abstract_router.specs.Outcomes.{Outcome, of_paths, refused}
 use Rattle.abstract_router.specs.Reserving.{resv_arrival, unknown_resv}
-use Rattle.resv_facts.specs.declared.upstream.Upstream.{Upstream}
 use Rattle.abstract_router.specs.States.{State}
 use Rattle.abstract_router.specs.Tearing.{resv_err_arrival, resv_tear_arrival}
 
@@ -68,11 +69,17 @@ abbrev pub reading_arrival : Router → State → ℕ → Reading → Outcome
 reading_arrival r s link (readings.Whole content) = message_arrival r s link content
 reading_arrival r s link (readings.Unknown content class ctype) = unknown_arrival r s link content class ctype
 
--- What a message does, by the way in which it came. No path has merged here yet for which one comes through a stack of
--- labels, and no LSP is repaired for which one comes in a Routed frame (RFC 4090, 6.4 and 7).
+-- Why a message is refused that came through a stack of labels: no path is here yet that a Path joins, or that came so and
+-- that a PathTear or a ResvErr names (RFC 4090, 7).
+abbrev pub unmerged : Content → Refusal
+unmerged (contents.Path p) = NoMerge
+unmerged content = NoMatch
+
+-- What a message does, by the way in which it came. No LSP is repaired yet for which one comes in a Routed frame (RFC
+-- 4090, 6.4).
 abbrev pub arrival_by : Router → State → ArrivalWay → ℕ → Reading → Outcome
 arrival_by r s ways.Hop link reading = reading_arrival r s link reading
-arrival_by r s ways.Stack link reading = refused s NoMerge
+arrival_by r s ways.Stack link reading = refused s (unmerged (content_in reading))
 arrival_by r s ways.Routed link reading = refused s NoMatch
 
 -- A message that comes over no link of this router, or over one that is down, is refused.
@@ -82,15 +89,12 @@ arrival r s a =
     else if not (is_up s.facts.up a.link) then refused s LinkDown
     else arrival_by r s a.way a.link a.reading
 
--- the Resvs that were sent last a refresh period ago or longer
-abbrev pub due_upstream : ℕ → List (Upstream × ℕ) → ℕ → List Upstream
-due_upstream refresh_ms sent_upstream moment = due_among refresh_ms sent_upstream moment
-
--- where the moment may come, it comes for reservations too: those that have expired go (RFC 2205, 2.3), and Resvs are due
+-- Where the moment may come, it comes for reservations too: those that have expired go (RFC 2205, 2.3), and Resvs are due
+-- (RFC 2205, 3.7).
 abbrev pub for_reservations : Router → State → ℕ → Outcome → Outcome
 for_reservations r s n o =
     if o.is_silent then o
-    else record o { after = record o.after { resvs = expire n s.resvs }; upstream_due = due_upstream r.refresh_ms s.sent_upstream n }
+    else record o { after = record o.after { resvs = expire n s.resvs }; upstream_due = due_items r.refresh_ms s.sent_upstream n }
 
 -- A moment comes.
 unfoldable pub moment_comes : Router → State → ℕ → Outcome

@@ -1,14 +1,7 @@
--- The errors that reservations meet, by name: code and value (RFC 2205, B; RFC 3209, 7.3); and styles as this router writes
--- them.
-use Rattle.rsvp_objects.specs.declared.values.Style.{Style}
+-- The errors that reservations meet, by name: code and value (RFC 2205, B; RFC 3209, 7.3).
+use Rattle.resv_facts.specs.Reservations.{style_bits}
 use Rattle.lsr_facts.specs.declared.errors.RsvpError.{RsvpError}
 use Rattle.resv_facts.specs.declared.resv_fact.ResvStyle.{ResvStyle}
-use Rattle.resv_facts.specs.declared.resv_fact.ResvStyle.TheVariants.{FixedFilter, SharedExplicit}
-
--- STYLE as this router writes it: 01010 and 10010 (RFC 2205, A.7)
-abbrev pub style_word : ResvStyle → Style
-style_word FixedFilter = record { word = 10 }
-style_word SharedExplicit = record { word = 18 }
 
 -- RFC 2205, B: there isn't so much bandwidth
 abbrev pub no_bandwidth : RsvpError
@@ -24,7 +17,7 @@ no_sender = record { code = 4; value = 0 }
 
 -- another LSP of the session is reserved in this style, whose bits are the value
 abbrev pub style_conflict : ResvStyle → RsvpError
-style_conflict style = record { code = 5; value = (style_word style).word }
+style_conflict style = record { code = 5; value = style_bits style }
 
 abbrev pub unknown_style : RsvpError
 unknown_style = record { code = 6; value = 0 }

@@ -1,6 +1,7 @@
 pub mod Arrivals
 pub mod Choosing
 pub mod ChoosingLaws
+pub mod ClaimsLaws
 pub mod Errors
 pub mod LabelLaws
 pub mod Labels

@@ -1,12 +1,8 @@
--- Laws of LSPs as a list in the order of their keys.
-use Rattle.std.specs.Prelude.{◌≡◌, Bool, true, false, cond, not, T, List, [], ◌∷◌, filter_map, map, Option, Some, None}
-use Rattle.std.specs.Cmp.{IsTotalOrder}
+-- Laws of LSPs as a list in the order of their keys, and of the label table that they stand for.
+use Rattle.std.specs.Prelude.{◌≡◌, ◌==◌, ℕ, Bool, not, T, List, filter_map, find as find_first, map}
 use Rattle.std.specs.FinMap.Entries.{find, is_sorted, where_key}
-use Rattle.std.specs.Option.{option_and_then, option_map}
-use Rattle.std.specs.Ordering.{eq_by_cmp}
-use Rattle.std.specs.declared.cmp.Ordering.{Ordering}
-use Rattle.std.specs.declared.cmp.Ordering.TheVariants.{Equal}
-use Rattle.std.proofs.Common.{refl, sym, ap, subst, ◌∙◌}
+use Rattle.std.specs.Option.{option_map}
+use Rattle.std.proofs.Common.{sym, ap, subst, ◌∙◌}
 use Rattle.sorted_rows.specs.Rows.{keys_of}
 use Rattle.sorted_rows.specs.RowsLaws.{is_sorted-both}
 use Rattle.lsr_facts.specs.OrderLaws.{key_exact, key_total}
@@ -14,12 +10,14 @@ use Rattle.lsr_facts.specs.Orders.{key_cmp}
 use Rattle.lsr_facts.specs.declared.key.Key.{Key}
 use Rattle.lsr_facts.specs.declared.path_fact.PathFact.{PathFact}
 use Rattle.lsr_facts.specs.declared.router.Router.{Router}
+use Rattle.forwarding_table.specs.declared.action.Action.{Action}
 use Rattle.abstract_paths.specs.RowLaws.{keys-map}
 use Rattle.abstract_paths.specs.StampLaws.{find-map_row}
-use Rattle.abstract_paths.specs.Touched.{found_rows, is_among}
+use Rattle.abstract_paths.specs.Touched.{is_among}
 use Rattle.abstract_paths.specs.TouchedLaws.{same_elsewhere, where_key-among}
 use Rattle.abstract_router.specs.Lsps.{Lsp, lsp_at, lsp_of, lsps_of}
 use Rattle.abstract_router.specs.States.{State}
+use Rattle.abstract_router.specs.Tables.{entry_of, look, table_of}
 use Rattle.abstract_router.specs.Touched.{IsSameElsewhere}
 
 -- Exactly the LSPs are there whose paths are.
@@ -49,3 +47,15 @@ pub lsps-among : {E : Type 0} (s : State) (es : List (Key × E)) → T (is_sorte
 lsps-among s es g h =
     where_key-among key_cmp key_total key_exact es (lsps_of s) g (is_sorted-lsps s h)
     ∙ (λ i. filter_map (λ e. option_map (λ lsp. (e.0, lsp)) (find-lsps e.0 s i)) es)
+
+-- The LSPs stand on paths, reservations and labels alone,
+pub lsps-alike : (s t : State) → s.facts.paths ≡ t.facts.paths → s.resvs ≡ t.resvs → s.labels ≡ t.labels → lsps_of s ≡ lsps_of t
+unfolding lsps_of
+lsps-alike s t paths resvs labels = λ i. map (λ (row : Key × PathFact). (row.0, lsp_of (record s { resvs = resvs i; labels = labels i }) row.0 row.1)) (paths i)
+
+-- and so does the action of a label.
+pub look-alike : (s t : State) (label : ℕ) → s.facts.paths ≡ t.facts.paths → s.resvs ≡ t.resvs → s.labels ≡ t.labels → look s label ≡ look t label
+unfolding look table_of
+look-alike s t label paths resvs labels =
+    ap (λ (lsps : List (Key × Lsp)). option_map (λ (entry : ℕ × Action). entry.1) (find_first (λ (entry : ℕ × Action). entry.0 == label) (filter_map (λ (lsp : Key × Lsp). entry_of lsp.1) lsps)))
+    (lsps-alike s t paths resvs labels)

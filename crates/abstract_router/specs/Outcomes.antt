@@ -1,6 +1,6 @@
 -- What an event does of itself: its reply, the errors that it meets, and what is known after it.
-use Rattle.std.specs.Prelude.{ℕ, Bool, true, false, if◌then◌else◌, List, [], ◌∷◌, Option}
-use Rattle.std.specs.Option.{option_map, option_map_or}
+use Rattle.std.specs.Prelude.{ℕ, Bool, true, false, if◌then◌else◌, List, [], Option}
+use Rattle.std.specs.Option.{option_map}
 use Rattle.rsvp_contents.specs.declared.messages.Content.TheVariants as contents
 use Rattle.rsvp_flows.specs.declared.descriptors.ErrorDescriptor.{ErrorDescriptor}
 use Rattle.rsvp_objects.specs.declared.values.ErrorSpec.{ErrorSpec}
@@ -38,7 +38,7 @@ abbrev pub refused : State → Refusal → Outcome
 refused s refusal = record { reply = replies.Refused refusal; errors = []; due = []; upstream_due = []; after = s; is_silent = true }
 
 -- what the event does to paths, links and time, and no more
-abbrev pub of_paths : State → paths.Outcome → Outcome
+abbrev pub of_paths : State → paths.PathOutcome → Outcome
 of_paths s o = record { reply = o.reply; errors = o.errors; due = o.due; upstream_due = []; after = with_facts o.after s; is_silent = o.is_silent }
 
 -- A reservation that stands as it was in spite of an error is said to be in place (RFC 2205, A.5).
@@ -46,8 +46,8 @@ abbrev pub in_place : ℕ
 in_place = 0x01
 
 -- an error that this router found, of an LSP that is reserved still, or isn't
-abbrev pub found_here : Router → Bool → RsvpError → ErrorSpec
-found_here r is_reserved e = record (paths.found_here r e) { flags = if is_reserved then in_place else 0 }
+abbrev pub reservation_error : Router → Bool → RsvpError → ErrorSpec
+reservation_error r is_reserved e = record (paths.found_here r e) { flags = if is_reserved then in_place else 0 }
 
 -- A ResvErr that goes downstream by a link, from this router's address there (RFC 2205, 3.1.8).
 abbrev pub told_downstream : Router → ℕ → Session → ErrorSpec → Style → List ErrorDescriptor → Option Output
@@ -55,7 +55,3 @@ told_downstream r link session error style descriptors =
     option_map (λ l.
     sent_by link (contents.ResvErr (record { session = session; hop = record { address = l.address; interface = link }; error = error; style = style; descriptors = descriptors })))
     (link_at r link)
-
--- what may be told, as a list
-abbrev pub listed : Option Output → List Output
-listed told = option_map_or (λ o. o ∷ []) told []

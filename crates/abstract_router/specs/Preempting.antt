@@ -16,8 +16,9 @@ use Rattle.resv_facts.specs.declared.claim.Claim.{Claim}
 use Rattle.resv_facts.specs.declared.claim.Request.{Request}
 use Rattle.resv_facts.specs.declared.resv_fact.ResvFact.{ResvFact}
 use Rattle.router_events.specs.declared.events.Output.{Output}
-use Rattle.abstract_router.specs.Errors.{preempted, style_word}
-use Rattle.abstract_router.specs.Outcomes.{found_here, told_downstream}
+use Rattle.resv_facts.specs.Reservations.{style_word}
+use Rattle.abstract_router.specs.Errors.{preempted}
+use Rattle.abstract_router.specs.Outcomes.{reservation_error, told_downstream}
 use Rattle.abstract_router.specs.States.{State}
 
 -- the SESSION_ATTRIBUTE of an LSP's path, if it has one
@@ -48,7 +49,7 @@ giving_way r s key fact = victims_of (limit_of r fact.link) (request_of s.facts.
 -- (RFC 2205, 3.1.8 and B, 12). RFC 3209, 4.7.3 would rather have code 2; this router's is 12.
 abbrev pub told_preempted : Router → Key → ResvFact → Option Output
 told_preempted r key fact =
-    told_downstream r fact.link key.session (found_here r false preempted) (style_word fact.style)
+    told_downstream r fact.link key.session (reservation_error r false preempted) (style_word fact.style)
     (record { flowspec = Some fact.flowspec; filter = key.sender } ∷ [])
 
 -- and so of each of these, in their order

@@ -1,9 +1,8 @@
 -- What a Resv does, descriptor by descriptor (RFC 2205, 3.1.4 and 3.7; RFC 3209, 2.4, 4.1 and 4.6.3).
-use Rattle.std.specs.Prelude.{ℕ, ◌+◌, ◌==◌, ◌&&◌, ◌++◌, not, Bool, true, false, if◌then◌else◌, List, [], ◌∷◌, fold, Option, Some, None, Result, Ok, Err, find as find_first}
+use Rattle.std.specs.Prelude.{ℕ, ◌+◌, ◌++◌, not, Bool, true, false, if◌then◌else◌, List, [], ◌∷◌, fold, Option, Some, None, Result, Ok, Err, find as find_first}
 use Rattle.std.specs.FinMap.Entries.{find}
 use Rattle.std.specs.List.{list_any}
-use Rattle.std.specs.Option.{option_map_or, option_or}
-use Rattle.std.specs.Ordering.{is_eq}
+use Rattle.std.specs.Option.{option_map_or, option_or, option_to_list}
 use Rattle.rsvp_contents.specs.declared.messages.Resv.{Resv}
 use Rattle.rsvp_flows.specs.declared.descriptors.ErrorDescriptor.{ErrorDescriptor}
 use Rattle.rsvp_flows.specs.declared.descriptors.FlowDescriptor.{FlowDescriptor}
@@ -27,7 +26,7 @@ use Rattle.abstract_paths.specs.Outcomes.{lsp}
 use Rattle.abstract_paths.specs.Paths.{has_loop, lifetime, unknown_object}
 use Rattle.abstract_paths.specs.Tears.{leaves_by}
 use Rattle.abstract_router.specs.Errors.{no_bandwidth, no_path, no_sender, style_conflict, unknown_style, unsupported_service, bad_flowspec, unacceptable_label}
-use Rattle.abstract_router.specs.Outcomes.{Outcome, replied, found_here, listed, refused, told_downstream}
+use Rattle.abstract_router.specs.Outcomes.{Outcome, replied, reservation_error, refused, told_downstream}
 use Rattle.abstract_router.specs.Preempting.{all_told_preempted, fits, giving_way}
 use Rattle.forwarding_table.specs.Labels.{is_label}
 use Rattle.abstract_router.specs.States.{State, is_reserved, with_resv, without_resvs}
@@ -71,14 +70,14 @@ verdict_by_rate r s key fact (Ok rate) =
     else if not (fits r s key fact) then Failed no_bandwidth
     else Granted
 
--- What becomes of it where its LSP has this path.
+-- What becomes of it where its LSP has this path (RFC 2205, B, 5).
 abbrev pub verdict_on_path : Router → State → Key → ResvFact → PathFact → Verdict
 verdict_on_path r s key fact path =
     if not (leaves_by fact.link path) then PassedOver
     else option_map_or (λ other. Failed (style_conflict other.1.style)) (find_first (conflicts fact.link fact.style key) s.resvs)
     (verdict_by_rate r s key fact (flowspec_rate fact.flowspec))
 
--- What becomes of it: the first of these that holds.
+-- What becomes of it: the first of these that holds (RFC 2205, B, 3 and 4).
 unfoldable pub verdict_of : Router → State → Key → ResvFact → Verdict
 verdict_of r s key fact =
     if not (list_any (λ path. is_same_session key.session path.0.session) s.facts.paths) then Failed no_path
@@ -99,7 +98,7 @@ named d = record { flowspec = Some d.flowspec; filter = d.filter }
 -- The error of a descriptor goes back over the link that the Resv came by; it says in place where the LSP is reserved
 -- (RFC 2205, 3.1.8 and A.5).
 abbrev pub told_failed : Router → State → ℕ → Resv → FlowDescriptor → RsvpError → List Output
-told_failed r s link v d e = listed (told_downstream r link v.session (found_here r (is_reserved s (key_in v d)) e) v.style (named d ∷ []))
+told_failed r s link v d e = option_to_list (told_downstream r link v.session (reservation_error r (is_reserved s (key_in v d)) e) v.style (named d ∷ []))
 
 -- What comes of a descriptor. One that is granted has its reservation put, once those who give way have lost theirs.
 abbrev pub carried_on : Router → ℕ → Resv → FlowDescriptor → ResvFact → Progress → Verdict → Progress
@@ -133,7 +132,7 @@ resv_replied s progress None = if progress.has_granted then replied replies.Done
 -- A Resv that is in error as a whole: that is told back, and changes nothing.
 abbrev pub resv_failed : Router → State → ℕ → Resv → Bool → List ErrorDescriptor → RsvpError → Outcome
 resv_failed r s link v in_place descriptors e =
-    replied (replies.Error e) (listed (told_downstream r link v.session (found_here r in_place e) v.style descriptors)) s
+    replied (replies.Error e) (option_to_list (told_downstream r link v.session (reservation_error r in_place e) v.style descriptors)) s
 
 -- What a Resv does: one of another style than FF and SE is in error (RFC 2205, B, 6).
 unfoldable pub resv_arrival : Router → State → ℕ → Resv → Outcome

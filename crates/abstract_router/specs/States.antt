@@ -1,6 +1,6 @@
 -- What a label switching router knows, and the changes that events make of it.
 pub use Rattle.resv_facts.specs.declared.state.State.{State}
-use Rattle.std.specs.Prelude.{ℕ, not, Bool, List, filter, is_some}
+use Rattle.std.specs.Prelude.{not, Bool, List, filter, is_some}
 use Rattle.std.specs.FinMap.Entries.{find, put}
 use Rattle.std.specs.List.{list_any}
 use Rattle.std.specs.Ordering.{is_eq}
@@ -26,9 +26,9 @@ abbrev pub with_resvs_where : (Key × ResvFact → Bool) → State → State
 with_resvs_where test s = record s { resvs = filter test s.resvs }
 
 -- the key is one of these
-abbrev pub is_among : List Key → Key → Bool
-is_among keys key = list_any (λ k. is_eq (key_cmp k key)) keys
+abbrev pub is_one_of : List Key → Key → Bool
+is_one_of keys key = list_any (λ k. is_eq (key_cmp k key)) keys
 
 -- the reservations of these LSPs go
 abbrev pub without_resvs : List Key → State → State
-without_resvs keys s = with_resvs_where (λ resv. not (is_among keys resv.0)) s
+without_resvs keys s = with_resvs_where (λ resv. not (is_one_of keys resv.0)) s

@@ -17,9 +17,10 @@ use Rattle.router_events.specs.declared.events.Event.TheVariants as events
 use Rattle.router_events.specs.declared.events.Event.{Event}
 use Rattle.router_events.specs.declared.events.Made.{Made}
 use Rattle.router_events.specs.declared.events.Output.{Output}
+use Rattle.link_frames.specs.Payloads.{IsData}
 use Rattle.abstract_paths.specs.Places.{is_up}
 use Rattle.abstract_paths.specs.Relays.{exceeds_hop_limit}
-use Rattle.abstract_paths.specs.Restarts.{opening as opened_facts}
+use Rattle.abstract_paths.specs.Restarts.{opening_facts}
 use Rattle.abstract_paths.specs.Tears.{leaves_by}
 use Rattle.abstract_router.specs.Arrivals.{outcome}
 use Rattle.abstract_router.specs.Labels.{IsLabelling, labels_after}
@@ -29,30 +30,30 @@ use Rattle.abstract_router.specs.States.{State, with_resvs_where}
 
 -- a router as it is opened: no path, no reservation, no label
 abbrev pub opening : Router → List (Prefix × ℕ) → State
-opening r routes = record { facts = opened_facts r routes; resvs = []; labels = []; sent_upstream = [] }
+opening r routes = record { facts = opening_facts r routes; resvs = []; labels = []; sent_upstream = [] }
+
+-- First a tunnel whose new LSP has its reservation goes over to it (RFC 3209, 2.5). No tunnel begins here yet.
+abbrev pub taken_over : Router → State → State
+taken_over r s = s
+
+-- Then what a lost link takes away is repaired (RFC 4090, 6.4). Nothing is repaired yet.
+abbrev pub repaired : Router → State → State
+repaired r s = s
+
+-- The errors that repair tells to the origins of what it repairs, in the order of the keys (RFC 4090, 6.5): none yet.
+abbrev pub told_repaired : Router → State → List Output
+told_repaired r s = []
 
 -- A reservation stands on its path: on the link that this leaves by, which is up.
 abbrev pub stands : Facts → Key × ResvFact → Bool
 stands facts resv = is_up facts.up resv.1.link && option_map_or (leaves_by resv.1.link) (find key_cmp resv.0 facts.paths) false
 
--- Reservations go that stand no more: their path went, or leaves by another link, or ends here now; or their link
+-- Then reservations go that stand no more: their path went, or leaves by another link, or ends here now; or their link
 -- went down (RFC 2205, 2.3 and 3.6).
 abbrev pub left_standing : State → State
 left_standing s = with_resvs_where (stands s.facts) s
 
--- Then a tunnel whose new LSP has its reservation goes over to it. No tunnel begins here yet.
-abbrev pub taken_over : Router → State → State
-taken_over r s = s
-
--- Then what a lost link takes away is repaired. Nothing is repaired yet.
-abbrev pub repaired : Router → State → State
-repaired r s = s
-
--- The errors that repair tells to the origins of what it repairs, in the order of the keys: none yet.
-abbrev pub told_repaired : Router → State → List Output
-told_repaired r s = []
-
--- Then each LSP that is new has the label that was chosen for it, and the labels of those that went are free.
+-- At last each LSP that is new has the label that was chosen for it, and the labels of those that went are free.
 abbrev pub labelled : List (Key × ℕ) → State → State
 labelled chosen s = record s { labels = labels_after s.labels chosen s.facts.paths }
 
@@ -82,9 +83,10 @@ MayChooseBy false r labels paths chosen = IsLabelling r labels paths chosen
 abbrev pub MayChoose : Router → State → Outcome → List (Key × ℕ) → Type 0
 MayChoose r before o chosen = MayChooseBy o.is_silent r before.labels o.after.facts.paths chosen
 
--- An event that can be: its message is one. The types of the program keep that.
+-- An event that can be: its message is one, or it has no more unread bytes than a frame. The types of the program keep that.
 abbrev pub IsEvent : Event → Type 0
 IsEvent (events.Arrive a) = IsMessage (content_in a.reading)
+IsEvent (events.Relay m) = IsData m.message
 IsEvent event = Unit {0}
 
 -- One step, made: what the event does and what follows from it, its answer, and what is sent. While the router is

@@ -13,21 +13,20 @@ use Rattle.forwarding_table.specs.declared.forwarding.Forwarding.{Forwarding}
 use Rattle.label_stacks.specs.declared.entry.StackEntry.{StackEntry}
 use Rattle.abstract_paths.specs.Paths.{goes_on}
 use Rattle.abstract_paths.specs.Places.{is_up}
+use Rattle.abstract_router.specs.Lsps.{Lsp, lsps_of}
 use Rattle.abstract_router.specs.States.{State}
 
 -- what is done with a frame of an LSP: it ends here, or it goes on with its next hop's label where it is reserved
-abbrev pub action_of : List (Key × ResvFact) → Key × PathFact → Option Action
-action_of resvs path =
-    if goes_on path.1.role then option_map (λ resv. Swap resv.label resv.link) (rows.find key_cmp path.0 resvs) else Some Pop
+abbrev pub action_of : Lsp → Option Action
+action_of lsp = if goes_on lsp.path.role then option_map (λ resv. Swap resv.label resv.link) lsp.resv else Some Pop
 
 -- and under which label
-abbrev pub entry_of : State → Key × PathFact → Option (ℕ × Action)
-entry_of s path =
-    option_and_then (λ label. option_map (λ action. (label, action)) (action_of s.resvs path)) (rows.find key_cmp path.0 s.labels)
+abbrev pub entry_of : Lsp → Option (ℕ × Action)
+entry_of lsp = option_and_then (λ label. option_map (λ action. (label, action)) (action_of lsp)) lsp.label
 
 -- The label table: an entry for each LSP that ends here or is reserved, and nothing else.
 unfoldable pub table_of : State → List (ℕ × Action)
-table_of s = filter_map (entry_of s) s.facts.paths
+table_of s = filter_map (λ lsp. entry_of lsp.1) (lsps_of s)
 
 -- the action of a label
 unfoldable pub look : State → ℕ → Option Action

@@ -2,7 +2,7 @@
 use Rattle.std.specs.Prelude.{ℕ, ◌==◌, ◌&&◌, not, Bool, if◌then◌else◌, List, [], ◌∷◌, filter_map, Option, Some, None}
 use Rattle.std.specs.FinMap.Entries.{find}
 use Rattle.std.specs.List.{flat_map, list_any}
-use Rattle.std.specs.Option.{option_and_then, option_map}
+use Rattle.std.specs.Option.{option_and_then, option_map, option_to_list}
 use Rattle.std.specs.Ordering.{is_eq}
 use Rattle.rsvp_contents.specs.declared.messages.ResvErr.{ResvErr}
 use Rattle.rsvp_contents.specs.declared.messages.ResvTear.{ResvTear}
@@ -18,18 +18,18 @@ use Rattle.router_events.specs.declared.events.Output.{Output}
 use Rattle.abstract_paths.specs.Outcomes.{lsp}
 use Rattle.abstract_paths.specs.Paths.{goes_on}
 use Rattle.abstract_paths.specs.Tears.{is_from}
-use Rattle.abstract_router.specs.Outcomes.{Outcome, replied, listed, refused, told_downstream}
+use Rattle.abstract_router.specs.Outcomes.{Outcome, replied, refused, told_downstream}
 use Rattle.abstract_router.specs.States.{State, with_resvs_where}
 
 -- one of the tear's filters names the reservation, and it is on the link; style and hop don't count
-abbrev pub is_torn_by : ℕ → ResvTear → Key × ResvFact → Bool
-is_torn_by link t resv = (resv.1.link == link) && list_any (λ filter_spec. is_eq (key_cmp (lsp t.session filter_spec) resv.0)) t.filters
+abbrev pub is_resv_torn_by : ℕ → ResvTear → Key × ResvFact → Bool
+is_resv_torn_by link t resv = (resv.1.link == link) && list_any (λ filter_spec. is_eq (key_cmp (lsp t.session filter_spec) resv.0)) t.filters
 
 -- A ResvTear takes away the reservations that it names; one that names none is refused (RFC 2205, 3.1.6).
 unfoldable pub resv_tear_arrival : State → ℕ → ResvTear → Outcome
 resv_tear_arrival s link t =
-    if list_any (is_torn_by link t) s.resvs
-    then replied replies.Done [] (with_resvs_where (λ resv. not (is_torn_by link t resv)) s)
+    if list_any (is_resv_torn_by link t) s.resvs
+    then replied replies.Done [] (with_resvs_where (λ resv. not (is_resv_torn_by link t resv)) s)
     else refused s NoMatch
 
 -- the path came from the neighbour that sent the ResvErr
@@ -44,14 +44,14 @@ err_onward r s link e d =
     option_and_then (λ path.
     if not (is_from_origin link e path) then None
     else if not (goes_on path.role) then Some []
-    else option_map (λ resv. listed (told_downstream r resv.link e.session e.error e.style (d ∷ []))) (find key_cmp key s.resvs))
+    else option_map (λ resv. option_to_list (told_downstream r resv.link e.session e.error e.style (d ∷ []))) (find key_cmp key s.resvs))
     (find key_cmp key s.facts.paths)
 
 -- what comes of the descriptors that matched
-abbrev pub passed_on : State → List (List Output) → Outcome
-passed_on s [] = refused s NoMatch
-passed_on s (one ∷ more) = replied replies.Done (flat_map (λ told. told) (one ∷ more)) s
+abbrev pub resv_err_passed_on : State → List (List Output) → Outcome
+resv_err_passed_on s [] = refused s NoMatch
+resv_err_passed_on s (one ∷ more) = replied replies.Done (flat_map (λ told. told) (one ∷ more)) s
 
 -- What a ResvErr does, descriptor by descriptor: one of which none matches is refused (RFC 2205, 3.1.8).
 unfoldable pub resv_err_arrival : Router → State → ℕ → ResvErr → Outcome
-resv_err_arrival r s link e = passed_on s (filter_map (err_onward r s link e) e.descriptors)
+resv_err_arrival r s link e = resv_err_passed_on s (filter_map (err_onward r s link e) e.descriptors)

@@ -5,7 +5,11 @@ use Rattle.lsr_facts.specs.declared.router.Router.{Router}
 use Rattle.abstract_router.specs.Lsps.{around_of, lsp_at}
 use Rattle.abstract_router.specs.States.{State}
 
--- All LSPs share the same before and after; and of each that isn't touched the same is known, but for when it expires.
+-- of each LSP that isn't touched the same is known, but for when it expires
+abbrev pub LeavesOtherLsps : (Key → Bool) → State → State → Type 0
+LeavesOtherLsps touched before after = (key : Key) → touched key ≡ false → lsp_at before key ≡ lsp_at after key
+
+-- And all LSPs share the same before and after.
 pub record IsSameElsewhere (r : Router) (touched : Key → Bool) (before after : State) : Type 0 where
   pub around : around_of r before ≡ around_of r after
-  pub lsps : (key : Key) → touched key ≡ false → lsp_at before key ≡ lsp_at after key
+  pub lsps : LeavesOtherLsps touched before after

@@ -1,7 +1,7 @@
 -- Laws of the Resvs that are wanted upstream: they stand in order, those of some LSPs come of these alone, and they are
 -- no more than the paths.
-use Rattle.std.specs.Prelude.{◌≡◌, ◌++◌, ◌≤◌, ℕ, suc, not, Bool, true, false, cond, if◌then◌else◌, T, List, [], ◌∷◌, filter, filter_map, length, map, Option, Some, None, IfSome}
-use Rattle.std.specs.FinMap.Entries.{below_all, find, is_sorted, is_sorted-where_key, where_key}
+use Rattle.std.specs.Prelude.{◌≡◌, ◌++◌, ◌≤◌, ℕ, suc, not, Bool, true, false, cond, T, List, [], ◌∷◌, filter, filter_map, length, map, Option, Some, None, IfSome}
+use Rattle.std.specs.FinMap.Entries.{below_all, is_sorted, where_key}
 use Rattle.std.specs.List.{AllByRecursion, cons_option, flat_map}
 use Rattle.std.specs.Option.{option_and_then, option_map, option_map_or}
 use Rattle.std.specs.Ordering.{is_lt, nat_cmp, ordering_then}
@@ -9,14 +9,13 @@ use Rattle.std.specs.declared.cmp.Ordering.{Ordering}
 use Rattle.std.specs.declared.cmp.Ordering.TheVariants.{Less, Equal, Greater}
 use Rattle.std.specs.declared.net.ipv4_addr.Ipv4Addr.{Ipv4Addr}
 use Rattle.std.proofs.Common.{refl, sym, ap, subst, ◌∙◌, arith, length-append}
-use Rattle.std.proofs.lemmas.Bool.{not-true}
 use Rattle.std.proofs.lemmas.Cmp.{tied_itself}
 use Rattle.std.proofs.lemmas.List.Elements.{filter-append}
 use Rattle.std.proofs.lemmas.List.{length-map}
-use Rattle.sorted_rows.specs.ListLaws.{all-filter_passes, all-weaker, filter-all_pass}
+use Rattle.sorted_rows.specs.ListLaws.{all-weaker, filter-all_pass}
 use Rattle.sorted_rows.specs.RowsLaws.{all-below, is_sorted-append, is_sorted-both}
 use Rattle.rsvp_contents.specs.declared.messages.Content.TheVariants as contents
-use Rattle.lsr_facts.specs.OrderLaws.{address_total, key_total}
+use Rattle.lsr_facts.specs.OrderLaws.{key_total}
 use Rattle.lsr_facts.specs.Orders.{address_cmp, key_cmp}
 use Rattle.lsr_facts.specs.Routers.{link_at}
 use Rattle.lsr_facts.specs.Timeless.{timeless_origin}
@@ -26,12 +25,10 @@ use Rattle.lsr_facts.specs.declared.path_fact.Origin.{Origin}
 use Rattle.lsr_facts.specs.declared.path_fact.PathFact.{PathFact}
 use Rattle.lsr_facts.specs.declared.router.Link.{Link}
 use Rattle.lsr_facts.specs.declared.router.Router.{Router}
-use Rattle.resv_facts.specs.UpstreamOrder.{upstream_exact, upstream_total}
 use Rattle.resv_facts.specs.Upstreams.{upstream_cmp}
 use Rattle.resv_facts.specs.declared.upstream.Upstream.{Upstream}
 use Rattle.router_events.specs.declared.events.Output.{Output}
 use Rattle.abstract_paths.specs.Outcomes.{sent_by}
-use Rattle.abstract_paths.specs.Paths.{goes_on}
 use Rattle.abstract_paths.specs.OriginLaws.{one_origin}
 use Rattle.abstract_paths.specs.Places.{is_up}
 use Rattle.abstract_paths.specs.Soundness.{ArePaths, IsPath}
@@ -214,11 +211,6 @@ unfolding upstream_of upstream_at
 upstream-at_keys r touched s =
     filter-flat_map (upstream_rows (around_of r s)) (λ w. touched w.0.key) (λ lsp. touched lsp.0)
     (λ lsp. all-weaker (λ w. w.0.key ≡ lsp.0) (λ w. touched w.0.key ≡ touched lsp.0) (λ w is. ap touched is) (upstream_rows (around_of r s) lsp) (own-rows (around_of r s) lsp)) (lsps_of s)
-
--- these stand in order too
-pub is_sorted-upstream_at : (r : Router) (touched : Key → Bool) (s : State) (moment : ℕ) → ArePaths r moment s.facts.paths → T (is_sorted upstream_cmp (upstream_at r s touched))
-is_sorted-upstream_at r touched s moment are =
-    subst (λ rows. T (is_sorted upstream_cmp rows)) (upstream-at_keys r touched s) (is_sorted-where_key upstream_cmp (λ u. touched u.key) (upstream_of r s) (is_sorted-upstream_sound r s moment are))
 
 -- Where all LSPs share the same before and after, what is wanted of those that aren't touched is the same.
 pub upstream-elsewhere : (r : Router) (touched : Key → Bool) (before after : State) → T (is_sorted key_cmp before.facts.paths) → T (is_sorted key_cmp after.facts.paths) → IsSameElsewhere r touched before after

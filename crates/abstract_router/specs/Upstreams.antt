@@ -4,7 +4,6 @@ use Rattle.std.specs.FinMap.Entries.{where_key}
 use Rattle.std.specs.List.{flat_map}
 use Rattle.std.specs.Option.{option_and_then, option_map, option_map_or, unwrap_or}
 use Rattle.std.specs.declared.net.ipv4_addr.Ipv4Addr.{Ipv4Addr}
-use Rattle.rsvp_contents.specs.Limits.{is_short_record}
 use Rattle.rsvp_contents.specs.declared.messages.Content.TheVariants as contents
 use Rattle.rsvp_contents.specs.declared.messages.Resv.{Resv}
 use Rattle.rsvp_objects.specs.Raw.{Raw}
@@ -25,9 +24,9 @@ use Rattle.resv_facts.specs.declared.resv_fact.ResvStyle.{ResvStyle}
 use Rattle.resv_facts.specs.declared.resv_fact.ResvStyle.TheVariants.{FixedFilter, SharedExplicit}
 use Rattle.router_events.specs.declared.events.Output.{Output}
 use Rattle.abstract_paths.specs.Outcomes.{sent_by}
-use Rattle.abstract_paths.specs.Paths.{goes_on}
+use Rattle.abstract_paths.specs.Paths.{goes_on, own_entry, short_only}
 use Rattle.abstract_paths.specs.Places.{is_up}
-use Rattle.abstract_router.specs.Errors.{style_word}
+use Rattle.resv_facts.specs.Reservations.{style_word}
 use Rattle.resv_facts.specs.declared.upstream.Upstream.{Upstream}
 use Rattle.abstract_router.specs.Lsps.{Around, Lsp, around_of, lsp_at, lsps_of}
 use Rattle.abstract_router.specs.States.{State}
@@ -68,14 +67,14 @@ reserved_for lsp = if goes_on lsp.path.role then option_map reserved_by_next lsp
 abbrev pub label_entry : ℕ → Trace
 label_entry label = traces.Label 0x01 label
 
--- The record of a Resv, which begins with this router: its id, and its label where the Path asks for that
--- (RFC 3209, 4.4.3). None where the Path has no record, or where it would be above this router's limit of 64 entries
--- and 1,024 bytes.
+-- this router's own entries in it: its id, and its label where the Path asks for that
+abbrev pub own_entries : Router → PathFact → ℕ → List Trace
+own_entries r path label = if records_labels path.attr then own_entry r ∷ label_entry label ∷ [] else own_entry r ∷ []
+
+-- The record of a Resv, which begins with this router (RFC 3209, 4.4.3). None where the Path has no record, or where it
+-- would be above this router's limit of 64 entries and 1,024 bytes: then nothing tells of it, where 4.4.3 has a ResvErr.
 unfoldable pub record_upstream : Router → PathFact → ℕ → List Trace → Option (List Trace)
-record_upstream r path label recorded =
-    let here = traces.Ipv4 (record { address = r.id; length = 32 }) 0 in
-    let own = if records_labels path.attr then here ∷ label_entry label ∷ [] else here ∷ [] in
-    option_and_then (λ came. if is_short_record (own ++ recorded) then Some (own ++ recorded) else None) path.recorded
+record_upstream r path label recorded = option_and_then (λ came. short_only (own_entries r path label ++ recorded)) path.recorded
 
 -- The Resv to an origin: this router is its hop, with the interface handle that the origin named; the label is its own
 -- (RFC 2205, 3.1.4; RFC 3209, 4.1.1).

@@ -1,14 +1,13 @@
 -- Laws of what is wanted downstream: it stands in the order of items, and that of some LSPs comes of these alone.
 use Rattle.std.specs.Prelude.{◌≡◌, ◌&&◌, ℕ, Bool, true, false, cond, not, T, List, [], ◌∷◌, filter_map, Option, Some, None, IfSome}
-use Rattle.std.specs.FinMap.Entries.{below_all, find, is_sorted, is_sorted-where_key, where_key}
+use Rattle.std.specs.FinMap.Entries.{below_all, is_sorted, where_key}
 use Rattle.std.specs.List.{cons_option}
 use Rattle.std.specs.Option.{option_and_then, option_map}
 use Rattle.std.specs.Ordering.{is_lt, nat_cmp, ordering_then}
 use Rattle.std.specs.declared.cmp.Ordering.{Ordering}
 use Rattle.std.specs.declared.cmp.Ordering.TheVariants.{Less, Equal, Greater}
-use Rattle.std.proofs.Common.{refl, sym, ap, subst, ◌∙◌}
+use Rattle.std.proofs.Common.{refl, sym, ap, ◌∙◌}
 use Rattle.rsvp_contents.specs.declared.messages.Content.TheVariants as contents
-use Rattle.lsr_facts.specs.OrderLaws.{item_exact, item_total}
 use Rattle.lsr_facts.specs.Orders.{item_cmp, key_cmp, key_of_item}
 use Rattle.lsr_facts.specs.Routers.{link_at}
 use Rattle.lsr_facts.specs.declared.key.Item.{Item}
@@ -22,7 +21,6 @@ use Rattle.abstract_paths.specs.Paths.{goes_on}
 use Rattle.abstract_paths.specs.Places.{is_up}
 use Rattle.abstract_paths.specs.RowLaws.{both, filter-filter_map, first, second}
 use Rattle.abstract_paths.specs.Touched.{is_among}
-use Rattle.abstract_paths.specs.TouchedLaws.{find-touched, found_elsewhere}
 use Rattle.abstract_router.specs.LspLaws.{is_sorted-lsps, lsps-among, lsps-elsewhere}
 use Rattle.abstract_router.specs.Lsps.{Around, Lsp, around_of, lsp_at, lsps_of}
 use Rattle.abstract_router.specs.States.{State}
@@ -95,11 +93,6 @@ unfolding items_of items_at
 items-at_keys r touched s =
     filter-filter_map (downstream_row (around_of r s)) (λ lsp. touched lsp.0) (λ w. touched (key_of_item w.0))
     (λ lsp. downstream_of (around_of r s) (λ w. touched (key_of_item w.0) ≡ touched lsp.0) lsp (λ o. refl)) (lsps_of s)
-
--- that stands in order, too
-pub is_sorted-items_at : (r : Router) (touched : Key → Bool) (s : State) → T (is_sorted key_cmp s.facts.paths) → T (is_sorted item_cmp (items_at r s touched))
-is_sorted-items_at r touched s h =
-    subst (λ rows. T (is_sorted item_cmp rows)) (items-at_keys r touched s) (is_sorted-where_key item_cmp (λ item. touched (key_of_item item)) (items_of r s) (is_sorted-items r s h))
 
 -- Where all LSPs share the same before and after, what is wanted of those that aren't touched is the same.
 pub items-elsewhere : (r : Router) (touched : Key → Bool) (before after : State) → T (is_sorted key_cmp before.facts.paths) → T (is_sorted key_cmp after.facts.paths) → IsSameElsewhere r touched before after

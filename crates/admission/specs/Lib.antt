@@ -1,4 +1,3 @@
 pub mod Bandwidths
 pub mod RoomLaws
-pub mod Rooms
 pub mod Sums

@@ -4,12 +4,10 @@
 pub mod laws;
 mod reserved;
 mod resv_state;
-mod room;
 mod state;
 mod sum;
 mod victims;
 
 pub use reserved::reserved_with;
-pub use room::{Room, room_of};
 pub use state::Admission;
 pub use victims::victims_of;

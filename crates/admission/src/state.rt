@@ -11,12 +11,10 @@ ghost use Rattle.resv_facts.specs.Reservations.{lives_past};
 ghost use Rattle.sorted_rows.specs.Edits.{edited};
 ghost use Rattle.sorted_rows.specs.InTurn.{given, in_turn, taken};
 ghost use Rattle.sorted_rows.specs.Rows.{keys_of};
-ghost use Rattle.admission.specs.Rooms.{room_of};
 ghost use Rattle.admission.specs.Bandwidths.{AreEdits, AreMatched, AreRated, claim_edits, left_at, resv_edits, with_edits, with_holding, with_resv, without_resv};
 
 use crate::reserved::{reserved, reserved_with};
 use crate::resv_state::ResvState;
-use crate::room::{Room, room_of};
 use crate::victims::victims_of;
 use lsr_facts::Key;
 use lsr_facts::limits::MAX_LSPS;
@@ -299,17 +297,6 @@ impl Admission {
         ensures { IfOk result (λ keys. keys.items ≡ victims_of limit request.now self.now.claims) }
     {
         victims_of(alloc, limit, request, self.claims())
-    }
-
-    /// What room a link with this limit, in bytes per second, has for a request. It asks for a rate of at most 2^50
-    /// bytes per second and for a setup priority of 0 to 7. It goes over all reservations once where the room is free,
-    /// and else twice, and takes no memory.
-    pub fn room_within(&self, limit: u64, request: &Request) -> Room
-        requires most { request.now.claim.rate ≤ 2 ^ 50 }
-        requires setup { request.now.setup ≤ 7 }
-        ensures { result ≡ room_of limit request.now self.now.claims }
-    {
-        room_of(limit, request, self.claims())
     }
 
     /// Whether a request fits its link's limit, as [`Admission::fits_within`] says it. On a link that has no limit

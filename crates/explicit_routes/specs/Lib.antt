@@ -1,4 +1,3 @@
 pub mod Below
 pub mod Choosing
-pub mod Entries
 pub mod Unfolded

@@ -13,5 +13,5 @@ pub use abstract_paths::{Frame, Output, Outputs};
 pub use fault::{RouteError, RouteFault};
 pub use hops::choose_hop;
 pub use places::{is_own, is_up, link_at};
-pub use records::{has_loop, has_room, push_hop};
+pub use records::{has_loop, has_room, own_entry, push_hop};
 pub use routing::route_to;

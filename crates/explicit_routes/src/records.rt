@@ -2,8 +2,7 @@
 
 ghost use Rattle.std.specs.Prelude.{◌≡◌, ◌∷◌, Some, is_some, IfOk};
 ghost use Rattle.rsvp_contents.specs.Limits.{is_short_record};
-ghost use Rattle.abstract_paths.specs.Paths.{grown, has_loop, names_here};
-ghost use Rattle.explicit_routes.specs.Entries.{entry_of};
+ghost use Rattle.abstract_paths.specs.Paths.{grown, has_loop, names_here, own_entry};
 
 use crate::copies::copy_behind;
 use crate::places::{is_own, node_at};
@@ -33,9 +32,9 @@ pub fn has_loop(node: &Node, recorded: &Record) -> bool
         .any(|entry| names_here(node.router, entry))
 }
 
-/// The entry of a record that names this router.
-fn entry_of(router: &Router) -> Trace
-    ensures { result ≡ entry_of router.now }
+/// The entry of a record that names this router: its id alone, without flags (RFC 3209, 4.4.1.1).
+pub fn own_entry(router: &Router) -> Trace
+    ensures { result ≡ own_entry router.now }
 {
     Trace::Ipv4 {
         prefix: node_at(router.id),
@@ -45,10 +44,10 @@ fn entry_of(router: &Router) -> Trace
 
 /// Whether a record with this router before the others is within its limits.
 fn is_short_behind(router: &Router, recorded: &Record) -> bool
-    ensures { result ≡ is_short_record (entry_of router.now ∷ recorded.now) }
+    ensures { result ≡ is_short_record (own_entry router.now ∷ recorded.now) }
 {
     recorded.as_slice().len() < MAX_TRACES
-        && entry_of(router).byte_len() + recorded.byte_len() <= MAX_RECORD_LEN
+        && own_entry(router).byte_len() + recorded.byte_len() <= MAX_RECORD_LEN
 }
 
 /// Whether a record has room for this router before the others.
@@ -68,6 +67,6 @@ pub fn push_hop(alloc: Global, node: &Node, recorded: &Record) -> Result<Option<
     if !is_short_behind(node.router, recorded) {
         return Ok(None);
     }
-    let whole = copy_behind(alloc, entry_of(node.router), recorded.as_slice())?;
+    let whole = copy_behind(alloc, own_entry(node.router), recorded.as_slice())?;
     Ok(Some(whole))
 }

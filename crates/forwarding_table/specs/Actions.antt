@@ -1,4 +1,4 @@
--- Actions, and the labels that they write.
+-- Actions of a label table, and the labels that they write (RFC 3031, 3.10).
 use Rattle.std.specs.Prelude.{ℕ, All, IfSome, List}
 use Rattle.forwarding_table.specs.declared.action.Action.{Action}
 use Rattle.forwarding_table.specs.declared.action.Action.TheVariants.{Swap, SwapPush, Pop, PushHead}

@@ -1,4 +1,4 @@
--- Which LSP holds which label of a router's range.
+-- Which LSP holds which label of a router's range (RFC 3031, 3.1 and 3.14).
 use Rattle.std.specs.Prelude.{◌≡◌, ℕ, ◌≤◌, ◌↔◌, nat_eq, true, List, T}
 use Rattle.std.specs.FinMap.Entries.{is_sorted}
 use Rattle.std.specs.List.{AllByRecursion, IsDistinct}

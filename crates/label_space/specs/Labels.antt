@@ -1,4 +1,4 @@
--- Which labels of a router are free, and in which order they are given.
+-- Which labels of a router are free, and in which order they are given (RFC 3031, 3.14).
 use Rattle.std.specs.Prelude.{◌≡◌, ℕ, ◌+◌, ◌-◌, ◌≤◌, nat_eq, List, [], ◌∷◌, ◌++◌, All, Contains, Option, map, slice_get}
 use Rattle.std.specs.List.{IsDistinct, range_with_len}
 use Rattle.lsr_facts.specs.Routers.{AreLabels}

@@ -1,15 +1,17 @@
 -- The edits of the LSPs that changed make of one state's label table the other's.
-use Rattle.std.proofs.Common.{◌≡◌, ◌≢◌, ◌⊎◌, ◌≤◌, ℕ, T, Bool, true, false, if◌then◌else◌, List, [], ◌∷◌, length, Option, Some, None, IfSome, refl, sym, ap, subst, ◌∙◌, inl, inr, arith}
+use Rattle.std.proofs.Common.{◌≡◌, ◌≢◌, ◌⊎◌, ◌≤◌, ℕ, T, Bool, true, false, if◌then◌else◌, List, [], ◌∷◌, length, not, Option, Some, None, IfSome, is_some, refl, sym, ap, subst, ◌∙◌, inl, inr, arith}
 use Rattle.std.specs.FinMap.Entries.{find, is_sorted}
-use Rattle.std.specs.List.{AllByRecursion}
+use Rattle.std.specs.Bool.{then_some}
+use Rattle.std.specs.List.{AllByRecursion, filter}
 use Rattle.std.specs.Option.{option_and_then, option_map}
 use Rattle.std.specs.Ordering.{nat_cmp}
 use Rattle.std.proofs.lemmas.Cmp.{nat_cmp_total}
 use Rattle.std.proofs.lemmas.List.Elements.{All-from_recursion}
 use Rattle.sorted_rows.specs.EditLaws.{find-edited, is_sorted-edited}
 use Rattle.sorted_rows.specs.Edits.{edited, over}
-use Rattle.sorted_rows.specs.RowsLaws.{all-from_find, find-all, find-all_row}
-use Rattle.lsr_facts.specs.OrderLaws.{key_exact}
+use Rattle.sorted_rows.specs.RowsLaws.{all-from_find, find-all, find-all_row, find-filter, is_some-find_both}
+use Rattle.lsr_facts.specs.Lifetimes.{begins_here}
+use Rattle.lsr_facts.specs.OrderLaws.{key_exact, key_total}
 use Rattle.lsr_facts.specs.Orders.{key_cmp}
 use Rattle.lsr_facts.specs.declared.key.Key.{Key}
 use Rattle.lsr_facts.specs.declared.path_fact.PathFact.{PathFact}
@@ -17,25 +19,43 @@ use Rattle.lsr_facts.specs.declared.router.Router.{Router}
 use Rattle.forwarding_table.specs.Actions.{WritesLabels}
 use Rattle.forwarding_table.specs.declared.action.Action.{Action}
 use Rattle.forwarding_table.specs.declared.action.Action.TheVariants.{Pop, Swap}
+use Rattle.resv_facts.specs.Reservations.{timeless_resv}
 use Rattle.resv_facts.specs.declared.resv_fact.ResvFact.{ResvFact}
 use Rattle.abstract_paths.specs.Paths.{goes_on}
+use Rattle.abstract_paths.specs.StampLaws.{none-is}
 use Rattle.abstract_paths.specs.Touched.{is_among}
 use Rattle.abstract_router.specs.Soundness.{AreLabelled, IsResv}
+use Rattle.abstract_router.specs.Lsps.{Lsp, lsp_at, lsp_of}
 use Rattle.abstract_router.specs.States.{State}
-use Rattle.abstract_router.specs.Tables.{look}
+use Rattle.abstract_router.specs.Tables.{action_of, look}
+use Rattle.abstract_router.specs.Touched.{LeavesOtherLsps}
 use Rattle.state_views.specs.EditLaws.{labels_in_order}
 use Rattle.label_space.specs.BindingLaws.{cases_free, free-not_found, one_key}
 use Rattle.label_table.proofs.Changing.{changes_something, found_changes, over_change}
 use Rattle.label_table.proofs.Rooms.{table_few}
 use Rattle.label_table.proofs.Setting.{each_apart, each_holds, each_said, each_sorted}
 use Rattle.label_table.specs.RowLaws.{look-free, look-held}
-use Rattle.label_table.specs.Rows.{AreAlikeElsewhere, AreTableEdits, IsTableOf, action_at}
+use Rattle.label_table.specs.Rows.{AreTableEdits, IsTableOf, action_at}
 use Rattle.label_table.specs.Turns.{Edit, change, change_at, put_each, row_at, rows_of}
 
 -- a test answers yes or no
 cases_bool : (b : Bool) → (b ≡ true) ⊎ (b ≡ false)
 cases_bool true = inl refl
 cases_bool false = inr refl
+
+-- an LSP that holds a label is known, with that label
+label_at : (r : Router) (s : State) → T (is_sorted key_cmp s.facts.paths) → AreLabelled r s → (key : Key) → find key_cmp key s.labels ≡ option_and_then (λ (lsp : Lsp). lsp.label) (lsp_at s key)
+label_at r s sorted held key = by (find key_cmp key s.facts.paths) refl
+  where
+    ours : Key × PathFact → Bool
+    ours path = not (begins_here path.1.role)
+
+    by : (o : Option PathFact) → find key_cmp key s.facts.paths ≡ o → find key_cmp key s.labels ≡ option_and_then (λ (lsp : Lsp). lsp.label) (option_map (lsp_of s key) o)
+    by None none =
+        none-is (find key_cmp key s.labels) (
+        is_some-find_both key_cmp key s.labels (filter ours s.facts.paths) held.of_lsps
+        ∙ ap is_some (find-filter key_cmp key_total ours key (λ k v tied. refl) s.facts.paths sorted ∙ ap (option_and_then (λ (path : PathFact). then_some (ours (key, path)) path)) none))
+    by (Some path) some = refl
 
 -- a row of an LSP is one of the label that it holds, and says the LSP's action
 of_row : (held : Option ℕ) (acts : Option Action) (label : ℕ) (now : Action) → option_and_then (λ (l : ℕ). option_map {U = ℕ × Action} (λ (a : Action). (l, a)) acts) held ≡ Some (label, now) → (held ≡ Some label) × (acts ≡ Some now)
@@ -87,7 +107,7 @@ module _ {E : Type 0} (touched : List (Key × E)) (r : Router) (s : State) (sort
   none_there : IsElsewhere → find nat_cmp label (rows_of s touched) ≡ None
   none_there at = none_of_them (λ other among is. absurd (let e = ap (is_among key_cmp touched) (one_key s.labels held.apart other at.0 label is at.2) in let no = at.1 in let yes = among in cc))
 
-module _ {E : Type 0} (r t : Router) (before after : State) (touched : List (Key × E)) (sorted_before : T (is_sorted key_cmp before.facts.paths)) (sorted_after : T (is_sorted key_cmp after.facts.paths)) (held_before : AreLabelled r before) (held_after : AreLabelled t after) (elsewhere : AreAlikeElsewhere (is_among key_cmp touched) before after) where
+module _ {E : Type 0} (r t : Router) (before after : State) (touched : List (Key × E)) (sorted_before : T (is_sorted key_cmp before.facts.paths)) (sorted_after : T (is_sorted key_cmp after.facts.paths)) (held_before : AreLabelled r before) (held_after : AreLabelled t after) (elsewhere : LeavesOtherLsps (is_among key_cmp touched) before after) where
   -- the rows of these LSPs before and after, and the edits between them
   abbrev was : List (ℕ × Action)
   was = rows_of before touched
@@ -98,12 +118,15 @@ module _ {E : Type 0} (r t : Router) (before after : State) (touched : List (Key
   abbrev all : List Edit
   all = put_each (change_at was now) now (put_each (change_at was now) was [])
 
-  -- the action of an LSP that didn't change
+  -- the action of an LSP that didn't change, and its label
   same_action : (key : Key) → is_among key_cmp touched key ≡ false → action_at before key ≡ action_at after key
-  same_action key apart =
-      let resvs = elsewhere.resvs key apart in
-      let paths = elsewhere.paths key apart in
-      λ i. option_and_then (λ (path : PathFact). if goes_on path.role then option_map (λ (resv : ResvFact). Swap resv.label resv.link) (resvs i) else Some Pop) (paths i)
+  same_action key apart = ap (option_and_then action_of) (elsewhere key apart)
+
+  same_label : (key : Key) → is_among key_cmp touched key ≡ false → find key_cmp key before.labels ≡ find key_cmp key after.labels
+  same_label key apart =
+      label_at r before sorted_before held_before key
+      ∙ ap (option_and_then (λ (lsp : Lsp). lsp.label)) (elsewhere key apart)
+      ∙ sym (label_at t after sorted_after held_after key)
 
   -- of each label: it has among these rows the actions that it has; or it has none among them, and keeps its action
   abbrev IsPlaced : ℕ → Type 0
@@ -122,9 +145,9 @@ module _ {E : Type 0} (r t : Router) (before after : State) (touched : List (Key
   placed label = elim (sides touched r before sorted_before held_before label) [
     | inl is_was ↦ elim (sides touched t after sorted_after held_after label) [
       | inl is_now ↦ inl (is_was, is_now)
-      | inr at ↦ kept label at.0 at.1 (elsewhere.labels at.0 at.1 ∙ at.2) at.2
+      | inr at ↦ kept label at.0 at.1 (same_label at.0 at.1 ∙ at.2) at.2
     ]
-    | inr at ↦ kept label at.0 at.1 at.2 (sym (elsewhere.labels at.0 at.1) ∙ at.2)
+    | inr at ↦ kept label at.0 at.1 at.2 (sym (same_label at.0 at.1) ∙ at.2)
   ]
 
   -- what there is of a label once its edit, if it has one, is made
@@ -156,13 +179,13 @@ module _ {E : Type 0} (r t : Router) (before after : State) (touched : List (Key
   action_writes : AllByRecursion (IsResv after.facts.moment) after.resvs → (key : Key) → IfSome (action_at after key) WritesLabels
   action_writes resvs key = by (find key_cmp key after.facts.paths)
     where
-      of_resv : (o : Option ResvFact) → IfSome o (λ resv. IsResv after.facts.moment (key, resv)) → IfSome (option_map (λ resv. Swap resv.label resv.link) o) WritesLabels
+      of_resv : (o : Option ResvFact) → IfSome o (λ resv. IsResv after.facts.moment (key, resv)) → IfSome (option_map (λ resv. Swap resv.label resv.link) (option_map timeless_resv o)) WritesLabels
       of_resv None is = tt
       of_resv (Some resv) is = is.label
 
-      by : (o : Option PathFact) → IfSome (option_and_then (λ path. if goes_on path.role then option_map (λ resv. Swap resv.label resv.link) (find key_cmp key after.resvs) else Some Pop) o) WritesLabels
+      by : (o : Option PathFact) → IfSome (option_and_then action_of (option_map (lsp_of after key) o)) WritesLabels
       by None = tt
-      by (Some path) = elim (goes_on path.role) as (λ b. IfSome (if b then option_map (λ resv. Swap resv.label resv.link) (find key_cmp key after.resvs) else Some Pop) WritesLabels) [
+      by (Some path) = elim (goes_on path.role) as (λ b. IfSome (if b then option_map (λ resv. Swap resv.label resv.link) (option_map timeless_resv (find key_cmp key after.resvs)) else Some Pop) WritesLabels) [
         | true ↦ of_resv (find key_cmp key after.resvs) (find-all_row key_cmp key_exact (IsResv after.facts.moment) key after.resvs resvs)
         | false ↦ tt
       ]

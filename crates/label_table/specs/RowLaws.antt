@@ -1,5 +1,5 @@
 -- What a state's label table has for a label: the action of the LSP that holds it.
-use Rattle.std.specs.Prelude.{◌≡◌, ℕ, ◌==◌, ◌+◌, ◌≤◌, Bool, true, false, cond, nat_eq, T, List, [], ◌∷◌, filter_map, find as find_first, Option, Some, None, length}
+use Rattle.std.specs.Prelude.{◌≡◌, ℕ, ◌==◌, ◌+◌, ◌≤◌, Bool, true, false, cond, nat_eq, T, List, [], ◌∷◌, filter_map, find as find_first, map, Option, Some, None, length}
 use Rattle.std.specs.FinMap.Entries.{find, is_sorted}
 use Rattle.std.specs.List.{IsDistinct, cons_option}
 use Rattle.std.specs.Option.{option_and_then, option_map, unwrap_or}
@@ -16,6 +16,8 @@ use Rattle.lsr_facts.specs.declared.path_fact.PathFact.{PathFact}
 use Rattle.forwarding_table.specs.declared.action.Action.{Action}
 use Rattle.forwarding_table.specs.declared.action.Action.TheVariants.{Pop}
 use Rattle.abstract_router.specs.Labels.{is_free}
+use Rattle.abstract_router.specs.LspLaws.{look-alike}
+use Rattle.abstract_router.specs.Lsps.{Lsp, lsp_of, lsps_of}
 use Rattle.abstract_router.specs.States.{State}
 use Rattle.abstract_router.specs.Tables.{action_of, entry_of, look, table_of}
 use Rattle.label_space.specs.BindingLaws.{free-not_found, one_key}
@@ -39,64 +41,68 @@ first_counts : (label : ℕ) (action : Action) (entries : List (ℕ × Action)) 
 first_counts label action entries =
     ap (λ b. option_map (λ (e : ℕ × Action). e.1) (cond b (Some (label, action)) (find_first (λ e. e.0 == label) entries))) (eq-eqb label label refl)
 
--- the entry of a path is under the label that its LSP holds
-entry_held : (s : State) (path : Key × PathFact) (label : ℕ) (action : Action) → entry_of s path ≡ Some (label, action) → find key_cmp path.0 s.labels ≡ Some label
-entry_held s path label action = by (find key_cmp path.0 s.labels) refl
+-- the entry of an LSP is under the label that it holds
+entry_held : (lsp : Lsp) (label : ℕ) (action : Action) → entry_of lsp ≡ Some (label, action) → lsp.label ≡ Some label
+entry_held lsp label action = by lsp.label refl
   where
     own : (held : ℕ) (o : Option Action) → option_map {U = ℕ × Action} (λ (a : Action). (held, a)) o ≡ Some (label, action) → held ≡ label
     own held None e = absurd (let h = e in cc)
     own held (Some a) e = ap (λ (o : Option (ℕ × Action)). (unwrap_or o (0, Pop)).0) e
 
-    by : (o : Option ℕ) → find key_cmp path.0 s.labels ≡ o → option_and_then (λ (l : ℕ). option_map {U = ℕ × Action} (λ (a : Action). (l, a)) (action_of s.resvs path)) o ≡ Some (label, action) → find key_cmp path.0 s.labels ≡ Some label
+    by : (o : Option ℕ) → lsp.label ≡ o → option_and_then (λ (l : ℕ). option_map {U = ℕ × Action} (λ (a : Action). (l, a)) (action_of lsp)) o ≡ Some (label, action) → lsp.label ≡ Some label
     by None none e = absurd (let h = e in cc)
-    by (Some held) at e = at ∙ ap Some (own held (action_of s.resvs path) e)
+    by (Some held) at e = at ∙ ap Some (own held (action_of lsp) e)
 
 module _ (s : State) (label : ℕ) where
-  -- no path has an entry for a label that no LSP holds
-  none_of_paths : is_free s.labels label ≡ true → (paths : List (Key × PathFact)) → first_of label (filter_map (entry_of s) paths) ≡ None
+  -- the entries of the LSPs of these paths
+  abbrev entries : List (Key × PathFact) → List (ℕ × Action)
+  entries paths = filter_map (λ (lsp : Key × Lsp). entry_of lsp.1) (map (λ (path : Key × PathFact). (path.0, lsp_of s path.0 path.1)) paths)
+
+  -- no LSP has an entry for a label that none holds
+  none_of_paths : is_free s.labels label ≡ true → (paths : List (Key × PathFact)) → first_of label (entries paths) ≡ None
   none_of_paths free [] = refl
   none_of_paths free (path ∷ paths) =
-      passed_over label (entry_of s path) (filter_map (entry_of s) paths) (λ action is. free-not_found s.labels label free path.0 (entry_held s path label action is))
+      passed_over label (entry_of (lsp_of s path.0 path.1)) (entries paths) (λ action is. free-not_found s.labels label free path.0 (entry_held (lsp_of s path.0 path.1) label action is))
       ∙ none_of_paths free paths
 
   module _ (apart : IsDistinct nat_eq (values_of s.labels)) (key : Key) (held : find key_cmp key s.labels ≡ Some label) where
     -- the entry of the LSP that holds the label
-    own_entry : (path : PathFact) → entry_of s (key, path) ≡ option_map (λ action. (label, action)) (action_of s.resvs (key, path))
-    own_entry path = ap (option_and_then (λ l. option_map (λ action. (l, action)) (action_of s.resvs (key, path)))) held
+    own_entry : (path : PathFact) → entry_of (lsp_of s key path) ≡ option_map (λ action. (label, action)) (action_of (lsp_of s key path))
+    own_entry path = ap (option_and_then (λ l. option_map (λ action. (l, action)) (action_of (lsp_of s key path)))) held
 
     -- it is the first of the label, if there is one
-    own_first : (o : Option Action) (entries : List (ℕ × Action)) → first_of label entries ≡ None → first_of label (cons_option (option_map (λ action. (label, action)) o) entries) ≡ o
-    own_first None entries none = none
-    own_first (Some action) entries none = first_counts label action entries
+    own_first : (o : Option Action) (rows : List (ℕ × Action)) → first_of label rows ≡ None → first_of label (cons_option (option_map (λ action. (label, action)) o) rows) ≡ o
+    own_first None rows none = none
+    own_first (Some action) rows none = first_counts label action rows
 
-    -- among paths the label has the action of that LSP's path
-    among_paths : (paths : List (Key × PathFact)) → T (is_sorted key_cmp paths) → first_of label (filter_map (entry_of s) paths) ≡ option_and_then (λ path. action_of s.resvs (key, path)) (find key_cmp key paths)
+    -- among LSPs the label has the action of that one
+    among_paths : (paths : List (Key × PathFact)) → T (is_sorted key_cmp paths) → first_of label (entries paths) ≡ option_and_then action_of (option_map (lsp_of s key) (find key_cmp key paths))
     among_paths [] h = refl
     among_paths (path ∷ paths) h =
         let rest = among_paths paths (second _ _ h) in
-        elim (eq_by_cmp key_cmp key path.0) as (λ b. eq_by_cmp key_cmp key path.0 ≡ b → first_of label (cons_option (entry_of s path) (filter_map (entry_of s) paths)) ≡ option_and_then (λ p. action_of s.resvs (key, p)) (cond b (Some path.1) (find key_cmp key paths))) [
+        elim (eq_by_cmp key_cmp key path.0) as (λ b. eq_by_cmp key_cmp key path.0 ≡ b → first_of label (cons_option (entry_of (lsp_of s path.0 path.1)) (entries paths)) ≡ option_and_then action_of (option_map (lsp_of s key) (cond b (Some path.1) (find key_cmp key paths)))) [
           | true ↦ λ tie. by_key path paths h rest (key_exact key path.0 (ties _ tie))
-          | false ↦ λ other. passed_over label (entry_of s path) (filter_map (entry_of s) paths) (λ action is. not_tied path.0 other (one_key s.labels apart key path.0 label held (entry_held s path label action is))) ∙ rest
+          | false ↦ λ other. passed_over label (entry_of (lsp_of s path.0 path.1)) (entries paths) (λ action is. not_tied path.0 other (one_key s.labels apart key path.0 label held (entry_held (lsp_of s path.0 path.1) label action is))) ∙ rest
         ] refl
       where
         not_tied : (q : Key) → eq_by_cmp key_cmp key q ≡ false → key ≡ q → ⊥
         not_tied q other same = absurd (let e = subst (λ k. eq_by_cmp key_cmp key k ≡ false) (sym same) other in let t = ap is_eq (tied_itself key_total key) in cc)
 
-        by_key : (path : Key × PathFact) (paths : List (Key × PathFact)) → T (is_sorted key_cmp (path ∷ paths)) → first_of label (filter_map (entry_of s) paths) ≡ option_and_then (λ p. action_of s.resvs (key, p)) (find key_cmp key paths) → key ≡ path.0 → first_of label (cons_option (entry_of s path) (filter_map (entry_of s) paths)) ≡ action_of s.resvs (key, path.1)
+        by_key : (path : Key × PathFact) (paths : List (Key × PathFact)) → T (is_sorted key_cmp (path ∷ paths)) → first_of label (entries paths) ≡ option_and_then action_of (option_map (lsp_of s key) (find key_cmp key paths)) → key ≡ path.0 → first_of label (cons_option (entry_of (lsp_of s path.0 path.1)) (entries paths)) ≡ action_of (lsp_of s key path.1)
         by_key path paths h rest same =
             let behind : find key_cmp key paths ≡ None = find-behind key_cmp key_total key path paths h (subst (λ k. key_cmp key k ≡ key_cmp key key) same refl ∙ tied_itself key_total key) in
-            ap (λ k. first_of label (cons_option (entry_of s (k, path.1)) (filter_map (entry_of s) paths))) (sym same)
-            ∙ ap (λ o. first_of label (cons_option o (filter_map (entry_of s) paths))) (own_entry path.1)
-            ∙ own_first (action_of s.resvs (key, path.1)) (filter_map (entry_of s) paths) (rest ∙ ap (option_and_then (λ p. action_of s.resvs (key, p))) behind)
+            ap (λ k. first_of label (cons_option (entry_of (lsp_of s k path.1)) (entries paths))) (sym same)
+            ∙ ap (λ o. first_of label (cons_option o (entries paths))) (own_entry path.1)
+            ∙ own_first (action_of (lsp_of s key path.1)) (entries paths) (rest ∙ ap (λ (o : Option PathFact). option_and_then action_of (option_map (lsp_of s key) o)) behind)
 
 -- A label that no LSP holds has no action.
 pub look-free : (s : State) (label : ℕ) → is_free s.labels label ≡ true → look s label ≡ None
-unfolding look table_of
+unfolding look table_of lsps_of
 look-free s label free = none_of_paths s label free s.facts.paths
 
 -- A label that an LSP holds has the action of that LSP.
 pub look-held : (s : State) → T (is_sorted key_cmp s.facts.paths) → IsDistinct nat_eq (values_of s.labels) → (key : Key) (label : ℕ) → find key_cmp key s.labels ≡ Some label → look s label ≡ action_at s key
-unfolding look table_of
+unfolding look table_of lsps_of
 look-held s sorted apart key label held = among_paths s label apart key held s.facts.paths sorted
 
 -- a label has an action where it is among the entries
@@ -106,24 +112,22 @@ look-entry s label = refl
 
 -- A router that knows no path has no actions.
 pub table-no_path : (s : State) → s.facts.paths ≡ [] → IsTableOf s []
-unfolding look table_of
-table-no_path s none label = sym (ap (λ paths. first_of label (filter_map (entry_of s) paths)) none)
+unfolding look table_of lsps_of
+table-no_path s none label = sym (ap (λ paths. first_of label (entries s label paths)) none)
 
 -- The table stands on paths, reservations and labels alone.
 pub table-alike : (s t : State) (rows : List (ℕ × Action)) → s.facts.paths ≡ t.facts.paths → s.resvs ≡ t.resvs → s.labels ≡ t.labels → IsTableOf s rows → IsTableOf t rows
-unfolding look table_of
-table-alike s t rows paths resvs labels is label =
-    is label ∙ (λ i. first_of label (filter_map (λ path. option_and_then (λ l. option_map (λ action. (l, action)) (action_of (resvs i) path)) (find key_cmp path.0 (labels i))) (paths i)))
+table-alike s t rows paths resvs labels is label = is label ∙ look-alike s t label paths resvs labels
 
 -- There are no more entries than paths.
 length_cons : {A : Type 0} (o : Option A) (xs : List A) → length (cons_option o xs) ≤ length xs + 1
 length_cons None xs = omega arith
 length_cons (Some x) xs = omega arith
 
-length_asked : {A B : Type 0} (f : A → Option B) (xs : List A) → length (filter_map f xs) ≤ length xs
-length_asked f [] = omega arith
-length_asked f (x ∷ xs) = omega (arith, length_cons (f x) (filter_map f xs), length_asked f xs)
+length_asked : {A B C : Type 0} (f : B → Option C) (g : A → B) (xs : List A) → length (filter_map f (map g xs)) ≤ length xs
+length_asked f g [] = omega arith
+length_asked f g (x ∷ xs) = omega (arith, length_cons (f (g x)) (filter_map f (map g xs)), length_asked f g xs)
 
 pub length_table : (s : State) → length (table_of s) ≤ length s.facts.paths
-unfolding table_of
-length_table s = length_asked (entry_of s) s.facts.paths
+unfolding table_of lsps_of
+length_table s = length_asked (λ (lsp : Key × Lsp). entry_of lsp.1) (λ (path : Key × PathFact). (path.0, lsp_of s path.0 path.1)) s.facts.paths

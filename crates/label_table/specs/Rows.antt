@@ -1,29 +1,23 @@
 -- The rows that a label table has for a state, and edits of them.
-use Rattle.std.specs.Prelude.{◌≡◌, ◌≢◌, ◌≤◌, ℕ, false, Bool, T, List, [], All, IfSome, Option, length}
+use Rattle.std.specs.Prelude.{◌≡◌, ◌≢◌, ◌≤◌, ℕ, T, List, [], All, IfSome, Option, length}
 use Rattle.std.specs.FinMap.Entries.{find, is_sorted}
 use Rattle.std.specs.Option.{option_and_then}
 use Rattle.std.specs.Ordering.{nat_cmp}
 use Rattle.sorted_rows.specs.Edits.{edited}
 use Rattle.forwarding_table.specs.Actions.{WritesLabels}
 use Rattle.forwarding_table.specs.declared.action.Action.{Action}
-use Rattle.lsr_facts.specs.Orders.{key_cmp}
 use Rattle.lsr_facts.specs.declared.key.Key.{Key}
+use Rattle.abstract_router.specs.Lsps.{lsp_at}
 use Rattle.abstract_router.specs.States.{State}
 use Rattle.abstract_router.specs.Tables.{action_of, look}
 
--- what is done with a frame of an LSP, if its path is known
+-- what is done with a frame of an LSP, if it is known
 abbrev pub action_at : State → Key → Option Action
-action_at s key = option_and_then (λ path. action_of s.resvs (key, path)) (find key_cmp key s.facts.paths)
+action_at s key = option_and_then action_of (lsp_at s key)
 
 -- Rows are those of a state's label table: they have the action that it gives a label, or none.
 abbrev pub IsTableOf : State → List (ℕ × Action) → Type 0
 IsTableOf s rows = (label : ℕ) → find nat_cmp label rows ≡ look s label
-
--- Of the LSPs that aren't touched the same is known in both states: path, reservation and label.
-pub record AreAlikeElsewhere (touched : Key → Bool) (before after : State) : Type 0 where
-  pub paths : (key : Key) → touched key ≡ false → find key_cmp key before.facts.paths ≡ find key_cmp key after.facts.paths
-  pub resvs : (key : Key) → touched key ≡ false → find key_cmp key before.resvs ≡ find key_cmp key after.resvs
-  pub labels : (key : Key) → touched key ≡ false → find key_cmp key before.labels ≡ find key_cmp key after.labels
 
 -- The edits make of the rows of one state's label table those of the other's. These are few, and what the edits write
 -- for labels are labels. Each changes the action of its label: so where all labels have the actions that they had, there

@@ -7,12 +7,13 @@ ghost use Rattle.lsr_facts.specs.Orders.{key_cmp};
 ghost use Rattle.abstract_paths.specs.Soundness.{ArePaths};
 ghost use Rattle.abstract_paths.specs.Touched.{is_among};
 ghost use Rattle.abstract_router.specs.Soundness.{AreLabelled, IsResv};
-ghost use Rattle.label_table.specs.Rows.{AreAlikeElsewhere, AreTableEdits, action_at};
+ghost use Rattle.abstract_router.specs.Touched.{LeavesOtherLsps};
+ghost use Rattle.label_table.specs.Rows.{AreTableEdits, action_at};
 ghost use Rattle.label_table.specs.Turns.{change, change_at, is_same, put_each, put_row, row_at, rows_of};
 
 use forwarding_table::Action;
 use lsr_facts::Key;
-use path_rules::goes_on;
+use message_rules::goes_on;
 use sorted_rows::Table;
 use state_views::StateView;
 use std::alloc::{AllocError, Global};
@@ -104,8 +105,8 @@ fn put_changes(
 
 /// What becomes of the label table where these LSPs alone changed: each label that one of them had before or has after, and
 /// whose action is another in the state after, has that action, or none. It asks that in both states each label is held by one LSP,
-/// that what reservations take for labels are labels, and that of all other LSPs the same is known before and after.
-/// The only error is out of memory.
+/// that what reservations take for labels are labels, and that of all other LSPs the same is known before and after, but
+/// for when they expire. The only error is out of memory.
 pub fn table_edits<B: StateView, A: StateView, E>(
     alloc: Global,
     before: &B,
@@ -117,7 +118,7 @@ pub fn table_edits<B: StateView, A: StateView, E>(
     requires labels_before { AreLabelled (B.router before.now) (B.state before.now) }
     requires labels_after { AreLabelled (A.router after.now) (A.state after.now) }
     requires resvs_after { AllByRecursion (IsResv (A.state after.now).facts.moment) (A.state after.now).resvs }
-    requires elsewhere { AreAlikeElsewhere (is_among key_cmp touched.now)
+    requires elsewhere { LeavesOtherLsps (is_among key_cmp touched.now)
         (B.state before.now) (A.state after.now) }
     ensures { IfOk result (AreTableEdits (B.state before.now)
         (A.state after.now)) }

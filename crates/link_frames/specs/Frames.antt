@@ -20,7 +20,7 @@ use Rattle.label_stacks.specs.Stacks.{words_at, has_one_bottom, stack_of, stack_
 abbrev pub kind_of : List ℕ → ℕ
 kind_of bytes = slice_index bytes 0
 
--- In a Labelled frame a count follows the kind, and then so many stack entries, a word each.
+-- In a Labelled frame a count follows the kind, and then so many stack entries, a word each (RFC 3032, 2.1).
 abbrev pub count_of : List ℕ → ℕ
 count_of bytes = slice_index bytes 1
 

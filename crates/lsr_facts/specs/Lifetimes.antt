@@ -3,7 +3,6 @@ use Rattle.std.specs.Prelude.{ℕ, ◌+◌, ◌||◌, nat_le, nat_lt, not, Bool,
 use Rattle.std.specs.List.{list_any}
 use Rattle.std.specs.declared.net.ipv4_addr.Ipv4Addr.{Ipv4Addr}
 use Rattle.sorted_rows.specs.Rows.{keys_of}
-use Rattle.lsr_facts.specs.declared.key.Item.{Item}
 use Rattle.lsr_facts.specs.declared.key.Key.{Key}
 use Rattle.lsr_facts.specs.declared.path_fact.Origin.{Origin}
 use Rattle.lsr_facts.specs.declared.path_fact.PathFact.{PathFact}
@@ -43,6 +42,6 @@ expire moment paths = map (with_living moment) (filter (lives_on moment) paths)
 abbrev pub has_waited : ℕ → ℕ → ℕ → Bool
 has_waited refresh_ms at moment = nat_le (at + refresh_ms) moment
 
--- The messages that are due at a moment, in the order of the items.
-unfoldable pub due_items : ℕ → List (Item × ℕ) → ℕ → List Item
+-- The messages that are due at a moment, in the order of their items.
+abbrev pub due_items : {I : Type 0} → ℕ → List (I × ℕ) → ℕ → List I
 due_items refresh_ms sent moment = keys_of (filter (λ row. has_waited refresh_ms row.1 moment) sent)

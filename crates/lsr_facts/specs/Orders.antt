@@ -1,4 +1,4 @@
--- The orders of keys and of items.
+-- The orders of keys and of items, by what names a session and a sender (RFC 3209, 4.6.1 and 4.6.2).
 use Rattle.std.specs.Ordering.{nat_cmp, ordering_then}
 use Rattle.std.specs.Cmp.Lexicographic.{slice_cmp}
 use Rattle.std.specs.Net.Addr.{ipv4_octets}
@@ -12,7 +12,7 @@ use Rattle.lsr_facts.specs.declared.key.Key.{Key}
 use Rattle.lsr_facts.specs.declared.key.Item.{Item}
 use Rattle.lsr_facts.specs.declared.key.Item.TheVariants.{Down, Backup}
 
--- addresses by their octets, the highest first
+-- addresses by their octets, the first octet first
 abbrev pub address_cmp : Ipv4Addr → Ipv4Addr → Ordering
 address_cmp a b = slice_cmp nat_cmp (ipv4_octets a) (ipv4_octets b)
 

@@ -1,4 +1,4 @@
--- How the Paths of an origin come.
+-- How the Paths of an origin come: over a link, or through a bypass tunnel (RFC 4090, 6.4.3).
 use Rattle.std.specs.Prelude.{ℕ, Option, Some, None}
 use Rattle.std.specs.Option.{unwrap_or}
 use Rattle.lsr_facts.specs.declared.path_fact.Via.{Via}

@@ -19,7 +19,7 @@ pub use choice::Choice;
 pub use errors::{RsvpError, UNKNOWN_CLASS, UNKNOWN_CTYPE};
 pub use facts::Facts;
 pub use key::{Item, Key};
-pub use lifetimes::{expires, has_waited, keep_living, lives_on};
+pub use lifetimes::{begins_here, expires, has_waited, keep_living, lives_on};
 pub use node::Node;
 pub use path_fact::{Origin, PathFact, Role, Via};
 pub use refusal::Refusal;

@@ -16,7 +16,7 @@ fn outlives(origin: &Origin, moment: u64) -> bool
 }
 
 /// Whether a path of this role begins here, so that it has no need of an origin.
-fn begins_here(role: Role) -> bool
+pub fn begins_here(role: Role) -> bool
     ensures { result ≡ begins_here role }
 {
     match role {

@@ -15,9 +15,9 @@ abbrev pub next_number : ℕ → List ℕ
 next_number n = codes " " ++ decimal n
 
 -- how the LSPs of a session reserve
-abbrev pub style_word : ResvStyle → List ℕ
-style_word styles.FixedFilter = codes "ff"
-style_word styles.SharedExplicit = codes "se"
+abbrev pub style_text : ResvStyle → List ℕ
+style_text styles.FixedFilter = codes "ff"
+style_text styles.SharedExplicit = codes "se"
 
 -- the token bucket rate of a FLOWSPEC: the fourth word of its body (RFC 2210, 3.2)
 abbrev pub rate_bytes : List ℕ → List ℕ
@@ -27,7 +27,7 @@ rate_bytes flowspec = take 4 (drop 12 flowspec)
 -- digits of the rate's word, and the label that the next hop gave
 abbrev pub resv_line : Key × ResvFact → List ℕ
 resv_line row =
-    codes "resv " ++ (key_text row.0 ++ (next_number row.1.link ++ (codes " " ++ (style_word row.1.style ++ (codes " "
+    codes "resv " ++ (key_text row.0 ++ (next_number row.1.link ++ (codes " " ++ (style_text row.1.style ++ (codes " "
     ++ (encode_lower (rate_bytes row.1.flowspec) ++ (next_number row.1.label ++ codes "\n")))))))
 
 -- a line for each reservation, in their order

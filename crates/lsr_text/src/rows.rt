@@ -1,6 +1,6 @@
 //! What `show` prints of reservations, of the label table and of links: a line for each row.
 ghost use Rattle.std.specs.Prelude.{◌≡◌, ◌++◌, IfOk, OnOk, string_bytes};
-ghost use Rattle.lsr_text.specs.Rows.{action_words, label_line, link_line, rate_bytes, resv_line, resvs_text, state_word, style_word, sum_words, table_text, tunnel_line};
+ghost use Rattle.lsr_text.specs.Rows.{action_words, label_line, link_line, rate_bytes, resv_line, resvs_text, state_word, style_text, sum_words, table_text, tunnel_line};
 
 use crate::shown::push_key;
 use forwarding_table::Action;
@@ -18,8 +18,8 @@ const RATE_LEN: usize = 4;
 pub const PRIORITIES: usize = 8;
 
 /// How the LSPs of a session reserve, as a word.
-fn style_word(style: ResvStyle) -> &'static str
-    ensures { result.now ≡ style_word style }
+fn style_text(style: ResvStyle) -> &'static str
+    ensures { result.now ≡ style_text style }
 {
     match style {
         ResvStyle::FixedFilter => "ff",
@@ -46,7 +46,7 @@ pub fn push_resv(alloc: Global, text: &mut String, resv: &(Key, ResvFact)) -> Re
     text.push_str("resv ")?;
     push_key(text, key)?;
     let link = fact.link;
-    let style = style_word(fact.style);
+    let style = style_text(fact.style);
     let rate = hex::encode(alloc, rate_bytes(&fact.flowspec))?;
     let label = fact.label;
     write!(text, " {link} {style} {rate} {label}\n")

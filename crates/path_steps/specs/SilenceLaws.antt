@@ -11,12 +11,12 @@ use Rattle.lsr_facts.specs.declared.errors.RsvpError.{RsvpError}
 use Rattle.lsr_facts.specs.declared.facts.Facts.{Facts}
 use Rattle.lsr_facts.specs.declared.path_fact.PathFact.{PathFact}
 use Rattle.lsr_facts.specs.declared.router.Router.{Router}
-use Rattle.abstract_paths.specs.Outcomes.{Outcome}
+use Rattle.abstract_paths.specs.Outcomes.{PathOutcome}
 use Rattle.abstract_paths.specs.Paths.{has_loop, key_of, path_arrival, path_on_its_way, way_for}
 use Rattle.abstract_paths.specs.Places.{place_of}
 
 -- the outcome isn't silent
-abbrev Speaks : Outcome → Type 0
+abbrev Speaks : PathOutcome → Type 0
 Speaks o = o.is_silent ≡ false
 
 -- a Path is answered whose way is asked for

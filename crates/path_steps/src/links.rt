@@ -6,7 +6,7 @@ ghost use Rattle.abstract_router.specs.Outcomes.{of_paths};
 ghost use Rattle.state_views.specs.Drafts.{IsDraft};
 
 use lsr_facts::{Refusal, Reply};
-use path_rules::{Outputs, link_at};
+use message_rules::{Outputs, link_at};
 use sorted_rows::TryCopy;
 use state_views::{Draft, Edits, StateView, refused};
 use std::alloc::{AllocError, Global};

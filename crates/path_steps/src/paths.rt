@@ -16,7 +16,7 @@ ghost use Rattle.state_views.specs.Edits.{unedited};
 use crate::told::{failed, record_errors};
 use lsr_facts::limits::MAX_LSPS;
 use lsr_facts::{Choice, Key, Origin, PathFact, Reply, RsvpError, Via};
-use path_rules::{
+use message_rules::{
     RouteFault, carries_ipv4, has_been_here, has_no_rate, lifetime, link_of, lsp, origins_of,
     rest_of, role_of, unknown_object, way_for,
 };

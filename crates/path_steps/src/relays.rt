@@ -6,7 +6,7 @@ ghost use Rattle.abstract_router.specs.Outcomes.{of_paths};
 ghost use Rattle.state_views.specs.Drafts.{IsDraft};
 
 use lsr_facts::{Refusal, Reply};
-use path_rules::{is_up, link_at, route_to};
+use message_rules::{is_up, link_at, route_to};
 use router_events::{Event, Frame, Output, Outputs, Relay, Unread};
 use state_views::{Draft, Edits, StateView, node_of, refused};
 use std::alloc::{AllocError, Global};

@@ -13,7 +13,7 @@ ghost use Rattle.state_views.specs.Edits.{edited};
 use crate::paths::path_edit;
 use crate::told::told_upstream;
 use lsr_facts::{Key, Origin, PathFact, Refusal, Reply};
-use path_rules::{Outputs, is_torn_by, leaves_by, lsp, origins_without};
+use message_rules::{Outputs, is_torn_by, leaves_by, lsp, origins_without};
 use rsvp_contents::{PathErr, PathTear};
 use sorted_rows::{Table, TryCopy};
 use state_views::{Draft, Edits, StateView, refused};

@@ -12,7 +12,7 @@ ghost use Rattle.path_steps.specs.Expiring.{expiry_at, left_of};
 
 use lsr_facts::limits::MAX_MOMENT;
 use lsr_facts::{Key, PathFact, Refusal, Reply, keep_living, lives_on};
-use path_rules::Outputs;
+use message_rules::Outputs;
 use resv_facts::ResvFact;
 use sorted_rows::{Table, TryCopy};
 use state_views::{Draft, Edits, StateView, WholeState, refused, without_resvs};

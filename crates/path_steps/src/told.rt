@@ -12,7 +12,7 @@ ghost use Rattle.abstract_router.specs.Outcomes.{of_paths};
 ghost use Rattle.state_views.specs.Drafts.{IsDraft};
 
 use lsr_facts::{Key, Node, Origin, PathFact, Reply, RsvpError};
-use path_rules::{Output, Outputs, drops_record, found_here, knows_record, sent_by};
+use message_rules::{Output, Outputs, drops_record, found_here, knows_record, sent_by};
 use rsvp_contents::{Content, Message, Path, PathErr};
 use rsvp_objects::{ErrorSpec, Session, Template};
 use rsvp_traffic::Tspec;

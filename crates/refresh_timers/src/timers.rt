@@ -4,7 +4,7 @@ ghost use Rattle.std.specs.Ordering.{is_eq};
 ghost use Rattle.std.specs.declared.cmp.Ordering.TheVariants.{Equal};
 ghost use Rattle.std.specs.Prelude.{◌≡◌, ◌≤◌, T, [], IfOk, length, not, slice_get};
 ghost use Rattle.sorted_rows.specs.Edits.{edited};
-ghost use Rattle.refresh_timers.specs.Timers.{due_then};
+ghost use Rattle.lsr_facts.specs.Lifetimes.{due_items};
 
 use lsr_facts::has_waited;
 use sorted_rows::{ReservedTable, Table, TryCopy, copy_plain_rows, make_edits};
@@ -115,7 +115,7 @@ impl<I: Ord + Copy + Drop, const MOST: usize> RefreshTimers<I, MOST> {
     /// The messages that were last sent a refresh period ago or longer, in the order of the items. The only error
     /// is being out of memory.
     pub fn due(&self, alloc: Global, now: u64) -> Result<Vec<I>, AllocError>
-        ensures { IfOk result (λ items. items.items ≡ due_then self.now.refresh_ms self.now.sent now) }
+        ensures { IfOk result (λ items. items.items ≡ due_items self.now.refresh_ms self.now.sent now) }
     {
         let refresh_ms = self.refresh_ms;
         self.rows

@@ -1,18 +1,17 @@
 -- The claims of reservations: they can be added up, and change as these do.
-use Rattle.std.specs.Prelude.{◌≡◌, ℕ, ◌+◌, ◌^◌, ◌≤◌, suc, Bool, true, false, cond, not, T, List, [], ◌∷◌, length, map, Some, None, is_some, Result, Ok, Err}
-use Rattle.std.specs.FinMap.Entries.{by_order, find, is_sorted, is_sorted-where_key, length_without, put, where_key}
+use Rattle.std.specs.Prelude.{◌≡◌, ℕ, ◌+◌, ◌^◌, ◌≤◌, true, cond, not, T, List, [], ◌∷◌, length, Some, None, is_some, Result, Ok, Err}
+use Rattle.std.specs.FinMap.Entries.{find, is_sorted, is_sorted-where_key, length_without, where_key}
 use Rattle.std.specs.List.{AllByRecursion}
 use Rattle.std.specs.Option.{option_map}
 use Rattle.std.specs.Ordering.{eq_by_cmp, is_eq}
 use Rattle.std.specs.Result.{result_unwrap_or}
-use Rattle.std.specs.declared.cmp.Ordering.TheVariants.{Less, Equal, Greater}
+use Rattle.std.specs.declared.cmp.Ordering.TheVariants.{Less}
 use Rattle.std.proofs.Common.{refl, sym, ap, subst, ◌∙◌, arith}
 use Rattle.rsvp_traffic.specs.Traffic.{flowspec_rate}
 use Rattle.rsvp_traffic.specs.declared.fault.TrafficFault.{TrafficFault}
 use Rattle.sorted_rows.specs.ListLaws.{all-both}
-use Rattle.sorted_rows.specs.Rows.{keys_of}
-use Rattle.sorted_rows.specs.RowsLaws.{all-below, find-removed_other, first, is_sorted-both, second, ties}
-use Rattle.lsr_facts.specs.OrderLaws.{key_exact, key_total}
+use Rattle.sorted_rows.specs.RowsLaws.{all-below, find-removed_other, first, second}
+use Rattle.lsr_facts.specs.OrderLaws.{key_total}
 use Rattle.lsr_facts.specs.Orders.{key_cmp}
 use Rattle.lsr_facts.specs.declared.key.Key.{Key}
 use Rattle.lsr_facts.specs.declared.path_fact.PathFact.{PathFact}
@@ -22,6 +21,7 @@ use Rattle.resv_facts.specs.Claims.{claim_of}
 use Rattle.resv_facts.specs.Priorities.{holding_of}
 use Rattle.resv_facts.specs.declared.claim.Claim.{Claim}
 use Rattle.resv_facts.specs.declared.resv_fact.ResvFact.{ResvFact}
+use Rattle.abstract_router.specs.ClaimsLaws.{find-claims, length-claims, sorted-claims}
 use Rattle.abstract_router.specs.Preempting.{attr_at, claims_of}
 use Rattle.admission.specs.Bandwidths.{AreRated}
 use Rattle.resv_arrivals.specs.Progresses.{AreClaimed, IsReached, claims_at, resvs_at}
@@ -42,68 +42,13 @@ unfolding claims_of
 claims_rated paths [] = tt
 claims_rated paths (v ∷ vs) = (rate_most v.1.flowspec, claims_rated paths vs)
 
--- each reservation claims once
-length-claims : (paths : List (Key × PathFact)) (resvs : List (Key × ResvFact)) → length (claims_of paths resvs) ≡ length resvs
-unfolding claims_of
-length-claims paths [] = refl
-length-claims paths (v ∷ vs) = ap suc (length-claims paths vs)
-
--- The claims stand under the keys of the reservations, and so are in order as these are.
-keys-claims : (paths : List (Key × PathFact)) (resvs : List (Key × ResvFact)) → keys_of (claims_of paths resvs) ≡ keys_of resvs
-unfolding claims_of
-keys-claims paths [] = refl
-keys-claims paths (v ∷ vs) = ap (λ l. v.0 ∷ l) (keys-claims paths vs)
-
-pub claims_in_order : (paths : List (Key × PathFact)) (resvs : List (Key × ResvFact)) → T (is_sorted key_cmp resvs) → T (is_sorted key_cmp (claims_of paths resvs))
-claims_in_order paths resvs h = subst T (sym (is_sorted-both key_cmp (claims_of paths resvs) resvs (keys-claims paths resvs))) h
-
--- what one reservation claims
-abbrev claim_at : List (Key × PathFact) → Key × ResvFact → Key × Claim
-claim_at paths resv = (resv.0, claim_of resv.1 (holding_of (attr_at paths resv.0)))
-
--- the claims of reservations that are kept by their keys
-pub claims_where : (paths : List (Key × PathFact)) (p : Key → Bool) (resvs : List (Key × ResvFact)) → claims_of paths (where_key key_cmp p resvs) ≡ where_key key_cmp p (claims_of paths resvs)
-unfolding claims_of
-claims_where paths p [] = refl
-claims_where paths p (v ∷ vs) =
-    let rest = claims_where paths p vs in
-    elim (p v.0) as (λ b. map (claim_at paths) (cond b (v ∷ where_key key_cmp p vs) (where_key key_cmp p vs)) ≡ cond b (claim_at paths v ∷ where_key key_cmp p (map (claim_at paths) vs)) (where_key key_cmp p (map (claim_at paths) vs))) [
-      | true ↦ ap (λ l. claim_at paths v ∷ l) rest
-      | false ↦ rest
-    ]
-
--- the claims once a reservation is put
-pub claims_put : (paths : List (Key × PathFact)) (key : Key) (fact : ResvFact) (resvs : List (Key × ResvFact))
-    → claims_of paths (put key_cmp key fact resvs) ≡ put key_cmp key (claim_of fact (holding_of (attr_at paths key))) (claims_of paths resvs)
-unfolding claims_of
-claims_put paths key fact [] = refl
-claims_put paths key fact (v ∷ vs) =
-    let claim = claim_of fact (holding_of (attr_at paths key)) in
-    let rest = claims_put paths key fact vs in
-    elim (key_cmp key v.0) as (λ o. key_cmp key v.0 ≡ o → map (claim_at paths) (by_order o ((key, fact) ∷ v ∷ vs) ((v.0, fact) ∷ vs) (v ∷ put key_cmp key fact vs))
-    ≡ by_order o ((key, claim) ∷ claim_at paths v ∷ map (claim_at paths) vs) ((v.0, claim) ∷ map (claim_at paths) vs) (claim_at paths v ∷ put key_cmp key claim (map (claim_at paths) vs))) [
-      | Less ↦ λ o. refl
-      | Equal ↦ λ o. ap (λ k. (v.0, claim_of fact (holding_of (attr_at paths k))) ∷ map (claim_at paths) vs) (sym (key_exact key v.0 o))
-      | Greater ↦ λ o. ap (λ l. claim_at paths v ∷ l) rest
-    ] refl
-
--- what an LSP claims
-pub find_claims : (paths : List (Key × PathFact)) (key : Key) (resvs : List (Key × ResvFact)) → find key_cmp key (claims_of paths resvs) ≡ option_map (λ fact. claim_of fact (holding_of (attr_at paths key))) (find key_cmp key resvs)
-unfolding claims_of
-find_claims paths key [] = refl
-find_claims paths key (v ∷ vs) =
-    elim (eq_by_cmp key_cmp key v.0) as (λ b. eq_by_cmp key_cmp key v.0 ≡ b → cond b (Some (claim_of v.1 (holding_of (attr_at paths v.0)))) (find key_cmp key (map (claim_at paths) vs)) ≡ option_map (λ fact. claim_of fact (holding_of (attr_at paths key))) (cond b (Some v.1) (find key_cmp key vs))) [
-      | true ↦ λ tie. ap (λ k. Some (claim_of v.1 (holding_of (attr_at paths k)))) (sym (key_exact key v.0 (ties _ tie)))
-      | false ↦ λ apart. find_claims paths key vs
-    ] refl
-
 -- by the reservation that it has, or hasn't
 pub claimed_as : (paths : List (Key × PathFact)) (resvs : List (Key × ResvFact)) (key : Key) (fact : ResvFact) (claim : Claim) → find key_cmp key resvs ≡ Some fact → claim.holding ≡ holding_of (attr_at paths key) → find key_cmp key (claims_of paths resvs) ≡ Some (claim_of fact claim.holding)
 claimed_as paths resvs key fact claim found kept =
-    find_claims paths key resvs ∙ ap (option_map (λ f. claim_of f (holding_of (attr_at paths key)))) found ∙ ap (λ n. Some (claim_of fact n)) (sym kept)
+    find-claims paths key resvs ∙ ap (option_map (λ f. claim_of f (holding_of (attr_at paths key)))) found ∙ ap (λ n. Some (claim_of fact n)) (sym kept)
 
 pub claimed_none : (paths : List (Key × PathFact)) (resvs : List (Key × ResvFact)) (key : Key) → find key_cmp key resvs ≡ None → find key_cmp key (claims_of paths resvs) ≡ None
-claimed_none paths resvs key none = find_claims paths key resvs ∙ ap (option_map (λ f. claim_of f (holding_of (attr_at paths key)))) none
+claimed_none paths resvs key none = find-claims paths key resvs ∙ ap (option_map (λ f. claim_of f (holding_of (attr_at paths key)))) none
 
 -- Rows in order, each of whose keys is among those of others in order, are no more than these.
 no_more : {X Y : Type 0} (xs : List (Key × X)) (ys : List (Key × Y)) → T (is_sorted key_cmp xs) → T (is_sorted key_cmp ys) → AllByRecursion (λ x. is_some (find key_cmp x.0 ys) ≡ true) xs → length xs ≤ length ys
@@ -122,7 +67,7 @@ module _ (r : Router) (s : State) (p : Progress) (is : IsReached r s p) where
   resvs_sorted = is_sorted-edited key_cmp key_total p.edits s.resvs is.held.in_order
 
   pub claims_sorted : T (is_sorted key_cmp (claims_at s p))
-  claims_sorted = claims_in_order s.facts.paths (resvs_at s p) resvs_sorted
+  claims_sorted = sorted-claims s.facts.paths (resvs_at s p) resvs_sorted
 
   -- and there is no more of it than there are paths
   pub claims_few : length (claims_at s p) ≤ 1024

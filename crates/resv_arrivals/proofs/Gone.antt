@@ -11,24 +11,24 @@ use Rattle.lsr_facts.specs.declared.key.Key.{Key}
 use Rattle.resv_facts.specs.Admission.{without}
 use Rattle.resv_facts.specs.declared.claim.Claim.{Claim}
 use Rattle.resv_facts.specs.declared.resv_fact.ResvFact.{ResvFact}
-use Rattle.abstract_router.specs.States.{is_among}
+use Rattle.abstract_router.specs.States.{is_one_of}
 use Rattle.resv_arrivals.specs.Progresses.{without_edit, without_row}
 
 -- all are kept
-kept_all : {X : Type 0} (rows : List (Key × X)) → filter (λ row. not (is_among [] row.0)) rows ≡ rows
+kept_all : {X : Type 0} (rows : List (Key × X)) → filter (λ row. not (is_one_of [] row.0)) rows ≡ rows
 kept_all [] = refl
 kept_all (row ∷ rows) = ap (λ l. row ∷ l) (kept_all rows)
 
 -- those without one LSP's, without those of some, are those without all of these
-one_more : {X : Type 0} (key : Key) (gone : List Key) (rows : List (Key × X)) → filter (λ row. not (is_among gone row.0)) (where_key key_cmp (λ other. not (is_eq (key_cmp key other))) rows) ≡ filter (λ row. not (is_among (key ∷ gone) row.0)) rows
+one_more : {X : Type 0} (key : Key) (gone : List Key) (rows : List (Key × X)) → filter (λ row. not (is_one_of gone row.0)) (where_key key_cmp (λ other. not (is_eq (key_cmp key other))) rows) ≡ filter (λ row. not (is_one_of (key ∷ gone) row.0)) rows
 one_more key gone [] = refl
 one_more {X} key gone (row ∷ rows) =
     let left = where_key key_cmp (λ other. not (is_eq (key_cmp key other))) rows in
-    let more = filter (λ (row : Key × X). not (is_among (key ∷ gone) row.0)) rows in
+    let more = filter (λ (row : Key × X). not (is_one_of (key ∷ gone) row.0)) rows in
     let rest = one_more key gone rows in
-    elim (is_eq (key_cmp key row.0)) as (λ b. filter (λ row. not (is_among gone row.0)) (cond (not b) (row ∷ left) left) ≡ cond (not (b || is_among gone row.0)) (row ∷ more) more) [
+    elim (is_eq (key_cmp key row.0)) as (λ b. filter (λ row. not (is_one_of gone row.0)) (cond (not b) (row ∷ left) left) ≡ cond (not (b || is_one_of gone row.0)) (row ∷ more) more) [
       | true ↦ rest
-      | false ↦ ap (λ l. cond (not (is_among gone row.0)) (row ∷ l) l) rest
+      | false ↦ ap (λ l. cond (not (is_one_of gone row.0)) (row ∷ l) l) rest
     ]
 
 -- Claims without those of some LSPs.
@@ -38,9 +38,9 @@ rows_without [] claims = sym (kept_all claims)
 rows_without (key ∷ gone) claims = rows_without gone (without_row claims key) ∙ one_more key gone claims
 
 -- Reservations after the edits by which some LSPs lose theirs.
-pub edited_without : (gone : List Key) (edits : List (Key × Option ResvFact)) (resvs : List (Key × ResvFact)) → T (is_sorted key_cmp resvs) → edited key_cmp (fold without_edit edits gone) resvs ≡ filter (λ resv. not (is_among gone resv.0)) (edited key_cmp edits resvs)
+pub edited_without : (gone : List Key) (edits : List (Key × Option ResvFact)) (resvs : List (Key × ResvFact)) → T (is_sorted key_cmp resvs) → edited key_cmp (fold without_edit edits gone) resvs ≡ filter (λ resv. not (is_one_of gone resv.0)) (edited key_cmp edits resvs)
 edited_without [] edits resvs h = sym (kept_all (edited key_cmp edits resvs))
 edited_without (key ∷ gone) edits resvs h =
     edited_without gone (without_edit edits key) resvs h
-    ∙ ap (filter (λ resv. not (is_among gone resv.0))) (edited-put key_cmp key_total key_exact key None edits resvs h)
+    ∙ ap (filter (λ resv. not (is_one_of gone resv.0))) (edited-put key_cmp key_total key_exact key None edits resvs h)
     ∙ one_more key gone (edited key_cmp edits resvs)

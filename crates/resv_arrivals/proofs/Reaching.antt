@@ -29,9 +29,10 @@ use Rattle.abstract_router.specs.Preempting.{all_told_preempted, claims_of, givi
 use Rattle.abstract_router.specs.Reserving as reserving
 use Rattle.abstract_router.specs.Reserving.{carried_on, verdict_of}
 use Rattle.abstract_router.specs.Soundness.{AreHeld, IsResv}
-use Rattle.abstract_router.specs.States.{State, is_among}
+use Rattle.abstract_router.specs.States.{State, is_one_of}
 use Rattle.abstract_router.specs.Steps.{stands}
-use Rattle.resv_arrivals.proofs.Claiming.{claims_put, claims_sorted, claims_where}
+use Rattle.abstract_router.specs.ClaimsLaws.{claims-put, claims-where}
+use Rattle.resv_arrivals.proofs.Claiming.{claims_sorted}
 use Rattle.resv_arrivals.proofs.Gone.{edited_without}
 use Rattle.resv_arrivals.proofs.Renewing.{granted_again}
 use Rattle.resv_arrivals.proofs.Judging.{granted_may_be_put}
@@ -75,7 +76,7 @@ still_reached r s p now claims edits is = record {
 
 module _ (r : Router) (s : State) (p now : Progress) (key : Key) (fact : ResvFact) (gone : List Key) (is : IsReached r s p) (may : verdict_of r (reached s p).state key fact ≡ reserving.Granted) (edits : now.edits ≡ put key_cmp key (Some fact) (fold without_edit p.edits gone)) where
   -- what is reserved once it is granted
-  resvs_then : resvs_at s now ≡ put key_cmp key fact (filter (λ resv. not (is_among gone resv.0)) (resvs_at s p))
+  resvs_then : resvs_at s now ≡ put key_cmp key fact (filter (λ resv. not (is_one_of gone resv.0)) (resvs_at s p))
   resvs_then =
       ap (λ (es : List (Key × Option ResvFact)). edited key_cmp es s.resvs) edits
       ∙ edited-put key_cmp key_total key_exact key (Some fact) (fold without_edit p.edits gone) s.resvs is.held.in_order
@@ -85,7 +86,7 @@ module _ (r : Router) (s : State) (p now : Progress) (key : Key) (fact : ResvFac
   each_then : (P : Key × ResvFact → Type 0) → P (key, fact) → AllByRecursion P (resvs_at s p) → AllByRecursion P (resvs_at s now)
   each_then P here each =
       subst (AllByRecursion P) (sym resvs_then)
-      (all-put_row key_cmp P key fact (λ k tied. subst (λ k. P (k, fact)) (key_exact key k tied) here) here (filter (λ resv. not (is_among gone resv.0)) (resvs_at s p)) (all-filter P (λ resv. not (is_among gone resv.0)) (resvs_at s p) each))
+      (all-put_row key_cmp P key fact (λ k tied. subst (λ k. P (k, fact)) (key_exact key k tied) here) here (filter (λ resv. not (is_one_of gone resv.0)) (resvs_at s p)) (all-filter P (λ resv. not (is_one_of gone resv.0)) (resvs_at s p) each))
 
   pub granted_reached : unwrap_or now.claims (claims_of s.facts.paths s.resvs) ≡ granted (request_of s.facts.paths key fact) (without gone (claims_at s p)) → IsReached r s now
   granted_reached claims = record {
@@ -94,8 +95,8 @@ module _ (r : Router) (s : State) (p now : Progress) (key : Key) (fact : ResvFac
     few = is.few;
     held = is.held;
     claimed = claims
-        ∙ ap (granted (request_of s.facts.paths key fact)) (sym (claims_where s.facts.paths (λ k. not (is_among gone k)) (resvs_at s p)))
-        ∙ sym (claims_put s.facts.paths key fact (filter (λ resv. not (is_among gone resv.0)) (resvs_at s p)))
+        ∙ ap (granted (request_of s.facts.paths key fact)) (sym (claims-where s.facts.paths (λ k. not (is_one_of gone k)) (resvs_at s p)))
+        ∙ sym (claims-put s.facts.paths key fact (filter (λ resv. not (is_one_of gone resv.0)) (resvs_at s p)))
         ∙ sym (ap (claims_of s.facts.paths) resvs_then);
     rated = each_then (λ resv. IsOk (flowspec_rate resv.1.flowspec)) (granted_may_be_put r (reached s p).state key fact may).rate is.rated;
     on_paths = each_then (λ resv. is_some (find key_cmp resv.0 s.facts.paths) ≡ true) (granted_may_be_put r (reached s p).state key fact may).path is.on_paths;
@@ -103,7 +104,7 @@ module _ (r : Router) (s : State) (p now : Progress) (key : Key) (fact : ResvFac
 
   pub granted_carried : (link : ℕ) (v : Resv) (d : FlowDescriptor) → key ≡ reserving.key_in v d → gone ≡ giving_way r (reached s p).state key fact → now.errors ≡ p.errors ++ all_told_preempted r (reached s p).state gone → now.first ≡ p.first → now.has_granted ≡ true → reached s now ≡ carried_on r link v d fact (reached s p) reserving.Granted
   granted_carried link v d own gives errors first has = λ i. record {
-    state = record s { resvs = (resvs_then ∙ (λ j. put key_cmp (own j) fact (filter (λ resv. not (is_among (all j) resv.0)) (resvs_at s p)))) i };
+    state = record s { resvs = (resvs_then ∙ (λ j. put key_cmp (own j) fact (filter (λ resv. not (is_one_of (all j) resv.0)) (resvs_at s p)))) i };
     errors = (errors ∙ ap (λ keys. p.errors ++ all_told_preempted r (reached s p).state keys) all) i;
     first = first i;
     has_granted = has i;

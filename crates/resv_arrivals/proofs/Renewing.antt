@@ -1,5 +1,5 @@
 -- A request for what its LSP claims already: it fits, and nobody gives way to it.
-use Rattle.std.specs.Prelude.{◌≡◌, ℕ, ◌≤◌, true, T, List, [], ◌∷◌, if◌then◌else◌, Bool, Some}
+use Rattle.std.specs.Prelude.{◌≡◌, ℕ, ◌≤◌, true, T, List, [], Some}
 use Rattle.std.specs.FinMap.Entries.{find, is_sorted}
 use Rattle.std.proofs.Common.{refl, sym, ap, subst, ◌∙◌, arith}
 use Rattle.std.proofs.lemmas.Bool.{le-leb}
@@ -8,15 +8,11 @@ use Rattle.sorted_rows.specs.RowsLaws.{put-found}
 use Rattle.lsr_facts.specs.OrderLaws.{key_total}
 use Rattle.lsr_facts.specs.Orders.{key_cmp}
 use Rattle.lsr_facts.specs.declared.key.Key.{Key}
-use Rattle.resv_facts.specs.Admission.{fits, granted, in_turn, is_enough, shortest, victims_of, without}
+use Rattle.resv_facts.specs.Admission.{fits, granted, is_enough, victims_of, without}
+use Rattle.resv_facts.specs.AdmissionLaws.{victims_of-none}
 use Rattle.resv_facts.specs.Claims.{reserved_of}
 use Rattle.resv_facts.specs.declared.claim.Claim.{Claim}
 use Rattle.resv_facts.specs.declared.claim.Request.{Request}
-
--- where it is enough that nobody does, nobody gives way
-shortest-none : (enough : List Key → Bool) (rest : List Key) → enough [] ≡ true → shortest enough [] rest ≡ []
-shortest-none enough [] h = refl
-shortest-none enough (next ∷ rest) h = ap (λ b. if b then [] else shortest enough (next ∷ []) rest) h
 
 module _ (request : Request) (claims : List (Key × Claim)) (sorted : T (is_sorted key_cmp claims)) (found : find key_cmp request.key claims ≡ Some request.claim) where
   -- all claims stay
@@ -36,5 +32,4 @@ module _ (request : Request) (claims : List (Key × Claim)) (sorted : T (is_sort
     enough = le-leb _ limit (subst (λ cs. reserved_of request.claim.link 7 cs ≤ limit) (sym granted_again) (within 7 (omega arith)))
 
     pub none_gives_way : victims_of limit request claims ≡ []
-    unfolding victims_of
-    none_gives_way = shortest-none (is_enough limit request claims) (in_turn request claims) enough
+    none_gives_way = victims_of-none limit request claims enough

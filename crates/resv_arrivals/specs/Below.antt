@@ -1,2 +1,2 @@
 -- The words of crates further down, as the crates above this one name them.
-pub use Rattle.resv_rules.specs as rules
+pub use Rattle.message_rules.specs as rules

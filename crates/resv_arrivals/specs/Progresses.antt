@@ -2,7 +2,7 @@
 use Rattle.std.specs.Prelude.{◌≡◌, ℕ, ◌^◌, ◌≤◌, ◌++◌, ◌||◌, [], not, Bool, true, T, List, length, Option, Some, None, is_some, IsOk}
 use Rattle.std.specs.FinMap.Entries.{find, is_sorted, put, where_key}
 use Rattle.std.specs.List.{AllByRecursion}
-use Rattle.std.specs.Option.{option_and_then, unwrap_or}
+use Rattle.std.specs.Option.{option_and_then, option_to_list, unwrap_or}
 use Rattle.std.specs.Ordering.{is_eq}
 use Rattle.rsvp_traffic.specs.Traffic.{flowspec_rate}
 use Rattle.sorted_rows.specs.Edits.{edited}
@@ -13,7 +13,6 @@ use Rattle.resv_facts.specs.declared.resv_fact.ResvFact.{ResvFact}
 use Rattle.lsr_facts.specs.declared.router.Router.{Router}
 use Rattle.router_events.specs.declared.events.Output.{Output}
 use Rattle.admission.specs.Bandwidths.{AreRated}
-use Rattle.abstract_router.specs.Outcomes.{listed}
 use Rattle.abstract_router.specs.Preempting.{claims_of, giving_way, request_of, told_preempted}
 use Rattle.abstract_router.specs.Reserving as reserving
 use Rattle.abstract_router.specs.Reserving.{key_in, resv_by}
@@ -54,7 +53,7 @@ without_edit edits key = put key_cmp key None edits
 
 -- errors, and then that of an LSP that loses its reservation to another
 unfoldable pub told_of : Router → List (Key × ResvFact) → List Output → Key → List Output
-told_of r resvs errors key = errors ++ listed (option_and_then (told_preempted r key) (find key_cmp key resvs))
+told_of r resvs errors key = errors ++ option_to_list (option_and_then (told_preempted r key) (find key_cmp key resvs))
 
 -- a flow descriptor was in error, or was granted
 abbrev pub is_heard : reserving.Progress → Bool

@@ -1,5 +1,6 @@
 //! What a Resv does (RFC 2205, 3.1.4, 3.7 and 3.10; RFC 3209, 2.4, 4.1 and 4.6.3).
 
+ghost use Rattle.std.specs.Option.{option_to_list};
 ghost use Rattle.std.specs.List.{AllByRecursion};
 ghost use Rattle.std.specs.Prelude.{◌≡◌, ◌^◌, ◌≤◌, IfOk, OnErr, false, true};
 ghost use Rattle.rsvp_contents.specs.Spelling.{IsMessage};
@@ -8,7 +9,7 @@ ghost use Rattle.abstract_paths.specs.Soundness.{ArePaths};
 ghost use Rattle.abstract_router.specs.Reserving.{all_descriptors, resv_arrival, resv_failed, resv_replied, unknown_resv};
 ghost use Rattle.abstract_router.specs.Soundness.{AreHeld};
 ghost use Rattle.abstract_router.specs.Steps.{stands};
-ghost use Rattle.resv_rules.specs.Rooms.{HaveRoom, as_list};
+ghost use Rattle.message_rules.specs.Rooms.{HaveRoom};
 ghost use Rattle.state_views.specs.Drafts.{IsDraft};
 ghost use Rattle.resv_arrivals.specs.Progresses.{is_heard, reached};
 
@@ -16,9 +17,11 @@ use crate::asked::Asked;
 use crate::granting::{next_descriptor, with_told};
 use crate::progress::Progress;
 use lsr_facts::{Refusal, Reply, RsvpError};
-use path_rules::unknown_object;
+use message_rules::{
+    UNKNOWN_STYLE, key_in, named, reservation_error, resv_leaves_room, told_downstream,
+    unknown_object,
+};
 use resv_facts::ResvStyle;
-use resv_rules::{UNKNOWN_STYLE, found_here, key_in, named, resv_leaves_room, told_downstream};
 use router_events::Outputs;
 use rsvp_contents::Resv;
 use rsvp_flows::ErrorDescriptor;
@@ -35,13 +38,13 @@ fn resv_failed<V: StateView>(
     descriptor: Option<ErrorDescriptor>,
     error: RsvpError,
 ) -> Result<Draft, AllocError>
-    requires { HaveRoom (as_list descriptor) }
+    requires { HaveRoom (option_to_list descriptor) }
     ensures { IfOk result (λ draft. IsDraft draft
         (resv_failed (V.router view.now) (V.state view.now) link resv.now is_reserved
-        (as_list descriptor) error) (V.router view.now) (V.state view.now)) }
+        (option_to_list descriptor) error) (V.router view.now) (V.state view.now)) }
 {
     let router = view.node().router;
-    let found = found_here(router, is_reserved, error);
+    let found = reservation_error(router, is_reserved, error);
     let told = told_downstream(
         alloc,
         router,

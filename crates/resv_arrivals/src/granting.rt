@@ -2,16 +2,15 @@
 
 ghost use Rattle.std.specs.FinMap.Entries.{find};
 ghost use Rattle.std.specs.List.{AllByRecursion};
-ghost use Rattle.std.specs.Option.{option_and_then};
+ghost use Rattle.std.specs.Option.{option_and_then, option_to_list};
 ghost use Rattle.std.specs.Prelude.{◌≡◌, ◌≢◌, ◌∷◌, ◌++◌, [], IfOk, IsOk, OnErr, false, fold};
 ghost use Rattle.lsr_facts.specs.Orders.{key_cmp};
 ghost use Rattle.sorted_rows.specs.Edits.{edited};
 ghost use Rattle.rsvp_traffic.specs.Traffic.{flowspec_rate};
-ghost use Rattle.abstract_router.specs.Outcomes.{listed};
 ghost use Rattle.abstract_router.specs.Preempting.{request_of, told_preempted};
 ghost use Rattle.abstract_router.specs.Reserving as reserving;
 ghost use Rattle.abstract_router.specs.Reserving.{carried_on, named, next_descriptor, verdict_of};
-ghost use Rattle.resv_rules.specs.Rooms.{HaveRoom};
+ghost use Rattle.message_rules.specs.Rooms.{HaveRoom};
 ghost use Rattle.resv_arrivals.specs.Progresses.{IsOwn, IsReached, IsRenewed, fact_at, reached, told_of};
 
 use crate::asked::Asked;
@@ -20,8 +19,8 @@ use crate::edits::edits_with;
 use crate::progress::{Progress, resv_now};
 use crate::verdicts::{Verdict, verdict_of};
 use lsr_facts::{Key, RsvpError};
+use message_rules::{named, reservation_error, resv_by, told_downstream, told_preempted};
 use resv_facts::{Request, ResvFact};
-use resv_rules::{found_here, named, resv_by, told_downstream, told_preempted};
 use router_events::{Output, Outputs};
 use sorted_rows::Table;
 use state_views::{StateView, WholeState};
@@ -29,7 +28,7 @@ use std::alloc::{AllocError, Global};
 
 /// Errors with one more, where it can be told. The only error is out of memory.
 pub fn with_told(errors: Outputs, told: Option<Output>) -> Result<Outputs, AllocError>
-    ensures { IfOk result (λ now. now ≡ errors ++ listed told) }
+    ensures { IfOk result (λ now. now ≡ errors ++ option_to_list told) }
 {
     let mut now = errors;
     if let Some(output) = told {
@@ -65,7 +64,7 @@ fn failed<V: WholeState>(
     } = *asked;
     let router = view.node().router;
     let is_reserved = resv_now(view, &progress.edits, &key).is_some();
-    let found = found_here(router, is_reserved, error);
+    let found = reservation_error(router, is_reserved, error);
     let told = told_downstream(
         alloc,
         router,

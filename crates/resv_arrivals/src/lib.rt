@@ -11,4 +11,4 @@ mod progress;
 mod verdicts;
 
 pub use arrivals::{resv_arrival, unknown_resv};
-pub use resv_rules::{NO_LABEL, resv_err_leaves_room, told_downstream};
+pub use message_rules::{NO_LABEL, resv_err_leaves_room, told_downstream};

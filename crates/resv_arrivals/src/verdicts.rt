@@ -13,11 +13,11 @@ use crate::claims::{fits, is_claimed, style_in_conflict};
 use crate::progress::Progress;
 use forwarding_table::is_label;
 use lsr_facts::{PathFact, RsvpError};
-use path_rules::{has_been_here, leaves_by};
-use resv_facts::Request;
-use resv_rules::{
-    NO_BANDWIDTH, NO_PATH, NO_SENDER, UNACCEPTABLE_LABEL, request_of, style_conflict, traffic_error,
+use message_rules::{
+    NO_BANDWIDTH, NO_PATH, NO_SENDER, UNACCEPTABLE_LABEL, has_been_here, leaves_by, request_of,
+    style_conflict, traffic_error,
 };
+use resv_facts::Request;
 use state_views::WholeState;
 
 /// What becomes of a flow descriptor.

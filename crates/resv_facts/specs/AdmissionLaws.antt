@@ -22,7 +22,7 @@ use Rattle.resv_facts.specs.declared.claim.Claim.{Claim}
 use Rattle.resv_facts.specs.declared.claim.Request.{Request}
 use Rattle.resv_facts.specs.SumLaws.{filter-filter, filter-map, filter-put_away, filter-put_unseen, filter_swap, filter_within, where_key-put}
 use Rattle.resv_facts.specs.RateLaws.{rate_of_all-but_holding, rate_of_all-filter-le}
-use Rattle.resv_facts.specs.TurnLaws.{all-in_turn, has_turn, shortest-is, shortest-is_enough}
+use Rattle.resv_facts.specs.TurnLaws.{all-in_turn, has_turn, shortest-is, shortest-is_enough, shortest-none}
 
 -- what two of the same variant have is the same
 some_same : {A : Type 0} (x y : A) → Some x ≡ Some y → x ≡ y
@@ -266,3 +266,8 @@ pub granted-elsewhere-le : (link p : ℕ) (request : Request) (claims : List (Ke
 granted-elsewhere-le link p request claims gone h other =
     let left : Key → Bool = λ key. not (list_any (λ g. is_eq (key_cmp g key)) gone) in
     le_trans (reserved_of-put_elsewhere-le link p request.key request.claim (without gone claims) (is_sorted-where_key key_cmp left claims h) other) (reserved_of-where_key-le link p left claims h)
+
+-- Where it is enough that nobody gives way, nobody does.
+pub victims_of-none : (limit : ℕ) (request : Request) (claims : List (Key × Claim)) → is_enough limit request claims [] ≡ true → victims_of limit request claims ≡ []
+unfolding victims_of
+victims_of-none limit request claims enough = shortest-none (is_enough limit request claims) [] (in_turn request claims) enough

@@ -1,4 +1,4 @@
--- Which reservations stand in each other's way: those of one session on a link are all in one style (RFC 2205, 3.1.2 and B, 5).
+-- Which reservations stand in each other's way: those of one session on a link are all in one style (RFC 2205, 1.3 and B, 5).
 use Rattle.std.specs.Prelude.{ℕ, ◌==◌, ◌&&◌, not, Bool}
 use Rattle.std.specs.Ordering.{is_eq}
 use Rattle.lsr_facts.specs.Orders.{key_cmp}

@@ -11,6 +11,15 @@ use Rattle.resv_facts.specs.declared.resv_fact.ResvStyle.TheVariants.{FixedFilte
 abbrev pub style_of : Style → Option ResvStyle
 style_of style = if is_fixed style then Some FixedFilter else if is_shared style then Some SharedExplicit else None
 
+-- the bits that name a style: 01010 and 10010 (RFC 2205, A.7)
+abbrev pub style_bits : ResvStyle → ℕ
+style_bits FixedFilter = 10
+style_bits SharedExplicit = 18
+
+-- STYLE as this router writes it
+abbrev pub style_word : ResvStyle → Style
+style_word style = record { word = style_bits style }
+
 -- the reservation's expiry is yet to come: one whose expiry is this moment has expired (RFC 2205, 2.3)
 abbrev pub lives_past : ℕ → ResvFact → Bool
 lives_past moment fact = nat_lt moment fact.expiry

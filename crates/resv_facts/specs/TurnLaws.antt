@@ -88,6 +88,11 @@ module _ (enough : List Key → Bool) where
   shorter gone next rest n is none zero below = ap enough (append-nil gone) ∙ is
   shorter gone next rest n is none (suc k) below = ap enough (sym (append_assoc gone (next ∷ []) (take k rest))) ∙ none k (omega arith)
 
+  -- Where those are enough, nobody else goes.
+  pub shortest-none : (gone rest : List Key) → enough gone ≡ true → shortest enough gone rest ≡ gone
+  shortest-none gone [] is = refl
+  shortest-none gone (next ∷ rest) is = ap (λ b. cond b gone (shortest enough (gone ++ next ∷ []) rest)) is
+
   -- It is those and a beginning of the rest, and with no shorter one they are enough.
   pub shortest-is : (gone rest : List Key) → (n : ℕ) × (n ≤ length rest) × (shortest enough gone rest ≡ gone ++ take n rest) × ((k : ℕ) → k < n → enough (gone ++ take k rest) ≡ false)
   shortest-is gone [] = (0, omega arith, sym (append-nil gone), λ k below. absurd (omega arith))

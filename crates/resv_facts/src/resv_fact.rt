@@ -1,9 +1,9 @@
 ghost use Rattle.std.specs.Prelude.{◌≡◌, nat_lt, true};
 ghost use Rattle.resv_facts.specs.Conflicts.{is_same_style};
-ghost use Rattle.resv_facts.specs.Reservations.{lives_past, style_of, timeless_resv};
+ghost use Rattle.resv_facts.specs.Reservations.{lives_past, style_bits, style_of, style_word, timeless_resv};
 
 use lsr_facts::{Passing, Same};
-use rsvp_flows::{is_fixed, is_shared};
+use rsvp_flows::{FIXED_FILTER, SHARED_EXPLICIT, is_fixed, is_shared};
 use rsvp_objects::Style;
 use rsvp_routes::Record;
 use rsvp_traffic::Flowspec;
@@ -30,6 +30,25 @@ impl ResvStyle {
             Some(ResvStyle::SharedExplicit)
         } else {
             None
+        }
+    }
+
+    /// The bits that name the style (RFC 2205, A.7).
+    pub fn bits(self) -> u16
+        ensures { result ≡ style_bits self }
+    {
+        match self {
+            ResvStyle::FixedFilter => FIXED_FILTER,
+            ResvStyle::SharedExplicit => SHARED_EXPLICIT,
+        }
+    }
+
+    /// STYLE as this router writes it (RFC 2205, A.7).
+    pub fn word(self) -> Style
+        ensures { result ≡ style_word self }
+    {
+        Style {
+            word: u32::from(self.bits()),
         }
     }
 }

@@ -1,7 +1,6 @@
 -- A draft, with what follows from it and what it sends, is the plan of a step.
-use Rattle.std.specs.Prelude.{◌≡◌, ◌≢◌, ◌==◌, ℕ, All, filter_map, find, Bool, true, false, if◌then◌else◌, List, [], Option, Some, None, Result, Ok, Err, IfOk, IsOk, ◌++◌}
+use Rattle.std.specs.Prelude.{◌≡◌, ◌≢◌, ℕ, All, true, false, if◌then◌else◌, List, [], Option, Some, None, Result, Ok, Err, IfOk, IsOk, ◌++◌}
 use Rattle.std.specs.List.{AllByRecursion}
-use Rattle.std.specs.Option.{option_map}
 use Rattle.std.specs.Ordering.{nat_cmp}
 use Rattle.std.proofs.Common.{refl, ap, sym, subst, ◌∙◌}
 use Rattle.sorted_rows.specs.Edits as rows
@@ -35,15 +34,15 @@ use Rattle.abstract_router.specs.Outputs.{item_stamps, outputs_of, upstream_stam
 use Rattle.abstract_router.specs.Preempting.{claims_of}
 use Rattle.abstract_router.specs.Soundness.{AreLabelled, IsResv, IsSound}
 use Rattle.abstract_router.specs.States.{State}
-use Rattle.abstract_router.specs.Steps.{IsEvent, MayChooseBy, Step, settled, taken_over, told_repaired, with_moments}
+use Rattle.abstract_router.specs.Steps.{IsEvent, MayChooseBy, settled, taken_over, told_repaired, with_moments}
 use Rattle.abstract_router.specs.Lsps.{lsps_of}
-use Rattle.abstract_router.specs.Tables.{entry_of, look, table_of}
+use Rattle.abstract_router.specs.LspLaws.{look-alike}
+use Rattle.abstract_router.specs.Tables.{look}
 use Rattle.abstract_router.specs.Upstreams.{upstream_of}
 use Rattle.abstract_router.specs.Wanted.{items_of}
 use Rattle.router_core.specs.Plans.{IsPlanOf, IsSendingPlan, after_plan, drafted}
 use Rattle.router_core.specs.declared.plan.Plan.{Plan}
 use Rattle.router_tables.specs.Changes.{IsChange, changed}
-use Rattle.router_tables.specs.States.{RouterState}
 use Rattle.router_tables.specs.declared.change.Change.{Change}
 use Rattle.router_tables.specs.Below.views.Drafts.{IsDraft}
 use Rattle.router_tables.specs.Below.views.Edits.{edited}
@@ -97,8 +96,7 @@ module _ (r : Router) (s : State) (is : IsSound r s) (draft : Draft) (may : IsDr
 
     -- labels have the same actions after both
     looks : (label : ℕ) → look (edited x s) label ≡ look (changed change s) label
-    unfolding look table_of
-    looks label = λ i. option_map (λ entry. entry.1) (find (λ entry. entry.0 == label) (filter_map (entry_of (record (edited x s) { resvs = sym resvs i })) (edited x s).facts.paths))
+    looks label = look-alike (edited x s) (changed change s) label refl (sym resvs) refl
 
     change_is : AreEdits bandwidth → rows.edited key_cmp (claim_edits bandwidth) (claims_of s.facts.paths s.resvs) ≡ claims_of (edited x s).facts.paths (edited x s).resvs → AreTableEdits s (edited x s) table → IsChange r s change
     change_is edits claims are = record {

@@ -7,9 +7,11 @@ ghost use Rattle.router_events.specs.declared.events.Event.TheVariants as events
 ghost use Rattle.lsr_facts.specs.declared.refusal.Refusal.TheVariants.{HopLimit};
 ghost use Rattle.abstract_paths.specs.Relays.{exceeds_hop_limit};
 ghost use Rattle.abstract_paths.specs.Soundness.{ArePaths};
+ghost use Rattle.abstract_paths.specs.Touched.{is_among};
 ghost use Rattle.abstract_router.specs.Arrivals.{outcome};
 ghost use Rattle.abstract_router.specs.Soundness.{AreLabelled, IsResv};
 ghost use Rattle.abstract_router.specs.Steps.{IsEvent};
+ghost use Rattle.abstract_router.specs.Touched.{LeavesOtherLsps};
 ghost use Rattle.router_soundness.specs.Drafted.{IsDrafted};
 ghost use Rattle.router_tables.specs.Below.views.Edits.{edited};
 ghost use Rattle.std.specs.List.{AllByRecursion};
@@ -20,10 +22,10 @@ use forwarding_table::Action;
 use lsr_facts::{Key, Refusal, Reply};
 use router_events::{Event, Outputs};
 use router_steps::{draft_of, exceeds_hop_limit};
-use router_tables::{Change, Changed, Draft, Edits, Tables, edits_leave_other_lsps, table_edits};
+use router_tables::{Change, Changed, Draft, Edits, Tables, table_edits};
 use rsvp_contents::Reading;
 use sorted_rows::Table;
-use state_sends::{StateSends, appended, edited_lsps, sends_of};
+use state_sends::{StateSends, appended, sends_of};
 use state_settling::{Settled, bandwidth_edits, settle};
 use std::alloc::{AllocError, Global};
 
@@ -50,45 +52,49 @@ impl Plan {
     }
 }
 
-/// Every event that there is can be: its message is one, by its type. A law: it does nothing when it runs.
+/// Every event that there is can be: its message is one, and its unread bytes are few enough, by their types. A law: it does
+/// nothing when it runs.
 fn is_possible(event: &Event)
     ensures { IsEvent event.now }
 {
-    if let Event::Arrive(arrive) = event {
-        match &arrive.reading {
+    match event {
+        Event::Arrive(arrive) => match &arrive.reading {
             Reading::Whole(message) => {
                 message.content();
             }
             Reading::Unknown(message, ..) => {
                 message.content();
             }
+        },
+        Event::Relay(relay) => {
+            relay.message.as_slice();
         }
+        _ => {}
     }
 }
 
-/// What becomes of the actions of labels by edits. The only error is out of memory.
+/// What becomes of the actions of labels by edits, where these LSPs change. The only error is out of memory.
 fn table_of(
     alloc: Global,
     tables: &Tables,
     edits: &Edits,
+    changed: &Table<Key, ()>,
 ) -> Result<Table<u32, Option<Action>>, AllocError>
     requires paths { ArePaths tables.now.router (edited edits.now tables.now.state).facts.moment
         (edited edits.now tables.now.state).facts.paths }
     requires labels { AreLabelled tables.now.router (edited edits.now tables.now.state) }
     requires resvs { AllByRecursion (IsResv (edited edits.now tables.now.state).facts.moment)
         (edited edits.now tables.now.state).resvs }
+    requires changed { LeavesOtherLsps (is_among key_cmp changed.now) tables.now.state
+        (edited edits.now tables.now.state) }
     ensures { IfOk result (AreTableEdits tables.now.state (edited edits.now tables.now.state)) }
 {
     tables.soundness();
-
-    // That of LSPs which have no edit the same is known after edits.
-    edits_leave_other_lsps();
-    let touched = edited_lsps(alloc, edits)?;
     let after = Changed {
         under: tables,
         edits,
     };
-    table_edits(alloc, tables, &after, touched.as_slice())
+    table_edits(alloc, tables, &after, changed.as_slice())
 }
 
 /// The plan of the step of a draft that isn't silent: with all that follows from its own change, with what is sent, and
@@ -108,8 +114,9 @@ fn sending_plan(alloc: Global, tables: &Tables, draft: Draft) -> Result<Plan, Al
         outputs,
         moments,
         upstream,
+        changed,
     } = sends_of(alloc, tables, &edits, draft.due, errors)?;
-    let table = table_of(alloc, tables, &edits)?;
+    let table = table_of(alloc, tables, &edits, &changed)?;
     let Edits {
         moment,
         up,

@@ -24,7 +24,8 @@ use Rattle.lsr_facts.specs.declared.refusal.Refusal.TheVariants.{LinkDown, NoMat
 use Rattle.lsr_facts.specs.declared.reply.Reply.TheVariants as replies
 use Rattle.lsr_facts.specs.declared.router.Router.{Router}
 use Rattle.resv_facts.specs.Admission as admission
-use Rattle.resv_facts.specs.Admission.{granted, in_turn, is_enough, shortest, victims_of, without}
+use Rattle.resv_facts.specs.Admission.{granted, is_enough, without}
+use Rattle.resv_facts.specs.AdmissionLaws.{victims_of-none}
 use Rattle.resv_facts.specs.Claims.{is_same_session, reserved_of}
 use Rattle.resv_facts.specs.Reservations.{style_of}
 use Rattle.resv_facts.specs.declared.claim.Claim.{Claim}
@@ -35,7 +36,8 @@ use Rattle.router_events.specs.declared.events.Made.{Made}
 use Rattle.abstract_paths.specs.Paths.{has_loop}
 use Rattle.abstract_paths.specs.Places.{is_up}
 use Rattle.abstract_paths.specs.Tears.{leaves_by}
-use Rattle.router_soundness.proofs.Claiming.{claims-put, setup_most}
+use Rattle.abstract_router.specs.ClaimsLaws.{claims-put}
+use Rattle.router_soundness.proofs.Claiming.{setup_most}
 use Rattle.abstract_router.specs.Arrivals.{arrival}
 use Rattle.abstract_router.specs.Errors.{no_bandwidth, no_path, no_sender, style_conflict, unacceptable_label, unknown_style}
 use Rattle.abstract_router.specs.Outcomes.{refused, replied}
@@ -50,11 +52,6 @@ use Rattle.router_laws.proofs.Still.{IsStill, done-still, refused-still, still_s
 find-none : {A : Type 0} (test : A → Bool) (xs : List A) → AllByRecursion (λ x. test x ≡ false) xs → find_first test xs ≡ None
 find-none test [] h = refl
 find-none test (x ∷ xs) h = ap (λ b. cond b (Some x) (find_first test xs)) h.0 ∙ find-none test xs h.1
-
--- where it is enough that nobody does, nobody gives way
-shortest-none : (enough : List Key → Bool) (rest : List Key) → enough [] ≡ true → shortest enough [] rest ≡ []
-shortest-none enough [] h = refl
-shortest-none enough (next ∷ rest) h = ap (λ b. if b then [] else shortest enough (next ∷ []) rest) h
 
 -- a path of the key is one of its session
 session-known : (key : Key) (path : PathFact) (paths : List (Key × PathFact)) → find key_cmp key paths ≡ Some path → list_any (λ row. is_same_session key.session row.0.session) paths ≡ true
@@ -121,8 +118,7 @@ module _ (r : Router) (s : State) (is : IsSound r s) (key : Key) (fact : ResvFac
       whole = filter-all_pass (λ claim. true) claims (all-always (λ claim. true ≡ true) (λ claim. refl) claims)
 
   none-gives_way : giving_way r s key fact ≡ []
-  unfolding victims_of
-  none-gives_way = shortest-none (is_enough (limit_of r fact.link) (request_of s.facts.paths key fact) claims) (in_turn (request_of s.facts.paths key fact) claims) enough
+  none-gives_way = victims_of-none (limit_of r fact.link) (request_of s.facts.paths key fact) claims enough
 
   -- what asks for it is granted, or passed over where its record names this router
   abbrev again : Verdict

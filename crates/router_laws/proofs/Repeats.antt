@@ -104,13 +104,13 @@ same_option bytes None = refl
 same_option bytes (Some x) = nat_list_eq_equiv.refl (bytes x)
 
 -- three tests that a Path passes
-passed : (b c d : Bool) (x y z w : paths.Outcome) → replies.Done ≢ x.reply → replies.Done ≢ y.reply → replies.Done ≢ z.reply → replies.Done ≡ (cond b x (cond c y (cond d z w))).reply → (b ≡ false) × (c ≡ false) × (d ≡ false) × (replies.Done ≡ w.reply)
+passed : (b c d : Bool) (x y z w : paths.PathOutcome) → replies.Done ≢ x.reply → replies.Done ≢ y.reply → replies.Done ≢ z.reply → replies.Done ≡ (cond b x (cond c y (cond d z w))).reply → (b ≡ false) × (c ≡ false) × (d ≡ false) × (replies.Done ≡ w.reply)
 passed true c d x y z w p q n done = absurd (p done)
 passed false true d x y z w p q n done = absurd (q done)
 passed false false true x y z w p q n done = absurd (n done)
 passed false false false x y z w p q n done = (refl, refl, refl, done)
 
-passing : (b c d : Bool) (x y z w : paths.Outcome) → b ≡ false → c ≡ false → d ≡ false → cond b x (cond c y (cond d z w)) ≡ w
+passing : (b c d : Bool) (x y z w : paths.PathOutcome) → b ≡ false → c ≡ false → d ≡ false → cond b x (cond c y (cond d z w)) ≡ w
 passing b c d x y z w p q n = ap (λ t. cond t x (cond c y (cond d z w))) p ∙ ap (λ t. cond t y (cond d z w)) q ∙ ap (λ t. cond t z w) n
 
 -- an error isn't done
@@ -124,7 +124,7 @@ record IsAccepted (r : Router) (p : Path) : Type 0 where
   unlooped : has_loop r p.recorded ≡ false
 
 -- its way
-record IsTaken (r : Router) (s : Facts) (known : Option PathFact) (link : ℕ) (p : Path) (o : paths.Outcome) : Type 0 where
+record IsTaken (r : Router) (s : Facts) (known : Option PathFact) (link : ℕ) (p : Path) (o : paths.PathOutcome) : Type 0 where
   accepted : IsAccepted r p
   way : Choice
   is : o ≡ taken r s known link p way

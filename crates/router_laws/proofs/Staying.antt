@@ -53,7 +53,7 @@ module _ (r : Router) (before : State) (n : ℕ) (key : Key) (resv : ResvFact) (
       (subst (λ o. IfSome o (λ v. stands before.facts (key, v) ≡ true)) found (find-all_row key_cmp key_exact (λ v. stands before.facts v ≡ true) key before.resvs is.standing))
 
   -- so it is left
-  left : (o : paths.Outcome) → o.after.up ≡ before.facts.up → o.after.paths ≡ map (lifetimes.with_living n) (filter (lifetimes.lives_on n) before.facts.paths)
+  left : (o : paths.PathOutcome) → o.after.up ≡ before.facts.up → o.after.paths ≡ map (lifetimes.with_living n) (filter (lifetimes.lives_on n) before.facts.paths)
       → find key_cmp key (filter (stands o.after) (filter (λ v. lives_past n v.1) before.resvs)) ≡ Some resv
   unfolding leaves_by
   left o up there =
@@ -71,7 +71,7 @@ module _ (r : Router) (before : State) (n : ℕ) (key : Key) (resv : ResvFact) (
       (λ most. cond_both (nat_lt n before.facts.moment) _ _ At (λ below. λ done. absurd (let e = done in cc))
       (λ later. λ done. left (record (paths.done [] (record before.facts { moment = n; paths = lifetimes.expire n before.facts.paths })) { due = lifetimes.due_items r.refresh_ms before.facts.sent n }) refl refl))
     where
-      At : paths.Outcome → Type 0
+      At : paths.PathOutcome → Type 0
       At o = (for_reservations r before n (of_paths before o)).reply ≡ replies.Done → find key_cmp key (known_after r before chosen (for_reservations r before n (of_paths before o))).resvs ≡ Some resv
 
 -- A moment takes no reservation that was refreshed in time, and whose path lives on.

@@ -37,11 +37,11 @@ use Rattle.router_events.specs.declared.events.Output.{Output}
 use Rattle.abstract_paths.specs.Outcomes as paths
 use Rattle.abstract_paths.specs.Outputs.{between, is_same_frame, rests, send_for, tear_for}
 use Rattle.abstract_paths.specs.Soundness.{IsPath}
-use Rattle.abstract_paths.specs.StampLaws.{find-stamps, is_due-due_among, ties}
-use Rattle.abstract_paths.specs.Stamps.{due_among, stamp, stamps}
+use Rattle.abstract_paths.specs.StampLaws.{find-stamps, is_due-due_items, ties}
+use Rattle.abstract_paths.specs.Stamps.{stamp, stamps}
 use Rattle.abstract_paths.specs.Time.{tick}
 use Rattle.abstract_paths.proofs.PathTable.{path_known}
-use Rattle.abstract_router.specs.Arrivals.{due_upstream, for_reservations, moment_comes}
+use Rattle.abstract_router.specs.Arrivals.{for_reservations, moment_comes}
 use Rattle.abstract_router.specs.Lsps.{lsps_of}
 use Rattle.abstract_router.specs.Outcomes.{Outcome, of_paths}
 use Rattle.abstract_router.specs.Outputs.{item_stamps, outputs_of, upstream_stamps}
@@ -61,17 +61,17 @@ ticked r s n = record {
   reply = replies.Done;
   errors = [];
   due = due_items r.refresh_ms s.facts.sent n;
-  upstream_due = due_upstream r.refresh_ms s.sent_upstream n;
+  upstream_due = due_items r.refresh_ms s.sent_upstream n;
   after = record s { facts = record s.facts { moment = n; paths = expire n s.facts.paths }; resvs = reservations.expire n s.resvs };
   is_silent = false;
 }
 
 -- and as paths have it
-ticked_paths : Router → Facts → ℕ → paths.Outcome
+ticked_paths : Router → Facts → ℕ → paths.PathOutcome
 ticked_paths r s n = record (paths.done [] (record s { moment = n; paths = expire n s.paths })) { due = due_items r.refresh_ms s.sent n }
 
 -- what a moment does, by what it does to paths
-abbrev by_paths : Router → State → ℕ → paths.Outcome → Outcome
+abbrev by_paths : Router → State → ℕ → paths.PathOutcome → Outcome
 by_paths r s n o = for_reservations r s n (of_paths s o)
 
 -- a moment that isn't refused is done
@@ -81,7 +81,7 @@ tick_done r s n =
     cond_both (nat_lt (2 ^ 62) n) _ _ Does (λ above. λ done. absurd (let e = done in cc))
     (λ most. cond_both (nat_lt n s.facts.moment) _ _ Does (λ below. λ done. absurd (let e = done in cc)) (λ later. λ done. refl))
   where
-    Does : paths.Outcome → Type 0
+    Does : paths.PathOutcome → Type 0
     Does o = replies.Done ≡ (by_paths r s n o).reply → by_paths r s n o ≡ ticked r s n
 
 -- A moment that is neither late nor above the last one that there is is done.
@@ -119,7 +119,7 @@ module _ (r : Router) (before after : State) (made : Made) (n : ℕ) (x : Step r
   unfolding ticked
   after_tick = led r before after made (events.Tick n) (ticked r before n) x is does
 
-  sends_then : made.outputs ≡ outputs_of r before [] (due_items r.refresh_ms before.facts.sent n) (due_upstream r.refresh_ms before.sent_upstream n) after
+  sends_then : made.outputs ≡ outputs_of r before [] (due_items r.refresh_ms before.facts.sent n) (due_items r.refresh_ms before.sent_upstream n) after
   unfolding ticked
   sends_then = sends r before after made (events.Tick n) (ticked r before n) x is does
 
@@ -229,13 +229,13 @@ found_among {K} {C} {O} cmp exact f key value output (row ∷ rows) found gives 
 module _ {I : Type 0} (cmp : I → I → Ordering) (total : IsTotalOrder cmp) (exact : (a b : I) → cmp a b ≡ Equal → a ≡ b) (refresh_ms n at : ℕ) (was is : List (I × Output)) (sent : List (I × ℕ)) (item : I) (output : Output)
     (in_order : T (is_sorted cmp sent)) (wanted : find cmp item is ≡ Some output) (found : find cmp item sent ≡ Some at) (waited : at + refresh_ms ≤ n) where
   abbrev due : List I
-  due = due_among refresh_ms sent n
+  due = due_items refresh_ms sent n
 
   -- so it doesn't rest
   none_rests : (o : Option Output) → rests cmp due o (item, output) ≡ false
   none_rests o =
       ap (λ b. not b && option_map_or (λ was. is_same_frame output.frame was.frame) o false)
-      (is_due-due_among cmp total refresh_ms sent n item in_order ∙ ap (λ o. option_map_or (λ last. nat_le (last + refresh_ms) n) o false) found ∙ le-leb (at + refresh_ms) n waited)
+      (is_due-due_items cmp total refresh_ms sent n item in_order ∙ ap (λ o. option_map_or (λ last. nat_le (last + refresh_ms) n) o false) found ∙ le-leb (at + refresh_ms) n waited)
 
   -- it is sent
   goes_out : Contains (between cmp (send_for cmp due) is was) output
@@ -255,12 +255,12 @@ module _ (r : Router) (before after : State) (made : Made) (n at : ℕ) (sound :
 
   -- A Path that is due is sent.
   pub due_path : (item : Item) (output : Output) → find item_cmp item (items_of r after) ≡ Some output → find item_cmp item before.facts.sent ≡ Some at → at + r.refresh_ms ≤ n → Contains made.outputs output × (find item_cmp item after.facts.sent ≡ Some n)
-  unfolding outputs_of due_items item_stamps items_of lsps_of ticked unstamped
+  unfolding outputs_of item_stamps items_of lsps_of ticked unstamped
   due_path item output wanted sent waited =
       let came = after_tick r before after made n x is is_done in
       let in_order = subst T (sym (is_sorted-both item_cmp before.facts.sent (items_of r before) sound.sent)) (is_sorted-items r before sound.paths.paths.in_order) in
-      let due = due_among r.refresh_ms before.facts.sent n in
-      let upstream_due = due_upstream r.refresh_ms before.sent_upstream n in
+      let due = due_items r.refresh_ms before.facts.sent n in
+      let upstream_due = due_items r.refresh_ms before.sent_upstream n in
       let out = goes_out item_cmp item_total item_exact r.refresh_ms n at (items_of r before) (items_of r after) before.facts.sent item output in_order wanted sent waited in
       let tears = between item_cmp (tear_for after.facts.up) (items_of r before) (items_of r after) in
       let resv_tears = between upstream_cmp (tear_for after.facts.up) (upstream_of r before) (upstream_of r after) in
@@ -275,12 +275,12 @@ module _ (r : Router) (before after : State) (made : Made) (n at : ℕ) (sound :
 
   -- So is a Resv.
   pub due_resv : (upstream : Upstream) (output : Output) → find upstream_cmp upstream (upstream_of r after) ≡ Some output → find upstream_cmp upstream before.sent_upstream ≡ Some at → at + r.refresh_ms ≤ n → Contains made.outputs output × (find upstream_cmp upstream after.sent_upstream ≡ Some n)
-  unfolding outputs_of due_items upstream_stamps upstream_of lsps_of ticked unstamped
+  unfolding outputs_of upstream_stamps upstream_of lsps_of ticked unstamped
   due_resv upstream output wanted sent waited =
       let came = after_tick r before after made n x is is_done in
       let in_order = subst T (sym (is_sorted-both upstream_cmp before.sent_upstream (upstream_of r before) sound.sent_upstream)) (is_sorted-upstream_sound r before before.facts.moment sound.paths.paths) in
-      let due = due_among r.refresh_ms before.facts.sent n in
-      let upstream_due = due_upstream r.refresh_ms before.sent_upstream n in
+      let due = due_items r.refresh_ms before.facts.sent n in
+      let upstream_due = due_items r.refresh_ms before.sent_upstream n in
       let out = goes_out upstream_cmp upstream_total upstream_exact r.refresh_ms n at (upstream_of r before) (upstream_of r after) before.sent_upstream upstream output in_order wanted sent waited in
       let tears = between item_cmp (tear_for after.facts.up) (items_of r before) (items_of r after) in
       let resv_tears = between upstream_cmp (tear_for after.facts.up) (upstream_of r before) (upstream_of r after) in

@@ -52,7 +52,7 @@ use Rattle.abstract_paths.specs.Outcomes.{lsp}
 use Rattle.abstract_paths.specs.Paths.{failed, has_loop, key_of, path_arrival, path_by, path_on_its_way, taken, way_for}
 use Rattle.abstract_paths.specs.Places.{is_up, place_of}
 use Rattle.abstract_paths.specs.StampLaws.{none-is}
-use Rattle.abstract_paths.specs.Tears.{left_with, origins_without, passed_on, path_err_arrival, path_tear_arrival, torn}
+use Rattle.abstract_paths.specs.Tears.{left_with, origins_without, path_err_passed_on, path_err_arrival, path_tear_arrival, torn}
 use Rattle.abstract_paths.specs.Tears as tears
 use Rattle.abstract_paths.specs.Tears.{leaves_by}
 use Rattle.abstract_paths.specs.TouchedLaws.{find-made}
@@ -63,9 +63,9 @@ use Rattle.abstract_router.specs.Outcomes.{Outcome, of_paths, refused}
 use Rattle.abstract_router.specs.Preempting.{giving_way}
 use Rattle.abstract_router.specs.Reserving.{Failed, Granted, PassedOver, Progress, Verdict, all_descriptors, carried_on, key_in, next_descriptor, resv_arrival, resv_by, resv_failed, resv_replied, unknown_resv, verdict_of}
 use Rattle.abstract_router.specs.Soundness.{IsSound}
-use Rattle.abstract_router.specs.States.{State, is_among}
+use Rattle.abstract_router.specs.States.{State, is_one_of}
 use Rattle.abstract_router.specs.Steps.{Step, known_after, settled, stands, with_moments}
-use Rattle.abstract_router.specs.Tearing.{err_onward, is_torn_by, passed_on as err_passed_on, resv_err_arrival, resv_tear_arrival}
+use Rattle.abstract_router.specs.Tearing.{err_onward, is_resv_torn_by, resv_err_passed_on, resv_err_arrival, resv_tear_arrival}
 use Rattle.router_laws.specs.TouchedBy.{touched_by, touched_by_descriptors, touched_by_message, touched_by_reading, touched_by_resv, touched_by_verdict}
 use Rattle.router_laws.proofs.Led.{led}
 
@@ -130,7 +130,7 @@ module _ (touched : Key → Bool) (s : Facts) (sorted : T (is_sorted key_cmp s.p
       (λ b. cond_both (has_loop r p.recorded) _ _ After (λ c. paths-stay)
       (λ c. on_way (way_for (place_of r s) (find key_cmp (key_of p) s.paths) p))))
     where
-      After : paths.Outcome → Type 0
+      After : paths.PathOutcome → Type 0
       After o = KeepsPaths touched s o.after
 
       on_way : (way : Result Choice RsvpError) → After (path_on_its_way r s (find key_cmp (key_of p) s.paths) link p way)
@@ -145,25 +145,25 @@ module _ (touched : Key → Bool) (s : Facts) (sorted : T (is_sorted key_cmp s.p
     where
       by : (known : Option PathFact) → KeepsPaths touched s (torn s link t known).after
       by None = paths-stay
-      by (Some fact) = cond_both (tears.is_torn_by link t fact) _ _ (λ (o : paths.Outcome). KeepsPaths touched s o.after) (λ a. path-left (lsp t.session t.sender) apart fact (origins_without t.sender.sender fact)) (λ a. paths-stay)
+      by (Some fact) = cond_both (tears.is_torn_by link t fact) _ _ (λ (o : paths.PathOutcome). KeepsPaths touched s o.after) (λ a. path-left (lsp t.session t.sender) apart fact (origins_without t.sender.sender fact)) (λ a. paths-stay)
 
   err-keeps : (link : ℕ) (e : PathErr) → KeepsPaths touched s (path_err_arrival s link e).after
   unfolding path_err_arrival
   err-keeps link e = by (find key_cmp (lsp e.session e.sender) s.paths)
     where
-      by : (known : Option PathFact) → KeepsPaths touched s (passed_on s link e known).after
+      by : (known : Option PathFact) → KeepsPaths touched s (path_err_passed_on s link e known).after
       by None = paths-stay
-      by (Some fact) = cond_both (leaves_by link fact) _ _ (λ (o : paths.Outcome). KeepsPaths touched s o.after) (λ a. paths-stay) (λ a. paths-stay)
+      by (Some fact) = cond_both (leaves_by link fact) _ _ (λ (o : paths.PathOutcome). KeepsPaths touched s o.after) (λ a. paths-stay) (λ a. paths-stay)
 
 -- no LSP that isn't touched is one of these
 abbrev AreTouched : (Key → Bool) → List Key → Type 0
-AreTouched touched keys = (key : Key) → touched key ≡ false → is_among keys key ≡ false
+AreTouched touched keys = (key : Key) → touched key ≡ false → is_one_of keys key ≡ false
 
 module _ (r : Router) (touched : Key → Bool) (s : State) (is : IsSound r s) where
   stays : Keeps touched s s
   stays = record { up = refl; labels = refl; paths_in_order = is.paths.paths.in_order; resvs_in_order = is.held.in_order; paths = λ key apart. refl; resvs = λ key apart. refl }
 
-  of_paths-keeps : (o : paths.Outcome) → KeepsPaths touched s.facts o.after → Keeps touched s (of_paths s o).after
+  of_paths-keeps : (o : paths.PathOutcome) → KeepsPaths touched s.facts o.after → Keeps touched s (of_paths s o).after
   of_paths-keeps o keeps = record { up = keeps.up; labels = refl; paths_in_order = keeps.in_order; resvs_in_order = is.held.in_order; paths = keeps.paths; resvs = λ key apart. refl }
 
   -- one descriptor
@@ -174,7 +174,7 @@ module _ (r : Router) (touched : Key → Bool) (s : State) (is : IsSound r s) wh
   verdict-keeps link v d fact progress Granted among keeps =
       let own = key_in v d in
       let gone = giving_way r progress.state own fact in
-      let left : Key → Bool = λ k. not (is_among gone k) in
+      let left : Key → Bool = λ k. not (is_one_of gone k) in
       record {
         up = keeps.up;
         labels = keeps.labels;
@@ -182,7 +182,7 @@ module _ (r : Router) (touched : Key → Bool) (s : State) (is : IsSound r s) wh
         resvs_in_order = is_sorted-put key_cmp key_total own fact (filter (λ resv. left resv.0) progress.state.resvs) (is_sorted-where_key key_cmp left progress.state.resvs keeps.resvs_in_order);
         paths = keeps.paths;
         resvs = λ key apart.
-            let other = neither (is_eq (key_cmp own key)) (is_among gone key) (among key apart) in
+            let other = neither (is_eq (key_cmp own key)) (is_one_of gone key) (among key apart) in
             find-put_other key_cmp key_total key own fact (filter (λ resv. left resv.0) progress.state.resvs) (apart-back own key other.0)
             ∙ find-where_key key_cmp left key (λ x tie. ap left (sym (key_exact key x tie))) progress.state.resvs
             ∙ ap (λ b. if not b then find key_cmp key progress.state.resvs else None) other.1
@@ -219,7 +219,7 @@ module _ (r : Router) (touched : Key → Bool) (s : State) (is : IsSound r s) wh
   resv_tear-keeps : (link : ℕ) (t : ResvTear) → AreTouched touched (map (lsp t.session) t.filters) → Keeps touched s (resv_tear_arrival s link t).after
   unfolding resv_tear_arrival
   resv_tear-keeps link t among =
-      cond_both (list_any (is_torn_by link t) s.resvs) _ (refused s NoMatch) (λ (o : Outcome). Keeps touched s o.after)
+      cond_both (list_any (is_resv_torn_by link t) s.resvs) _ (refused s NoMatch) (λ (o : Outcome). Keeps touched s o.after)
       (λ some. record {
         up = refl;
         labels = refl;
@@ -233,9 +233,9 @@ module _ (r : Router) (touched : Key → Bool) (s : State) (is : IsSound r s) wh
       (λ none. stays)
     where
       left : Key × ResvFact → Bool
-      left resv = not (is_torn_by link t resv)
+      left resv = not (is_resv_torn_by link t resv)
 
-      named : (key : Key) (filters : List Template) → list_any (λ f. is_eq (key_cmp (lsp t.session f) key)) filters ≡ is_among (map (lsp t.session) filters) key
+      named : (key : Key) (filters : List Template) → list_any (λ f. is_eq (key_cmp (lsp t.session f) key)) filters ≡ is_one_of (map (lsp t.session) filters) key
       named key [] = refl
       named key (f ∷ fs) = ap (λ b. is_eq (key_cmp (lsp t.session f) key) || b) (named key fs)
 
@@ -251,7 +251,7 @@ module _ (r : Router) (touched : Key → Bool) (s : State) (is : IsSound r s) wh
   unfolding resv_err_arrival
   resv_err-keeps link e = by (filter_map (err_onward r s link e) e.descriptors)
     where
-      by : (matched : List (List Output)) → Keeps touched s (err_passed_on s matched).after
+      by : (matched : List (List Output)) → Keeps touched s (resv_err_passed_on s matched).after
       by [] = stays
       by (one ∷ more) = stays
 
@@ -350,8 +350,8 @@ module _ (r : Router) (touched : Key → Bool) (s : State) (is : IsSound r s) wh
 -- In a step of a message the LSPs that it doesn't touch have the path, the reservation and the label that they had, and
 -- the same links are up.
 pub left-message : (r : Router) (before after : State) (made : Made) (arrived : Arrive) → IsSound r before → Step r before made after → made.event ≡ events.Arrive arrived
-    → IsLeft (is_among (touched_by r before arrived)) before after
+    → IsLeft (is_one_of (touched_by r before arrived)) before after
 left-message r before after made arrived is step event =
-    let touched = is_among (touched_by r before arrived) in
+    let touched = is_one_of (touched_by r before arrived) in
     subst (IsLeft touched before) (sym (led r before after made (events.Arrive arrived) (arrival r before arrived) step event refl))
     (step-keeps r touched before is (arrival r before arrived) made.labels (arrival-keeps r touched before is arrived (λ key apart. apart)))

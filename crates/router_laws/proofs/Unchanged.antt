@@ -89,7 +89,7 @@ relay_kept r s labels m sound =
     cond_both (is_none (link_at r m.link)) _ _ Kept (λ none. refl)
     (λ there. cond_both (not (is_up s.facts.up m.link)) _ _ Kept (λ down. refl) (λ up. by (route_to (place_of r s.facts) m.to)))
   where
-    Kept : paths.Outcome → Type 0
+    Kept : paths.PathOutcome → Type 0
     Kept o = known_after r s labels (of_paths s o) ≡ s
 
     by : (way : Option ℕ) → Kept (option_map_or (λ link. paths.done (relayed_by m link ∷ []) s.facts) way (paths.refused s.facts NoMatch))

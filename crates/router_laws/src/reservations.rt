@@ -22,7 +22,7 @@ ghost use Rattle.router_events.specs.declared.ways.Arrive.{Arrive};
 ghost use Rattle.router_events.specs.declared.events.Event.TheVariants as events;
 ghost use Rattle.router_events.specs.declared.events.Made.{Made};
 ghost use Rattle.abstract_router.specs.Soundness.{IsSound};
-ghost use Rattle.abstract_router.specs.States.{State, is_among};
+ghost use Rattle.abstract_router.specs.States.{State, is_one_of};
 ghost use Rattle.abstract_router.specs.Steps.{Step};
 ghost use Rattle.abstract_router.specs.Upstreams.{upstream_of};
 
@@ -49,7 +49,7 @@ pub fn refused_descriptors_change_nothing()
 pub fn a_message_touches_its_own_lsps()
     ensures others { (r : Router) (before after : State) (made : Made) (arrived : Arrive) (key : Key) →
         IsSound r before → Step r before made after → made.event ≡ events.Arrive arrived →
-        is_among (touched_by r before arrived) key ≡ false →
+        is_one_of (touched_by r before arrived) key ≡ false →
         (find key_cmp key after.facts.paths ≡ find key_cmp key before.facts.paths)
         × (find key_cmp key after.resvs ≡ find key_cmp key before.resvs)
         × (find key_cmp key after.labels ≡ find key_cmp key before.labels) }

@@ -1,5 +1,5 @@
 -- What a router, cold or running, does with what comes to it.
-use Rattle.std.specs.Prelude.{◌≡◌, ◌≢◌, ◌⊎◌, ℕ, Bool, List, [], ◌∷◌, Result, Ok, Err, false, true}
+use Rattle.std.specs.Prelude.{◌≡◌, ◌⊎◌, ℕ, List, [], ◌∷◌, Result, Ok, Err, false, true}
 use Rattle.lsr_facts.specs.declared.refusal.Refusal.{Refusal}
 use Rattle.lsr_facts.specs.declared.refusal.Refusal.TheVariants.{NoMemory}
 use Rattle.lsr_facts.specs.declared.router.Router.{Router}

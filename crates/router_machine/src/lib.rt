@@ -7,4 +7,7 @@ mod machine;
 
 pub use datagrams::Passed;
 pub use inputs::{Input, Served};
+pub use lsr_facts::{Refusal, Reply};
 pub use machine::Machine;
+pub use resv_facts::State;
+pub use router_events::{Event, Made, Output, Outputs};

@@ -7,7 +7,7 @@ ghost use Rattle.router_events.specs.Frames.{frame_bytes};
 ghost use Rattle.abstract_paths.specs.Outputs.{is_same_frame, tear_by, tear_of};
 
 use frame_writer::write_frame;
-use path_rules::sent_by;
+use message_rules::sent_by;
 use router_events::{Frame, Output, Payload};
 use rsvp_contents::{Content, Message, Path, PathTear, Reading, Resv, ResvTear};
 use rsvp_flows::{Filters, FlowDescriptor};

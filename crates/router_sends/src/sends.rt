@@ -10,7 +10,7 @@ ghost use Rattle.router_sends.specs.Placing.{placed};
 
 use crate::frames::tear_by;
 use crate::rests::fresh;
-use path_rules::is_up;
+use message_rules::is_up;
 use router_events::{Output, Outputs};
 use sorted_rows::{Table, get_ref};
 use std::alloc::{AllocError, Global};

@@ -1,10 +1,10 @@
 -- Whatever an event does of itself leaves the state such that what follows makes it sound: each by its few primitives.
-use Rattle.std.specs.Prelude.{is_some, ◌≡◌, ◌≢◌, ◌⊎◌, IfSome, ℕ, ◌^◌, ◌&&◌, ◌==◌, Bool, true, false, not, if◌then◌else◌, nat_lt, List, [], ◌∷◌, length, filter, filter_map, fold, nat_le, Option, Some, None, is_none, Result, Ok, Err, IsTrue}
+use Rattle.std.specs.Prelude.{is_some, ◌≡◌, ◌≢◌, ◌⊎◌, IfSome, ℕ, ◌^◌, ◌&&◌, ◌==◌, Bool, true, false, not, nat_lt, List, [], ◌∷◌, length, filter, filter_map, fold, nat_le, Option, Some, None, is_none, Result, Ok, Err, IsTrue}
 use Rattle.std.specs.FinMap.Entries.{find, put}
 use Rattle.std.specs.Ordering.{is_eq}
 use Rattle.std.specs.List.{AllByRecursion, IsDistinct, list_any}
 use Rattle.std.specs.Option.{option_map_or}
-use Rattle.std.proofs.Common.{refl, sym, ap, subst, ◌∙◌, inl, inr, arith}
+use Rattle.std.proofs.Common.{refl, sym, subst, inl, inr, arith}
 use Rattle.std.proofs.lemmas.Bool.{and_parts, cond_both, ltb-true, not-false}
 use Rattle.rsvp_contents.proofs.Fitted.{message_fits}
 use Rattle.rsvp_contents.specs.Fitting.{are_passed_by, fits_resv, has_adspec_last, have_short_records, written_len}
@@ -52,7 +52,7 @@ use Rattle.router_events.specs.declared.events.Event.TheVariants as events
 use Rattle.router_events.specs.declared.events.Event.{Event}
 use Rattle.router_events.specs.declared.events.Output.{Output}
 use Rattle.abstract_paths.proofs.PathTable.{path_known}
-use Rattle.abstract_paths.proofs.EventStanding.{LeavesStanding, link_change-stands, passed_on-stands, path_arrival-stands, path_fits, tick-stands, torn-stands}
+use Rattle.abstract_paths.proofs.EventStanding.{LeavesStanding, link_change-stands, path_err_passed_on-stands, path_arrival-stands, path_fits, tick-stands, torn-stands}
 use Rattle.abstract_paths.specs.Links.{link_change}
 use Rattle.abstract_paths.specs.Outcomes as paths
 use Rattle.abstract_paths.specs.Outcomes.{lsp}
@@ -67,7 +67,7 @@ use Rattle.abstract_router.specs.Wanted.{items_of}
 use Rattle.abstract_paths.specs.Relays.{relay, relayed_by}
 use Rattle.abstract_paths.specs.Routing.{route_to}
 use Rattle.abstract_router.specs.Steps.{IsEvent}
-use Rattle.abstract_paths.specs.Tears.{is_torn_by, leaves_by, left_with, origins_without, passed_on, path_err_arrival, path_tear_arrival, torn}
+use Rattle.abstract_paths.specs.Tears.{is_torn_by, leaves_by, left_with, origins_without, path_err_passed_on, path_err_arrival, path_tear_arrival, torn}
 use Rattle.abstract_paths.specs.Time.{tick}
 use Rattle.rsvp_traffic.specs.TokenBuckets.{token_rate}
 use Rattle.router_soundness.proofs.Choosing.{each_has}
@@ -86,7 +86,7 @@ use Rattle.abstract_router.specs.Outcomes.{of_paths, refused}
 use Rattle.abstract_router.specs.Reserving.{Progress, Verdict, Failed, PassedOver, Granted, all_descriptors, carried_on, key_in, next_descriptor, resv_arrival, resv_by, resv_failed, resv_replied, unknown_resv, verdict_of}
 use Rattle.abstract_router.specs.Soundness.{AreHeld, IsResv, IsSound}
 use Rattle.abstract_router.specs.States.{State, with_facts, with_resvs_where}
-use Rattle.abstract_router.specs.Tearing.{is_torn_by as is_resv_torn_by, passed_on as err_passed_on, err_onward, resv_err_arrival, resv_tear_arrival}
+use Rattle.abstract_router.specs.Tearing.{is_resv_torn_by, resv_err_passed_on, err_onward, resv_err_arrival, resv_tear_arrival}
 
 -- A path event keeps what reservations look at, and leaves paths that can be labelled: a silent one keeps all, any other
 -- the moment.
@@ -94,11 +94,11 @@ abbrev KeepsBy : Router → List (Key × ℕ) → Facts → Bool → Facts → T
 KeepsBy r labels s true after = after ≡ s
 KeepsBy r labels s false after = (after.moment ≡ s.moment) × CanLabel r labels after.paths
 
-abbrev Keeps : Router → List (Key × ℕ) → Facts → paths.Outcome → Type 0
+abbrev Keeps : Router → List (Key × ℕ) → Facts → paths.PathOutcome → Type 0
 Keeps r labels s o = KeepsBy r labels s o.is_silent o.after
 
 -- a Path is in error and leaves the paths, or is done and puts its own
-abbrev pub Puts : Facts → Path → paths.Outcome → Type 0
+abbrev pub Puts : Facts → Path → paths.PathOutcome → Type 0
 Puts s p o = (o.is_silent ≡ false) × (o.after.moment ≡ s.moment) × ((o.after.paths ≡ s.paths) ⊎ ((fact : PathFact) × (is_done o.reply ≡ true) × (o.after.paths ≡ put key_cmp (key_of p) fact s.paths)))
 
 puts_on_its_way : (r : Router) (s : Facts) (known : Option PathFact) (link : ℕ) (p : Path) (way : Result Choice RsvpError) → Puts s p (path_on_its_way r s known link p way)
@@ -133,7 +133,7 @@ module _ (r : Router) (labels : List (Key × ℕ)) (s : Facts) (has : AllByRecur
   keeps_torn link t (Some fact) found =
       cond_both (is_torn_by link t fact) _ _ (Keeps r labels s) (λ a. keeps_left (lsp t.session t.sender) fact (origins_without t.sender.sender fact) found) (λ a. refl)
 
-  keeps_passed : (link : ℕ) (e : PathErr) (known : Option PathFact) → Keeps r labels s (passed_on s link e known)
+  keeps_passed : (link : ℕ) (e : PathErr) (known : Option PathFact) → Keeps r labels s (path_err_passed_on s link e known)
   keeps_passed link e None = refl
   keeps_passed link e (Some fact) = cond_both (leaves_by link fact) _ _ (Keeps r labels s) (λ a. (refl, inl has)) (λ a. refl)
 
@@ -150,7 +150,7 @@ rewrapped : (r : Router) (s : State) → IsSound r s → IsSound r (with_facts s
 rewrapped r s is = is
 
 -- What a path event does leaves the state so that what follows makes it sound.
-of_paths-leaves : (r : Router) (s : State) (o : paths.Outcome) → IsSound r s → LeavesStanding r o → Keeps r s.labels s.facts o → Leaves r s (of_paths s o)
+of_paths-leaves : (r : Router) (s : State) (o : paths.PathOutcome) → IsSound r s → LeavesStanding r o → Keeps r s.labels s.facts o → Leaves r s (of_paths s o)
 of_paths-leaves r s o is leaves keeps = by o.is_silent leaves keeps
   where
     by : (silent : Bool) → IsStanding r o.after → KeepsBy r s.labels s.facts silent o.after → LeavesBy r s silent (with_facts o.after s)
@@ -255,7 +255,7 @@ resv_err-leaves : (r : Router) (s : State) (link : ℕ) (e : ResvErr) → IsSoun
 unfolding resv_err_arrival
 resv_err-leaves r s link e is = by (filter_map (err_onward r s link e) e.descriptors)
   where
-    by : (matched : List (List Output)) → Leaves r s (err_passed_on s matched)
+    by : (matched : List (List Output)) → Leaves r s (resv_err_passed_on s matched)
     by [] = is
     by (one ∷ more) = unchanged r s is
 
@@ -281,7 +281,7 @@ module _ (r : Router) (s : State) (p : Path) (is : IsSound r s) where
         not-false _ room,
       )
 
-  path-keeps : (o : paths.Outcome) → Puts s.facts p o → (is_done o.reply && is_none (find key_cmp (key_of p) s.facts.paths) && not (has_free_label r s.labels)) ≡ false → Keeps r s.labels s.facts o
+  path-keeps : (o : paths.PathOutcome) → Puts s.facts p o → (is_done o.reply && is_none (find key_cmp (key_of p) s.facts.paths) && not (has_free_label r s.labels)) ≡ false → Keeps r s.labels s.facts o
   path-keeps o puts room = subst (λ b. KeepsBy r s.labels s.facts b o.after) (sym puts.0) (puts.1, by puts.2)
     where
       by : ((o.after.paths ≡ s.facts.paths) ⊎ ((fact : PathFact) × (is_done o.reply ≡ true) × (o.after.paths ≡ put key_cmp (key_of p) fact s.facts.paths))) → CanLabel r s.labels o.after.paths
@@ -302,7 +302,7 @@ unfolding path_err_arrival path_tear_arrival
 message-leaves r s link (contents.Path p) router runs there is message = path-leaves r s link p is (path_arrival-stands r s.facts link p router runs is.paths there (path_fits p message))
 message-leaves r s link (contents.Resv v) router runs there is message = resv-leaves r s link v is (resv_fits v message)
 message-leaves r s link (contents.PathErr e) router runs there is message =
-    of_paths-leaves r s (path_err_arrival s.facts link e) is (passed_on-stands r s.facts link e (find key_cmp (lsp e.session e.sender) s.facts.paths) is.paths) (keeps_passed r s.labels s.facts (labelled r s is) link e (find key_cmp (lsp e.session e.sender) s.facts.paths))
+    of_paths-leaves r s (path_err_arrival s.facts link e) is (path_err_passed_on-stands r s.facts link e (find key_cmp (lsp e.session e.sender) s.facts.paths) is.paths) (keeps_passed r s.labels s.facts (labelled r s is) link e (find key_cmp (lsp e.session e.sender) s.facts.paths))
 message-leaves r s link (contents.ResvErr e) router runs there is message = resv_err-leaves r s link e is
 message-leaves r s link (contents.PathTear t) router runs there is message =
     of_paths-leaves r s (path_tear_arrival s.facts link t) is (torn-stands r s.facts link t (find key_cmp (lsp t.session t.sender) s.facts.paths) runs is.paths refl) (keeps_torn r s.labels s.facts (labelled r s is) link t (find key_cmp (lsp t.session t.sender) s.facts.paths) refl)

@@ -1,5 +1,5 @@
 -- Each entry of the label table stands on a path that is known.
-use Rattle.std.specs.Prelude.{◌≡◌, ℕ, ◌==◌, true, false, cond, if◌then◌else◌, List, [], ◌∷◌, filter_map, find as find_first, Option, Some, None, IfSome}
+use Rattle.std.specs.Prelude.{◌≡◌, ℕ, ◌==◌, true, false, cond, if◌then◌else◌, List, [], ◌∷◌, filter_map, find as find_first, map, Option, Some, None, IfSome}
 use Rattle.std.specs.FinMap.Entries.{find}
 use Rattle.std.specs.List.{AllByRecursion, cons_option}
 use Rattle.std.specs.Option.{option_and_then, option_map, option_map_or, unwrap_or}
@@ -13,10 +13,12 @@ use Rattle.lsr_facts.specs.declared.path_fact.PathFact.{PathFact}
 use Rattle.lsr_facts.specs.declared.router.Router.{Router}
 use Rattle.forwarding_table.specs.declared.action.Action.{Action}
 use Rattle.forwarding_table.specs.declared.action.Action.TheVariants.{Pop, Swap}
+use Rattle.resv_facts.specs.Reservations.{timeless_resv}
 use Rattle.resv_facts.specs.declared.resv_fact.ResvFact.{ResvFact}
 use Rattle.abstract_paths.specs.Paths.{goes_on}
 use Rattle.abstract_paths.specs.Places.{is_up}
 use Rattle.abstract_paths.specs.Tears.{leaves_by}
+use Rattle.abstract_router.specs.Lsps.{Lsp, lsp_of, lsps_of}
 use Rattle.abstract_router.specs.Soundness.{IsSound}
 use Rattle.abstract_router.specs.States.{State}
 use Rattle.abstract_router.specs.Steps.{stands}
@@ -30,40 +32,44 @@ module _ (r : Router) (s : State) (is : IsSound r s) where
       (and_parts (is_up s.facts.up resv.link) (option_map_or (leaves_by resv.link) (find key_cmp key s.facts.paths) false) stands).0
 
   -- the action of a path that it has
-  of_path : (key : Key) (path : PathFact) (action : Action) → action_of s.resvs (key, path) ≡ Some action → IsActionOf s key path action
+  of_path : (key : Key) (path : PathFact) (action : Action) → action_of (lsp_of s key path) ≡ Some action → IsActionOf s key path action
   of_path key path action =
-      elim (goes_on path.role) as (λ b. goes_on path.role ≡ b → (if b then option_map (λ resv. Swap resv.label resv.link) (find key_cmp key s.resvs) else Some Pop) ≡ Some action → IsActionOf s key path action) [
+      elim (goes_on path.role) as (λ b. goes_on path.role ≡ b → (if b then option_map (λ resv. Swap resv.label resv.link) (option_map timeless_resv (find key_cmp key s.resvs)) else Some Pop) ≡ Some action → IsActionOf s key path action) [
         | true ↦ λ goes. by_resv (find key_cmp key s.resvs) refl
         | false ↦ λ ends. λ e. inl (ends, let h = e in cc)
       ] refl
     where
-      by_resv : (o : Option ResvFact) → find key_cmp key s.resvs ≡ o → option_map (λ resv. Swap resv.label resv.link) o ≡ Some action → IsActionOf s key path action
+      by_resv : (o : Option ResvFact) → find key_cmp key s.resvs ≡ o → option_map (λ resv. Swap resv.label resv.link) (option_map timeless_resv o) ≡ Some action → IsActionOf s key path action
       by_resv None found e = absurd (let h = e in cc)
       by_resv (Some resv) found e = inr (resv, found, (let h = e in cc), over_up key resv found)
 
   -- the entry of a path that is known
-  of_entry : (path : Key × PathFact) (label : ℕ) (action : Action) → find key_cmp path.0 s.facts.paths ≡ Some path.1 → entry_of s path ≡ Some (label, action) → IsEntry s label action
+  of_entry : (path : Key × PathFact) (label : ℕ) (action : Action) → find key_cmp path.0 s.facts.paths ≡ Some path.1 → entry_of (lsp_of s path.0 path.1) ≡ Some (label, action) → IsEntry s label action
   of_entry path label action known = by (find key_cmp path.0 s.labels) refl
     where
-      by_action : (held : ℕ) → find key_cmp path.0 s.labels ≡ Some held → (o : Option Action) → action_of s.resvs path ≡ o → option_map {U = ℕ × Action} (λ (a : Action). (held, a)) o ≡ Some (label, action) → IsEntry s label action
+      by_action : (held : ℕ) → find key_cmp path.0 s.labels ≡ Some held → (o : Option Action) → action_of (lsp_of s path.0 path.1) ≡ o → option_map {U = ℕ × Action} (λ (a : Action). (held, a)) o ≡ Some (label, action) → IsEntry s label action
       by_action held at None none e = absurd (let h = e in cc)
       by_action held at (Some a) some e =
           let same_label : held ≡ label = ap (λ (o : Option (ℕ × Action)). (unwrap_or o (0, Pop)).0) e in
           let same_action : a ≡ action = ap (λ (o : Option (ℕ × Action)). (unwrap_or o (0, Pop)).1) e in
           record { key = path.0; path = path.1; known = known; held = at ∙ ap Some same_label; stands = of_path path.0 path.1 action (some ∙ ap Some same_action) }
 
-      by : (o : Option ℕ) → find key_cmp path.0 s.labels ≡ o → option_and_then (λ (l : ℕ). option_map {U = ℕ × Action} (λ (a : Action). (l, a)) (action_of s.resvs path)) o ≡ Some (label, action) → IsEntry s label action
+      by : (o : Option ℕ) → find key_cmp path.0 s.labels ≡ o → option_and_then (λ (l : ℕ). option_map {U = ℕ × Action} (λ (a : Action). (l, a)) (action_of (lsp_of s path.0 path.1))) o ≡ Some (label, action) → IsEntry s label action
       by None none e = absurd (let h = e in cc)
-      by (Some held) at e = by_action held at (action_of s.resvs path) refl e
+      by (Some held) at e = by_action held at (action_of (lsp_of s path.0 path.1)) refl e
+
+  -- the entries of the LSPs of these paths
+  abbrev entries : List (Key × PathFact) → List (ℕ × Action)
+  entries paths = filter_map (λ (lsp : Key × Lsp). entry_of lsp.1) (map (λ (path : Key × PathFact). (path.0, lsp_of s path.0 path.1)) paths)
 
   -- one of the entries of paths that are known
   of_entries : (label : ℕ) (action : Action) (paths : List (Key × PathFact)) → AllByRecursion (λ path. find key_cmp path.0 s.facts.paths ≡ Some path.1) paths
-      → option_map (λ entry. entry.1) (find_first (λ entry. entry.0 == label) (filter_map (entry_of s) paths)) ≡ Some action → IsEntry s label action
+      → option_map (λ entry. entry.1) (find_first (λ entry. entry.0 == label) (entries paths)) ≡ Some action → IsEntry s label action
   of_entries label action [] known = λ e. absurd (let h = e in cc)
   of_entries label action (path ∷ paths) known =
-      elim (entry_of s path) as (λ o. entry_of s path ≡ o → option_map (λ entry. entry.1) (find_first (λ entry. entry.0 == label) (cons_option o (filter_map (entry_of s) paths))) ≡ Some action → IsEntry s label action) [
+      elim (entry_of (lsp_of s path.0 path.1)) as (λ o. entry_of (lsp_of s path.0 path.1) ≡ o → option_map (λ entry. entry.1) (find_first (λ entry. entry.0 == label) (cons_option o (entries paths))) ≡ Some action → IsEntry s label action) [
         | None ↦ λ none. λ e. of_entries label action paths known.1 e
-        | Some entry ↦ λ some. elim (entry.0 == label) as (λ b. (entry.0 == label) ≡ b → option_map (λ entry. entry.1) (cond b (Some entry) (find_first (λ entry. entry.0 == label) (filter_map (entry_of s) paths))) ≡ Some action → IsEntry s label action) [
+        | Some entry ↦ λ some. elim (entry.0 == label) as (λ b. (entry.0 == label) ≡ b → option_map (λ entry. entry.1) (cond b (Some entry) (find_first (λ entry. entry.0 == label) (entries paths))) ≡ Some action → IsEntry s label action) [
           | true ↦ λ on. λ e. of_entry path label action known.0 (some ∙ (λ i. Some (eqb-true entry.0 label on i, (let h : entry.1 ≡ action = let h = e in cc in h) i)))
           | false ↦ λ off. λ e. of_entries label action paths known.1 e
         ] refl
@@ -71,5 +77,5 @@ module _ (r : Router) (s : State) (is : IsSound r s) where
 
 -- Each entry of the table stands on a path that is known.
 pub entry_stands : (r : Router) (s : State) (label : ℕ) (action : Action) → IsSound r s → look s label ≡ Some action → IsEntry s label action
-unfolding look table_of
+unfolding look table_of lsps_of
 entry_stands r s label action is = of_entries r s is label action s.facts.paths (all_found key_cmp key_total s.facts.paths is.paths.paths.in_order)

@@ -24,14 +24,15 @@ use Rattle.resv_facts.specs.declared.resv_fact.ResvStyle.{ResvStyle}
 use Rattle.resv_facts.specs.declared.resv_fact.ResvStyle.TheVariants.{FixedFilter, SharedExplicit}
 use Rattle.abstract_paths.specs.Paths.{has_loop}
 use Rattle.abstract_paths.specs.Tears.{leaves_by}
-use Rattle.router_soundness.proofs.Claiming.{claims-put, claims-where, holding_below_setup, setup_most, sorted-claims}
+use Rattle.abstract_router.specs.ClaimsLaws.{claims-put, claims-where, sorted-claims}
+use Rattle.router_soundness.proofs.Claiming.{holding_below_setup, setup_most}
 use Rattle.router_soundness.proofs.Labelling.{eqb-same}
 use Rattle.abstract_router.specs.Errors.{no_sender, style_conflict}
 use Rattle.router_soundness.proofs.Holding.{found-all, held_where}
 use Rattle.abstract_router.specs.Preempting.{attr_at, claims_of, fits, giving_way, limit_of, request_of}
 use Rattle.abstract_router.specs.Reserving.{Verdict, Failed, Granted, conflicts, is_same_style, verdict_by_rate, verdict_of, verdict_on_path}
 use Rattle.abstract_router.specs.Soundness.{AreHeld, IsResv}
-use Rattle.abstract_router.specs.States.{State, is_among, with_resv, without_resvs}
+use Rattle.abstract_router.specs.States.{State, is_one_of, with_resv, without_resvs}
 
 -- What a descriptor has been tested for that is granted.
 pub record IsGranted (r : Router) (s : State) (key : Key) (fact : ResvFact) : Type 0 where
@@ -110,14 +111,14 @@ module _ (r : Router) (s : State) (key : Key) (fact : ResvFact) (held : AreHeld 
   left = without_resvs gone s
 
   rest : AreHeld r left
-  rest = held_where r s (λ resv. not (is_among gone resv.0)) held
+  rest = held_where r s (λ resv. not (is_one_of gone resv.0)) held
 
   -- a reservation of another LSP of the session on the link is of the same style
   agree : (b : Key) (y : ResvFact) → find key_cmp b left.resvs ≡ Some y → is_eq (key_cmp b key) ≡ false → is_same_session key.session b.session ≡ true → fact.link ≡ y.link → is_same_style fact.style y.style ≡ true
   agree b y found other session link =
       by (is_same_style fact.style y.style) (is_eq (key_cmp key b)) refl
       (subst (λ p. (p && not (is_eq (key_cmp key b)) && (y.link == fact.link) && not (is_same_style fact.style y.style)) ≡ false) session
-      (none-found (conflicts fact.link fact.style key) b y s.resvs may.agrees (found-all (λ resv. not (is_among gone resv.0)) b y s.resvs held.in_order found)))
+      (none-found (conflicts fact.link fact.style key) b y s.resvs may.agrees (found-all (λ resv. not (is_one_of gone resv.0)) b y s.resvs held.in_order found)))
     where
       apart : is_eq (key_cmp key b) ≡ true → ⊥
       apart tie =
@@ -155,7 +156,7 @@ module _ (r : Router) (s : State) (key : Key) (fact : ResvFact) (held : AreHeld 
 
   -- what is reserved once it is put
   claims : claims_of s.facts.paths (put key_cmp key fact left.resvs) ≡ granted (request_of s.facts.paths key fact) (without gone (claims_of s.facts.paths s.resvs))
-  claims = claims-put s.facts.paths key fact left.resvs ∙ ap (granted (request_of s.facts.paths key fact)) (claims-where s.facts.paths (λ k. not (is_among gone k)) s.resvs)
+  claims = claims-put s.facts.paths key fact left.resvs ∙ ap (granted (request_of s.facts.paths key fact)) (claims-where s.facts.paths (λ k. not (is_one_of gone k)) s.resvs)
 
   within : (link priority : ℕ) → priority ≤ 7 → reserved_of link priority (claims_of s.facts.paths (put key_cmp key fact left.resvs)) ≤ limit_of r link
   within link priority most =

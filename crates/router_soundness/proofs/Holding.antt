@@ -15,7 +15,8 @@ use Rattle.lsr_facts.specs.declared.router.Router.{Router}
 use Rattle.resv_facts.specs.AdmissionLaws.{reserved_of-better-le, reserved_of-but_holding, reserved_of-where_key-le}
 use Rattle.resv_facts.specs.Claims.{reserved_of}
 use Rattle.resv_facts.specs.declared.resv_fact.ResvFact.{ResvFact}
-use Rattle.router_soundness.proofs.Claiming.{claims-filter, claims-other_paths, claims_most, sorted-claims}
+use Rattle.abstract_router.specs.ClaimsLaws.{sorted-claims}
+use Rattle.router_soundness.proofs.Claiming.{claims-filter, claims-other_paths, claims_most}
 use Rattle.abstract_router.specs.Preempting.{claims_of, limit_of}
 use Rattle.abstract_router.specs.Soundness.{AreHeld, IsResv}
 use Rattle.abstract_router.specs.States.{State, with_facts, with_resvs_where}

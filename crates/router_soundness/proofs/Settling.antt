@@ -12,13 +12,12 @@ use Rattle.router_soundness.proofs.Labelling.{labelled_after}
 use Rattle.abstract_router.specs.Upstreams.{upstream_of}
 use Rattle.abstract_router.specs.Labels.{IsLabelling}
 use Rattle.abstract_router.specs.Outcomes.{Outcome}
-use Rattle.abstract_router.specs.Choosing.{CanLabel}
 use Rattle.abstract_router.specs.Lsps.{lsps_of}
 use Rattle.router_soundness.specs.Drafted.{IsDrafted}
 use Rattle.abstract_router.specs.Outputs.{item_stamps, upstream_stamps}
 use Rattle.abstract_router.specs.Wanted.{items_of}
 use Rattle.lsr_facts.specs.Orders.{item_cmp}
-use Rattle.abstract_router.specs.Soundness.{AreHeld, AreLabelled, IsSound}
+use Rattle.abstract_router.specs.Soundness.{AreLabelled, IsSound}
 use Rattle.abstract_router.specs.States.{State}
 use Rattle.abstract_router.specs.Steps.{settled, stands, with_moments, known_after, MayChoose, MayChooseBy}
 

@@ -6,7 +6,7 @@ use Rattle.abstract_router.specs.Labels.{has_free_label}
 use Rattle.abstract_router.specs.Outcomes.{Outcome, of_paths, refused}
 use Rattle.abstract_router.specs.Reserving.{Progress, all_descriptors, resv_arrival, resv_failed, resv_replied, unknown_resv}
 use Rattle.abstract_router.specs.States.{State, with_facts}
-use Rattle.abstract_router.specs.Tearing.{err_onward, is_torn_by as is_resv_torn_by, passed_on as err_passed_on, resv_err_arrival, resv_tear_arrival}
+use Rattle.abstract_router.specs.Tearing.{err_onward, is_resv_torn_by, resv_err_passed_on, resv_err_arrival, resv_tear_arrival}
 use Rattle.abstract_paths.specs.Links.{link_change}
 use Rattle.abstract_paths.specs.Outcomes as path_outcomes
 use Rattle.abstract_paths.specs.Outcomes.{lsp}
@@ -14,7 +14,7 @@ use Rattle.abstract_paths.specs.Paths.{key_of, path_arrival}
 use Rattle.abstract_paths.specs.Places.{is_up, place_of}
 use Rattle.abstract_paths.specs.Relays.{relay, relayed_by}
 use Rattle.abstract_paths.specs.Routing.{route_to}
-use Rattle.abstract_paths.specs.Tears.{is_torn_by, leaves_by, passed_on, path_err_arrival, path_tear_arrival, torn}
+use Rattle.abstract_paths.specs.Tears.{is_torn_by, leaves_by, path_err_passed_on, path_err_arrival, path_tear_arrival, torn}
 use Rattle.abstract_paths.specs.Time.{tick}
 use Rattle.lsr_facts.specs.Orders.{key_cmp}
 use Rattle.lsr_facts.specs.Routers.{link_at}
@@ -54,14 +54,14 @@ abbrev pub KeepsSilently : State → Outcome → Type 0
 KeepsSilently s o = o.is_silent ≡ true → o.after ≡ s
 
 -- so it is with paths
-abbrev PathsKeep : Facts → path_outcomes.Outcome → Type 0
+abbrev PathsKeep : Facts → path_outcomes.PathOutcome → Type 0
 PathsKeep s o = o.is_silent ≡ true → o.after ≡ s
 
 torn-keeps : (s : Facts) (link : ℕ) (t : PathTear) (known : Option PathFact) → PathsKeep s (torn s link t known)
 torn-keeps s link t None = λ silent. refl
 torn-keeps s link t (Some fact) = cond_both (is_torn_by link t fact) _ _ (PathsKeep s) (λ gone silent. absurd (let e = silent in cc)) (λ other silent. refl)
 
-err-keeps : (s : Facts) (link : ℕ) (e : PathErr) (known : Option PathFact) → PathsKeep s (passed_on s link e known)
+err-keeps : (s : Facts) (link : ℕ) (e : PathErr) (known : Option PathFact) → PathsKeep s (path_err_passed_on s link e known)
 err-keeps s link e None = λ silent. refl
 err-keeps s link e (Some fact) = cond_both (leaves_by link fact) _ _ (PathsKeep s) (λ goes silent. absurd (let e = silent in cc)) (λ other silent. refl)
 
@@ -71,7 +71,7 @@ link-keeps r s number up = cond_both (is_none (link_at r number)) _ _ (PathsKeep
 
 module _ (r : Router) (s : State) where
   -- what the router of paths does
-  of_paths-keeps : (o : path_outcomes.Outcome) → PathsKeep s.facts o → KeepsSilently s (of_paths s o)
+  of_paths-keeps : (o : path_outcomes.PathOutcome) → PathsKeep s.facts o → KeepsSilently s (of_paths s o)
   of_paths-keeps o keeps silent = ap (λ facts. with_facts facts s) (keeps silent)
 
   path-keeps : (link : ℕ) (p : Path) → KeepsSilently s (labelled_path_arrival r s link p)
@@ -100,7 +100,7 @@ module _ (r : Router) (s : State) where
   unfolding resv_err_arrival
   resv_err-keeps link e = by (filter_map (err_onward r s link e) e.descriptors)
     where
-      by : (matched : List (List Output)) → KeepsSilently s (err_passed_on s matched)
+      by : (matched : List (List Output)) → KeepsSilently s (resv_err_passed_on s matched)
       by [] = λ silent. refl
       by (one ∷ more) = λ silent. absurd (let f = silent in cc)
 

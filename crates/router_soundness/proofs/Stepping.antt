@@ -1,10 +1,11 @@
 -- What holds of one step: it is determined, and what is refused is silent.
-use Rattle.std.specs.Prelude.{◌≢◌, Bool, ◌≡◌, ◌&&◌, ℕ, not, true, false, if◌then◌else◌, List, [], ◌∷◌, filter_map, Option, Some, None, is_none}
+use Rattle.std.specs.Prelude.{Bool, ◌≡◌, ◌&&◌, ℕ, not, true, false, if◌then◌else◌, List, [], ◌∷◌, filter_map, Option, Some, None, is_none}
 use Rattle.std.specs.FinMap.Entries.{find}
 use Rattle.std.specs.List.{list_any}
 use Rattle.std.specs.Option.{option_map_or}
-use Rattle.std.proofs.Common.{refl, ap, sym, subst, ◌∙◌}
+use Rattle.std.proofs.Common.{refl, ap, sym, ◌∙◌}
 use Rattle.std.proofs.lemmas.Bool.{cond_both}
+use Rattle.rsvp_contents.specs.Picking.{content_in}
 use Rattle.rsvp_contents.specs.declared.message.Reading.{Reading}
 use Rattle.rsvp_contents.specs.declared.message.Reading.TheVariants as readings
 use Rattle.rsvp_contents.specs.declared.messages.Content.{Content}
@@ -13,14 +14,13 @@ use Rattle.rsvp_contents.specs.declared.messages.Path.{Path}
 use Rattle.rsvp_contents.specs.declared.messages.Resv.{Resv}
 use Rattle.rsvp_contents.specs.declared.messages.ResvErr.{ResvErr}
 use Rattle.rsvp_contents.specs.declared.messages.ResvTear.{ResvTear}
-use Rattle.rsvp_flows.specs.declared.descriptors.FlowDescriptor.{FlowDescriptor}
-use Rattle.resv_facts.specs.declared.resv_fact.ResvFact.{ResvFact}
+use Rattle.lsr_facts.specs.Lifetimes.{due_items}
 use Rattle.lsr_facts.specs.Orders.{key_cmp}
 use Rattle.lsr_facts.specs.Routers.{IsRouter, link_at}
 use Rattle.lsr_facts.specs.declared.key.Key.{Key}
 use Rattle.lsr_facts.specs.declared.errors.RsvpError.{RsvpError}
 use Rattle.lsr_facts.specs.declared.refusal.Refusal.{Refusal}
-use Rattle.lsr_facts.specs.declared.refusal.Refusal.TheVariants.{LinkDown, NoMatch, NoMerge, UnknownLink}
+use Rattle.lsr_facts.specs.declared.refusal.Refusal.TheVariants.{LinkDown, NoMatch, UnknownLink}
 use Rattle.lsr_facts.specs.declared.reply.Reply.TheVariants as replies
 use Rattle.lsr_facts.specs.declared.router.Router.{Router}
 use Rattle.resv_facts.specs.Reservations.{expire, style_of}
@@ -45,14 +45,14 @@ use Rattle.router_soundness.proofs.Choosing.{labels_to_choose}
 use Rattle.router_soundness.proofs.Drafting.{outcome-leaves}
 use Rattle.router_soundness.proofs.Settling.{Leaves, LeavesBy}
 use Rattle.abstract_router.specs.Soundness.{IsSound}
-use Rattle.abstract_router.specs.Arrivals.{arrival, arrival_by, due_upstream, for_reservations, is_done, labelled_path_arrival, message_arrival, moment_comes, outcome, reading_arrival}
+use Rattle.abstract_router.specs.Arrivals.{arrival, arrival_by, for_reservations, is_done, labelled_path_arrival, message_arrival, moment_comes, outcome, reading_arrival, unmerged}
 use Rattle.abstract_router.specs.Errors.{unknown_style}
 use Rattle.abstract_router.specs.Labels.{has_free_label}
 use Rattle.abstract_router.specs.Outcomes.{Outcome, of_paths, refused}
-use Rattle.abstract_router.specs.Reserving.{Failed, Granted, PassedOver, Progress, Verdict, all_descriptors, carried_on, resv_arrival, resv_failed, resv_replied, unknown_resv}
+use Rattle.abstract_router.specs.Reserving.{Progress, all_descriptors, resv_arrival, resv_failed, resv_replied, unknown_resv}
 use Rattle.abstract_router.specs.States.{State, with_facts}
 use Rattle.abstract_router.specs.Steps.{MayChoose, MayChooseBy, Step, known_after, sent_in, settled, with_moments}
-use Rattle.abstract_router.specs.Tearing.{err_onward, is_torn_by, passed_on, resv_err_arrival, resv_tear_arrival}
+use Rattle.abstract_router.specs.Tearing.{err_onward, is_resv_torn_by, resv_err_passed_on, resv_err_arrival, resv_tear_arrival}
 
 -- Two steps of one event from the same state, with the same labels, are one.
 pub same_step : (r : Router) (before a b : State) (one other : Made) → one.event ≡ other.event → one.labels ≡ other.labels → Step r before one a → Step r before other b → (one ≡ other) × (a ≡ b)
@@ -71,7 +71,7 @@ module _ (r : Router) (s : State) where
   refuses refusal other is = (refl, refl)
 
   -- what the router of paths refuses silently is refused so
-  of_paths-refuses : (o : path_outcomes.Outcome) → paths.RefusesSilently s.facts o → RefusesSilently s (of_paths s o)
+  of_paths-refuses : (o : path_outcomes.PathOutcome) → paths.RefusesSilently s.facts o → RefusesSilently s (of_paths s o)
   of_paths-refuses o silently refusal is = let so = silently refusal is in (so.0, ap (λ facts. with_facts facts s) so.1)
 
   resv-refuses : (link : ℕ) (v : Resv) → RefusesSilently s (resv_arrival r s link v)
@@ -88,13 +88,13 @@ module _ (r : Router) (s : State) where
 
   tear-refuses : (link : ℕ) (t : ResvTear) → RefusesSilently s (resv_tear_arrival s link t)
   unfolding resv_tear_arrival
-  tear-refuses link t = cond_both (list_any (is_torn_by link t) s.resvs) _ (refused s NoMatch) (RefusesSilently s) (λ some refusal is. cc) (λ none. refuses NoMatch)
+  tear-refuses link t = cond_both (list_any (is_resv_torn_by link t) s.resvs) _ (refused s NoMatch) (RefusesSilently s) (λ some refusal is. cc) (λ none. refuses NoMatch)
 
   err-refuses : (link : ℕ) (e : ResvErr) → RefusesSilently s (resv_err_arrival r s link e)
   unfolding resv_err_arrival
   err-refuses link e = by (filter_map (err_onward r s link e) e.descriptors)
     where
-      by : (matched : List (List Output)) → RefusesSilently s (passed_on s matched)
+      by : (matched : List (List Output)) → RefusesSilently s (resv_err_passed_on s matched)
       by [] = refuses NoMatch
       by (one ∷ more) = λ refusal is. cc
 
@@ -124,7 +124,7 @@ module _ (r : Router) (s : State) where
 
   way-refuses : (way : ArrivalWay) (link : ℕ) (reading : Reading) → RefusesSilently s (arrival_by r s way link reading)
   way-refuses ways.Hop link reading = reading-refuses link reading
-  way-refuses ways.Stack link reading = refuses NoMerge
+  way-refuses ways.Stack link reading = refuses (unmerged (content_in reading))
   way-refuses ways.Routed link reading = refuses NoMatch
 
   arrival-refuses : (a : Arrive) → RefusesSilently s (arrival r s a)
@@ -143,7 +143,7 @@ module _ (r : Router) (s : State) where
       ] refl
     where
       comes : Outcome
-      comes = record o { after = record o.after { resvs = expire n s.resvs }; upstream_due = due_upstream r.refresh_ms s.sent_upstream n }
+      comes = record o { after = record o.after { resvs = expire n s.resvs }; upstream_due = due_items r.refresh_ms s.sent_upstream n }
 
   tick-refuses : (n : ℕ) → RefusesSilently s (moment_comes r s n)
   unfolding moment_comes

@@ -7,15 +7,16 @@ ghost use Rattle.lsr_facts.specs.declared.refusal.Refusal.{Refusal};
 ghost use Rattle.lsr_facts.specs.declared.reply.Reply.TheVariants as replies;
 ghost use Rattle.lsr_facts.specs.declared.router.Router.{Router};
 ghost use Rattle.forwarding_table.specs.declared.action.Action.{Action};
+ghost use Rattle.forwarding_table.specs.declared.action.Action.TheVariants as actions;
 ghost use Rattle.router_events.specs.declared.events.Event.{Event};
 ghost use Rattle.router_events.specs.declared.events.Event.TheVariants as events;
 ghost use Rattle.router_events.specs.declared.events.Made.{Made};
+ghost use Rattle.abstract_paths.specs.Places.{is_up};
 ghost use Rattle.abstract_paths.specs.Relays.{exceeds_hop_limit};
-ghost use Rattle.abstract_router.specs.Steps.{IsEvent};
 ghost use Rattle.abstract_router.specs.Arrivals.{outcome};
 ghost use Rattle.abstract_router.specs.Soundness.{IsSound};
 ghost use Rattle.abstract_router.specs.States.{State};
-ghost use Rattle.abstract_router.specs.Steps.{MayChoose, Step};
+ghost use Rattle.abstract_router.specs.Steps.{IsEvent, MayChoose, Step};
 ghost use Rattle.abstract_router.specs.Tables.{IsEntry, look};
 
 /// A step is determined by the state, the event and the labels that are chosen: its reply, what is sent, and what is
@@ -56,4 +57,10 @@ pub fn refusals_are_silent()
 pub fn entries_stand_on_live_state()
     ensures { (r : Router) (s : State) (label : ℕ) (action : Action) →
         IsSound r s → look s label ≡ Some action → IsEntry s label action }
+{}
+
+/// A frame whose label is swapped leaves over a link that is up.
+pub fn frames_leave_over_links_that_are_up()
+    ensures { (r : Router) (s : State) (label out link : ℕ) → IsSound r s →
+        look s label ≡ Some (actions.Swap out link) → is_up s.facts.up link ≡ true }
 {}

@@ -1,4 +1,5 @@
 -- What a ResvErr does, by what goes on of it.
+use Rattle.std.specs.Option.{option_to_list}
 use Rattle.std.specs.Prelude.{◌≡◌, ℕ, true, false, ◌||◌, List, [], ◌∷◌, ◌++◌, filter_map, is_some, length, map, Option, Some, None}
 use Rattle.std.specs.List.{cons_option, flat_map, list_any}
 use Rattle.std.proofs.Common.{refl, sym, ap, arith, ◌∙◌}
@@ -7,16 +8,16 @@ use Rattle.lsr_facts.specs.declared.refusal.Refusal.TheVariants.{NoMatch}
 use Rattle.lsr_facts.specs.declared.reply.Reply.TheVariants as replies
 use Rattle.lsr_facts.specs.declared.router.Router.{Router}
 use Rattle.router_events.specs.declared.events.Output.{Output}
-use Rattle.abstract_router.specs.Outcomes.{listed, refused, replied}
+use Rattle.abstract_router.specs.Outcomes.{refused, replied}
 use Rattle.abstract_router.specs.States.{State}
-use Rattle.abstract_router.specs.Tearing.{err_onward, passed_on, resv_err_arrival}
+use Rattle.abstract_router.specs.Tearing.{err_onward, resv_err_passed_on, resv_err_arrival}
 
 -- what is passed on of one that matches isn't silent
-passed_speaks : {X : Type 0} (s : State) (f : X → Option (List Output)) (xs : List X) → list_any (λ x. is_some (f x)) xs ≡ true → (passed_on s (filter_map f xs)).is_silent ≡ false
+passed_speaks : {X : Type 0} (s : State) (f : X → Option (List Output)) (xs : List X) → list_any (λ x. is_some (f x)) xs ≡ true → (resv_err_passed_on s (filter_map f xs)).is_silent ≡ false
 passed_speaks s f [] any = absurd (let e = any in cc)
 passed_speaks s f (x ∷ xs) any = by (f x) (passed_speaks s f xs) any
   where
-    by : (o : Option (List Output)) → (list_any (λ y. is_some (f y)) xs ≡ true → (passed_on s (filter_map f xs)).is_silent ≡ false) → (is_some o || list_any (λ y. is_some (f y)) xs) ≡ true → (passed_on s (cons_option o (filter_map f xs))).is_silent ≡ false
+    by : (o : Option (List Output)) → (list_any (λ y. is_some (f y)) xs ≡ true → (resv_err_passed_on s (filter_map f xs)).is_silent ≡ false) → (is_some o || list_any (λ y. is_some (f y)) xs) ≡ true → (resv_err_passed_on s (cons_option o (filter_map f xs))).is_silent ≡ false
     by None rest any = rest any
     by (Some told) rest any = refl
 
@@ -26,18 +27,18 @@ unfolding resv_err_arrival
 err_speaks r s link e any = passed_speaks s (err_onward r s link e) e.descriptors any
 
 -- the messages that go on, one after the other
-flat_listed : (told : List (Option Output)) → flat_map (λ one. one) (map listed told) ≡ flat_map listed told
+flat_listed : (told : List (Option Output)) → flat_map (λ one. one) (map option_to_list told) ≡ flat_map option_to_list told
 flat_listed [] = refl
-flat_listed (one ∷ more) = ap (λ rest. listed one ++ rest) (flat_listed more)
+flat_listed (one ∷ more) = ap (λ rest. option_to_list one ++ rest) (flat_listed more)
 
 -- Where none matches, it is refused.
-pub none_onward : (r : Router) (s : State) (link : ℕ) (e : ResvErr) (told : List (Option Output)) → map listed told ≡ filter_map (err_onward r s link e) e.descriptors → length told ≡ 0 → refused s NoMatch ≡ resv_err_arrival r s link e
+pub none_onward : (r : Router) (s : State) (link : ℕ) (e : ResvErr) (told : List (Option Output)) → map option_to_list told ≡ filter_map (err_onward r s link e) e.descriptors → length told ≡ 0 → refused s NoMatch ≡ resv_err_arrival r s link e
 unfolding resv_err_arrival
-none_onward r s link e [] is none = ap (passed_on s) is
+none_onward r s link e [] is none = ap (resv_err_passed_on s) is
 none_onward r s link e (one ∷ more) is none = absurd (omega (arith, none))
 
 -- Where one does, what goes on is told.
-pub some_onward : (r : Router) (s : State) (link : ℕ) (e : ResvErr) (told : List (Option Output)) → map listed told ≡ filter_map (err_onward r s link e) e.descriptors → (length told ≡ 0 → ⊥) → replied replies.Done (flat_map listed told) s ≡ resv_err_arrival r s link e
+pub some_onward : (r : Router) (s : State) (link : ℕ) (e : ResvErr) (told : List (Option Output)) → map option_to_list told ≡ filter_map (err_onward r s link e) e.descriptors → (length told ≡ 0 → ⊥) → replied replies.Done (flat_map option_to_list told) s ≡ resv_err_arrival r s link e
 unfolding resv_err_arrival
 some_onward r s link e [] is some = absurd (some refl)
-some_onward r s link e (one ∷ more) is some = ap (λ (outputs : List Output). replied replies.Done outputs s) (sym (flat_listed (one ∷ more))) ∙ ap (passed_on s) is
+some_onward r s link e (one ∷ more) is some = ap (λ (outputs : List Output). replied replies.Done outputs s) (sym (flat_listed (one ∷ more))) ∙ ap (resv_err_passed_on s) is

@@ -20,12 +20,12 @@ use Rattle.lsr_facts.specs.declared.reply.Reply.TheVariants as replies
 use Rattle.resv_facts.specs.declared.resv_fact.ResvFact.{ResvFact}
 use Rattle.abstract_paths.specs.Outcomes.{lsp}
 use Rattle.abstract_router.specs.Outcomes.{refused, replied}
-use Rattle.abstract_router.specs.States.{State, is_among, with_resvs_where}
-use Rattle.abstract_router.specs.Tearing.{is_torn_by, resv_tear_arrival}
+use Rattle.abstract_router.specs.States.{State, is_one_of, with_resvs_where}
+use Rattle.abstract_router.specs.Tearing.{is_resv_torn_by, resv_tear_arrival}
 use Rattle.router_steps.specs.Torn.{is_reserved_on, torn_keys}
 
 -- a key is among those that filters name where one of the filters names it
-among-named : (session : Session) (key : Key) (filters : List Template) → is_among (map (lsp session) filters) key ≡ list_any (λ f. is_eq (key_cmp (lsp session f) key)) filters
+among-named : (session : Session) (key : Key) (filters : List Template) → is_one_of (map (lsp session) filters) key ≡ list_any (λ f. is_eq (key_cmp (lsp session f) key)) filters
 among-named session key [] = refl
 among-named session key (f ∷ fs) = ap (λ b. is_eq (key_cmp (lsp session f) key) || b) (among-named session key fs)
 
@@ -61,33 +61,33 @@ some_left f test (x ∷ xs) some =
 
 -- of each reservation, its LSP is among those that a ResvTear takes it from where it is torn by it
 module _ (link : ℕ) (t : ResvTear) (resvs : List (Key × ResvFact)) where
-  among-torn : (resv : Key × ResvFact) → find key_cmp resv.0 resvs ≡ Some resv.1 → is_among (torn_keys link t resvs) resv.0 ≡ is_torn_by link t resv
+  among-torn : (resv : Key × ResvFact) → find key_cmp resv.0 resvs ≡ Some resv.1 → is_one_of (torn_keys link t resvs) resv.0 ≡ is_resv_torn_by link t resv
   among-torn resv found =
       let on = is_reserved_on link resvs in
       any-filter_same (λ key. is_eq (key_cmp key resv.0)) on (on resv.0) (λ key tie. ap on (key_exact key resv.0 (ties _ tie))) (map (lsp t.session) t.filters)
       ∙ (λ i. option_map_or (λ (r : ResvFact). r.link == link) (found i) false && among-named t.session resv.0 t.filters i)
 
-  each-torn : T (is_sorted key_cmp resvs) → AllByRecursion (λ resv. is_among (torn_keys link t resvs) resv.0 ≡ is_torn_by link t resv) resvs
-  each-torn h = all-weaker (λ resv. find key_cmp resv.0 resvs ≡ Some resv.1) (λ resv. is_among (torn_keys link t resvs) resv.0 ≡ is_torn_by link t resv) among-torn resvs (all_found key_cmp key_total resvs h)
+  each-torn : T (is_sorted key_cmp resvs) → AllByRecursion (λ resv. is_one_of (torn_keys link t resvs) resv.0 ≡ is_resv_torn_by link t resv) resvs
+  each-torn h = all-weaker (λ resv. find key_cmp resv.0 resvs ≡ Some resv.1) (λ resv. is_one_of (torn_keys link t resvs) resv.0 ≡ is_resv_torn_by link t resv) among-torn resvs (all_found key_cmp key_total resvs h)
 
   -- So without these, those are left that aren't torn.
-  pub without_torn : T (is_sorted key_cmp resvs) → filter (λ resv. not (is_among (torn_keys link t resvs) resv.0)) resvs ≡ filter (λ resv. not (is_torn_by link t resv)) resvs
+  pub without_torn : T (is_sorted key_cmp resvs) → filter (λ resv. not (is_one_of (torn_keys link t resvs) resv.0)) resvs ≡ filter (λ resv. not (is_resv_torn_by link t resv)) resvs
   without_torn h =
-      filter_agree_within (λ resv. not (is_among (torn_keys link t resvs) resv.0)) (λ resv. not (is_torn_by link t resv)) resvs
-      (all-weaker (λ resv. is_among (torn_keys link t resvs) resv.0 ≡ is_torn_by link t resv) (λ resv. not (is_among (torn_keys link t resvs) resv.0) ≡ not (is_torn_by link t resv)) (λ resv same. ap not same) resvs (each-torn h))
+      filter_agree_within (λ resv. not (is_one_of (torn_keys link t resvs) resv.0)) (λ resv. not (is_resv_torn_by link t resv)) resvs
+      (all-weaker (λ resv. is_one_of (torn_keys link t resvs) resv.0 ≡ is_resv_torn_by link t resv) (λ resv. not (is_one_of (torn_keys link t resvs) resv.0) ≡ not (is_resv_torn_by link t resv)) (λ resv same. ap not same) resvs (each-torn h))
 
   -- with none of them, none is torn
-  none_torn : T (is_sorted key_cmp resvs) → length (torn_keys link t resvs) ≡ 0 → list_any (is_torn_by link t) resvs ≡ false
+  none_torn : T (is_sorted key_cmp resvs) → length (torn_keys link t resvs) ≡ 0 → list_any (is_resv_torn_by link t) resvs ≡ false
   none_torn h none =
-      none_any (is_torn_by link t) resvs
-      (all-weaker (λ resv. is_among (torn_keys link t resvs) resv.0 ≡ is_torn_by link t resv) (λ resv. is_torn_by link t resv ≡ false) (λ resv same. sym same ∙ empty (torn_keys link t resvs) none resv.0) resvs (each-torn h))
+      none_any (is_resv_torn_by link t) resvs
+      (all-weaker (λ resv. is_one_of (torn_keys link t resvs) resv.0 ≡ is_resv_torn_by link t resv) (λ resv. is_resv_torn_by link t resv ≡ false) (λ resv same. sym same ∙ empty (torn_keys link t resvs) none resv.0) resvs (each-torn h))
     where
-      empty : (keys : List Key) → length keys ≡ 0 → (key : Key) → is_among keys key ≡ false
+      empty : (keys : List Key) → length keys ≡ 0 → (key : Key) → is_one_of keys key ≡ false
       empty [] e key = refl
       empty (k ∷ ks) e key = absurd (omega (arith, e))
 
   -- and where a filter names one that is reserved on the link, one is
-  any_torn : (fs : List Template) → ((key : Key) → list_any (λ f. is_eq (key_cmp (lsp t.session f) key)) fs ≡ true → list_any (λ f. is_eq (key_cmp (lsp t.session f) key)) t.filters ≡ true) → list_any (λ f. is_reserved_on link resvs (lsp t.session f)) fs ≡ true → list_any (is_torn_by link t) resvs ≡ true
+  any_torn : (fs : List Template) → ((key : Key) → list_any (λ f. is_eq (key_cmp (lsp t.session f) key)) fs ≡ true → list_any (λ f. is_eq (key_cmp (lsp t.session f) key)) t.filters ≡ true) → list_any (λ f. is_reserved_on link resvs (lsp t.session f)) fs ≡ true → list_any (is_resv_torn_by link t) resvs ≡ true
   any_torn [] within any = absurd (let e = any in cc)
   any_torn (f ∷ fs) within any =
       by (find key_cmp (lsp t.session f) resvs) refl any
@@ -100,33 +100,33 @@ module _ (link : ℕ) (t : ResvTear) (resvs : List (Key × ResvFact)) where
       further b is true = refl
       further b is false = is
 
-      on_link : (v : ResvFact) → find key_cmp (lsp t.session f) resvs ≡ Some v → (b : Bool) → (v.link == link) ≡ b → (b || list_any (λ g. is_reserved_on link resvs (lsp t.session g)) fs) ≡ true → (list_any (λ g. is_reserved_on link resvs (lsp t.session g)) fs ≡ true → list_any (is_torn_by link t) resvs ≡ true) → list_any (is_torn_by link t) resvs ≡ true
-      on_link v is true on either rest = any_found (is_torn_by link t) (lsp t.session f) v resvs is (λ i. on i && named i)
+      on_link : (v : ResvFact) → find key_cmp (lsp t.session f) resvs ≡ Some v → (b : Bool) → (v.link == link) ≡ b → (b || list_any (λ g. is_reserved_on link resvs (lsp t.session g)) fs) ≡ true → (list_any (λ g. is_reserved_on link resvs (lsp t.session g)) fs ≡ true → list_any (is_resv_torn_by link t) resvs ≡ true) → list_any (is_resv_torn_by link t) resvs ≡ true
+      on_link v is true on either rest = any_found (is_resv_torn_by link t) (lsp t.session f) v resvs is (λ i. on i && named i)
       on_link v is false off either rest = rest either
 
-      by : (o : Option ResvFact) → find key_cmp (lsp t.session f) resvs ≡ o → (option_map_or (λ (v : ResvFact). v.link == link) o false || list_any (λ g. is_reserved_on link resvs (lsp t.session g)) fs) ≡ true → (list_any (λ g. is_reserved_on link resvs (lsp t.session g)) fs ≡ true → list_any (is_torn_by link t) resvs ≡ true) → list_any (is_torn_by link t) resvs ≡ true
+      by : (o : Option ResvFact) → find key_cmp (lsp t.session f) resvs ≡ o → (option_map_or (λ (v : ResvFact). v.link == link) o false || list_any (λ g. is_reserved_on link resvs (lsp t.session g)) fs) ≡ true → (list_any (λ g. is_reserved_on link resvs (lsp t.session g)) fs ≡ true → list_any (is_resv_torn_by link t) resvs ≡ true) → list_any (is_resv_torn_by link t) resvs ≡ true
       by None is either rest = rest either
       by (Some v) is either rest = on_link v is (v.link == link) refl either rest
 
-  some_torn : list_any (λ f. is_reserved_on link resvs (lsp t.session f)) t.filters ≡ true → list_any (is_torn_by link t) resvs ≡ true
+  some_torn : list_any (λ f. is_reserved_on link resvs (lsp t.session f)) t.filters ≡ true → list_any (is_resv_torn_by link t) resvs ≡ true
   some_torn = any_torn t.filters (λ key names. names)
 
 -- A ResvTear that names one that is reserved on the link isn't silent,
 pub tear_speaks : (s : State) (link : ℕ) (t : ResvTear) → list_any (λ f. is_reserved_on link s.resvs (lsp t.session f)) t.filters ≡ true → (resv_tear_arrival s link t).is_silent ≡ false
 unfolding resv_tear_arrival
 tear_speaks s link t any =
-    ap (λ b. (cond b (replied replies.Done [] (with_resvs_where (λ resv. not (is_torn_by link t resv)) s)) (refused s NoMatch)).is_silent) (some_torn link t s.resvs any)
+    ap (λ b. (cond b (replied replies.Done [] (with_resvs_where (λ resv. not (is_resv_torn_by link t resv)) s)) (refused s NoMatch)).is_silent) (some_torn link t s.resvs any)
 
 -- one that names none is refused,
 pub tears_none : (s : State) (link : ℕ) (t : ResvTear) → T (is_sorted key_cmp s.resvs) → (keys : List Key) → keys ≡ torn_keys link t s.resvs → length keys ≡ 0 → refused s NoMatch ≡ resv_tear_arrival s link t
 unfolding resv_tear_arrival
 tears_none s link t h keys is none =
-    sym (ap (λ b. cond b (replied replies.Done [] (with_resvs_where (λ resv. not (is_torn_by link t resv)) s)) (refused s NoMatch)) (none_torn link t s.resvs h (ap length (sym is) ∙ none)))
+    sym (ap (λ b. cond b (replied replies.Done [] (with_resvs_where (λ resv. not (is_resv_torn_by link t resv)) s)) (refused s NoMatch)) (none_torn link t s.resvs h (ap length (sym is) ∙ none)))
 
 -- and another takes these reservations away.
-pub tears_some : (s : State) (link : ℕ) (t : ResvTear) → T (is_sorted key_cmp s.resvs) → (keys : List Key) → keys ≡ torn_keys link t s.resvs → (length keys ≡ 0 → ⊥) → replied replies.Done [] (with_resvs_where (λ resv. not (is_among keys resv.0)) s) ≡ resv_tear_arrival s link t
+pub tears_some : (s : State) (link : ℕ) (t : ResvTear) → T (is_sorted key_cmp s.resvs) → (keys : List Key) → keys ≡ torn_keys link t s.resvs → (length keys ≡ 0 → ⊥) → replied replies.Done [] (with_resvs_where (λ resv. not (is_one_of keys resv.0)) s) ≡ resv_tear_arrival s link t
 unfolding resv_tear_arrival
 tears_some s link t h keys is some =
-    ap (λ (gone : List Key). replied replies.Done [] (with_resvs_where (λ resv. not (is_among gone resv.0)) s)) is
+    ap (λ (gone : List Key). replied replies.Done [] (with_resvs_where (λ resv. not (is_one_of gone resv.0)) s)) is
     ∙ ap (λ resvs. replied replies.Done [] (record s { resvs = resvs })) (without_torn link t s.resvs h)
-    ∙ sym (ap (λ b. cond b (replied replies.Done [] (with_resvs_where (λ resv. not (is_torn_by link t resv)) s)) (refused s NoMatch)) (some_torn link t s.resvs (some_left (lsp t.session) (is_reserved_on link s.resvs) t.filters (λ none. some (ap length is ∙ none)))))
+    ∙ sym (ap (λ b. cond b (replied replies.Done [] (with_resvs_where (λ resv. not (is_resv_torn_by link t resv)) s)) (refused s NoMatch)) (some_torn link t s.resvs (some_left (lsp t.session) (is_reserved_on link s.resvs) t.filters (λ none. some (ap length is ∙ none)))))

@@ -1,4 +1,4 @@
--- Which LSPs a ResvTear takes the reservation from, by what its filters name.
+-- Which LSPs a ResvTear takes the reservation from, by what its filters name (RFC 2205, 3.1.6).
 use Rattle.std.specs.Prelude.{ℕ, ◌==◌, Bool, false, List, filter, map}
 use Rattle.std.specs.FinMap.Entries.{find}
 use Rattle.std.specs.Option.{option_map_or}

@@ -1,17 +1,16 @@
 //! What a ResvErr does (RFC 2205, 3.1.8).
 
 ghost use Rattle.std.specs.List.{flat_map, list_any};
-ghost use Rattle.std.specs.Option.{option_map};
+ghost use Rattle.std.specs.Option.{option_map, option_to_list};
 ghost use Rattle.std.specs.Prelude.{◌≡◌, ◌∷◌, [], IfOk, OnErr, false, filter_map, is_some, map, true};
 ghost use Rattle.rsvp_contents.specs.Spelling.{IsMessage};
 ghost use Rattle.rsvp_contents.specs.declared.messages.Content.TheVariants as contents;
 ghost use Rattle.resv_arrivals.specs.Below.rules.Rooms.{HaveRoom};
-ghost use Rattle.abstract_router.specs.Outcomes.{listed};
 ghost use Rattle.abstract_router.specs.Tearing.{err_onward, is_from_origin, resv_err_arrival};
 ghost use Rattle.state_views.specs.Drafts.{IsDraft};
 
 use lsr_facts::{PathFact, Refusal, Reply};
-use path_rules::{goes_on, is_from, lsp};
+use message_rules::{goes_on, is_from, lsp};
 use resv_arrivals::{resv_err_leaves_room, told_downstream};
 use router_events::{Output, Outputs};
 use rsvp_contents::ResvErr;
@@ -39,7 +38,7 @@ fn err_onward<V: StateView>(
     descriptor: &ErrorDescriptor,
 ) -> Result<Option<Option<Output>>, AllocError>
     requires { HaveRoom (descriptor.now ∷ []) }
-    ensures told { IfOk result (λ told. option_map listed told ≡ err_onward (V.router view.now)
+    ensures told { IfOk result (λ told. option_map option_to_list told ≡ err_onward (V.router view.now)
         (V.state view.now) link error.now descriptor.now) }
     ensures memory { OnErr result (is_some (err_onward (V.router view.now)
         (V.state view.now) link error.now descriptor.now) ≡ true) }
@@ -79,7 +78,7 @@ fn errs_onward<V: StateView>(
     error: &ResvErr,
 ) -> Result<Vec<Option<Output>>, AllocError>
     requires { IsMessage (contents.ResvErr error.now) }
-    ensures told { IfOk result (λ told. map listed told.items ≡ filter_map (err_onward (V.router view.now)
+    ensures told { IfOk result (λ told. map option_to_list told.items ≡ filter_map (err_onward (V.router view.now)
         (V.state view.now) link error.now) error.now.descriptors) }
     ensures memory { OnErr result (list_any (λ d. is_some (err_onward (V.router view.now)
         (V.state view.now) link error.now d)) error.now.descriptors ≡ true) }
@@ -96,7 +95,7 @@ fn errs_onward<V: StateView>(
 
 /// Those of the messages that go on.
 fn outputs_of(alloc: Global, told: Vec<Option<Output>>) -> Result<Outputs, AllocError>
-    ensures { IfOk result (λ outputs. outputs ≡ flat_map listed told.items) }
+    ensures { IfOk result (λ outputs. outputs ≡ flat_map option_to_list told.items) }
 {
     let mut outputs = Outputs::new(alloc);
     for one in told {

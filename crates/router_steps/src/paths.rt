@@ -11,7 +11,7 @@ ghost use Rattle.abstract_router.specs.Arrivals.{is_done, labelled_path_arrival}
 ghost use Rattle.state_views.specs.Drafts.{IsDraft};
 
 use lsr_facts::Reply;
-use path_rules::lsp;
+use message_rules::lsp;
 use path_steps::{failed, path_arrival};
 use resv_arrivals::NO_LABEL;
 use rsvp_contents::Path;

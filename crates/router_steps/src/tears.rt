@@ -10,7 +10,7 @@ ghost use Rattle.state_views.specs.Drafts.{IsDraft};
 ghost use Rattle.router_steps.specs.Torn.{is_reserved_on, torn_keys};
 
 use lsr_facts::{Key, Refusal, Reply};
-use path_rules::lsp;
+use message_rules::lsp;
 use router_events::Outputs;
 use rsvp_contents::ResvTear;
 use sorted_rows::Table;

@@ -1,8 +1,7 @@
 -- What is left where all is lost that messages set up is sound.
-use Rattle.std.specs.Prelude.{◌≡◌, false, []}
+use Rattle.std.specs.Prelude.{◌≡◌, false}
 use Rattle.std.specs.List.{IsDistinct}
 use Rattle.std.proofs.Common.{refl, arith}
-use Rattle.lsr_facts.specs.declared.facts.Facts.{Facts}
 use Rattle.lsr_facts.specs.declared.router.Router.{Router}
 use Rattle.resv_facts.specs.Claims.{rate_of_all, reserved_of}
 use Rattle.abstract_paths.proofs.Primitives.{sound_restarted}

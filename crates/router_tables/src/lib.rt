@@ -9,7 +9,6 @@ mod tables;
 mod views;
 
 pub use change::Change;
-pub use label_table::laws::edits_leave_other_lsps;
 pub use label_table::table_edits;
 pub use state_views::{Changed, Draft, Edits, StateView, WholeState};
 pub use tables::Tables;

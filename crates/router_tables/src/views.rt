@@ -84,7 +84,6 @@ impl WholeState for Tables {
         self.rows.upstream.sent_at(item)
     }
 
-    #[tactic(auto, unfolding(lsr_facts::specs::Lifetimes::due_items))]
     fn due(&self, alloc: Global, moment: u64) -> Result<Vec<Item>, AllocError> {
         self.rows.timers.due(alloc, moment)
     }

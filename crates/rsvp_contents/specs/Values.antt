@@ -62,10 +62,6 @@ abbrev pub as_route : Object → Option (List Step)
 as_route (objects.ExplicitRoute r) = Some r
 as_route _ = None
 
-abbrev pub as_record : Object → Option (List Trace)
-as_record (objects.RecordRoute r) = Some r
-as_record _ = None
-
 -- the RECORD_ROUTE of a message with flow descriptors is theirs
 abbrev pub as_own_record : Bool → Object → Option (List Trace)
 as_own_record styled (objects.RecordRoute r) = if styled then None else Some r

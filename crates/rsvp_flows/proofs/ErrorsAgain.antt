@@ -1,14 +1,14 @@
 -- Error flow descriptors and filters are read again from what they are written as, which stood among what
 -- they were read from.
-use Rattle.std.proofs.Common.{◌≡◌, ◌≤◌, ◌+◌, ℕ, Bool, true, false, not, ◌&&◌, ◌||◌, if◌then◌else◌, List, [], ◌∷◌, ◌++◌, map, Option, Some, None, is_some, refl, sym, ap, ◌∙◌, subst, arith}
+use Rattle.std.proofs.Common.{◌≡◌, ◌≤◌, ◌+◌, ℕ, Bool, true, false, not, ◌||◌, if◌then◌else◌, List, [], ◌∷◌, ◌++◌, map, Option, Some, None, is_some, refl, sym, ap, subst, arith}
 use Rattle.std.specs.List.{list_all}
-use Rattle.std.proofs.lemmas.Bool.{and_parts, and_from, false≢true}
+use Rattle.std.proofs.lemmas.Bool.{and_parts, and_from}
 use Rattle.rsvp_objects.specs.declared.values.Template.{Template}
 use Rattle.rsvp_objects.specs.declared.object.Object.{Object}
 use Rattle.rsvp_objects.specs.declared.object.Object.TheVariants as objects
 use Rattle.rsvp_flows.specs.declared.descriptors.ErrorDescriptor.{ErrorDescriptor}
 use Rattle.rsvp_flows.specs.Errors.{counting_objects, error_objects, errors_of, counts_on, filters_of}
-use Rattle.rsvp_flows.specs.Flows.{is_same, is_flow, flowspec_objects}
+use Rattle.rsvp_flows.specs.Flows.{is_same, is_flow}
 use Rattle.rsvp_flows.proofs.FlowsAgain.{same_bytes, flowspec_most, flowspec_none, flowspec_are_flow}
 use Rattle.rsvp_flows.proofs.Totals.{total, total-append}
 

@@ -1,9 +1,8 @@
 -- How many bytes descriptors are written in, one by one.
-use Rattle.std.proofs.Common.{◌≡◌, ◌≤◌, ◌<◌, ◌+◌, ◌-◌, ℕ, suc, zero, Bool, true, List, [], ◌∷◌, ◌++◌, length, take, drop, get_or, map, Option, Some, None, refl, sym, ap, ◌∙◌, subst, arith, drop-cons, add-one}
-use Rattle.std.specs.List.{list_all, flat_map}
+use Rattle.std.proofs.Common.{◌≡◌, ◌≤◌, ◌<◌, ◌+◌, ◌-◌, ℕ, suc, zero, List, [], ◌∷◌, length, take, drop, get_or, map, Option, Some, sym, ap, ◌∙◌, arith}
+use Rattle.std.specs.List.{list_all}
 use Rattle.std.proofs.lemmas.List.{take_all}
 use Rattle.rsvp_objects.specs.declared.values.Template.{Template}
-use Rattle.rsvp_objects.specs.declared.object.Object.{Object}
 use Rattle.rsvp_objects.specs.declared.object.Object.TheVariants as objects
 use Rattle.rsvp_flows.specs.declared.descriptors.FlowDescriptor.{FlowDescriptor}
 use Rattle.rsvp_flows.specs.declared.descriptors.ErrorDescriptor.{ErrorDescriptor}
@@ -11,7 +10,7 @@ use Rattle.rsvp_flows.specs.Errors.{counting_objects, error_objects}
 use Rattle.rsvp_flows.specs.Flows.{are_shared, if_some, is_same, flow_objects, flowspec_objects}
 use Rattle.rsvp_flows.specs.Lengths.{spelled_len}
 use Rattle.rsvp_flows.proofs.FlowsAgain.{one_total}
-use Rattle.rsvp_flows.proofs.Totals.{total, size_of, total-append, total-if_some, length-flat_map-spelling}
+use Rattle.rsvp_flows.proofs.Totals.{size_of, total-append, total-if_some, length-flat_map-spelling}
 
 -- an element and what follows it
 pub drop_one : {X : Type 0} (xs : List X) (i : ℕ) (x : X) → i < length xs → x ≡ get_or xs i x → drop i xs ≡ x ∷ drop (i + 1) xs

@@ -1,5 +1,5 @@
 -- Flow descriptors are read one by one.
-use Rattle.std.proofs.Common.{◌≡◌, ◌<◌, ◌≤◌, ◌+◌, ℕ, List, [], ◌∷◌, ◌++◌, length, Option, Some, None, refl, sym, ap, ◌∙◌, arith, append_assoc}
+use Rattle.std.proofs.Common.{◌≡◌, ◌+◌, ℕ, List, [], ◌∷◌, ◌++◌, Option, Some, None, refl, sym, ap, ◌∙◌, append_assoc}
 use Rattle.std.specs.Option.{option_map}
 use Rattle.rsvp_objects.specs.declared.values.Label.{Label}
 use Rattle.rsvp_objects.specs.declared.values.Template.{Template}

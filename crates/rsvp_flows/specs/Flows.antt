@@ -3,10 +3,8 @@ use Rattle.std.specs.Prelude.{ℕ, Bool, true, false, not, ◌&&◌, ◌||◌, i
 use Rattle.std.specs.Option.{option_map}
 use Rattle.std.specs.List.{list_all, count_by}
 use Rattle.std.specs.Cmp.Lexicographic.{pointwise}
-use Rattle.rsvp_objects.specs.Below.routes.declared.trace.Trace.{Trace}
 use Rattle.rsvp_objects.specs.declared.values.Label.{Label}
 use Rattle.rsvp_objects.specs.declared.values.Style.{Style}
-use Rattle.rsvp_objects.specs.declared.values.Template.{Template}
 use Rattle.rsvp_objects.specs.declared.object.Object.{Object}
 use Rattle.rsvp_objects.specs.declared.object.Object.TheVariants as objects
 use Rattle.rsvp_flows.specs.declared.descriptors.FlowDescriptor.{FlowDescriptor}

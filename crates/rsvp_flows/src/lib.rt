@@ -14,4 +14,4 @@ pub use descriptors::{
 pub use fitting::{are_errors_within, are_filters_within, are_flows_within, counts_on, fits_style};
 pub use reading::{error_descriptors_of, filters_of, flow_descriptors_of};
 pub use sequence::{Exact, Sequence};
-pub use style::{is_fixed, is_other, is_shared};
+pub use style::{FIXED_FILTER, SHARED_EXPLICIT, is_fixed, is_other, is_shared};

@@ -42,10 +42,6 @@ module _ {K X : Type 0} (cmp : K → K → Ordering) (total : IsTotalOrder cmp) 
       ∙ ap (cond (eq_by_cmp cmp q e.0) e.1) (find-edited q es rows)
       ∙ over_first (eq_by_cmp cmp q e.0) e.1 (find cmp q es) (find cmp q rows)
 
-  -- the same, under a name that a tactic takes
-  pub find_edited : (q : K) (es : List (K × Option X)) (rows : List (K × X)) → find cmp q (edited cmp es rows) ≡ over (find cmp q es) (find cmp q rows)
-  find_edited = find-edited
-
   -- one edit keeps the order
   pub is_sorted-at_key : (key : K) (now : Option X) (rows : List (K × X)) → T (is_sorted cmp rows) → T (is_sorted cmp (at_key cmp key now rows))
   is_sorted-at_key key None rows h = is_sorted-where_key cmp (λ q. not (is_eq (cmp key q))) rows h
@@ -63,7 +59,3 @@ module _ {K X : Type 0} (cmp : K → K → Ordering) (total : IsTotalOrder cmp) 
       find-edited q (put cmp key now es) rows
       ∙ ap (λ o. over o (find cmp q rows)) (find-put cmp total q key now es)
       ∙ sym (find-at_key q key now (edited cmp es rows) ∙ ap (cond (eq_by_cmp cmp q key) now) (find-edited q es rows) ∙ over_first (eq_by_cmp cmp q key) now (find cmp q es) (find cmp q rows)))
-
-  -- the same, under a name that a tactic takes
-  pub edited_put : ((x y : K) → cmp x y ≡ Equal → x ≡ y) → (key : K) (now : Option X) (es : List (K × Option X)) (rows : List (K × X)) → T (is_sorted cmp rows) → edited cmp (put cmp key now es) rows ≡ at_key cmp key now (edited cmp es rows)
-  edited_put = edited-put

@@ -265,12 +265,6 @@ module _ {K X : Type 0} (cmp : K → K → Ordering) where
     pub where_key-kept : (p : K × X → Bool) (es : List (K × X)) → T (is_sorted cmp es) → where_key cmp (λ k. is_some (find cmp k (filter p es))) es ≡ filter p es
     where_key-kept p es h = filter_agree_within (λ e. is_some (find cmp e.0 (filter p es))) p es (all_kept p es h)
 
-    -- and the others are those that fail it
-    pub where_key-gone : (p : K × X → Bool) (es : List (K × X)) → T (is_sorted cmp es) → where_key cmp (λ k. not (is_some (find cmp k (filter p es)))) es ≡ filter (λ e. not (p e)) es
-    where_key-gone p es h =
-        filter_agree_within (λ e. not (is_some (find cmp e.0 (filter p es)))) (λ e. not (p e)) es
-        (all-weaker (λ e. is_some (find cmp e.0 (filter p es)) ≡ p e) (λ e. not (is_some (find cmp e.0 (filter p es))) ≡ not (p e)) (λ e is. ap not is) es (all_kept p es h))
-
     -- a value that was put is found under its key
     pub find-put_same : (k : K) (v : X) (es : List (K × X)) → find cmp k (put cmp k v es) ≡ Some v
     find-put_same k v es = find-put cmp total k k v es ∙ ap (λ r. cond (is_eq r) (Some v) (find cmp k es)) (tied_itself total k)
@@ -341,10 +335,6 @@ module _ {K X : Type 0} (cmp : K → K → Ordering) where
           | true ↦ λ t. first_goes (f e.1) _ _ _ _ (sum_by-cons of e es) (ap (λ o. option_map_or f o 0) (find-behind k e es h (ties _ t))) rest
           | false ↦ λ t. first_left (f e.1) _ _ _ _ _ (sum_by-cons of e left) (sum_by-cons of e es) rest
         ] refl
-
--- the same keys stay the same after a put at one key in both lists
-pub keys-put_both : {K X Y : Type 0} (cmp : K → K → Ordering) (k : K) (v : X) (w : Y) (es : List (K × X)) (fs : List (K × Y)) → keys_of es ≡ keys_of fs → keys_of (put cmp k v es) ≡ keys_of (put cmp k w fs)
-keys-put_both cmp k v w es fs same = keys-put cmp k v es ∙ ap (with_key cmp k) same ∙ sym (keys-put cmp k w fs)
 
 -- lists with the same keys have a key alike
 pub is_some-find_both : {K X Y : Type 0} (cmp : K → K → Ordering) (q : K) (es : List (K × X)) (fs : List (K × Y)) → keys_of es ≡ keys_of fs → is_some (find cmp q es) ≡ is_some (find cmp q fs)

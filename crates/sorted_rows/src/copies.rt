@@ -10,6 +10,12 @@ pub trait TryCopy {
         ensures { IfOk result (λ copy. copy ≡ self.now) };
 }
 
+impl TryCopy for () {
+    fn try_copy(&self, _alloc: Global) -> Result<(), AllocError> {
+        Ok(())
+    }
+}
+
 impl TryCopy for bool {
     fn try_copy(&self, _alloc: Global) -> Result<bool, AllocError> {
         Ok(*self)

@@ -16,7 +16,7 @@ use Rattle.sorted_rows.specs.ListLaws.{all-weaker}
 use Rattle.sorted_rows.specs.Rows.{keys_of}
 use Rattle.sorted_rows.specs.RowsLaws.{all_found, is_sorted-both, is_sorted-filter}
 use Rattle.sorted_rows.specs.EditLaws.{is_sorted-edited}
-use Rattle.lsr_facts.specs.Lifetimes.{due_items, has_waited}
+use Rattle.lsr_facts.specs.Lifetimes.{has_waited}
 use Rattle.lsr_facts.specs.OrderLaws.{item_total, key_total}
 use Rattle.lsr_facts.specs.Orders.{item_cmp, key_cmp}
 use Rattle.lsr_facts.specs.declared.key.Key.{Key}
@@ -107,7 +107,6 @@ sorted_keys {K} {X} cmp total (e ∷ es) h k d from within =
 
 -- So are the items that are due.
 pub sorted_due : (r : Router) (s : State) (due : Option ℕ) → T (is_sorted item_cmp s.facts.sent) → IsSorted item_cmp (due_by due r s)
-unfolding due_items
 sorted_due r s None h = λ k d from within. absurd (omega (arith, within))
 sorted_due r s (Some moment) h = sorted_keys item_cmp item_total (filter (λ row. has_waited r.refresh_ms row.1 moment) s.facts.sent) (is_sorted-filter item_cmp (λ row. has_waited r.refresh_ms row.1 moment) s.facts.sent h)
 

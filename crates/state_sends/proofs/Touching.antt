@@ -1,32 +1,24 @@
 -- One more key among others, and what is known of those that aren't among them.
 use Rattle.std.specs.Prelude.{◌≡◌, ◌+◌, ◌<◌, ◌||◌, ◌++◌, ℕ, zero, suc, slice_get, Bool, true, false, cond, List, [], ◌∷◌, Option, Some, None, is_some, length, take}
 use Rattle.std.specs.FinMap.Entries.{find, find-put, put}
-use Rattle.std.specs.Option.{option_map, option_or}
+use Rattle.std.specs.Option.{option_or}
 use Rattle.std.specs.Ordering.{eq_by_cmp}
 use Rattle.std.proofs.Common.{get_or, refl, sym, ap, subst, arith, ◌∙◌}
 use Rattle.std.proofs.lemmas.List.{take_more}
 use Rattle.std.proofs.lemmas.List.Folds.{list_any-append}
 use Rattle.sorted_rows.specs.RowsLaws.{find-append}
-use Rattle.sorted_rows.specs.EditLaws.{find-edited}
 use Rattle.sorted_rows.specs.Edits as rows
 use Rattle.lsr_facts.specs.OrderLaws.{key_exact, key_total}
 use Rattle.lsr_facts.specs.Orders.{key_cmp}
-use Rattle.lsr_facts.specs.Timeless.{timeless_path}
 use Rattle.lsr_facts.specs.declared.key.Key.{Key}
-use Rattle.lsr_facts.specs.declared.path_fact.PathFact.{PathFact}
-use Rattle.resv_facts.specs.Reservations.{timeless_resv}
-use Rattle.abstract_paths.specs.StampLaws.{none-is, ties}
+use Rattle.abstract_paths.specs.StampLaws.{ties}
 use Rattle.abstract_paths.specs.Touched.{is_among}
-use Rattle.abstract_router.specs.Lsps.{Lsp, lsp_at}
+use Rattle.abstract_router.specs.Lsps.{lsp_at}
 use Rattle.abstract_router.specs.States.{State}
-use Rattle.state_views.specs.Edits.{edited}
+use Rattle.state_views.specs.EditLaws.{neither, same_unedited}
+use Rattle.state_views.specs.Edits.{edited, is_edited}
 use Rattle.state_views.specs.declared.edits.Edits.{Edits}
-use Rattle.state_sends.specs.Touching.{is_edited, is_lsp_of}
-
--- neither of two tests passes
-pub neither : (a b : Bool) → (a || b) ≡ false → (a ≡ false) × (b ≡ false)
-neither true b e = absurd (let f = e in cc)
-neither false b e = (refl, e)
+use Rattle.state_sends.specs.Touching.{is_lsp_of}
 
 -- a key is among rows with one more after them
 among-more : {E : Type 0} (key : Key) (rows : List (Key × E)) (row : Key × E) → is_among key_cmp (rows ++ row ∷ []) key ≡ (is_among key_cmp rows key || eq_by_cmp key_cmp key row.0)
@@ -106,32 +98,6 @@ one_item {I} of items i item lsp keys all after within is is_lsp put known key =
     (ap (λ b. is_lsp_of of (take i items) key || b) (sym (or_false (eq_by_cmp key_cmp key (of item))))
     ∙ sym (list_any-append (λ (x : I). eq_by_cmp key_cmp key (of x)) (take i items) (item ∷ []))
     ∙ sym (ap (λ (xs : List I). is_lsp_of of xs key) (take_more items i item within ∙ ap (λ x. take i items ++ x ∷ []) (sym is))))
-
--- The same is known of an LSP where path, label and reservation are the same, but for when they expire.
-pub same_lsp : (s t : State) (key : Key) → find key_cmp key s.labels ≡ find key_cmp key t.labels
-    → option_map timeless_resv (find key_cmp key s.resvs) ≡ option_map timeless_resv (find key_cmp key t.resvs)
-    → option_map timeless_path (find key_cmp key s.facts.paths) ≡ option_map timeless_path (find key_cmp key t.facts.paths)
-    → lsp_at s key ≡ lsp_at t key
-same_lsp s t key label resv path = of_path s (find key_cmp key s.facts.paths) ∙ (λ i. option_map (λ (p : PathFact). record { path = p; label = label i; resv = resv i }) (path i)) ∙ sym (of_path t (find key_cmp key t.facts.paths))
-  where
-    of_path : (x : State) (o : Option PathFact)
-        → option_map {U = Lsp} (λ p. record { path = timeless_path p; label = find key_cmp key x.labels; resv = option_map timeless_resv (find key_cmp key x.resvs) }) o
-        ≡ option_map {U = Lsp} (λ p. record { path = p; label = find key_cmp key x.labels; resv = option_map timeless_resv (find key_cmp key x.resvs) }) (option_map timeless_path o)
-    of_path x None = refl
-    of_path x (Some p) = refl
-
--- what is found where there is no edit
-as_before : {X : Type 0} (key : Key) (edits : List (Key × Option X)) (before : List (Key × X)) → is_among key_cmp edits key ≡ false → find key_cmp key before ≡ find key_cmp key (rows.edited key_cmp edits before)
-as_before key edits before none =
-    sym (find-edited key_cmp key_total key edits before ∙ ap (λ edit. rows.over edit (find key_cmp key before)) (none-is (find key_cmp key edits) none))
-
--- So it is where the LSP has no edit.
-pub same_unedited : (s : State) (e : Edits) (key : Key) → is_edited e key ≡ false → lsp_at s key ≡ lsp_at (edited e s) key
-same_unedited s e key none =
-    let labels = neither (is_among key_cmp e.labels key) (is_among key_cmp e.resvs key || is_among key_cmp e.paths key) none in
-    let resvs = neither (is_among key_cmp e.resvs key) (is_among key_cmp e.paths key) labels.1 in
-    same_lsp s (edited e s) key (as_before key e.labels s.labels labels.0)
-    (ap (option_map timeless_resv) (as_before key e.resvs s.resvs resvs.0)) (ap (option_map timeless_path) (as_before key e.paths s.facts.paths resvs.1))
 
 -- And so of those that aren't among the edited LSPs of which not the same is known.
 pub same_apart : (s : State) (e : Edits) (lsps changed : List (Key × Unit {0})) → ((key : Key) → is_among key_cmp lsps key ≡ is_edited e key)

@@ -1,19 +1,15 @@
 -- The LSPs that a step touches.
-use Rattle.std.specs.Prelude.{◌≡◌, ◌||◌, Bool, false, List, None, IfSome}
+use Rattle.std.specs.Prelude.{◌≡◌, Bool, false, List, None, IfSome}
 use Rattle.std.specs.FinMap.Entries.{find}
 use Rattle.std.specs.List.{list_any}
 use Rattle.std.specs.Ordering.{eq_by_cmp}
 use Rattle.lsr_facts.specs.Orders.{key_cmp}
 use Rattle.lsr_facts.specs.declared.key.Key.{Key}
 use Rattle.abstract_paths.specs.Touched.{is_among}
-use Rattle.abstract_router.specs.Lsps.{lsp_at}
 use Rattle.abstract_router.specs.States.{State}
+use Rattle.abstract_router.specs.Touched.{LeavesOtherLsps}
 use Rattle.state_views.specs.Edits.{edited}
 use Rattle.state_views.specs.declared.edits.Edits.{Edits}
-
--- the LSP's label, reservation or path is edited
-abbrev pub is_edited : Edits → Key → Bool
-is_edited e key = is_among key_cmp e.labels key || (is_among key_cmp e.resvs key || is_among key_cmp e.paths key)
 
 -- one of these items is the LSP's
 abbrev pub is_lsp_of : {I : Type 0} → (I → Key) → List I → Key → Bool
@@ -22,5 +18,5 @@ is_lsp_of of items key = list_any (λ item. eq_by_cmp key_cmp key (of item)) ite
 -- What a step touches is among these LSPs: of any other the same is known before and after, but for when it expires,
 -- and where other links are up from now on, there is no other.
 pub record AreAllTouched (before : State) (e : Edits) (lsps : List (Key × Unit {0})) : Type 0 where
-  pub same : (key : Key) → is_among key_cmp lsps key ≡ false → lsp_at before key ≡ lsp_at (edited e before) key
+  pub same : LeavesOtherLsps (is_among key_cmp lsps) before (edited e before)
   pub linked : IfSome e.up (λ up. (key : Key) → is_among key_cmp lsps key ≡ false → find key_cmp key before.facts.paths ≡ None)

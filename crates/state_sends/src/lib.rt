@@ -8,4 +8,3 @@ mod sends;
 mod touched;
 
 pub use sends::{StateSends, appended, sends_of};
-pub use touched::edited_lsps;

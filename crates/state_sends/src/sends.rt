@@ -15,13 +15,14 @@ ghost use Rattle.abstract_paths.specs.Touched.{is_among};
 ghost use Rattle.abstract_router.specs.Lsps.{around_of, lsps_of};
 ghost use Rattle.abstract_router.specs.Outputs.{item_stamps, outputs_of, upstream_stamps};
 ghost use Rattle.abstract_router.specs.Soundness.{IsResv, IsSound};
+ghost use Rattle.abstract_router.specs.Touched.{LeavesOtherLsps};
 ghost use Rattle.state_views.specs.Drafts.{due_by, upstream_due_by};
 ghost use Rattle.state_views.specs.Edits.{edited};
 ghost use Rattle.state_sends.specs.Touching.{AreAllTouched, is_lsp_of};
 
 use crate::kept_alive::KeptAlive;
-use crate::touched::{Lsps, touched_by};
-use lsr_facts::Item;
+use crate::touched::{Lsps, changed_lsps, touched_by};
+use lsr_facts::{Item, Key};
 use resv_facts::Upstream;
 use router_sends::{Sends, errors_out, sends_between};
 use sorted_rows::Table;
@@ -38,6 +39,8 @@ pub struct StateSends {
     pub moments: Table<Item, Option<u64>>,
     /// And of Resvs.
     pub upstream: Table<Upstream, Option<u64>>,
+    /// The LSPs of which not the same is known after, but for when they expire, in the order of their keys.
+    pub changed: Table<Key, ()>,
 }
 
 /// Which links are up after edits.
@@ -142,7 +145,8 @@ pub fn appended(outputs: Outputs, more: Outputs) -> Result<Outputs, AllocError>
 }
 
 /// What is sent where these edits are made, these errors are met, and what is due at a moment is sent again, if one
-/// came: errors, then tears of Paths and of Resvs, then Paths and Resvs. The only error is out of memory.
+/// came: errors, then tears of Paths and of Resvs, then Paths and Resvs; and which LSPs change. The only error is out of
+/// memory.
 pub fn sends_of<V: WholeState>(
     alloc: Global,
     view: &V,
@@ -169,13 +173,17 @@ pub fn sends_of<V: WholeState>(
         ≡ upstream_stamps (V.router view.now) (V.state view.now)
         (upstream_due_by due (V.router view.now) (V.state view.now))
         (edited edits.now (V.state view.now))) }
+    ensures changed { IfOk result (λ sends. LeavesOtherLsps (is_among key_cmp sends.changed)
+        (V.state view.now) (edited edits.now (V.state view.now))) }
 {
     let due_paths = due_paths(alloc, view, due)?;
     let due_resvs = due_resvs(alloc, view, due)?;
+    let changed = changed_lsps(alloc, view, edits)?;
     let touched = touched_by(
         alloc,
         view,
         edits,
+        &changed,
         due_paths.as_slice(),
         due_resvs.as_slice(),
     )?;
@@ -196,5 +204,6 @@ pub fn sends_of<V: WholeState>(
         outputs,
         moments,
         upstream,
+        changed,
     })
 }

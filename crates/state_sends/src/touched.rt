@@ -6,14 +6,15 @@ ghost use Rattle.lsr_facts.specs.Orders.{key_cmp};
 ghost use Rattle.lsr_facts.specs.declared.key.Key.{Key};
 ghost use Rattle.abstract_paths.specs.Touched.{is_among, key_of_item};
 ghost use Rattle.abstract_router.specs.Lsps.{lsp_at};
-ghost use Rattle.state_views.specs.Edits.{edited};
-ghost use Rattle.state_sends.specs.Touching.{AreAllTouched, is_edited, is_lsp_of};
+ghost use Rattle.abstract_router.specs.Touched.{LeavesOtherLsps};
+ghost use Rattle.state_views.specs.Edits.{edited, is_edited};
+ghost use Rattle.state_sends.specs.Touching.{AreAllTouched, is_lsp_of};
 
 use crate::kept_alive::KeptAlive;
 use crate::same::is_same_lsp;
 use lsr_facts::{Item, Key};
 use resv_facts::Upstream;
-use sorted_rows::Table;
+use sorted_rows::{Table, TryCopy};
 use state_views::{Edits, StateView, WholeState};
 use std::alloc::{AllocError, Global};
 
@@ -32,8 +33,8 @@ fn with_keys<E>(keys: Lsps, rows: &[(Key, E)]) -> Result<Lsps, AllocError>
     Ok(all)
 }
 
-/// The LSPs that have an edit, in the order of their keys. The only error is out of memory.
-pub fn edited_lsps(alloc: Global, edits: &Edits) -> Result<Table<Key, ()>, AllocError>
+/// The LSPs that have an edit.
+fn edited_lsps(alloc: Global, edits: &Edits) -> Result<Lsps, AllocError>
     ensures { IfOk result (λ all. (key : Key) → is_among key_cmp all key ≡ is_edited edits.now key) }
 {
     let paths = with_keys(Table::new(alloc), edits.paths.as_slice())?;
@@ -86,31 +87,38 @@ fn with_lsps_of<I: KeptAlive>(keys: Lsps, items: &[I]) -> Result<Lsps, AllocErro
     Ok(all)
 }
 
-/// Those LSPs of which not the same is known after edits.
-fn changed_lsps<V: StateView>(alloc: Global, view: &V, edits: &Edits) -> Result<Lsps, AllocError>
-    ensures { IfOk result (λ all. (key : Key) → is_among key_cmp all key ≡ false
-        → lsp_at (V.state view.now) key ≡ lsp_at (edited edits.now (V.state view.now)) key) }
+/// Those LSPs of which not the same is known after edits, but for when they expire. The only error is out of memory.
+pub(crate) fn changed_lsps<V: StateView>(
+    alloc: Global,
+    view: &V,
+    edits: &Edits,
+) -> Result<Lsps, AllocError>
+    ensures { IfOk result (λ all. LeavesOtherLsps (is_among key_cmp all)
+        (V.state view.now) (edited edits.now (V.state view.now))) }
 {
     let edited = edited_lsps(alloc, edits)?;
     changed_among(alloc, view, edits, edited.as_slice())
 }
 
-/// All LSPs that a step touches, where these items are due. The only error is out of memory.
+/// All LSPs that a step touches: those of which not the same is known after its edits, and those of these items, which
+/// are due. The only error is out of memory.
 pub(crate) fn touched_by<V: WholeState>(
     alloc: Global,
     view: &V,
     edits: &Edits,
+    changed: &Lsps,
     due: &[Item],
     upstream_due: &[Upstream],
 ) -> Result<Lsps, AllocError>
+    requires changed { LeavesOtherLsps (is_among key_cmp changed.now)
+        (V.state view.now) (edited edits.now (V.state view.now)) }
     ensures all { IfOk result (AreAllTouched (V.state view.now) edits.now) }
     ensures due { IfOk result (λ all. (key : Key) → is_among key_cmp all key ≡ false
         → is_lsp_of key_of_item due.now key ≡ false) }
     ensures upstream_due { IfOk result (λ all. (key : Key) → is_among key_cmp all key ≡ false
         → is_lsp_of (λ u. u.key) upstream_due.now key ≡ false) }
 {
-    let changed = changed_lsps(alloc, view, edits)?;
-    let refreshed = with_lsps_of(changed, due)?;
+    let refreshed = with_lsps_of(changed.try_copy(alloc)?, due)?;
     let touched = with_lsps_of(refreshed, upstream_due)?;
     match &edits.up {
         Some(_) => with_known(view, touched),

@@ -1,4 +1,4 @@
--- Reservations that stand no more.
+-- Reservations that stand no more (RFC 2205, 2.3 and 3.6).
 use Rattle.std.specs.Prelude.{not, Bool, false, if◌then◌else◌, Option, Some, None}
 use Rattle.std.specs.FinMap.Entries.{find}
 use Rattle.std.specs.Option.{option_map_or}

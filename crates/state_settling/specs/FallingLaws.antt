@@ -19,7 +19,7 @@ use Rattle.lsr_facts.specs.declared.path_fact.PathFact.{PathFact}
 use Rattle.resv_facts.specs.declared.resv_fact.ResvFact.{ResvFact}
 use Rattle.abstract_paths.specs.Places.{is_up}
 use Rattle.abstract_paths.specs.Tears.{leaves_by}
-use Rattle.abstract_router.specs.States.{State, is_among}
+use Rattle.abstract_router.specs.States.{State, is_one_of}
 use Rattle.abstract_router.specs.Steps.{left_standing, stands}
 use Rattle.state_views.specs.EditLaws.{resvs_without}
 use Rattle.state_views.specs.Edits.{edited, without_resvs}
@@ -44,7 +44,7 @@ both-either true b c = by c b
 both-either false b c = refl
 
 -- Of rows a key is among those that pass a test where it has a row and passes.
-pub among-passing : {E : Type 0} (p : Key → Bool) (q : Key) (es : List (Key × E)) → is_among (filter_map (λ e. if p e.0 then Some e.0 else None) es) q ≡ (is_some (find key_cmp q es) && p q)
+pub among-passing : {E : Type 0} (p : Key → Bool) (q : Key) (es : List (Key × E)) → is_one_of (filter_map (λ e. if p e.0 then Some e.0 else None) es) q ≡ (is_some (find key_cmp q es) && p q)
 among-passing p q [] = refl
 among-passing {E} p q (e ∷ es) = by (p e.0) (eq_by_cmp key_cmp q e.0) refl refl (among-passing p q es)
   where
@@ -58,15 +58,15 @@ among-passing {E} p q (e ∷ es) = by (p e.0) (eq_by_cmp key_cmp q e.0) refl ref
     neither true = refl
     neither false = refl
 
-    by : (passes tie : Bool) → p e.0 ≡ passes → eq_by_cmp key_cmp q e.0 ≡ tie → is_among rest q ≡ (is_some (find key_cmp q es) && p q) → is_among (cons_option (if passes then Some e.0 else None) rest) q ≡ (is_some (cond tie (Some e.1) (find key_cmp q es)) && p q)
-    by true true is tie more = ap (λ b. b || is_among rest q) (tie-turned e.0 q ∙ tie) ∙ sym (same tie ∙ is)
-    by true false is tie more = ap (λ b. b || is_among rest q) (tie-turned e.0 q ∙ tie) ∙ more
+    by : (passes tie : Bool) → p e.0 ≡ passes → eq_by_cmp key_cmp q e.0 ≡ tie → is_one_of rest q ≡ (is_some (find key_cmp q es) && p q) → is_one_of (cons_option (if passes then Some e.0 else None) rest) q ≡ (is_some (cond tie (Some e.1) (find key_cmp q es)) && p q)
+    by true true is tie more = ap (λ b. b || is_one_of rest q) (tie-turned e.0 q ∙ tie) ∙ sym (same tie ∙ is)
+    by true false is tie more = ap (λ b. b || is_one_of rest q) (tie-turned e.0 q ∙ tie) ∙ more
     by false true is tie more = more ∙ ap (λ b. is_some (find key_cmp q es) && b) (same tie ∙ is) ∙ neither (is_some (find key_cmp q es)) ∙ sym (same tie ∙ is)
     by false false is tie more = more
 
 -- and so of two tables' rows
 pub among-both : {E F : Type 0} (p : Key → Bool) (q : Key) (es : List (Key × E)) (fs : List (Key × F)) → (p q ≡ true → (is_some (find key_cmp q es) || is_some (find key_cmp q fs)) ≡ true)
-    → is_among (filter_map (λ e. if p e.0 then Some e.0 else None) es ++ filter_map (λ f. if p f.0 then Some f.0 else None) fs) q ≡ p q
+    → is_one_of (filter_map (λ e. if p e.0 then Some e.0 else None) es ++ filter_map (λ f. if p f.0 then Some f.0 else None) fs) q ≡ p q
 among-both p q es fs known =
     list_any-append (λ k. is_eq (key_cmp k q)) (filter_map (λ e. if p e.0 then Some e.0 else None) es) (filter_map (λ f. if p f.0 then Some f.0 else None) fs)
     ∙ (λ i. among-passing p q es i || among-passing p q fs i)
@@ -84,10 +84,10 @@ not_not true = refl
 not_not false = refl
 
 -- Where these are the LSPs whose reservations stand no more after edits, those are left that stand.
-pub standing_left : (s : State) (e : Edits) (gone : List Key) → T (is_sorted key_cmp s.resvs) → ((q : Key) → is_among gone q ≡ has_fallen (edited e s) q)
+pub standing_left : (s : State) (e : Edits) (gone : List Key) → T (is_sorted key_cmp s.resvs) → ((q : Key) → is_one_of gone q ≡ has_fallen (edited e s) q)
     → edited (record e { resvs = without_resvs e.resvs gone }) s ≡ left_standing (edited e s)
 standing_left s e gone sorted exactly =
-    λ i. record (edited e s) { resvs = (resvs_without e.resvs gone s.resvs sorted ∙ filter_agree_within (λ resv. not (is_among gone resv.0)) test after alike) i }
+    λ i. record (edited e s) { resvs = (resvs_without e.resvs gone s.resvs sorted ∙ filter_agree_within (λ resv. not (is_one_of gone resv.0)) test after alike) i }
   where
     after : List (Key × ResvFact)
     after = (edited e s).resvs
@@ -95,9 +95,9 @@ standing_left s e gone sorted exactly =
     test : Key × ResvFact → Bool
     test = stands (edited e s).facts
 
-    alike : AllByRecursion (λ (resv : Key × ResvFact). not (is_among gone resv.0) ≡ test resv) after
+    alike : AllByRecursion (λ (resv : Key × ResvFact). not (is_one_of gone resv.0) ≡ test resv) after
     alike =
-        all-weaker (λ (resv : Key × ResvFact). find key_cmp resv.0 after ≡ Some resv.1) (λ resv. not (is_among gone resv.0) ≡ test resv)
+        all-weaker (λ (resv : Key × ResvFact). find key_cmp resv.0 after ≡ Some resv.1) (λ resv. not (is_one_of gone resv.0) ≡ test resv)
         (λ resv found. ap not (exactly resv.0 ∙ ap (λ o. option_map_or (λ fact. not (test (resv.0, fact))) o false) found) ∙ not_not (test resv))
         after (all_found key_cmp key_total after (is_sorted-edited key_cmp key_total e.resvs s.resvs sorted))
 
@@ -109,9 +109,9 @@ known-over p None (Some x) h = refl
 
 -- What falls among all that were reserved before, and among the edits, is all that falls.
 pub fallen_of_all : (s : State) (e : Edits) (keys : List Key) → keys ≡ filter_map (λ row. fallen_key (edited e s) row.0) e.resvs ++ filter_map (λ resv. fallen_key (edited e s) resv.0) s.resvs
-    → (q : Key) → is_among keys q ≡ has_fallen (edited e s) q
+    → (q : Key) → is_one_of keys q ≡ has_fallen (edited e s) q
 fallen_of_all s e keys are q =
-    ap (λ ks. is_among ks q) are
+    ap (λ ks. is_one_of ks q) are
     ∙ among-both (has_fallen (edited e s)) q e.resvs s.resvs (λ h.
     known-over (λ resv. not (stands (edited e s).facts (q, resv))) (find key_cmp q e.resvs) (find key_cmp q s.resvs)
     (ap (λ o. option_map_or (λ resv. not (stands (edited e s).facts (q, resv))) o false) (sym (find-edited key_cmp key_total q e.resvs s.resvs)) ∙ h))
@@ -119,9 +119,9 @@ fallen_of_all s e keys are q =
 -- Where no link changed and all stood, what falls is among the edits.
 pub fallen_of_edits : (s : State) (e : Edits) (keys : List Key) → AllByRecursion (λ resv. stands s.facts resv ≡ true) s.resvs → e.up ≡ None
     → keys ≡ filter_map (λ row. fallen_key (edited e s) row.0) e.resvs ++ filter_map (λ row. fallen_key (edited e s) row.0) e.paths
-    → (q : Key) → is_among keys q ≡ has_fallen (edited e s) q
+    → (q : Key) → is_one_of keys q ≡ has_fallen (edited e s) q
 fallen_of_edits s e keys stood same are q =
-    ap (λ ks. is_among ks q) are ∙ among-both (has_fallen (edited e s)) q e.resvs e.paths (λ fallen. by (find key_cmp q e.resvs) (find key_cmp q e.paths) refl refl fallen)
+    ap (λ ks. is_one_of ks q) are ∙ among-both (has_fallen (edited e s)) q e.resvs e.paths (λ fallen. by (find key_cmp q e.resvs) (find key_cmp q e.paths) refl refl fallen)
   where
     stays : (resv : ResvFact) → find key_cmp q e.paths ≡ None → stands s.facts (q, resv) ≡ true → stands (edited e s).facts (q, resv) ≡ true
     stays resv none so =

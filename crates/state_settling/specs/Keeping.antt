@@ -1,4 +1,4 @@
--- The priorities at which paths have reservations kept, and what edits make of them.
+-- The priorities at which paths have reservations kept, and what edits make of them (RFC 3209, 4.7.1).
 use Rattle.std.specs.Prelude.{ℕ, ◌==◌, if◌then◌else◌, List, Option, Some, None, is_some}
 use Rattle.std.specs.FinMap.Entries.{find, put}
 use Rattle.std.specs.Option.{option_and_then, option_map, option_map_or, option_or}

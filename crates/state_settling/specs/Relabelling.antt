@@ -1,4 +1,4 @@
--- What becomes of labels by edits of paths.
+-- What becomes of labels by edits of paths (RFC 3031, 3.1 and 3.14).
 use Rattle.std.specs.Prelude.{ℕ, not, Bool, true, false, ◌&&◌, List, filter_map, Option, Some, None, is_none}
 use Rattle.std.specs.FinMap.Entries.{find}
 use Rattle.std.specs.Option.{option_map, option_map_or}

@@ -5,7 +5,6 @@ ghost use Rattle.std.specs.Option.{option_map};
 ghost use Rattle.std.specs.Prelude.{◌≡◌, ◌∷◌, [], IfOk, T, filter_map, find as find_first, not};
 ghost use Rattle.sorted_rows.specs.Rows.{keys_of};
 ghost use Rattle.sorted_rows.specs.Edits as rows;
-ghost use Rattle.lsr_facts.specs.Lifetimes.{begins_here};
 ghost use Rattle.lsr_facts.specs.Orders.{key_cmp};
 ghost use Rattle.abstract_router.specs.Choosing.{CanLabel};
 ghost use Rattle.abstract_router.specs.Labels.{IsLabelling, labelled_keys};
@@ -13,7 +12,7 @@ ghost use Rattle.abstract_router.specs.Steps.{labelled};
 ghost use Rattle.state_views.specs.Edits.{edited};
 ghost use Rattle.state_settling.specs.Relabelling.{is_new, label_edit, label_edits, needs_label};
 
-use lsr_facts::{Key, PathFact, Role};
+use lsr_facts::{Key, PathFact, begins_here};
 use sorted_rows::Table;
 use state_views::{Edits, StateView, WholeState};
 use std::alloc::{AllocError, Global};
@@ -25,17 +24,6 @@ fn needs_label(now: &Option<PathFact>) -> bool
     match now {
         Some(path) => !begins_here(path.role),
         None => false,
-    }
-}
-
-/// Whether a path of this role begins here.
-fn begins_here(role: Role) -> bool
-    ensures { result ≡ begins_here role }
-{
-    match role {
-        Role::Tail => false,
-        Role::Transit => false,
-        Role::Head => true,
     }
 }
 

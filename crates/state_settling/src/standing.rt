@@ -6,13 +6,13 @@ ghost use Rattle.std.specs.Option.{option_and_then};
 ghost use Rattle.std.specs.Prelude.{◌≡◌, ◌++◌, true, IfOk, T, filter_map, slice_get};
 ghost use Rattle.lsr_facts.specs.Orders.{key_cmp};
 ghost use Rattle.lsr_facts.specs.declared.key.Key.{Key};
-ghost use Rattle.abstract_router.specs.States.{is_among};
+ghost use Rattle.abstract_router.specs.States.{is_one_of};
 ghost use Rattle.abstract_router.specs.Steps.{left_standing, stands};
 ghost use Rattle.state_views.specs.Edits.{edited};
 ghost use Rattle.state_settling.specs.Falling.{fallen_key, has_fallen};
 
 use lsr_facts::Key;
-use path_rules::{is_up, leaves_by};
+use message_rules::{is_up, leaves_by};
 use resv_facts::ResvFact;
 use state_views::{Changed, Edits, StateView, WholeState, node_of, without_resvs};
 use std::alloc::{AllocError, Global};
@@ -90,7 +90,7 @@ fn with_all_fallen<V: WholeState, A: StateView>(
 /// over all of them only where links changed; else over the edits. The only error is out of memory.
 fn fallen<V: WholeState>(alloc: Global, view: &V, edits: &Edits) -> Result<Vec<Key>, AllocError>
     requires { AllByRecursion (λ resv. stands (V.state view.now).facts resv ≡ true) (V.state view.now).resvs }
-    ensures { IfOk result (λ keys. (key : Key) → is_among keys.items key
+    ensures { IfOk result (λ keys. (key : Key) → is_one_of keys.items key
         ≡ has_fallen (edited edits.now (V.state view.now)) key) }
 {
     let after = Changed { under: view, edits };

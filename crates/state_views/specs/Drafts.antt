@@ -4,7 +4,6 @@ use Rattle.lsr_facts.specs.Lifetimes.{due_items}
 use Rattle.lsr_facts.specs.declared.key.Item.{Item}
 use Rattle.lsr_facts.specs.declared.router.Router.{Router}
 use Rattle.resv_facts.specs.declared.upstream.Upstream.{Upstream}
-use Rattle.abstract_router.specs.Arrivals.{due_upstream}
 use Rattle.abstract_router.specs.Outcomes.{Outcome}
 use Rattle.abstract_router.specs.States.{State}
 use Rattle.state_views.specs.Edits.{edited}
@@ -18,7 +17,7 @@ due_by (Some moment) r s = due_items r.refresh_ms s.facts.sent moment
 -- and the Resvs
 abbrev pub upstream_due_by : Option ℕ → Router → State → List Upstream
 upstream_due_by None r s = []
-upstream_due_by (Some moment) r s = due_upstream r.refresh_ms s.sent_upstream moment
+upstream_due_by (Some moment) r s = due_items r.refresh_ms s.sent_upstream moment
 
 -- The draft is that of this outcome: its answer, its errors, what is due, whether it is silent, and the edits that
 -- lead to what is known after it.

@@ -1,21 +1,27 @@
 -- What is found after edits, and that they keep the order.
-use Rattle.std.specs.Prelude.{◌≡◌, ◌||◌, ℕ, not, true, false, cond, T, List, [], ◌∷◌, filter, Option, None}
+use Rattle.std.specs.Prelude.{◌≡◌, ◌||◌, ℕ, not, Bool, true, false, cond, T, List, [], ◌∷◌, filter, Option, Some, None}
 use Rattle.std.specs.FinMap.Entries.{find, is_sorted, put, where_key}
+use Rattle.std.specs.Option.{option_map}
 use Rattle.std.specs.Ordering.{is_eq}
 use Rattle.std.proofs.Common.{refl, sym, ap, subst, ◌∙◌}
-use Rattle.sorted_rows.specs.EditLaws.{edited-put, find-edited, is_sorted-edited}
+use Rattle.sorted_rows.specs.EditLaws.{edited-put, find-edited}
 use Rattle.sorted_rows.specs.Edits as rows
 use Rattle.sorted_rows.specs.Rows.{keys_of}
 use Rattle.sorted_rows.specs.RowsLaws.{is_sorted-both, is_sorted-filter}
 use Rattle.lsr_facts.specs.Lifetimes.{begins_here}
 use Rattle.lsr_facts.specs.OrderLaws.{key_exact, key_total}
 use Rattle.lsr_facts.specs.Orders.{key_cmp}
+use Rattle.lsr_facts.specs.Timeless.{timeless_path}
 use Rattle.lsr_facts.specs.declared.key.Key.{Key}
 use Rattle.lsr_facts.specs.declared.path_fact.PathFact.{PathFact}
+use Rattle.resv_facts.specs.Reservations.{timeless_resv}
 use Rattle.resv_facts.specs.declared.resv_fact.ResvFact.{ResvFact}
+use Rattle.abstract_paths.specs.StampLaws.{none-is}
+use Rattle.abstract_paths.specs.Touched.{is_among}
 use Rattle.abstract_router.specs.Labels.{labelled_keys}
-use Rattle.abstract_router.specs.States.{State, is_among}
-use Rattle.state_views.specs.Edits.{AreInOrder, edited, without_resvs}
+use Rattle.abstract_router.specs.Lsps.{Lsp, lsp_at}
+use Rattle.abstract_router.specs.States.{State, is_one_of}
+use Rattle.state_views.specs.Edits.{edited, is_edited, without_resvs}
 use Rattle.state_views.specs.declared.edits.Edits.{Edits}
 
 pub path_edited : (key : Key) (edits : List (Key × Option PathFact)) (paths : List (Key × PathFact)) → find key_cmp key (rows.edited key_cmp edits paths) ≡ rows.over (find key_cmp key edits) (find key_cmp key paths)
@@ -33,35 +39,58 @@ labels_in_order labels paths sorted held =
     let kept = λ (path : Key × PathFact). not (begins_here path.1.role) in
     subst T (sym (is_sorted-both key_cmp labels (filter kept paths) held)) (is_sorted-filter key_cmp kept paths sorted)
 
--- Tables that are in order are so after edits.
-pub in_order_edited : (e : Edits) (s : State) → AreInOrder s → AreInOrder (edited e s)
-in_order_edited e s are = record {
-  paths = is_sorted-edited key_cmp key_total e.paths s.facts.paths are.paths;
-  resvs = is_sorted-edited key_cmp key_total e.resvs s.resvs are.resvs;
-  labels = is_sorted-edited key_cmp key_total e.labels s.labels are.labels;
-}
-
 -- rows without those of no LSP
-pub without_none : {X : Type 0} (rows : List (Key × X)) → filter (λ row. not (is_among [] row.0)) rows ≡ rows
+pub without_none : {X : Type 0} (rows : List (Key × X)) → filter (λ row. not (is_one_of [] row.0)) rows ≡ rows
 without_none [] = refl
 without_none (row ∷ rows) = ap (λ l. row ∷ l) (without_none rows)
 
 -- rows without one LSP's, and then without those of some, are those without all of these
-pub without_more : {X : Type 0} (key : Key) (gone : List Key) (rows : List (Key × X)) → filter (λ row. not (is_among gone row.0)) (where_key key_cmp (λ other. not (is_eq (key_cmp key other))) rows) ≡ filter (λ row. not (is_among (key ∷ gone) row.0)) rows
+pub without_more : {X : Type 0} (key : Key) (gone : List Key) (rows : List (Key × X)) → filter (λ row. not (is_one_of gone row.0)) (where_key key_cmp (λ other. not (is_eq (key_cmp key other))) rows) ≡ filter (λ row. not (is_one_of (key ∷ gone) row.0)) rows
 without_more key gone [] = refl
 without_more {X} key gone (row ∷ rows) =
     let left = where_key key_cmp (λ other. not (is_eq (key_cmp key other))) rows in
-    let more = filter (λ (row : Key × X). not (is_among (key ∷ gone) row.0)) rows in
+    let more = filter (λ (row : Key × X). not (is_one_of (key ∷ gone) row.0)) rows in
     let rest = without_more key gone rows in
-    elim (is_eq (key_cmp key row.0)) as (λ b. filter (λ row. not (is_among gone row.0)) (cond (not b) (row ∷ left) left) ≡ cond (not (b || is_among gone row.0)) (row ∷ more) more) [
+    elim (is_eq (key_cmp key row.0)) as (λ b. filter (λ row. not (is_one_of gone row.0)) (cond (not b) (row ∷ left) left) ≡ cond (not (b || is_one_of gone row.0)) (row ∷ more) more) [
       | true ↦ rest
-      | false ↦ ap (λ l. cond (not (is_among gone row.0)) (row ∷ l) l) rest
+      | false ↦ ap (λ l. cond (not (is_one_of gone row.0)) (row ∷ l) l) rest
     ]
 
 -- After edits by which some LSPs lose their reservations, these are those of the others.
-pub resvs_without : (edits : List (Key × Option ResvFact)) (gone : List Key) (resvs : List (Key × ResvFact)) → T (is_sorted key_cmp resvs) → rows.edited key_cmp (without_resvs edits gone) resvs ≡ filter (λ resv. not (is_among gone resv.0)) (rows.edited key_cmp edits resvs)
+pub resvs_without : (edits : List (Key × Option ResvFact)) (gone : List Key) (resvs : List (Key × ResvFact)) → T (is_sorted key_cmp resvs) → rows.edited key_cmp (without_resvs edits gone) resvs ≡ filter (λ resv. not (is_one_of gone resv.0)) (rows.edited key_cmp edits resvs)
 resvs_without edits [] resvs h = sym (without_none (rows.edited key_cmp edits resvs))
 resvs_without edits (key ∷ gone) resvs h =
     resvs_without (put key_cmp key None edits) gone resvs h
-    ∙ ap (filter (λ resv. not (is_among gone resv.0))) (edited-put key_cmp key_total key_exact key None edits resvs h)
+    ∙ ap (filter (λ resv. not (is_one_of gone resv.0))) (edited-put key_cmp key_total key_exact key None edits resvs h)
     ∙ without_more key gone (rows.edited key_cmp edits resvs)
+
+-- neither of two tests passes
+pub neither : (a b : Bool) → (a || b) ≡ false → (a ≡ false) × (b ≡ false)
+neither true b e = absurd (let f = e in cc)
+neither false b e = (refl, e)
+
+-- The same is known of an LSP where path, label and reservation are the same, but for when they expire.
+pub same_lsp : (s t : State) (key : Key) → find key_cmp key s.labels ≡ find key_cmp key t.labels
+    → option_map timeless_resv (find key_cmp key s.resvs) ≡ option_map timeless_resv (find key_cmp key t.resvs)
+    → option_map timeless_path (find key_cmp key s.facts.paths) ≡ option_map timeless_path (find key_cmp key t.facts.paths)
+    → lsp_at s key ≡ lsp_at t key
+same_lsp s t key label resv path = of_path s (find key_cmp key s.facts.paths) ∙ (λ i. option_map (λ (p : PathFact). record { path = p; label = label i; resv = resv i }) (path i)) ∙ sym (of_path t (find key_cmp key t.facts.paths))
+  where
+    of_path : (x : State) (o : Option PathFact)
+        → option_map {U = Lsp} (λ p. record { path = timeless_path p; label = find key_cmp key x.labels; resv = option_map timeless_resv (find key_cmp key x.resvs) }) o
+        ≡ option_map {U = Lsp} (λ p. record { path = p; label = find key_cmp key x.labels; resv = option_map timeless_resv (find key_cmp key x.resvs) }) (option_map timeless_path o)
+    of_path x None = refl
+    of_path x (Some p) = refl
+
+-- what is found where there is no edit
+as_before : {X : Type 0} (key : Key) (edits : List (Key × Option X)) (before : List (Key × X)) → is_among key_cmp edits key ≡ false → find key_cmp key before ≡ find key_cmp key (rows.edited key_cmp edits before)
+as_before key edits before none =
+    sym (find-edited key_cmp key_total key edits before ∙ ap (λ edit. rows.over edit (find key_cmp key before)) (none-is (find key_cmp key edits) none))
+
+-- So it is where the LSP has no edit.
+pub same_unedited : (s : State) (e : Edits) (key : Key) → is_edited e key ≡ false → lsp_at s key ≡ lsp_at (edited e s) key
+same_unedited s e key none =
+    let labels = neither (is_among key_cmp e.labels key) (is_among key_cmp e.resvs key || is_among key_cmp e.paths key) none in
+    let resvs = neither (is_among key_cmp e.resvs key) (is_among key_cmp e.paths key) labels.1 in
+    same_lsp s (edited e s) key (as_before key e.labels s.labels labels.0)
+    (ap (option_map timeless_resv) (as_before key e.resvs s.resvs resvs.0)) (ap (option_map timeless_path) (as_before key e.paths s.facts.paths resvs.1))

@@ -1,11 +1,12 @@
 -- Edits of what a router knows.
-use Rattle.std.specs.Prelude.{◌≡◌, List, [], ◌∷◌, Option, None, T}
+use Rattle.std.specs.Prelude.{◌||◌, Bool, List, [], ◌∷◌, Option, None, T}
 use Rattle.std.specs.FinMap.Entries.{is_sorted, put}
 use Rattle.std.specs.Option.{unwrap_or}
 use Rattle.sorted_rows.specs.Edits as rows
 use Rattle.lsr_facts.specs.Orders.{key_cmp}
 use Rattle.lsr_facts.specs.declared.key.Key.{Key}
 use Rattle.resv_facts.specs.declared.resv_fact.ResvFact.{ResvFact}
+use Rattle.abstract_paths.specs.Touched.{is_among}
 use Rattle.abstract_router.specs.States.{State}
 use Rattle.state_views.specs.declared.edits.Edits.{Edits}
 
@@ -35,3 +36,7 @@ pub record AreInOrder (s : State) : Type 0 where
 abbrev pub without_resvs : List (Key × Option ResvFact) → List Key → List (Key × Option ResvFact)
 without_resvs edits [] = edits
 without_resvs edits (key ∷ gone) = without_resvs (put key_cmp key None edits) gone
+
+-- the LSP's label, reservation or path is edited
+abbrev pub is_edited : Edits → Key → Bool
+is_edited e key = is_among key_cmp e.labels key || (is_among key_cmp e.resvs key || is_among key_cmp e.paths key)

@@ -13,7 +13,6 @@ ghost use Rattle.resv_facts.specs.Reservations.{lives_past};
 ghost use Rattle.resv_facts.specs.Upstreams.{upstream_cmp};
 ghost use Rattle.sorted_rows.specs.Rows.{keys_of};
 ghost use Rattle.abstract_paths.specs.Places.{place_at, place_of};
-ghost use Rattle.abstract_router.specs.Arrivals.{due_upstream};
 ghost use Rattle.abstract_router.specs.Labels.{MayBeGiven, has_free_label};
 ghost use Rattle.abstract_router.specs.Preempting.{claims_of, limit_of};
 ghost use Rattle.abstract_router.specs.Reserving.{conflicts};
@@ -92,7 +91,7 @@ pub trait WholeState: StateView {
     /// And the Resvs.
     fn due_upstream(&self, alloc: Global, moment: u64) -> Result<Vec<Upstream>, AllocError>
         ensures due { IfOk result (λ items. items.items
-            ≡ due_upstream (Self.router self.now).refresh_ms (Self.state self.now).sent_upstream moment) };
+            ≡ due_items (Self.router self.now).refresh_ms (Self.state self.now).sent_upstream moment) };
 
     /// The LSPs of whose paths a moment, in milliseconds, takes anything away (RFC 2205, 2.3). The only error is out of
     /// memory.

@@ -37,14 +37,13 @@ use Rattle.resv_facts.specs.declared.resv_fact.ResvStyle.{ResvStyle}
 use Rattle.resv_facts.specs.declared.resv_fact.ResvStyle.TheVariants.{FixedFilter, SharedExplicit}
 use Rattle.sorted_rows.specs.RowsLaws.{find-all_row}
 use Rattle.abstract_paths.specs.Paths.{goes_on}
-use Rattle.explicit_routes.specs.Entries.{entry_of}
-use Rattle.abstract_router.specs.Errors.{style_word}
+use Rattle.resv_facts.specs.Reservations.{style_word}
 use Rattle.abstract_router.specs.Lsps.{lsp_of}
 use Rattle.abstract_router.specs.Soundness.{IsResv}
 use Rattle.abstract_router.specs.States.{State}
-use Rattle.abstract_router.specs.Upstreams.{Reserved, label_entry, record_upstream, records_labels, reserved_by_end, reserved_by_next, reserved_for, resv_to}
+use Rattle.abstract_router.specs.Upstreams.{Reserved, record_upstream, reserved_by_end, reserved_by_next, reserved_for, resv_to, own_entries}
 use Rattle.wanted_messages.specs.Fitting.{IsFitting}
-use Rattle.wanted_messages.specs.Telling.{short_only}
+use Rattle.abstract_paths.specs.Paths.{short_only}
 
 -- a shape that gave a word
 shaped : (fault : TrafficFault) (shape : Bool) (word : ℕ) → IsOk (ok_or (option_and_then rate_of (if shape then Some word else None)) fault) → shape ≡ true
@@ -80,7 +79,7 @@ unfolding record_upstream
 record_upstream-short r path label recorded = by path.recorded
   where
     own : List Trace
-    own = if records_labels path.attr then entry_of r ∷ label_entry label ∷ [] else entry_of r ∷ []
+    own = own_entries r path label
 
     by : (came : Option (List Trace)) → IsTrue (option_map_or is_short_record (option_and_then (λ came. short_only (own ++ recorded)) came) true)
     by None = refl

@@ -10,7 +10,7 @@ ghost use Rattle.abstract_router.specs.Wanted.{downstream_row, item_row, items_a
 ghost use Rattle.wanted_messages.specs.Fitting.{CanGoOn};
 
 use lsr_facts::{Item, Key, PathFact};
-use path_rules::{goes_on, is_up, link_at, path_onward, sent_by};
+use message_rules::{goes_on, is_up, link_at, path_onward, sent_by};
 use router_events::Output;
 use rsvp_contents::{Content, Message};
 use state_views::{StateView, node_of};

@@ -4,33 +4,18 @@ ghost use Rattle.std.specs.Option.{option_and_then};
 ghost use Rattle.std.specs.Prelude.{◌≡◌, ◌++◌, IfOk};
 ghost use Rattle.rsvp_contents.specs.Limits.{is_short_record};
 ghost use Rattle.lsr_facts.specs.Timeless.{timeless_path};
-ghost use Rattle.abstract_router.specs.Upstreams.{label_entry, record_upstream};
-ghost use Rattle.explicit_routes.specs.Entries.{entry_of};
-ghost use Rattle.wanted_messages.specs.Telling.{own_entries, short_only};
+ghost use Rattle.abstract_router.specs.Upstreams.{label_entry, own_entries, record_upstream};
+ghost use Rattle.abstract_paths.specs.Paths.{short_only};
 
 use crate::reserved::records_labels;
+use explicit_routes::own_entry;
 use lsr_facts::{PathFact, Router};
 use rsvp_contents::limits::is_short_record;
-use rsvp_routes::{Prefix, Record, Trace};
+use rsvp_routes::{Record, Trace};
 use std::alloc::{AllocError, Global};
 
 /// The flag of a label that holds on every link of its node (RFC 3209, 4.4.1.3).
 const GLOBAL_LABEL: u8 = 0x01;
-/// The length of a prefix that is one address.
-const HOST_LENGTH: u8 = 32;
-
-/// The entry that names this router.
-fn entry_of(router: &Router) -> Trace
-    ensures { result ≡ entry_of router.now }
-{
-    Trace::Ipv4 {
-        prefix: Prefix {
-            address: router.id,
-            length: HOST_LENGTH,
-        },
-        flags: 0,
-    }
-}
 
 /// The entry of this router's label.
 fn label_entry(label: u32) -> Trace
@@ -56,7 +41,7 @@ fn after_own(
     if records_labels(&path.attr) {
         entries.insert(0, label_entry(label))?;
     }
-    entries.insert(0, entry_of(router))?;
+    entries.insert(0, own_entry(router))?;
     Ok(entries)
 }
 

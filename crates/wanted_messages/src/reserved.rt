@@ -7,7 +7,7 @@ ghost use Rattle.abstract_router.specs.Upstreams.{records_labels, reserved_by_en
 ghost use Rattle.wanted_messages.specs.Telling.{said};
 
 use lsr_facts::{Key, PathFact};
-use path_rules::goes_on;
+use message_rules::goes_on;
 use resv_facts::{ResvFact, ResvStyle};
 use rsvp_contents::Passing;
 use rsvp_objects::Attr;

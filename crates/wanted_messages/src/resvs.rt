@@ -3,7 +3,6 @@
 ghost use Rattle.std.specs.Prelude.{◌≡◌, IfOk};
 ghost use Rattle.rsvp_objects.specs.Ranges.{IsAddress};
 ghost use Rattle.lsr_facts.specs.Timeless.{timeless_path};
-ghost use Rattle.abstract_router.specs.Errors.{style_word};
 ghost use Rattle.abstract_router.specs.Lsps.{around_of, lsp_of};
 ghost use Rattle.abstract_router.specs.Upstreams.{record_upstream, resv_to, upstream_over, upstream_row, upstream_to};
 ghost use Rattle.wanted_messages.specs.Fitting.{IsFitting};
@@ -13,20 +12,15 @@ use crate::records::record_upstream;
 use crate::reserved::Reserved;
 use crate::upstream::WantedUpstream;
 use lsr_facts::{Key, Link, Origin, PathFact, Router};
-use path_rules::{is_up, link_at, sent_by};
-use resv_facts::{ResvStyle, Upstream};
+use message_rules::{is_up, link_at, sent_by};
+use resv_facts::Upstream;
 use rsvp_contents::numbers::ADDRESS_LEN;
 use rsvp_contents::{Content, Message, Resv};
 use rsvp_flows::{FlowDescriptor, FlowDescriptors};
-use rsvp_objects::{Hop, Label, Style, Template, TimeValues};
+use rsvp_objects::{Hop, Label, Template, TimeValues};
 use state_views::{StateView, node_of};
 use std::alloc::{AllocError, Global};
 use std::net::Ipv4Addr;
-
-/// The style word of a fixed filter, FF: 01010 (RFC 2205, A.7).
-const FIXED_FILTER: u32 = 10;
-/// The style word of a shared explicit, SE: 10010 (RFC 2205, A.7).
-const SHARED_EXPLICIT: u32 = 18;
 
 /// An LSP that has a label and is reserved, as its origins are told of it.
 #[derive(Debug, Drop)]
@@ -39,18 +33,6 @@ pub(crate) struct ToldLsp<'a> {
     pub label: u32,
     /// What is said of it.
     pub reserved: Reserved,
-}
-
-/// A style as this router writes it.
-fn style_word(style: ResvStyle) -> Style
-    ensures { result ≡ style_word style }
-{
-    match style {
-        ResvStyle::FixedFilter => Style { word: FIXED_FILTER },
-        ResvStyle::SharedExplicit => Style {
-            word: SHARED_EXPLICIT,
-        },
-    }
 }
 
 /// That the address of an LSP's head has four octets: so much room is there for its filter.
@@ -105,7 +87,7 @@ fn resv_to(
             refresh_ms: router.refresh_ms,
         },
         passing: lsp.reserved.passing.clone()?,
-        style: style_word(lsp.reserved.style),
+        style: lsp.reserved.style.word(),
         descriptors,
     })
 }

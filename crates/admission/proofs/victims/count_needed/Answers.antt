@@ -5,7 +5,8 @@ use Rattle.lsr_facts.specs.Orders.{key_cmp}
 use Rattle.resv_facts.specs.Admission.{granted, is_enough}
 use Rattle.resv_facts.specs.Claims.{reserved_of}
 use Rattle.admission.specs.Bandwidths.{AreRated}
-use Rattle.admission.specs.RoomLaws.{shortest_enough, without_none}
+use Rattle.resv_facts.specs.TurnLaws.{shortest-none}
+use Rattle.admission.specs.RoomLaws.{without_none}
 use Rattle.admission.proofs.Turns.{left_few, left_next, left_rated, left_sorted, turn_last, turn_next}
 use Rattle.admission.proofs.victims.count_needed.Goals as goal
 
@@ -35,7 +36,7 @@ returns-then-reserved_with-limit c =
     let gone = take c.loop-count.count c.args.keys.now in
     let rate = c.reserved_with.ensures ∙ ap (λ rows. reserved_of request.claim.link 7 (granted request rows)) (c.deref.ensures.value ∙ c.loop-count.invariant.0) in
     let enough = sym (ap (λ n. nat_le n c.args.limit) rate) ∙ le-leb c.reserved_with.result c.args.limit c.if-reserved_with-limit.true in
-    sym (shortest_enough (is_enough c.args.limit request c.args.claims.now) gone (drop c.loop-count.count c.args.keys.now) enough) ∙ c.loop-count.invariant.1
+    sym (shortest-none (is_enough c.args.limit request c.args.claims.now) gone (drop c.loop-count.count c.args.keys.now) enough) ∙ c.loop-count.invariant.1
 
 pub loop-count-preserved : goal.loop-count-preserved
 unfolding is_enough

@@ -1,6 +1,7 @@
 use Rattle.std.proofs.Common.{nat_le, sym, ◌∙◌, ap}
 use Rattle.std.proofs.lemmas.Bool.{le-leb}
-use Rattle.admission.specs.RoomLaws.{enough_is, victims_of-none}
+use Rattle.resv_facts.specs.AdmissionLaws.{victims_of-none}
+use Rattle.admission.specs.RoomLaws.{enough_is}
 use Rattle.admission.proofs.victims.victims_of.Goals as goal
 
 pub returns-then-reserved_with-limit : goal.returns-then-reserved_with-limit

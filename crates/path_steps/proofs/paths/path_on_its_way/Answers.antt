@@ -4,9 +4,9 @@ use Rattle.lsr_facts.specs.declared.choice.Choice.{Choice}
 use Rattle.lsr_facts.specs.declared.errors.RsvpError.{RsvpError}
 use Rattle.abstract_paths.specs.Paths.{path_on_its_way, way_for}
 use Rattle.abstract_paths.specs.Places.{Place}
-use Rattle.path_rules.specs.Choosing.{IsChosen, error_of}
+use Rattle.message_rules.specs.Choosing.{IsChosen, error_of}
 use Rattle.abstract_paths.specs.Places.{place_at}
-use Rattle.path_rules.specs.RouteFault.{RouteFault}
+use Rattle.message_rules.specs.RouteFault.{RouteFault}
 use Rattle.abstract_router.specs.Outcomes.{of_paths}
 use Rattle.state_views.specs.Drafts.{IsDraft}
 use Rattle.path_steps.proofs.paths.path_on_its_way.Goals as goal

@@ -13,3 +13,6 @@ returns-in-Whole c =
 pub returns-in-Unknown : goal.returns-in-Unknown
 returns-in-Unknown c =
     subst IsEvent (sym c.in-Arrive.is) (subst (λ (reading : Reading). IsMessage (content_in reading)) (sym c.in-Unknown.is) c.content-in-Unknown.ensures.fits)
+
+pub returns-in-Relay : goal.returns-in-Relay
+returns-in-Relay c = subst IsEvent (sym c.in-Relay.is) c.as_slice.ensures.fits

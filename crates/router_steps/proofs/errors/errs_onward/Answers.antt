@@ -1,14 +1,13 @@
 -- One descriptor more: what comes of it is put behind.
 use Rattle.std.proofs.Common.{[], ◌∷◌, List, Option, Some, None, map, ap, append-nil, subst, sym, ◌∙◌}
 use Rattle.std.specs.List.{AllByRecursion}
-use Rattle.std.specs.Option.{option_map}
+use Rattle.std.specs.Option.{option_map, option_to_list}
 use Rattle.std.proofs.lemmas.List.Elements.{All-from_recursion, All-get_or}
 use Rattle.std.proofs.lemmas.List.{map-append}
 use Rattle.rsvp_flows.specs.declared.descriptors.ErrorDescriptor.{ErrorDescriptor}
 use Rattle.router_events.specs.declared.events.Output.{Output}
 use Rattle.abstract_paths.specs.RowLaws.{one_more}
 use Rattle.resv_arrivals.specs.Below.rules.Rooms.{HaveRoom}
-use Rattle.abstract_router.specs.Outcomes.{listed}
 use Rattle.abstract_router.specs.Tearing.{err_onward}
 use Rattle.router_steps.proofs.errors.errs_onward.Goals as goal
 use Rattle.router_steps.proofs.errors.errs_onward.Goals.{in-Some+in_ok-push, in_default}
@@ -33,11 +32,11 @@ loop-descriptor-preserved g c =
     let descriptor = c.descriptor-item.result in
     elim c.match-branch-2.branch [
       | in-Some+in_ok-push w ↦
-          one_more onward (map listed was) (map listed now) items at descriptor (Some (listed w.in-Some.told)) c.loop-descriptor-test.true c.descriptor-item.is c.loop-descriptor.invariant
-          (ap (option_map listed) (sym w.in-Some.is) ∙ c.in_ok-told.ensures.told)
-          (ap (λ (told : List (Option Output)). map listed told) ((λ k. (w.onward-is k).items) ∙ w.in_ok-push.ensures.items) ∙ map-append listed was (w.in-Some.told ∷ []))
+          one_more onward (map option_to_list was) (map option_to_list now) items at descriptor (Some (option_to_list w.in-Some.told)) c.loop-descriptor-test.true c.descriptor-item.is c.loop-descriptor.invariant
+          (ap (option_map option_to_list) (sym w.in-Some.is) ∙ c.in_ok-told.ensures.told)
+          (ap (λ (told : List (Option Output)). map option_to_list told) ((λ k. (w.onward-is k).items) ∙ w.in_ok-push.ensures.items) ∙ map-append option_to_list was (w.in-Some.told ∷ []))
       | in_default w ↦
-          one_more onward (map listed was) (map listed now) items at descriptor None c.loop-descriptor-test.true c.descriptor-item.is c.loop-descriptor.invariant
-          (ap (option_map listed) (sym w.in_default.is) ∙ c.in_ok-told.ensures.told)
-          (ap (λ (told : List (Option Output)). map listed told) (λ k. (w.onward-is k).items) ∙ sym (append-nil (map listed was)))
+          one_more onward (map option_to_list was) (map option_to_list now) items at descriptor None c.loop-descriptor-test.true c.descriptor-item.is c.loop-descriptor.invariant
+          (ap (option_map option_to_list) (sym w.in_default.is) ∙ c.in_ok-told.ensures.told)
+          (ap (λ (told : List (Option Output)). map option_to_list told) (λ k. (w.onward-is k).items) ∙ sym (append-nil (map option_to_list was)))
     ]

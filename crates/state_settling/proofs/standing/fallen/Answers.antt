@@ -2,7 +2,7 @@
 use Rattle.std.proofs.Common.{◌≡◌, ◌++◌, filter_map, ◌∙◌}
 use Rattle.std.proofs.lemmas.Result.{IfOk-weaker}
 use Rattle.lsr_facts.specs.declared.key.Key.{Key}
-use Rattle.abstract_router.specs.States.{is_among}
+use Rattle.abstract_router.specs.States.{is_one_of}
 use Rattle.state_views.specs.Edits.{edited}
 use Rattle.state_settling.specs.Falling.{fallen_key, has_fallen}
 use Rattle.state_settling.specs.FallingLaws.{fallen_of_all, fallen_of_edits}
@@ -17,7 +17,7 @@ returns-in-Some g c =
     c.in_ok-keys.ensures ∙ (λ i. c.new.ensures.items i ++ filter_map (λ row. fallen_key (edited e s) row.0) (c.as_slice.ensures.rows i)) in
     IfOk-weaker c.with_all_fallen.result
     (λ all. all.items ≡ keys.items ++ filter_map (λ resv. fallen_key (edited e s) resv.0) s.resvs)
-    (λ all. (key : Key) → is_among all.items key ≡ has_fallen (edited e s) key)
+    (λ all. (key : Key) → is_one_of all.items key ≡ has_fallen (edited e s) key)
     (λ all is. fallen_of_all s e all.items (is ∙ (λ i. among_edits i ++ filter_map (λ resv. fallen_key (edited e s) resv.0) s.resvs)))
     c.with_all_fallen.ensures
 
@@ -30,6 +30,6 @@ returns-in-None g c =
     c.in_ok-keys.ensures ∙ (λ i. c.new.ensures.items i ++ filter_map (λ row. fallen_key (edited e s) row.0) (c.as_slice.ensures.rows i)) in
     IfOk-weaker c.with_fallen-in-None.result
     (λ all. all.items ≡ keys.items ++ filter_map (λ path. fallen_key (edited e s) path.0) c.as_slice-in-None.result.now)
-    (λ all. (key : Key) → is_among all.items key ≡ has_fallen (edited e s) key)
+    (λ all. (key : Key) → is_one_of all.items key ≡ has_fallen (edited e s) key)
     (λ all is. fallen_of_edits s e all.items c.requires c.in-None.is (is ∙ (λ i. among_edits i ++ filter_map (λ path. fallen_key (edited e s) path.0) (c.as_slice-in-None.ensures.rows i))))
     c.with_fallen-in-None.ensures

@@ -1,0 +1,194 @@
+use crate::changes::{cut, mutated, repeated, sealed, turned};
+use crate::outcomes::Form;
+use crate::pieces::Pieces;
+use anyhow::{Context, Error, Result, anyhow, bail};
+use frame_reader::{Frame, Payload, read_frame};
+use frame_writer::write_frame;
+use rsvp_messages::{
+    Dropped, Message, Reading, checksum, has_good_checksum, read_message, write_message,
+};
+use rsvp_objects::{Object, RateWord, read_object, write_object};
+use std::alloc::{AllocError, Global};
+
+/// What is said of the input, and the bytes that are written of what was read.
+pub type Answer = (String, Option<Vec<u8>>);
+
+/// What is said of a dropped message or frame.
+fn refusal(fault: Dropped) -> Error {
+    let number = fault.number();
+    anyhow!("refused {number} {fault:?}")
+}
+
+/// How the message is read, with what it says where that is asked for, and how it is written.
+fn message(alloc: Global, bytes: &[u8], is_shown: bool) -> Result<Answer> {
+    let (mut said, message) = match read_message(alloc, bytes).map_err(refusal)? {
+        Reading::Whole(message) => (format!(in alloc; "whole")?, message),
+        Reading::Unknown(message, class, ctype) => {
+            (format!(in alloc; "unknown {class}/{ctype}")?, message)
+        }
+    };
+    if is_shown {
+        said = format!(in alloc; "{said} {:?}", message.content())?;
+    }
+    let mut written = Vec::new(alloc);
+    write_message(&message, &mut written)?;
+    Ok((said, Some(written)))
+}
+
+/// How the frame was read, and how it is written where that can be.
+fn framed(alloc: Global, frame: &Frame) -> Result<Answer, AllocError> {
+    let said = match frame {
+        Frame::Hop(Reading::Unknown(_, class, ctype)) => {
+            return Ok((format!(in alloc; "unknown {class}/{ctype}")?, None));
+        }
+        Frame::Hop(Reading::Whole(_)) => format!(in alloc; "whole")?,
+        Frame::Labelled(stack, _) => format!(in alloc; "labelled {:?}", stack.as_slice())?,
+        Frame::Routed { to, limit, .. } | Frame::Relayed { to, limit, .. } => {
+            format!(in alloc; "routed {to} {limit}")?
+        }
+    };
+    let mut written = Vec::new(alloc);
+    write_frame(frame, &mut written)?;
+    Ok((said, Some(written)))
+}
+
+/// How the frame is read, and how it is written.
+fn frame(alloc: Global, bytes: &[u8]) -> Result<Answer> {
+    let frame = read_frame(alloc, bytes).map_err(refusal)?;
+    Ok(framed(alloc, &frame)?)
+}
+
+/// The payload with the message in it read.
+fn made_payload(alloc: Global, payload: Payload) -> Result<Payload> {
+    match payload {
+        Payload::Unread(data) => Ok(Payload::Message(whole(alloc, data.as_slice())?)),
+        payload => Ok(payload),
+    }
+}
+
+/// The frame with the message in it read, as the router has it that makes the message.
+fn made(alloc: Global, frame: Frame) -> Result<Frame> {
+    match frame {
+        Frame::Labelled(stack, payload) => {
+            Ok(Frame::Labelled(stack, made_payload(alloc, payload)?))
+        }
+        Frame::Relayed { to, limit, message } => {
+            let message = whole(alloc, message.as_slice())?;
+            Ok(Frame::Routed { to, limit, message })
+        }
+        frame => Ok(frame),
+    }
+}
+
+/// The message that the bytes are, if each of its objects is known.
+fn whole(alloc: Global, bytes: &[u8]) -> Result<Message> {
+    match read_message(alloc, bytes).map_err(refusal)? {
+        Reading::Whole(message) => Ok(message),
+        Reading::Unknown(_, class, ctype) => bail!("unknown {class}/{ctype}"),
+    }
+}
+
+/// How the frame is read, and how it is written by the router that makes the message in it.
+fn made_frame(alloc: Global, bytes: &[u8]) -> Result<Answer> {
+    let frame = read_frame(alloc, bytes).map_err(refusal)?;
+    let frame = made(alloc, frame)?;
+    Ok(framed(alloc, &frame)?)
+}
+
+/// How many bytes the first object has, its Class-Num, its C-Type and what it says, and how it is written.
+fn object(alloc: Global, bytes: &[u8]) -> Result<Answer> {
+    let (object, len) = read_object(alloc, bytes).map_err(|fault| anyhow!("refused {fault:?}"))?;
+    let (class, ctype) = (object.class(), object.ctype());
+    let mut written = Vec::new(alloc);
+    write_object(&object, &mut written)?;
+    Ok((
+        format!(in alloc; "{len} {class}/{ctype} {object:?}")?,
+        Some(written),
+    ))
+}
+
+/// The rate that the word stands for.
+fn rate_of_word(alloc: Global, bytes: &[u8]) -> Result<String> {
+    let [a, b, c, d] = bytes else {
+        bail!("a rate has four bytes");
+    };
+    let word = RateWord::from_bits(u32::from_be_bytes([*a, *b, *c, *d]));
+    let rate = word.whole().context("refused")?;
+    Ok(format!(in alloc; "{rate}")?)
+}
+
+/// The rate that the SENDER_TSPEC or FLOWSPEC asks for.
+fn rate_of_object(alloc: Global, bytes: &[u8]) -> Result<String> {
+    let rate = match read_object(alloc, bytes) {
+        Ok((Object::SenderTspec(tspec), _)) => tspec.rate(),
+        Ok((Object::Flowspec(flowspec), _)) => flowspec.rate(),
+        _ => bail!("no object of traffic"),
+    };
+    let rate = rate.map_err(|fault| anyhow!("refused {fault:?}"))?;
+    Ok(format!(in alloc; "{rate}")?)
+}
+
+/// The checksum of the message, and whether the one that it has is good.
+fn sum(alloc: Global, bytes: &[u8]) -> Result<String, AllocError> {
+    let word = if has_good_checksum(bytes) {
+        "good"
+    } else {
+        "bad"
+    };
+    format!(in alloc; "{:04x} {word}", checksum(bytes))
+}
+
+/// The bytes that the text means after the verb.
+pub fn input(alloc: Global, pieces: &Pieces, verb: &str, text: &str) -> Result<Vec<u8>> {
+    let bytes = pieces.spell(text)?;
+    match verb {
+        "objects" => Ok(sealed(alloc, bytes.as_slice())?),
+        _ => Ok(bytes),
+    }
+}
+
+/// What the verb says of the bytes.
+fn said(alloc: Global, verb: &str, bytes: &[u8]) -> Result<String> {
+    match verb {
+        "rate" => rate_of_word(alloc, bytes),
+        "traffic" => rate_of_object(alloc, bytes),
+        "checksum" => Ok(sum(alloc, bytes)?),
+        "turn" => Ok(turned(alloc, Form::Message, bytes)?),
+        "turn_frame" => Ok(turned(alloc, Form::Frame, bytes)?),
+        "cut" => Ok(cut(alloc, Form::Message, bytes, false)?),
+        "cut_frame" => Ok(cut(alloc, Form::Frame, bytes, false)?),
+        "shorten" => Ok(cut(alloc, Form::Message, bytes, true)?),
+        _ => bail!("no such verb"),
+    }
+}
+
+/// What the verb says of the bytes, and what it writes of what it read.
+fn answer_to(alloc: Global, verb: &str, bytes: &[u8]) -> Result<Answer> {
+    match verb {
+        "message" | "objects" => message(alloc, bytes, false),
+        "show" => message(alloc, bytes, true),
+        "frame" => frame(alloc, bytes),
+        "make" => made_frame(alloc, bytes),
+        "object" => object(alloc, bytes),
+        _ => Ok((said(alloc, verb, bytes)?, None)),
+    }
+}
+
+/// What the verb that counts says of the bytes that stand after how many times it does.
+fn counted(alloc: Global, pieces: &Pieces, verb: &str, text: &str) -> Result<String> {
+    let (times, after) = text.split_once(' ').context("no count")?;
+    let times = times.parse::<u32>()?;
+    let bytes = pieces.spell(after)?;
+    if verb == "mutate" {
+        return Ok(mutated(alloc, bytes.as_slice(), times)?);
+    }
+    Ok(repeated(alloc, bytes.as_slice(), times)?)
+}
+
+/// What the verb answers to the text after it. What is refused is an error, whose text says why.
+pub fn answer(alloc: Global, pieces: &Pieces, verb: &str, text: &str) -> Result<Answer> {
+    if verb == "mutate" || verb == "repeat" {
+        return Ok((counted(alloc, pieces, verb, text)?, None));
+    }
+    answer_to(alloc, verb, input(alloc, pieces, verb, text)?.as_slice())
+}

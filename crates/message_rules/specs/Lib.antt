@@ -1,0 +1,4 @@
+pub use Rattle.explicit_routes.specs.Choosing
+pub use Rattle.explicit_routes.specs.declared.fault.RouteFault
+pub mod Conflicts
+pub mod Rooms

@@ -1,0 +1,33 @@
+//! The rules of messages: what a step asks of a message, of a path or a reservation that is known, of what goes on of it,
+//! and of what is claimed of a link, and the errors that it tells. Each function computes one definition of the abstract
+//! router. What next hops are is passed on with them.
+#![tactic(auto)]
+
+mod descriptors;
+mod errors;
+pub mod laws;
+mod messages;
+mod paths;
+mod requests;
+mod spelling;
+mod tears;
+mod told;
+mod wanted;
+
+pub use descriptors::{key_in, named, resv_by};
+pub use errors::{
+    BAD_FLOWSPEC, NO_BANDWIDTH, NO_LABEL, NO_PATH, NO_SENDER, PREEMPTED, UNACCEPTABLE_LABEL,
+    UNKNOWN_STYLE, UNSUPPORTED_SERVICE, reservation_error, style_conflict, traffic_error,
+};
+pub use explicit_routes::{
+    Frame, Output, Outputs, RouteError, RouteFault, is_up, link_at, route_to,
+};
+pub use messages::{found_here, lsp, sent_by};
+pub use paths::{
+    carries_ipv4, drops_record, has_been_here, has_no_rate, knows_record, lifetime, link_of,
+    origins_of, rest_of, role_of, unknown_object, way_for,
+};
+pub use requests::{conflicting_style, limit_of, request_of};
+pub use tears::{is_from, is_torn_by, leaves_by, origins_without};
+pub use told::{resv_err_leaves_room, resv_leaves_room, told_downstream, told_preempted};
+pub use wanted::{goes_on, path_onward};

@@ -1,2 +1,0 @@
-pub use Rattle.explicit_routes.specs.Choosing
-pub use Rattle.explicit_routes.specs.declared.fault.RouteFault
