@@ -19,34 +19,62 @@ fn refusal(fault: Dropped) -> Error {
     anyhow!("refused {number} {fault:?}")
 }
 
+/// How a message was read: whole, or with an object that its type doesn't know.
+fn kind_of(alloc: Global, reading: &Reading) -> Result<String, AllocError> {
+    match reading {
+        Reading::Whole(_) => format!(in alloc; "whole"),
+        Reading::Unknown(_, class, ctype) => format!(in alloc; "unknown {class}/{ctype}"),
+    }
+}
+
+/// The message that was read.
+fn message_in(reading: Reading) -> Message {
+    match reading {
+        Reading::Whole(message) => message,
+        Reading::Unknown(message, _, _) => message,
+    }
+}
+
+/// How the message was read, with what it says where that is asked for.
+fn told(
+    alloc: Global,
+    kind: String,
+    message: &Message,
+    is_shown: bool,
+) -> Result<String, AllocError> {
+    if !is_shown {
+        return Ok(kind);
+    }
+    format!(in alloc; "{kind} {:?}", message.content())
+}
+
 /// How the message is read, with what it says where that is asked for, and how it is written.
 fn message(alloc: Global, bytes: &[u8], is_shown: bool) -> Result<Answer> {
-    let (mut said, message) = match read_message(alloc, bytes).map_err(refusal)? {
-        Reading::Whole(message) => (format!(in alloc; "whole")?, message),
-        Reading::Unknown(message, class, ctype) => {
-            (format!(in alloc; "unknown {class}/{ctype}")?, message)
-        }
-    };
-    if is_shown {
-        said = format!(in alloc; "{said} {:?}", message.content())?;
-    }
+    let reading = read_message(alloc, bytes).map_err(refusal)?;
+    let kind = kind_of(alloc, &reading)?;
+    let message = message_in(reading);
+    let said = told(alloc, kind, &message, is_shown)?;
     let mut written = Vec::new(alloc);
     write_message(&message, &mut written)?;
     Ok((said, Some(written)))
 }
 
+/// How the frame was read.
+fn read_as(alloc: Global, frame: &Frame) -> Result<String, AllocError> {
+    match frame {
+        Frame::Hop(reading) => kind_of(alloc, reading),
+        Frame::Labelled(stack, _) => format!(in alloc; "labelled {:?}", stack.as_slice()),
+        Frame::Routed { to, limit, .. } => format!(in alloc; "routed {to} {limit}"),
+        Frame::Relayed { to, limit, .. } => format!(in alloc; "routed {to} {limit}"),
+    }
+}
+
 /// How the frame was read, and how it is written where that can be.
 fn framed(alloc: Global, frame: &Frame) -> Result<Answer, AllocError> {
-    let said = match frame {
-        Frame::Hop(Reading::Unknown(_, class, ctype)) => {
-            return Ok((format!(in alloc; "unknown {class}/{ctype}")?, None));
-        }
-        Frame::Hop(Reading::Whole(_)) => format!(in alloc; "whole")?,
-        Frame::Labelled(stack, _) => format!(in alloc; "labelled {:?}", stack.as_slice())?,
-        Frame::Routed { to, limit, .. } | Frame::Relayed { to, limit, .. } => {
-            format!(in alloc; "routed {to} {limit}")?
-        }
-    };
+    let said = read_as(alloc, frame)?;
+    if let Frame::Hop(Reading::Unknown(..)) = frame {
+        return Ok((said, None));
+    }
     let mut written = Vec::new(alloc);
     write_frame(frame, &mut written)?;
     Ok((said, Some(written)))

@@ -13,7 +13,6 @@ use Rattle.abstract_router.specs.Tables.{forwarded}
 use Rattle.datagrams.specs.Datagrams.{IsDatagram}
 use Rattle.datagrams.specs.declared.datagram.Datagram.{Datagram}
 use Rattle.datagrams.specs.declared.datagram.Datagram.TheVariants as kinds
-use Rattle.datagrams.specs.declared.datagram.Passed.{Passed}
 use Rattle.router_core.specs.States.{RouterState}
 use Rattle.router_machine.specs.declared.inputs.Input.{Input}
 use Rattle.router_machine.specs.declared.inputs.Input.TheVariants as inputs
