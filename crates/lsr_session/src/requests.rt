@@ -1,7 +1,7 @@
 //! What a session answers to a request.
-ghost use Rattle.std.specs.Prelude.{◌≡◌, ◌∷◌, ◌++◌, ℕ, List, [], IfOk, OnErr, string_bytes};
+ghost use Rattle.std.specs.Prelude.{◌≡◌, ◌∷◌, ◌++◌, ℕ, List, [], IfOk, Ok, OnErr, string_bytes};
 ghost use Rattle.lsr_lines.specs.Steps.{IsUntold};
-ghost use Rattle.lsr_text.specs.Answers.{replies_text};
+ghost use Rattle.lsr_text.specs.Answers.{answer_text, refusal_line, replies_text};
 ghost use Rattle.lsr_session.specs.Requests.{PrintsAnswer, PrintsArrival, PrintsDatagram, PrintsEvent, remembered, reply_of, served_text};
 
 use crate::passing::passed_text;
@@ -90,14 +90,37 @@ fn reply_of(answer: &Result<Made, Refusal>) -> Reply
     }
 }
 
+/// The lines of a step that was made.
+fn made_text(alloc: Global, made: Made) -> Result<String, AllocError>
+    ensures { IfOk result (λ text. string_bytes text ≡ answer_text (Ok made)) }
+{
+    answer_text(alloc, &Ok(made))
+}
+
+/// The line of a refusal.
+fn refusal_text(alloc: Global, refusal: Refusal) -> Result<String, AllocError>
+    ensures { IfOk result (λ text. string_bytes text ≡ refusal_line refusal) }
+{
+    answer_text(alloc, &Err(refusal))
+}
+
+/// The lines of what was served: of a step, or of a labelled frame that was passed on.
+fn lines_of(alloc: Global, served: Served) -> Result<String, AllocError>
+    ensures { IfOk result (λ text. string_bytes text ≡ served_text (Ok served)) }
+{
+    match served {
+        Served::Made(made) => made_text(alloc, made),
+        Served::Passed(passed) => passed_text(alloc, &passed),
+    }
+}
+
 /// The lines of what came of a datagram. The only error is that memory ran out.
 fn served_text(alloc: Global, answer: Result<Served, Refusal>) -> Result<String, AllocError>
     ensures { IfOk result (λ text. string_bytes text ≡ served_text answer) }
 {
     match answer {
-        Ok(Served::Made(made)) => answer_text(alloc, &Ok(made)),
-        Ok(Served::Passed(passed)) => passed_text(alloc, &passed),
-        Err(refusal) => answer_text(alloc, &Err(refusal)),
+        Ok(served) => lines_of(alloc, served),
+        Err(refusal) => refusal_text(alloc, refusal),
     }
 }
 
