@@ -3,12 +3,18 @@ use Rattle.std.proofs.Common.{refl, ap, sym, subst, ◌∙◌, arith}
 use Rattle.std.proofs.lemmas.Bool.{and_parts, cond_both, ltb-false, not-false}
 use Rattle.std.specs.FinMap.Entries.{find, put, where_key, length-put}
 use Rattle.std.specs.Option.{option_map_or}
-use Rattle.std.specs.Ordering.{is_eq}
+use Rattle.std.specs.Ordering.{is_eq, nat_cmp}
 use Rattle.std.specs.Prelude.{◌≡◌, ℕ, ◌+◌, ◌≤◌, Bool, false, cond, not, ◌&&◌, ◌==◌, nat_le, nat_lt, ◌^◌, IsTrue, List, [], ◌∷◌, length, Option, Some, None, is_some, is_none, Result, Ok, Err, IfSome}
 use Rattle.std.specs.declared.net.ipv4_addr.Ipv4Addr.{Ipv4Addr}
+use Rattle.abstract_paths.proofs.Bypasses.{bypasses_tunnel_put}
 use Rattle.abstract_paths.proofs.NextHops.{Leads, IsPlace, next_hop-leads}
-use Rattle.abstract_paths.proofs.PathTable.{IsTaken, way_of-leads, path_sound, path_left_sound, path_known, put_few}
+use Rattle.abstract_paths.proofs.Heads.{head_known, heads_noted, heads_same}
+use Rattle.abstract_paths.proofs.PathTable.{IsTaken, way_of-leads, path_sound, path_left_sound, path_known, put_few, role_of-elsewhere}
 use Rattle.abstract_paths.proofs.Primitives.{sound_with_path, sound_where, sound_expire, sound_with_link}
+use Rattle.abstract_paths.proofs.Signalling.{signalled-stands}
+use Rattle.abstract_paths.proofs.Tunnels.{noted_stands, tunnel_known, tunnels_put_known}
+use Rattle.abstract_paths.specs.Changes.{with_tunnel}
+use Rattle.abstract_paths.specs.Heads.{noted, with_noted}
 use Rattle.abstract_paths.specs.Links.{link_change}
 use Rattle.abstract_paths.specs.MessageLaws.{tspec-whole}
 use Rattle.abstract_paths.specs.Outcomes.{PathOutcome, done, lsp, refused}
@@ -16,13 +22,15 @@ use Rattle.abstract_paths.specs.Paths.{key_of, is_same_route, way_of, way_for, p
 use Rattle.abstract_paths.specs.Places.{is_up, place_of}
 use Rattle.abstract_paths.specs.Relays.{relay, relayed_by}
 use Rattle.abstract_paths.specs.Routing.{next_hop, route_to}
-use Rattle.abstract_paths.specs.Soundness.{IsPath, IsStanding}
+use Rattle.abstract_paths.specs.Soundness.{IsHeadOf, IsPath, IsStanding}
 use Rattle.abstract_paths.specs.Tears.{is_torn_by, leaves_by, left_with, origins_without, torn, path_err_passed_on}
 use Rattle.abstract_paths.specs.Time.{tick}
 use Rattle.lsr_facts.specs.Errors.{system_error}
+use Rattle.lsr_facts.specs.Lifetimes.{begins_here, expire}
 use Rattle.lsr_facts.specs.OrderLaws.{key_total}
 use Rattle.lsr_facts.specs.Orders.{address_cmp, key_cmp}
 use Rattle.lsr_facts.specs.Routers.{HasLink, IsRouter, link_at}
+use Rattle.lsr_facts.specs.Tunnels.{is_head}
 use Rattle.lsr_facts.specs.declared.choice.Choice.{Choice}
 use Rattle.lsr_facts.specs.declared.errors.RsvpError.{RsvpError}
 use Rattle.lsr_facts.specs.declared.facts.Facts.{Facts}
@@ -31,6 +39,7 @@ use Rattle.lsr_facts.specs.declared.path_fact.Origin.{Origin}
 use Rattle.lsr_facts.specs.declared.path_fact.PathFact.{PathFact}
 use Rattle.lsr_facts.specs.declared.refusal.Refusal.TheVariants.{BadMoment, Late, LinkDown, NoMatch, UnknownLink}
 use Rattle.lsr_facts.specs.declared.router.Router.{Router}
+use Rattle.lsr_facts.specs.declared.tunnel.Tunnel.{Tunnel}
 use Rattle.router_events.specs.declared.ways.Relay.{Relay}
 use Rattle.rsvp_contents.proofs.Fitted.{message_fits}
 use Rattle.rsvp_contents.specs.Fitting.{fits_path, written_len}
@@ -39,6 +48,7 @@ use Rattle.rsvp_contents.specs.declared.messages.Content.TheVariants as contents
 use Rattle.rsvp_contents.specs.declared.messages.Path.{Path}
 use Rattle.rsvp_contents.specs.declared.messages.PathErr.{PathErr}
 use Rattle.rsvp_contents.specs.declared.messages.PathTear.{PathTear}
+use Rattle.rsvp_objects.specs.declared.values.ErrorSpec.{ErrorSpec}
 use Rattle.rsvp_traffic.specs.TokenBuckets.{token_rate}
 
 -- What an outcome leaves of paths, links, routes and time is as it should be.
@@ -63,16 +73,17 @@ way_for-leads r s (Some fact) p router is knows whole =
     (λ other. next_hop-leads (place_of r s) p.route p.session.endpoint (place_sound r s router is) (and_parts _ _ whole).0)
 
 -- a Path whose way was asked for
-path_on_its_way-stands : (r : Router) (s : Facts) (link : ℕ) (p : Path) (way : Result Choice RsvpError) → s.cold ≡ false → IsStanding r s → IsTaken r link p → Leads r way → LeavesStanding r (path_on_its_way r s (find key_cmp (key_of p) s.paths) link p way)
+path_on_its_way-stands : (r : Router) (s : Facts) (link : ℕ) (p : Path) (way : Result Choice RsvpError) → s.cold ≡ false → IsStanding r s → is_head r s.tunnels (key_of p) ≡ false → IsTaken r link p → Leads r way → LeavesStanding r (path_on_its_way r s (find key_cmp (key_of p) s.paths) link p way)
 unfolding path_on_its_way
-path_on_its_way-stands r s link p (Err e) runs is can leads = is
-path_on_its_way-stands r s link p (Ok way) runs is can leads =
+path_on_its_way-stands r s link p (Err e) runs is other can leads = is
+path_on_its_way-stands r s link p (Ok way) runs is other can leads =
     let known = find key_cmp (key_of p) s.paths in
     cond_both (is_none known && nat_le 1024 (length s.paths)) (failed r s link p system_error) (taken r s known link p way) (LeavesStanding r)
     (λ full. is)
     (λ room.
     sound_with_path r s (key_of p) (path_by s.moment known link p way) runs is
     (path_sound r s.moment known link p way can (path_known r s.moment (key_of p) s.paths is.paths) leads)
+    (role_of-elsewhere way ∙ sym other)
     (put_few (key_of p) (path_by s.moment known link p way) s.paths is.paths.in_order is.paths.few room))
 
 -- a Path that is read whole
@@ -81,15 +92,17 @@ unfolding path_arrival
 path_arrival-stands r s link p router runs is there whole =
     let known = find key_cmp (key_of p) s.paths in
     let knows = path_known r s.moment (key_of p) s.paths is.paths in
+    cond_both (is_head r s.tunnels (key_of p)) _ _ (LeavesStanding r) (λ head. is)
+    (λ elsewhere.
     cond_both (not (p.label_request.l3pid == 0x0800)) _ _ (LeavesStanding r) (λ other. is)
     (λ carries.
     cond_both (is_none (token_rate 1 p.tspec)) _ _ (LeavesStanding r) (λ none. is)
     (λ rate.
     cond_both (has_loop r p.recorded) _ _ (LeavesStanding r) (λ loops. is)
     (λ straight.
-    path_on_its_way-stands r s link p (way_for (place_of r s) known p) runs is
+    path_on_its_way-stands r s link p (way_for (place_of r s) known p) runs is elsewhere
     (record { over_link = there; fits = whole; whole_tspec = tspec-whole p.tspec (not-false _ rate) })
-    (way_for-leads r s known p router is knows whole))))
+    (way_for-leads r s known p router is knows whole)))))
 
 -- a path that is left with some origins, or with none
 left_with-stands : (r : Router) (s : Facts) (key : Key) (fact : PathFact) (p : Ipv4Addr → Bool) (origins : List (Ipv4Addr × Origin)) → s.cold ≡ false → IsStanding r s → IfSome (find key_cmp key s.paths) (λ known. IsPath r s.moment (key, known)) → find key_cmp key s.paths ≡ Some fact → where_key address_cmp p fact.origins ≡ origins → IsStanding r (left_with key fact origins s)
@@ -100,7 +113,8 @@ left_with-stands r s key fact p (o ∷ os) runs is knows found left =
     let after : IsPath r s.moment (key, record fact { origins = o ∷ os }) =
     subst (λ (xs : List (Ipv4Addr × Origin)). IsPath r s.moment (key, record fact { origins = xs })) left (path_left_sound r s.moment key fact p some path) in
     let same : length (put key_cmp key (record fact { origins = o ∷ os }) s.paths) ≡ cond (is_some (find key_cmp key s.paths)) (length s.paths) (length s.paths + 1) = length-put key_cmp key_total key (record fact { origins = o ∷ os }) s.paths is.paths.in_order in
-    sound_with_path r s key (record fact { origins = o ∷ os }) runs is after
+    let head : IsHeadOf r s.tunnels (key, fact) = subst (λ (known : Option PathFact). IfSome known (λ f. IsHeadOf r s.tunnels (key, f))) found (head_known r s.tunnels key s.paths is.heads) in
+    sound_with_path r s key (record fact { origins = o ∷ os }) runs is after head
     (subst (λ (n : ℕ). n ≤ 1024) (sym (same ∙ ap (λ known. cond (is_some known) (length s.paths) (length s.paths + 1)) found)) is.paths.few)
 
 -- a PathTear
@@ -112,10 +126,30 @@ torn-stands r s link t (Some fact) runs is found =
     left_with-stands r s (lsp t.session t.sender) fact (λ k. not (is_eq (address_cmp t.sender.sender k))) (origins_without t.sender.sender fact) runs is (path_known r s.moment (lsp t.session t.sender) s.paths is.paths) found refl)
     (λ other. is)
 
+-- an error that is noted in the tunnel of a number, if there is one
+pub with_noted-stands : (r : Router) (s : Facts) (e : ErrorSpec) (number : ℕ) → IsStanding r s → IsStanding r (with_noted e number s)
+with_noted-stands r s e number is = by (find nat_cmp number s.tunnels) refl
+  where
+    by : (known : Option Tunnel) → find nat_cmp number s.tunnels ≡ known → IsStanding r (option_map_or (λ t. with_tunnel number (noted e t) s) known s)
+    by None found = is
+    by (Some t) found = record {
+      moment = is.moment;
+      links = is.links;
+      routes = is.routes;
+      tunnels = tunnels_put_known r number t (noted e t) s.tunnels is.tunnels found (noted_stands r e (number, t) (tunnel_known r number t s.tunnels is.tunnels found));
+      bypasses = bypasses_tunnel_put r s.tunnels s.bypasses number (noted e t) is.bypasses;
+      paths = is.paths;
+      heads = heads_same r s.tunnels (put nat_cmp number (noted e t) s.tunnels) s.paths (heads_noted r number s.tunnels t found e) is.heads;
+      cold = is.cold;
+    }
+
 -- a PathErr
 pub path_err_passed_on-stands : (r : Router) (s : Facts) (link : ℕ) (e : PathErr) (known : Option PathFact) → IsStanding r s → LeavesStanding r (path_err_passed_on s link e known)
 path_err_passed_on-stands r s link e None is = is
-path_err_passed_on-stands r s link e (Some fact) is = cond_both (leaves_by link fact) _ (refused s NoMatch) (LeavesStanding r) (λ leaves. is) (λ other. is)
+path_err_passed_on-stands r s link e (Some fact) is =
+    cond_both (leaves_by link fact) _ (refused s NoMatch) (LeavesStanding r)
+    (λ leaves. cond_both (begins_here fact.role) (with_noted e.error e.session.tunnel s) s (IsStanding r) (λ begins. with_noted-stands r s e.error e.session.tunnel is) (λ elsewhere. is))
+    (λ other. is)
 
 -- a message for another router
 pub relay-stands : (r : Router) (s : Facts) (m : Relay) → IsStanding r s → LeavesStanding r (relay r s m)
@@ -136,11 +170,11 @@ unfolding link_change
 link_change-stands r s number up router is =
     cond_both (is_none (link_at r number)) (refused s UnknownLink) _ (LeavesStanding r) (λ none. is) (λ there. sound_with_link r s number up router is (not-false _ there))
 
--- a moment that comes
-pub tick-stands : (r : Router) (s : Facts) (n : ℕ) → IsStanding r s → LeavesStanding r (tick r s n)
+-- a moment that comes, to a router that runs
+pub tick-stands : (r : Router) (s : Facts) (n : ℕ) → IsRouter r → s.cold ≡ false → IsStanding r s → LeavesStanding r (tick r s n)
 unfolding tick
-tick-stands r s n is =
+tick-stands r s n router runs is =
     cond_both (nat_lt (2 ^ 62) n) (refused s BadMoment) _ (LeavesStanding r) (λ above. is)
     (λ most.
     cond_both (nat_lt n s.moment) (refused s Late) _ (LeavesStanding r) (λ below. is)
-    (λ later. sound_expire r s n is (ltb-false n s.moment later) (ltb-false (2 ^ 62) n most)))
+    (λ later. signalled-stands r (record s { moment = n; paths = expire n s.paths }) router runs (sound_expire r s n is (ltb-false n s.moment later) (ltb-false (2 ^ 62) n most))))

@@ -1,5 +1,12 @@
+pub mod Alongside
+pub mod Bypasses
+pub mod Commanding
 pub mod EventStanding
+pub mod Heads
+pub mod Masked
 pub mod NextHops
 pub mod PathTable
 pub mod Primitives
 pub mod Refusals
+pub mod Signalling
+pub mod Tunnels

@@ -142,7 +142,7 @@ hop_by_rest-leads n [] endpoint is room = hop_to_endpoint-leads n endpoint is
 hop_by_rest-leads n (step ∷ steps) endpoint is room = nodes-lead n (is_loose step) (nodes_of step) (step ∷ steps) is room
 
 -- steps behind one of type IPv4 leave room for it
-room-behind : (loose : Bool) (prefix : Prefix) (steps : List Step) → IsTrue (is_short_route (Ipv4 loose prefix ∷ steps)) → HasRoomBefore steps
+pub room-behind : (loose : Bool) (prefix : Prefix) (steps : List Step) → IsTrue (is_short_route (Ipv4 loose prefix ∷ steps)) → HasRoomBefore steps
 room-behind loose prefix steps short =
     let parts = and_parts (nat_le (length (Ipv4 loose prefix ∷ steps)) 32) _ short in
     let more = and_parts (nat_le (length (route_bytes (Ipv4 loose prefix ∷ steps))) 512) _ parts.1 in

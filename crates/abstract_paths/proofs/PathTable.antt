@@ -1,5 +1,5 @@
 -- The table of paths keeps what holds of it, whichever primitive changes it.
-use Rattle.std.specs.Prelude.{◌≡◌, ◌≢◌, ℕ, ◌+◌, ◌≤◌, Bool, true, false, cond, not, ◌&&◌, ◌||◌, if◌then◌else◌, nat_le, IsTrue, T, List, [], ◌∷◌, map, filter, length, Option, Some, None, is_some, is_none, IfSome}
+use Rattle.std.specs.Prelude.{◌≡◌, ℕ, ◌+◌, ◌≤◌, Bool, true, false, cond, not, ◌&&◌, ◌||◌, if◌then◌else◌, nat_le, IsTrue, T, List, [], ◌∷◌, map, filter, length, Option, Some, None, is_some, is_none, IfSome}
 use Rattle.std.specs.FinMap.Entries.{find, put, where_key, is_sorted, is_sorted-put, is_sorted-where_key, length-put}
 use Rattle.std.specs.List.{AllByRecursion, list_any}
 use Rattle.std.specs.Option.{option_map_or}
@@ -47,10 +47,10 @@ one_counts choices.Tail n some most = (some, omega arith)
 one_counts (choices.Link link rest) n some most = (some, omega arith)
 
 -- and fewer of those that it has, as long as some are left
-fewer_count : (role : Role) (n m : ℕ) → role ≢ roles.Head → IsCountAs role m → 1 ≤ n → n ≤ m → IsCountAs role n
-fewer_count roles.Tail n m elsewhere counts some fewer = (some, omega (arith, counts.1))
-fewer_count roles.Transit n m elsewhere counts some fewer = (some, omega (arith, counts.1))
-fewer_count roles.Head n m elsewhere counts some fewer = absurd (elsewhere refl)
+fewer_count : (role : Role) (n m : ℕ) → IsCountAs role m → 1 ≤ n → n ≤ m → IsCountAs role n
+fewer_count roles.Tail n m counts some fewer = (some, omega (arith, counts.1))
+fewer_count roles.Transit n m counts some fewer = (some, omega (arith, counts.1))
+fewer_count roles.Head n m counts some fewer = omega arith
 
 -- An origin of the key's own sender is put.
 origins_put : (r : Router) (moment : ℕ) (key : Key) (way : Choice) (o : Origin) (origins : List (Ipv4Addr × Origin)) → IsOrigin r moment o → AreBefore r moment key origins → AreOrigins r moment key (role_of way) (put address_cmp key.sender.sender o origins)
@@ -67,7 +67,6 @@ origins_put r moment key way o origins is before =
 -- A path has other origins.
 with_origins : (r : Router) (moment later : ℕ) (key : Key) (fact : PathFact) (origins : List (Ipv4Addr × Origin)) → IsPath r moment (key, fact) → AreOrigins r later key fact.role origins → IsPath r later (key, record fact { origins = origins })
 with_origins r moment later key fact origins is others = record {
-  from_elsewhere = is.from_elsewhere;
   origins = others;
   way = is.way;
   whole_tspec = is.whole_tspec;
@@ -83,24 +82,24 @@ with_origins r moment later key fact origins is others = record {
 }
 
 -- the way of a path leads on
-way-leads : (r : Router) (role : Role) (link : ℕ) (rest : Option (List Step)) → role ≢ roles.Head → IsWayAs r role link rest → IsTrue (option_map_or is_short_route rest true) → LeadsOn r (if goes_on role then choices.Link link rest else choices.Tail)
-way-leads r roles.Tail link rest not_head is short = tt
-way-leads r roles.Transit link rest not_head is short = (is, short)
-way-leads r roles.Head link rest not_head is short = (is, short)
+way-leads : (r : Router) (role : Role) (link : ℕ) (rest : Option (List Step)) → IsWayAs r role link rest → IsTrue (option_map_or is_short_route rest true) → LeadsOn r (if goes_on role then choices.Link link rest else choices.Tail)
+way-leads r roles.Tail link rest is short = tt
+way-leads r roles.Transit link rest is short = (is, short)
+way-leads r roles.Head link rest is short = (is, short)
 
 pub way_of-leads : (r : Router) (moment : ℕ) (path : Key × PathFact) → IsPath r moment path → LeadsOn r (way_of path.1)
-way_of-leads r moment path is = way-leads r path.1.role path.1.out_link path.1.rest is.from_elsewhere is.way is.limits.rest
+way_of-leads r moment path is = way-leads r path.1.role path.1.out_link path.1.rest is.way is.limits.rest
 
--- a way that leads on makes a path of its role
-role_of-elsewhere : (way : Choice) → role_of way ≢ roles.Head
-role_of-elsewhere choices.Tail is = cc
-role_of-elsewhere (choices.Link link rest) is = cc
+-- a way that leads on makes a path of its role, which doesn't begin here
+pub role_of-elsewhere : (way : Choice) → begins_here (role_of way) ≡ false
+role_of-elsewhere choices.Tail = refl
+role_of-elsewhere (choices.Link link rest) = refl
 
 way-as : (r : Router) (way : Choice) → LeadsOn r way → IsWayAs r (role_of way) (link_of way) (rest_of way)
 way-as r choices.Tail leads = (refl, refl)
 way-as r (choices.Link link rest) leads = leads.0
 
-rest_of-short : (r : Router) (way : Choice) → LeadsOn r way → IsTrue (option_map_or is_short_route (rest_of way) true)
+pub rest_of-short : (r : Router) (way : Choice) → LeadsOn r way → IsTrue (option_map_or is_short_route (rest_of way) true)
 rest_of-short r choices.Tail leads = refl
 rest_of-short r (choices.Link link rest) leads = leads.1
 
@@ -123,7 +122,6 @@ pub record IsTaken (r : Router) (link : ℕ) (p : Path) : Type 0 where
 -- The path that a Path makes or renews stands as paths do.
 pub path_sound : (r : Router) (moment : ℕ) (known : Option PathFact) (link : ℕ) (p : Path) (way : Choice) → IsTaken r link p → IfSome known (λ fact. IsPath r moment (key_of p, fact)) → LeadsOn r way → IsPath r moment (key_of p, path_by moment known link p way)
 path_sound r moment known link p way is knows leads = record {
-  from_elsewhere = role_of-elsewhere way;
   origins = origins_put r moment (key_of p) way (origin_of moment link p) (origins_of known) (record { over_link = is.over_link; live = omega arith }) (origins_before r moment (key_of p) known knows);
   way = way-as r way leads;
   whole_tspec = is.whole_tspec;
@@ -135,7 +133,7 @@ pub path_left_sound : (r : Router) (moment : ℕ) (key : Key) (fact : PathFact) 
 path_left_sound r moment key fact p some is =
     with_origins r moment moment key fact (where_key address_cmp p fact.origins) is (record {
       in_order = is_sorted-where_key address_cmp p fact.origins is.origins.in_order;
-      count = fewer_count fact.role _ (length fact.origins) is.from_elsewhere is.origins.count some (length-filter_most (λ (o : Ipv4Addr × Origin). p o.0) fact.origins);
+      count = fewer_count fact.role _ (length fact.origins) is.origins.count some (length-filter_most (λ (o : Ipv4Addr × Origin). p o.0) fact.origins);
       own = all-filter (λ (o : Ipv4Addr × Origin). o.0 ≡ key.sender.sender) (λ o. p o.0) fact.origins is.origins.own;
       each = all-filter (λ (o : Ipv4Addr × Origin). IsOrigin r moment o.1) (λ o. p o.0) fact.origins is.origins.each;
     })
@@ -181,11 +179,11 @@ length-map_same : {A B : Type 0} (f : A → B) (xs : List A) → length (map f x
 length-map_same f [] = refl
 length-map_same f (x ∷ xs) = omega (arith, length-map_same f xs)
 
--- a path that doesn't begin here lives on by an origin
-by_origin : (n : ℕ) (role : Role) (origins : List (Ipv4Addr × Origin)) → role ≢ roles.Head → (begins_here role || list_any (lives_past n) origins) ≡ true → list_any (lives_past n) origins ≡ true
-by_origin n roles.Tail origins not_head lives = lives
-by_origin n roles.Transit origins not_head lives = lives
-by_origin n roles.Head origins not_head lives = absurd (not_head refl)
+-- a path that lives on has as many origins by then as its role asks for
+living_count : (n : ℕ) (role : Role) (origins : List (Ipv4Addr × Origin)) → IsCountAs role (length origins) → (begins_here role || list_any (lives_past n) origins) ≡ true → IsCountAs role (length (filter (lives_past n) origins))
+living_count n roles.Tail origins counts lives = fewer_count roles.Tail _ (length origins) counts (length-filter_some (lives_past n) origins lives) (length-filter_most (lives_past n) origins)
+living_count n roles.Transit origins counts lives = fewer_count roles.Transit _ (length origins) counts (length-filter_some (lives_past n) origins lives) (length-filter_most (lives_past n) origins)
+living_count n roles.Head origins counts lives = omega (arith, counts, length-filter_most (lives_past n) origins)
 
 module _ (r : Router) (moment n : ℕ) where
   -- an origin that lives past a moment stands at it
@@ -197,7 +195,7 @@ module _ (r : Router) (moment n : ℕ) where
   path_lives path is lives =
       with_origins r moment n path.0 path.1 (filter (lives_past n) path.1.origins) is (record {
         in_order = is_sorted-filter address_cmp (lives_past n) path.1.origins is.origins.in_order;
-        count = fewer_count path.1.role _ (length path.1.origins) is.from_elsewhere is.origins.count (length-filter_some (lives_past n) path.1.origins (by_origin n path.1.role path.1.origins is.from_elsewhere lives)) (length-filter_most (lives_past n) path.1.origins);
+        count = living_count n path.1.role path.1.origins is.origins.count lives;
         own = all-filter (λ (o : Ipv4Addr × Origin). o.0 ≡ path.0.sender.sender) (lives_past n) path.1.origins is.origins.own;
         each = all-both (λ (o : Ipv4Addr × Origin). IsOrigin r moment o.1) (λ (o : Ipv4Addr × Origin). lives_past n o ≡ true) (λ (o : Ipv4Addr × Origin). IsOrigin r n o.1) origin_lives
             (filter (lives_past n) path.1.origins)

@@ -10,6 +10,7 @@ use Rattle.rsvp_contents.specs.declared.messages.PathTear.{PathTear}
 use Rattle.rsvp_traffic.specs.TokenBuckets.{token_rate}
 use Rattle.lsr_facts.specs.Orders.{key_cmp}
 use Rattle.lsr_facts.specs.Routers.{link_at}
+use Rattle.lsr_facts.specs.Tunnels.{is_head}
 use Rattle.lsr_facts.specs.declared.choice.Choice.{Choice}
 use Rattle.lsr_facts.specs.declared.errors.RsvpError.{RsvpError}
 use Rattle.lsr_facts.specs.declared.facts.Facts.{Facts}
@@ -18,7 +19,9 @@ use Rattle.lsr_facts.specs.declared.refusal.Refusal.{Refusal}
 use Rattle.lsr_facts.specs.declared.refusal.Refusal.TheVariants.{BadMoment, Late, LinkDown, NoMatch, UnknownLink}
 use Rattle.lsr_facts.specs.declared.reply.Reply.TheVariants as replies
 use Rattle.lsr_facts.specs.declared.router.Router.{Router}
+use Rattle.router_events.specs.declared.commands.Command.{Command}
 use Rattle.router_events.specs.declared.ways.Relay.{Relay}
+use Rattle.abstract_paths.specs.Commands.{command, commanded, refusal_of}
 use Rattle.abstract_paths.specs.Links.{link_change}
 use Rattle.abstract_paths.specs.Outcomes.{PathOutcome, done, lsp, refused}
 use Rattle.abstract_paths.specs.Paths.{has_loop, key_of, path_arrival, path_on_its_way, way_for}
@@ -50,16 +53,18 @@ module _ (r : Router) (s : Facts) where
   err_refuses link e None = refuses NoMatch
   err_refuses link e (Some fact) = cond_both (leaves_by link fact) _ (refused s NoMatch) (RefusesSilently s) (λ leaves refusal is. cc) (λ other. refuses NoMatch)
 
-  -- a Path is never refused
+  -- a Path is refused of an LSP that begins here alone
   pub path_arrival-refuses : (link : ℕ) (p : Path) → RefusesSilently s (path_arrival r s link p)
   unfolding path_arrival
   path_arrival-refuses link p =
+      cond_both (is_head r s.tunnels (key_of p)) _ _ (RefusesSilently s) (λ head. refuses NoMatch)
+      (λ elsewhere.
       cond_both (not (p.label_request.l3pid == 0x0800)) _ _ (RefusesSilently s) (λ other refusal is. cc)
       (λ carries.
       cond_both (is_none (token_rate 1 p.tspec)) _ _ (RefusesSilently s) (λ none refusal is. cc)
       (λ rate.
       cond_both (has_loop r p.recorded) _ _ (RefusesSilently s) (λ loops refusal is. cc)
-      (λ straight. path_refuses link p (way_for (place_of r s) (find key_cmp (key_of p) s.paths) p))))
+      (λ straight. path_refuses link p (way_for (place_of r s) (find key_cmp (key_of p) s.paths) p)))))
 
   pub path_err-refuses : (link : ℕ) (e : PathErr) → RefusesSilently s (path_err_arrival s link e)
   unfolding path_err_arrival
@@ -88,3 +93,11 @@ module _ (r : Router) (s : Facts) where
   pub link_change-refuses : (number : ℕ) (up : Bool) → RefusesSilently s (link_change r s number up)
   unfolding link_change
   link_change-refuses number up = cond_both (is_none (link_at r number)) (refused s UnknownLink) _ (RefusesSilently s) (λ none. refuses UnknownLink) (λ there refusal is. cc)
+
+  pub command-refuses : (c : Command) → RefusesSilently s (command r s c)
+  unfolding command
+  command-refuses c = by (refusal_of r s c)
+    where
+      by : (refusal : Option Refusal) → RefusesSilently s (option_map_or (refused s) refusal (done [] (commanded r s c)))
+      by None = λ refusal is. cc
+      by (Some refusal) = refuses refusal

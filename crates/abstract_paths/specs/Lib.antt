@@ -1,4 +1,6 @@
 pub mod Changes
+pub mod Commands
+pub mod Heads
 pub mod Links
 pub mod MessageLaws
 pub mod Onward

@@ -19,6 +19,7 @@ use Rattle.rsvp_contents.specs.Limits.{is_short_record}
 use Rattle.rsvp_contents.specs.declared.messages.Path.{Path}
 use Rattle.lsr_facts.specs.Errors.{bad_tspec, system_error, routing_loop, unsupported_l3pid, record_too_long}
 use Rattle.lsr_facts.specs.Orders.{address_cmp, key_cmp}
+use Rattle.lsr_facts.specs.Tunnels.{is_head}
 use Rattle.lsr_facts.specs.declared.choice.Choice.{Choice}
 use Rattle.lsr_facts.specs.declared.choice.Choice.TheVariants.{Link, Tail}
 use Rattle.lsr_facts.specs.declared.errors.RsvpError.{RsvpError}
@@ -29,11 +30,12 @@ use Rattle.lsr_facts.specs.declared.path_fact.PathFact.{PathFact}
 use Rattle.lsr_facts.specs.declared.path_fact.Role.{Role}
 use Rattle.lsr_facts.specs.declared.path_fact.Via.TheVariants as vias
 use Rattle.lsr_facts.specs.declared.path_fact.Role.TheVariants as roles
+use Rattle.lsr_facts.specs.declared.refusal.Refusal.TheVariants.{NoMatch}
 use Rattle.lsr_facts.specs.declared.reply.Reply.TheVariants as replies
 use Rattle.lsr_facts.specs.declared.router.Router.{Router}
 use Rattle.router_events.specs.declared.events.Output.{Output}
 use Rattle.abstract_paths.specs.Changes.{with_path}
-use Rattle.abstract_paths.specs.Outcomes.{PathOutcome, done, lsp, sent_by, found_here, path_err, told_upstream}
+use Rattle.abstract_paths.specs.Outcomes.{PathOutcome, done, lsp, sent_by, found_here, path_err, refused, told_upstream}
 use Rattle.abstract_paths.specs.Places.{Place, is_own, place_of}
 use Rattle.abstract_paths.specs.Routing.{next_hop}
 
@@ -166,11 +168,12 @@ path_on_its_way r s known link p (Ok way) =
     if is_none known && nat_le 1024 (length s.paths) then failed r s link p system_error else taken r s known link p way
 
 -- A Path that is read whole: the first of these that holds (the type of what it is to carry: RFC 3209, 4.2.4; its Tspec:
--- RFC 2210, 3.1; its record: RFC 3209, 4.4.4).
+-- RFC 2210, 3.1; its record: RFC 3209, 4.4.4). One of an LSP that begins here is refused first: no neighbour sends it.
 unfoldable pub path_arrival : Router → Facts → ℕ → Path → PathOutcome
 path_arrival r s link p =
     let known = find key_cmp (key_of p) s.paths in
-    if not (p.label_request.l3pid == 0x0800) then failed r s link p unsupported_l3pid
+    if is_head r s.tunnels (key_of p) then refused s NoMatch
+    else if not (p.label_request.l3pid == 0x0800) then failed r s link p unsupported_l3pid
     else if is_none (token_rate 1 p.tspec) then failed r s link p bad_tspec
     else if has_loop r p.recorded then failed r s link p routing_loop
     else path_on_its_way r s known link p (way_for (place_of r s) known p)

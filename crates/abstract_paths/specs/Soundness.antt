@@ -1,5 +1,5 @@
--- What holds of paths, links, routes and time in every state that a router comes to.
-use Rattle.std.specs.Prelude.{◌≡◌, ◌≢◌, ℕ, ◌^◌, ◌≤◌, true, List, [], length, Option, None, IsTrue, T}
+-- What holds of paths, tunnels, bypasses, links, routes and time in every state that a router comes to.
+use Rattle.std.specs.Prelude.{◌≡◌, ℕ, ◌^◌, ◌≤◌, true, List, [], length, Option, None, IsTrue, T}
 use Rattle.std.specs.FinMap.Entries.{is_sorted}
 use Rattle.std.specs.List.{AllByRecursion}
 use Rattle.std.specs.Option.{option_map_or}
@@ -8,8 +8,11 @@ use Rattle.rsvp_routes.specs.declared.step.Step.{Step}
 use Rattle.rsvp_contents.specs.Fitting.{are_passed_on, has_adspec_last, has_one_fast_reroute}
 use Rattle.rsvp_contents.specs.Limits.{is_short_route, is_short_record, is_short_passing}
 use Rattle.sorted_rows.specs.Rows.{keys_of}
+use Rattle.lsr_facts.specs.Bypasses.{AreBypasses}
+use Rattle.lsr_facts.specs.Lifetimes.{begins_here}
 use Rattle.lsr_facts.specs.Orders.{address_cmp, key_cmp}
 use Rattle.lsr_facts.specs.Routers.{AreRoutes, HasLink}
+use Rattle.lsr_facts.specs.Tunnels.{AreTunnels, is_head}
 use Rattle.lsr_facts.specs.declared.facts.Facts.{Facts}
 use Rattle.lsr_facts.specs.declared.key.Key.{Key}
 use Rattle.lsr_facts.specs.declared.path_fact.Origin.{Origin}
@@ -19,6 +22,7 @@ use Rattle.lsr_facts.specs.declared.path_fact.Role.TheVariants as roles
 use Rattle.lsr_facts.specs.declared.path_fact.Via.{Via}
 use Rattle.lsr_facts.specs.declared.path_fact.Via.TheVariants as vias
 use Rattle.lsr_facts.specs.declared.router.Router.{Router}
+use Rattle.lsr_facts.specs.declared.tunnel.Tunnel.{Tunnel}
 
 -- The Paths of an origin come over a link of the router. None come through a stack of labels yet.
 abbrev pub IsVia : Router → Via → Type 0
@@ -63,9 +67,8 @@ pub record IsWithinLimits (fact : PathFact) : Type 0 where
   pub adspec_last : IsTrue (has_adspec_last fact.passing)
   pub one_fast_reroute : IsTrue (has_one_fast_reroute fact.fast_reroute fact.passing)
 
--- A path at a moment: its Tspec is as long as that of a token bucket (RFC 2210, 3.1), and it stands as said above. No path begins here yet.
+-- A path at a moment: its Tspec is as long as that of a token bucket (RFC 2210, 3.1), and it stands as said above.
 pub record IsPath (r : Router) (moment : ℕ) (path : Key × PathFact) : Type 0 where
-  pub from_elsewhere : path.1.role ≢ roles.Head
   pub origins : AreOrigins r moment path.0 path.1.role path.1.origins
   pub way : IsWay r path.1
   pub whole_tspec : length path.1.tspec ≡ 32
@@ -77,10 +80,17 @@ pub record ArePaths (r : Router) (moment : ℕ) (paths : List (Key × PathFact))
   pub few : length paths ≤ 1024
   pub each : AllByRecursion (IsPath r moment) paths
 
+-- a path begins here exactly where its LSP is one of a tunnel's
+abbrev pub IsHeadOf : Router → List (ℕ × Tunnel) → Key × PathFact → Type 0
+IsHeadOf r tunnels path = begins_here path.1.role ≡ is_head r tunnels path.0
+
 -- What holds in every state. A cold router knows no path.
 pub record IsStanding (r : Router) (s : Facts) : Type 0 where
   pub moment : s.moment ≤ 2 ^ 62
   pub links : keys_of s.up ≡ keys_of r.links
   pub routes : AreRoutes r s.routes
+  pub tunnels : AreTunnels r s.tunnels
+  pub bypasses : AreBypasses r s.tunnels s.bypasses
   pub paths : ArePaths r s.moment s.paths
+  pub heads : AllByRecursion (IsHeadOf r s.tunnels) s.paths
   pub cold : s.cold ≡ true → s.paths ≡ []

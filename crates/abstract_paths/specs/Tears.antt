@@ -7,6 +7,7 @@ use Rattle.std.specs.declared.net.ipv4_addr.Ipv4Addr.{Ipv4Addr}
 use Rattle.rsvp_contents.specs.declared.messages.PathErr.{PathErr}
 use Rattle.rsvp_contents.specs.declared.messages.PathTear.{PathTear}
 use Rattle.lsr_facts.specs.Orders.{address_cmp, key_cmp}
+use Rattle.lsr_facts.specs.Lifetimes.{begins_here}
 use Rattle.lsr_facts.specs.Origins.{via_link}
 use Rattle.lsr_facts.specs.declared.facts.Facts.{Facts}
 use Rattle.lsr_facts.specs.declared.key.Key.{Key}
@@ -15,6 +16,7 @@ use Rattle.lsr_facts.specs.declared.path_fact.Via.{Via}
 use Rattle.lsr_facts.specs.declared.path_fact.PathFact.{PathFact}
 use Rattle.lsr_facts.specs.declared.refusal.Refusal.TheVariants.{NoMatch}
 use Rattle.abstract_paths.specs.Changes.{with_path, without_path}
+use Rattle.abstract_paths.specs.Heads.{with_noted}
 use Rattle.abstract_paths.specs.Outcomes.{PathOutcome, done, lsp, refused, told_upstream}
 use Rattle.abstract_paths.specs.Paths.{goes_on}
 use Rattle.lsr_facts.specs.Routers.{is_same}
@@ -56,13 +58,17 @@ path_tear_arrival s link t = torn s link t (find key_cmp (lsp t.session t.sender
 unfoldable pub leaves_by : ℕ → PathFact → Bool
 leaves_by link fact = goes_on fact.role && (fact.out_link == link)
 
--- A PathErr that comes by the link that its path leaves by goes on upstream with its error unchanged; one that
--- matches none is refused.
+-- the error of a path that begins here is noted in its tunnel
+abbrev pub noted_of : PathErr → PathFact → Facts → Facts
+noted_of e fact s = if begins_here fact.role then with_noted e.error e.session.tunnel s else s
+
+-- A PathErr that comes by the link that its path leaves by goes on upstream with its error unchanged, and where the path
+-- begins here, it has come to its end and is noted; one that matches none is refused.
 abbrev pub path_err_passed_on : Facts → ℕ → PathErr → Option PathFact → PathOutcome
 path_err_passed_on s link e None = refused s NoMatch
 path_err_passed_on s link e (Some fact) =
     if leaves_by link fact
-    then done (told_upstream (lsp e.session e.sender) fact e.tspec e.error) s
+    then done (told_upstream (lsp e.session e.sender) fact e.tspec e.error) (noted_of e fact s)
     else refused s NoMatch
 
 -- What a PathErr does (RFC 2205, 3.1.7).

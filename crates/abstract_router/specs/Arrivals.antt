@@ -1,5 +1,5 @@
--- What events do: messages that come, moments, links, a restart and a start.
-use Rattle.std.specs.Prelude.{ℕ, ◌&&◌, not, Bool, true, false, if◌then◌else◌, [], is_none}
+-- What events do: messages that come, moments, links, commands, a restart and a start.
+use Rattle.std.specs.Prelude.{ℕ, ◌&&◌, not, Bool, true, false, if◌then◌else◌, [], is_none, option_to_list}
 use Rattle.std.specs.FinMap.Entries.{find}
 use Rattle.rsvp_contents.specs.Picking.{content_in}
 use Rattle.rsvp_contents.specs.declared.message.Reading.TheVariants as readings
@@ -15,11 +15,13 @@ use Rattle.lsr_facts.specs.declared.reply.Reply.TheVariants as replies
 use Rattle.lsr_facts.specs.declared.reply.Reply.{Reply}
 use Rattle.lsr_facts.specs.declared.router.Router.{Router}
 use Rattle.resv_facts.specs.Reservations.{expire}
+use Rattle.router_events.specs.declared.commands.Command.{Command}
 use Rattle.router_events.specs.declared.ways.ArrivalWay.{ArrivalWay}
 use Rattle.router_events.specs.declared.ways.ArrivalWay.TheVariants as ways
 use Rattle.router_events.specs.declared.ways.Arrive.{Arrive}
 use Rattle.router_events.specs.declared.events.Event.TheVariants as events
 use Rattle.router_events.specs.declared.events.Event.{Event}
+use Rattle.abstract_paths.specs.Commands.{begun_by, command}
 use Rattle.abstract_paths.specs.Links.{link_change}
 use Rattle.abstract_paths.specs.Paths.{failed, key_of, path_arrival, unknown_object}
 use Rattle.abstract_paths.specs.Places.{is_up}
@@ -32,7 +34,7 @@ use Rattle.abstract_router.specs.Errors.{no_label}
 use Rattle.abstract_router.specs.Labels.{has_free_label}
 use Rattle.abstract_router.specs.Outcomes.{Outcome, of_paths, refused}
 use Rattle.abstract_router.specs.Reserving.{resv_arrival, unknown_resv}
-use Rattle.abstract_router.specs.States.{State}
+use Rattle.abstract_router.specs.States.{State, without_resvs}
 use Rattle.abstract_router.specs.Tearing.{resv_err_arrival, resv_tear_arrival}
 
 -- the reply is that it was done
@@ -100,6 +102,12 @@ for_reservations r s n o =
 unfoldable pub moment_comes : Router → State → ℕ → Outcome
 moment_comes r s n = for_reservations r s n (of_paths s (tick r s.facts n))
 
+-- A command. Of the LSP that it has signalled no reservation is known: one of a path of another role under its key is lost.
+unfoldable pub command_comes : Router → State → Command → Outcome
+command_comes r s c =
+    let o = of_paths s (command r s.facts c) in
+    if o.is_silent then o else record o { after = without_resvs (option_to_list (begun_by r s.facts c)) o.after }
+
 -- A restart: what messages set up is lost, reservations and labels too.
 abbrev pub lost : State → Outcome
 lost s =
@@ -113,5 +121,6 @@ outcome r s (events.Relay m) = of_paths s (relay r s.facts m)
 outcome r s (events.Tick n) = moment_comes r s n
 outcome r s (events.LinkUp number) = of_paths s (link_change r s.facts number true)
 outcome r s (events.LinkDown number) = of_paths s (link_change r s.facts number false)
+outcome r s (events.Command c) = command_comes r s c
 outcome r s events.Restart = lost s
 outcome r s events.Start = of_paths s (started s.facts)

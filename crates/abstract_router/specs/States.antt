@@ -2,8 +2,7 @@
 pub use Rattle.resv_facts.specs.declared.state.State.{State}
 use Rattle.std.specs.Prelude.{not, Bool, List, filter, is_some}
 use Rattle.std.specs.FinMap.Entries.{find, put}
-use Rattle.std.specs.List.{list_any}
-use Rattle.std.specs.Ordering.{is_eq}
+pub use Rattle.lsr_facts.specs.Orders.{is_one_of}
 use Rattle.lsr_facts.specs.Orders.{key_cmp}
 use Rattle.lsr_facts.specs.declared.facts.Facts.{Facts}
 use Rattle.lsr_facts.specs.declared.key.Key.{Key}
@@ -24,10 +23,6 @@ with_resv key fact s = record s { resvs = put key_cmp key fact s.resvs }
 -- the reservations that pass the test are kept
 abbrev pub with_resvs_where : (Key × ResvFact → Bool) → State → State
 with_resvs_where test s = record s { resvs = filter test s.resvs }
-
--- the key is one of these
-abbrev pub is_one_of : List Key → Key → Bool
-is_one_of keys key = list_any (λ k. is_eq (key_cmp k key)) keys
 
 -- the reservations of these LSPs go
 abbrev pub without_resvs : List Key → State → State

@@ -1,23 +1,32 @@
 -- One step of the abstract router, and runs of steps.
-use Rattle.std.specs.Prelude.{◌≡◌, ◌≢◌, ◌&&◌, ◌++◌, ℕ, true, if◌then◌else◌, Bool, false, List, [], ◌∷◌}
+use Rattle.std.specs.Prelude.{◌≡◌, ◌≢◌, ◌&&◌, ◌++◌, ℕ, true, if◌then◌else◌, Bool, false, List, [], ◌∷◌, filter, length, map}
 use Rattle.std.specs.FinMap.Entries.{find}
+use Rattle.std.specs.List.{AllByRecursion}
 use Rattle.std.specs.Option.{option_map_or}
 use Rattle.rsvp_contents.specs.Picking.{content_in}
 use Rattle.rsvp_contents.specs.Spelling.{IsMessage}
+use Rattle.rsvp_objects.specs.Ranges.{IsAddress}
 use Rattle.rsvp_routes.specs.declared.prefix.Prefix.{Prefix}
 use Rattle.lsr_facts.specs.Orders.{key_cmp}
+use Rattle.lsr_facts.specs.Tunnels.{current_key, pending_key}
+use Rattle.lsr_facts.specs.declared.bypass.Bypass.{Bypass}
 use Rattle.lsr_facts.specs.declared.facts.Facts.{Facts}
 use Rattle.lsr_facts.specs.declared.key.Key.{Key}
 use Rattle.lsr_facts.specs.declared.path_fact.PathFact.{PathFact}
 use Rattle.lsr_facts.specs.declared.router.Router.{Router}
+use Rattle.lsr_facts.specs.declared.tunnel.Tunnel.{Tunnel}
+use Rattle.make_before_break.specs.Changes.{switched}
 use Rattle.resv_facts.specs.declared.resv_fact.ResvFact.{ResvFact}
 use Rattle.lsr_facts.specs.declared.refusal.Refusal.{Refusal}
 use Rattle.lsr_facts.specs.declared.refusal.Refusal.TheVariants.{HopLimit, IsCold}
+use Rattle.router_events.specs.declared.commands.Command.{Command}
+use Rattle.router_events.specs.declared.commands.Command.TheVariants.{AddTunnel, ChangeTunnel, AddRoute}
 use Rattle.router_events.specs.declared.events.Event.TheVariants as events
 use Rattle.router_events.specs.declared.events.Event.{Event}
 use Rattle.router_events.specs.declared.events.Made.{Made}
 use Rattle.router_events.specs.declared.events.Output.{Output}
 use Rattle.link_frames.specs.Payloads.{IsData}
+use Rattle.abstract_paths.specs.Changes.{without_paths}
 use Rattle.abstract_paths.specs.Places.{is_up}
 use Rattle.abstract_paths.specs.Relays.{exceeds_hop_limit}
 use Rattle.abstract_paths.specs.Restarts.{opening_facts}
@@ -26,15 +35,31 @@ use Rattle.abstract_router.specs.Arrivals.{outcome}
 use Rattle.abstract_router.specs.Labels.{IsLabelling, labels_after}
 use Rattle.abstract_router.specs.Outcomes.{Outcome}
 use Rattle.abstract_router.specs.Outputs.{item_stamps, outputs_of, upstream_stamps}
-use Rattle.abstract_router.specs.States.{State, with_resvs_where}
+use Rattle.abstract_router.specs.States.{State, is_reserved, with_facts, with_resvs_where}
 
 -- a router as it is opened: no path, no reservation, no label
-abbrev pub opening : Router → List (Prefix × ℕ) → State
-opening r routes = record { facts = opening_facts r routes; resvs = []; labels = []; sent_upstream = [] }
+abbrev pub opening : Router → List (Prefix × ℕ) → List (ℕ × Tunnel) → List (ℕ × Bypass) → State
+opening r routes tunnels bypasses = record { facts = opening_facts r routes tunnels bypasses; resvs = []; labels = []; sent_upstream = [] }
 
--- First a tunnel whose new LSP has its reservation goes over to it (RFC 3209, 2.5). No tunnel begins here yet.
-abbrev pub taken_over : Router → State → State
-taken_over r s = s
+-- the LSP that is to take the place of the tunnel's current one is reserved
+abbrev pub is_ready : Router → State → ℕ × Tunnel → Bool
+is_ready r s tunnel = option_map_or (is_reserved s) (pending_key r tunnel) false
+
+-- the LSPs that tunnels give up then: their current ones
+abbrev pub given_up : Router → State → List Key
+given_up r s = map (current_key r) (filter (is_ready r s) s.facts.tunnels)
+
+-- the tunnel, with its new LSP in its current one's place where that is reserved
+abbrev pub switched_where : (ℕ × Tunnel → Bool) → ℕ × Tunnel → ℕ × Tunnel
+switched_where test tunnel = if test tunnel then (tunnel.0, switched tunnel.1) else tunnel
+
+-- First each tunnel whose new LSP is reserved goes over to it, and the LSP that carried its traffic goes (RFC 3209, 2.5).
+unfoldable pub taken_over : Router → State → State
+taken_over r s = with_facts (without_paths (given_up r s) (record s.facts { tunnels = map (switched_where (is_ready r s)) s.facts.tunnels })) s
+
+-- No tunnel's new LSP is reserved. So it is after each step, since the tunnel goes over to it in the step that reserves it.
+abbrev pub AreSettled : Router → State → Type 0
+AreSettled r s = AllByRecursion (λ tunnel. is_ready r s tunnel ≡ false) s.facts.tunnels
 
 -- Then what a lost link takes away is repaired (RFC 4090, 6.4). Nothing is repaired yet.
 abbrev pub repaired : Router → State → State
@@ -83,10 +108,19 @@ MayChooseBy false r labels paths chosen = IsLabelling r labels paths chosen
 abbrev pub MayChoose : Router → State → Outcome → List (Key × ℕ) → Type 0
 MayChoose r before o chosen = MayChooseBy o.is_silent r before.labels o.after.facts.paths chosen
 
--- An event that can be: its message is one, or it has no more unread bytes than a frame. The types of the program keep that.
+-- A command that can be: its addresses have four octets, its traffic descriptor 32 bytes.
+abbrev pub IsCommand : Command → Type 0
+IsCommand (AddTunnel t) = IsAddress t.endpoint × (length t.tspec ≡ 32)
+IsCommand (ChangeTunnel c) = length c.tspec ≡ 32
+IsCommand (AddRoute prefix link) = IsAddress prefix.address
+IsCommand c = Unit {0}
+
+-- An event that can be: its message is one, or it has no more unread bytes than a frame, or its command can be. The types
+-- of the program keep that.
 abbrev pub IsEvent : Event → Type 0
 IsEvent (events.Arrive a) = IsMessage (content_in a.reading)
 IsEvent (events.Relay m) = IsData m.message
+IsEvent (events.Command c) = IsCommand c
 IsEvent event = Unit {0}
 
 -- One step, made: what the event does and what follows from it, its answer, and what is sent. While the router is

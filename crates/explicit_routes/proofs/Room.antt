@@ -9,7 +9,7 @@ use Rattle.rsvp_routes.specs.declared.step.Step.TheVariants.{Ipv4, Other}
 use Rattle.abstract_paths.specs.Routing.{nodes_of}
 
 -- the last items are written in no more bytes than all
-length-last : {X : Type 0} (f : X → List ℕ) (n : ℕ) (xs : List X) → length (flat_map f (drop n xs)) ≤ length (flat_map f xs)
+pub length-last : {X : Type 0} (f : X → List ℕ) (n : ℕ) (xs : List X) → length (flat_map f (drop n xs)) ≤ length (flat_map f xs)
 length-last f zero xs = omega arith
 length-last f (suc n) [] = omega arith
 length-last f (suc n) (x ∷ xs) =

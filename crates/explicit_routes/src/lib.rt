@@ -5,13 +5,15 @@
 mod copies;
 mod fault;
 mod hops;
+mod lent;
 mod places;
 mod records;
 mod routing;
 
 pub use abstract_paths::{Frame, Output, Outputs};
 pub use fault::{RouteError, RouteFault};
-pub use hops::choose_hop;
+pub use hops::{choose_hop, head_way};
+pub use lent::{Rest, Way};
 pub use places::{is_own, is_up, link_at};
 pub use records::{has_loop, has_room, own_entry, push_hop};
 pub use routing::route_to;

@@ -1,16 +1,15 @@
 -- The edits between rows and others lead from the ones to the others, and each changes something.
 use Rattle.std.proofs.Common.{◌≡◌, ◌≢◌, ◌&&◌, ◌==◌, nat_eq, ℕ, Bool, true, false, if◌then◌else◌, cond, List, [], ◌∷◌, Option, Some, None, is_some, refl, sym, ap, ◌∙◌}
-use Rattle.std.specs.FinMap.Entries.{find, find-put}
-use Rattle.std.specs.Option.{option_eq, option_map, option_or}
+use Rattle.std.specs.Prelude.{◌||◌}
+use Rattle.std.specs.FinMap.Entries.{find}
+use Rattle.std.specs.Option.{option_eq, option_or}
 use Rattle.std.specs.Ordering.{eq_by_cmp, nat_cmp}
 use Rattle.std.proofs.lemmas.Bool.{and_parts, eq-eqb, eqb-true}
-use Rattle.std.proofs.lemmas.Cmp.{nat_cmp_total}
-use Rattle.std.proofs.lemmas.Map.Lookups.{exact_unsigned}
 use Rattle.sorted_rows.specs.Edits.{over}
-use Rattle.sorted_rows.specs.RowsLaws.{ties}
 use Rattle.forwarding_table.specs.declared.action.Action.{Action}
 use Rattle.forwarding_table.specs.declared.action.Action.TheVariants.{Pop, PushHead, Swap, SwapPush}
-use Rattle.label_table.specs.Turns.{Edit, change, change_at, is_same, is_same_action, put_each, put_row}
+use Rattle.label_table.proofs.Asking.{each_asked, is_asked}
+use Rattle.label_table.specs.Turns.{Edit, change, change_at, is_same, is_same_action, put_each}
 
 -- numbers that may be there, and are the same
 same_numbers : (a b : Option ℕ) → option_eq nat_eq a b ≡ true → a ≡ b
@@ -64,6 +63,11 @@ itself_there (Some a) = itself a
 pub over_change : (was now : Option Action) → over (change was now) was ≡ now
 over_change was now = elim (is_same was now) as (λ b. is_same was now ≡ b → over (if b then None else Some now) was ≡ now) [ true ↦ λ is. same was now is | false ↦ λ is. refl ] refl
 
+-- Where both are the same there is none.
+pub no_change : (was now : Option Action) → was ≡ now → change was now ≡ None
+no_change was now same =
+    ap (λ b. if b then None else Some now) (ap (is_same was) (sym same) ∙ itself_there was)
+
 -- And there is one only where that is another; it says what is to be.
 pub changes_something : (was now : Option Action) (edit : Option Action) → change was now ≡ Some edit → (was ≢ now) × (edit ≡ now)
 changes_something was now edit =
@@ -73,49 +77,25 @@ changes_something was now edit =
     ] refl
 
 module _ (was now : List (ℕ × Action)) (label : ℕ) where
-  -- what becomes of the label
-  abbrev becomes : Option (Option Action)
-  becomes = change (find nat_cmp label was) (find nat_cmp label now)
+  -- what becomes of a label
+  abbrev becomes : ℕ → Option (Option Action)
+  becomes other = change (find nat_cmp other was) (find nat_cmp other now)
 
-  -- one more label is asked
-  found_after : (other : ℕ) (edits : List Edit) → find nat_cmp label (put_row (change_at was now other) edits) ≡ cond (eq_by_cmp nat_cmp label other) (option_or becomes (find nat_cmp label edits)) (find nat_cmp label edits)
-  found_after other edits = asked (change (find nat_cmp other was) (find nat_cmp other now)) refl
-    where
-      asked : (o : Option (Option Action)) → change (find nat_cmp other was) (find nat_cmp other now) ≡ o
-          → find nat_cmp label (put_row (option_map {U = Edit} (λ (action : Option Action). (other, action)) o) edits) ≡ cond (eq_by_cmp nat_cmp label other) (option_or becomes (find nat_cmp label edits)) (find nat_cmp label edits)
-      asked o is = by (eq_by_cmp nat_cmp label other) refl o is
-        where
-          mine : eq_by_cmp nat_cmp label other ≡ true → (o : Option (Option Action)) → change (find nat_cmp other was) (find nat_cmp other now) ≡ o → becomes ≡ o
-          mine tie o is = ap (λ l. change (find nat_cmp l was) (find nat_cmp l now)) (exact_unsigned label other (ties _ tie)) ∙ is
+  -- a label is asked where it is found
+  asked_found : (rows : List (ℕ × Action)) → is_asked {K = ℕ} (λ l. l) becomes label rows ≡ is_some (find nat_cmp label rows)
+  asked_found [] = refl
+  asked_found (row ∷ rows) =
+      elim (eq_by_cmp nat_cmp label row.0) as (λ b. (b || is_asked {K = ℕ} (λ l. l) becomes label rows) ≡ is_some (cond b (Some row.1) (find nat_cmp label rows))) [ true ↦ refl | false ↦ asked_found rows ]
 
-          by : (b : Bool) → eq_by_cmp nat_cmp label other ≡ b → (o : Option (Option Action)) → change (find nat_cmp other was) (find nat_cmp other now) ≡ o
-              → find nat_cmp label (put_row (option_map {U = Edit} (λ (action : Option Action). (other, action)) o) edits) ≡ cond b (option_or becomes (find nat_cmp label edits)) (find nat_cmp label edits)
-          by true tie None is = ap (λ o. option_or o (find nat_cmp label edits)) (sym (mine tie None is))
-          by true tie (Some action) is =
-              find-put nat_cmp nat_cmp_total label other action edits ∙ ap (λ b. cond b (Some action) (find nat_cmp label edits)) tie
-              ∙ ap (λ o. option_or o (find nat_cmp label edits)) (sym (mine tie (Some action) is))
-          by false apart None is = refl
-          by false apart (Some action) is = find-put nat_cmp nat_cmp_total label other action edits ∙ ap (λ b. cond b (Some action) (find nat_cmp label edits)) apart
-
-  -- what is found once some labels were asked
-  found_of : (rows : List (ℕ × Action)) (edits : List Edit) → find nat_cmp label (put_each (change_at was now) rows edits) ≡ option_or (cond (is_some (find nat_cmp label rows)) becomes None) (find nat_cmp label edits)
-  found_of [] edits = refl
-  found_of (row ∷ rows) edits =
-      found_of rows (put_row (change_at was now row.0) edits)
-      ∙ ap (option_or (cond (is_some (find nat_cmp label rows)) becomes None)) (found_after row.0 edits)
-      ∙ by (eq_by_cmp nat_cmp label row.0) (is_some (find nat_cmp label rows)) (find nat_cmp label rows) refl becomes (find nat_cmp label edits)
-    where
-      by : (b among : Bool) (found : Option Action) → is_some found ≡ among → (o : Option (Option Action)) (before : Option (Option Action)) → option_or (cond among o None) (cond b (option_or o before) before) ≡ option_or (cond (is_some (cond b (Some row.1) found)) o None) before
-      by true true found is None before = refl
-      by true true found is (Some x) before = refl
-      by true false found is o before = refl
-      by false among found is o before = ap (λ m. option_or (cond m o None) before) (sym is)
+  -- what is found once the labels of some rows were asked
+  found_of : (rows : List (ℕ × Action)) (edits : List Edit) → find nat_cmp label (put_each (change_at was now) rows edits) ≡ option_or (cond (is_some (find nat_cmp label rows)) (becomes label) None) (find nat_cmp label edits)
+  found_of rows edits = each_asked (λ l. l) becomes label rows edits ∙ ap (λ b. option_or (cond b (becomes label) None) (find nat_cmp label edits)) (asked_found rows)
 
   -- Once the labels of both were asked, each label has what becomes of it.
-  pub found_changes : find nat_cmp label (put_each (change_at was now) now (put_each (change_at was now) was [])) ≡ becomes
+  pub found_changes : find nat_cmp label (put_each (change_at was now) now (put_each (change_at was now) was [])) ≡ becomes label
   found_changes =
       found_of now (put_each (change_at was now) was [])
-      ∙ ap (option_or (cond (is_some (find nat_cmp label now)) becomes None)) (found_of was [])
+      ∙ ap (option_or (cond (is_some (find nat_cmp label now)) (becomes label) None)) (found_of was [])
       ∙ by (find nat_cmp label was) (find nat_cmp label now)
     where
       each : (o : Option (Option Action)) (b : Bool) → option_or o (option_or (cond b o None) None) ≡ o

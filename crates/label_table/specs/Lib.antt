@@ -1,4 +1,6 @@
 pub mod Below
 pub mod RowLaws
 pub mod Rows
+pub mod TunnelLaws
+pub mod TunnelRows
 pub mod Turns

@@ -7,6 +7,7 @@ use Rattle.std.specs.Ordering.{eq_by_cmp, is_eq}
 use Rattle.std.proofs.Common.{refl, sym, ap, subst, ◌∙◌, arith}
 use Rattle.std.proofs.lemmas.Bool.{eq-eqb, eqb-true}
 use Rattle.std.proofs.lemmas.Cmp.{tied_itself}
+use Rattle.std.proofs.lemmas.List.{length-map}
 use Rattle.sorted_rows.specs.Rows.{values_of}
 use Rattle.sorted_rows.specs.RowsLaws.{find-behind, second, ties}
 use Rattle.lsr_facts.specs.OrderLaws.{key_exact, key_total}
@@ -119,15 +120,18 @@ table-no_path s none label = sym (ap (λ paths. first_of label (entries s label 
 pub table-alike : (s t : State) (rows : List (ℕ × Action)) → s.facts.paths ≡ t.facts.paths → s.resvs ≡ t.resvs → s.labels ≡ t.labels → IsTableOf s rows → IsTableOf t rows
 table-alike s t rows paths resvs labels is label = is label ∙ look-alike s t label paths resvs labels
 
--- There are no more entries than paths.
+-- No more are given than are asked.
 length_cons : {A : Type 0} (o : Option A) (xs : List A) → length (cons_option o xs) ≤ length xs + 1
 length_cons None xs = omega arith
 length_cons (Some x) xs = omega arith
 
-length_asked : {A B C : Type 0} (f : B → Option C) (g : A → B) (xs : List A) → length (filter_map f (map g xs)) ≤ length xs
-length_asked f g [] = omega arith
-length_asked f g (x ∷ xs) = omega (arith, length_cons (f (g x)) (filter_map f (map g xs)), length_asked f g xs)
+pub length_asked : {A B : Type 0} (f : A → Option B) (xs : List A) → length (filter_map f xs) ≤ length xs
+length_asked f [] = omega arith
+length_asked f (x ∷ xs) = omega (arith, length_cons (f x) (filter_map f xs), length_asked f xs)
 
+-- So there are no more entries than paths.
 pub length_table : (s : State) → length (table_of s) ≤ length s.facts.paths
 unfolding table_of lsps_of
-length_table s = length_asked (λ (lsp : Key × Lsp). entry_of lsp.1) (λ (path : Key × PathFact). (path.0, lsp_of s path.0 path.1)) s.facts.paths
+length_table s =
+    let lsps = length-map {B = Key × Lsp} s.facts.paths (λ row. (row.0, lsp_of s row.0 row.1)) in
+    omega (arith, lsps, length_asked (λ (lsp : Key × Lsp). entry_of lsp.1) (lsps_of s))

@@ -6,23 +6,26 @@ use Rattle.std.specs.Ordering.{nat_cmp}
 use Rattle.forwarding_table.specs.declared.action.Action.{Action}
 use Rattle.forwarding_table.specs.declared.action.Action.TheVariants.{Pop, PushHead, Swap, SwapPush}
 use Rattle.lsr_facts.specs.Orders.{key_cmp}
+use Rattle.std.specs.declared.cmp.Ordering.{Ordering}
 use Rattle.lsr_facts.specs.declared.key.Key.{Key}
+use Rattle.lsr_facts.specs.declared.router.Router.{Router}
 use Rattle.abstract_router.specs.States.{State}
 use Rattle.label_table.specs.Rows.{action_at}
+use Rattle.label_table.specs.TunnelRows.{push_at}
 
 -- what becomes of a label: it has this action, or none
 abbrev pub Edit : Type 0
 Edit = ℕ × Option Action
 
 -- one more row, if there is one
-abbrev pub put_row : {X : Type 0} → Option (ℕ × X) → List (ℕ × X) → List (ℕ × X)
-put_row None rows = rows
-put_row (Some row) rows = put nat_cmp row.0 row.1 rows
+abbrev pub put_row : {K X : Type 0} → (K → K → Ordering) → Option (K × X) → List (K × X) → List (K × X)
+put_row cmp None rows = rows
+put_row cmp (Some row) rows = put cmp row.0 row.1 rows
 
 -- one more for each of these, in turn
 abbrev pub put_each : {K E X : Type 0} → (K → Option (ℕ × X)) → List (K × E) → List (ℕ × X) → List (ℕ × X)
 put_each f [] rows = rows
-put_each f (touched ∷ more) rows = put_each f more (put_row (f touched.0) rows)
+put_each f (touched ∷ more) rows = put_each f more (put_row nat_cmp (f touched.0) rows)
 
 -- the row of an LSP: its action, under its label
 abbrev pub row_at : State → Key → Option (ℕ × Action)
@@ -51,3 +54,11 @@ change was now = if is_same was now then None else Some now
 -- what becomes of a label between rows and others
 abbrev pub change_at : List (ℕ × Action) → List (ℕ × Action) → ℕ → Option Edit
 change_at was now label = option_map (λ action. (label, action)) (change (find nat_cmp label was) (find nat_cmp label now))
+
+-- what becomes of the tunnel of a number between two states
+abbrev pub push_change : Router → State → State → ℕ → Option Edit
+push_change r before after number = option_map (λ action. (number, action)) (change (push_at r before number) (push_at r after number))
+
+-- and of the one that an LSP's key names
+abbrev pub push_change_of : Router → State → State → Key → Option Edit
+push_change_of r before after key = push_change r before after key.session.tunnel

@@ -67,17 +67,18 @@ fn is_same(was: Option<Action>, now: Option<Action>) -> bool
     was == now
 }
 
-/// A label that had this action, or none, has that one from now on, where it is another. The only error is out of memory.
-fn put_change(
-    edits: &mut Table<u32, Option<Action>>,
-    label: u32,
+/// A label or a tunnel that had this action, or none, has that one from now on, where it is another. The only error is out
+/// of memory.
+pub(crate) fn put_change<K: Ord + Drop>(
+    edits: &mut Table<K, Option<Action>>,
+    of: K,
     was: Option<Action>,
     now: Option<Action>,
 ) -> Result<(), AllocError>
-    ensures { OnOk result (edits.new ≡ put_row (option_map (λ action. (label, action)) (change was now)) edits.old) }
+    ensures { OnOk result (edits.new ≡ put_row K.cmp (option_map (λ action. (of, action)) (change was now)) edits.old) }
 {
     if !is_same(was, now) {
-        edits.set(label, now)?;
+        edits.set(of, now)?;
     }
     Ok(())
 }

@@ -1,8 +1,11 @@
-//! The label table of a router (RFC 3031, 3.10 and 3.11), kept by edits from one state to the next.
+//! The label table of a router (RFC 3031, 3.10 to 3.12), kept by edits from one state to the next: the actions of labels,
+//! and those of the tunnels that begin here.
 #![tactic(auto)]
 
 mod edits;
 pub mod laws;
+mod tunnels;
 
 pub use edits::table_edits;
 pub use state_views::{Changed, Draft, Edits, StateView, WholeState};
+pub use tunnels::tunnel_edits;

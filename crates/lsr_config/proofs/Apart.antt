@@ -14,8 +14,9 @@ use Rattle.sorted_rows.specs.Rows.{values_of}
 use Rattle.sorted_rows.specs.RowsLaws.{all-put_row, distinct-put}
 use Rattle.lsr_facts.specs.Routers.{is_same}
 use Rattle.lsr_facts.specs.declared.router.Link.{Link}
-use Rattle.lsr_config.specs.Rules.{HasAddress, SomeOf, Holds}
-use Rattle.lsr_config.specs.Documents.{each_record, link_rules, in_order, SaysEach, SaysLink}
+use Rattle.lsr_config.specs.Rules.{HasAddress, IsFree, SomeOf, Holds}
+use Rattle.lsr_config.specs.Documents.{each_record, link_rules, in_order, SaysLink}
+use Rattle.lsr_config.specs.Values.{SaysEach}
 use Rattle.lsr_config.specs.declared.key.Key.TheVariants as key
 use Rattle.lsr_config.proofs.Judging.{all_front, all_back, turn_first, turn_rest}
 use Rattle.lsr_config.proofs.Placing.{placed}
@@ -93,7 +94,7 @@ some_back P (x ∷ xs) y h = inr (some_back P xs y h)
 
 -- what the rule of an address says, where it is kept
 pub address_rule : (d : Data) (before : List Data) (link : Data) → AllByRecursion Holds (link_rules d before link)
-    → (a : Ipv4Addr) → HasAddress key.Address link a → (¬ HasAddress key.Router d a) × AllByRecursion (λ other. ¬ HasAddress key.Address other a) before
+    → (a : Ipv4Addr) → HasAddress key.Address link a → IsFree d before a
 unfolding link_rules Holds
 address_rule d before link h = (turn_first _ _ (turn_rest _ _ (turn_rest _ _ (turn_rest _ _ h)))).0
 

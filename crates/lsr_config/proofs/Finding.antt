@@ -1,14 +1,11 @@
 -- What the values of a document say, and that nothing else is said by them.
-use Rattle.std.proofs.Common.{◌≡◌, ℕ, ◌<◌, ◌≤◌, ◌-◌, ◌%◌, ◌^◌, ℤ, pos, negsuc, Bool, true, false, List, [], ◌∷◌, Option, Some, None, Result, Ok, Err, refl, sym, ap, subst, ◌∙◌, arith}
-use Rattle.std.proofs.Common.{◌≢◌, ◌*◌, map, is_some, suc, length, get_or, to_z, of_z}
+use Rattle.std.proofs.Common.{◌≡◌, ℕ, ◌<◌, ◌≤◌, ◌-◌, ◌^◌, ℤ, pos, negsuc, Bool, true, false, List, [], ◌∷◌, Option, Some, None, Result, Ok, Err, refl, sym, ap, subst, ◌∙◌, arith}
+use Rattle.std.proofs.Common.{◌≢◌, map, is_some, suc, length, get_or, to_z, of_z}
 use Rattle.std.proofs.lemmas.Bool.{and_parts, false≢true}
 use Rattle.std.specs.List.{AllByRecursion, list_all}
 use Rattle.std.proofs.lemmas.Int.{to_z-of_z}
-use Rattle.std.proofs.lemmas.Nat.{pow_below}
-use Rattle.std.specs.Int.{FitsUnsignedBits, w32, w64, to_be_bytes}
+use Rattle.std.specs.Int.{FitsUnsignedBits, w64}
 use Rattle.std.specs.Result.{OkIff}
-use Rattle.std.specs.Net.Addr.{ipv4_bits, IsIpv4OfBits}
-use Rattle.std.specs.declared.net.ipv4_addr.Ipv4Addr.{Ipv4Addr}
 use Rattle.toml.specs.View.{view, items_view}
 use Rattle.toml.specs.declared.value.Value.{Value}
 use mir.Val.{SFits}
@@ -18,7 +15,9 @@ use Rattle.std.specs.Result.{result_ok}
 use Rattle.lsr_facts.specs.declared.router.LabelRange.{LabelRange}
 use Rattle.std.specs.Net.Grammar.{Parses}
 use Rattle.toml.specs.Data.{Data, string, integer, float, boolean, datetime, array, table, Items, no_items, item, as_str, as_integer, as_bool, as_array, as_table}
-use Rattle.lsr_config.specs.Values.{Finds, SaysText, SaysWhole, SaysFlag, SaysLabels, SaysTables, IsTable, elements, masked}
+use Rattle.route_words.specs.Finding.{Finds}
+use Rattle.lsr_config.specs.Values.{SaysText, SaysWhole, SaysFlag, SaysLabels, SaysTables, IsTable, elements}
+use Rattle.lsr_config.specs.Documents.{array_elements}
 
 -- the value that an accessor gives is the value that is there
 pub string_from : (d : Data) (text : List ℕ) → Some text ≡ as_str d → d ≡ string text
@@ -158,13 +157,6 @@ pub same_whole : (least most : ℕ) (d : Data) (m n : ℕ) → SaysWhole least m
 unfolding SaysWhole
 same_whole least most d m n p q = same_integer d m n p.0 q.0
 
--- an address with the bits past a length set to 0, by its bits
-pub masked_from_bits : (a b : Ipv4Addr) (bits same length : ℕ) → length ≤ 32 → bits ≡ ipv4_bits b → same ≡ bits → IsIpv4OfBits a (bits - same % (1 * 2 ^ (32 - length) % 18446744073709551616)) → a ≡ masked b length
-unfolding masked IsIpv4OfBits
-masked_from_bits a b bits same length short is again h =
-    let size : 1 * 2 ^ (32 - length) % 18446744073709551616 ≡ 2 ^ (32 - length) = let p = pow_below (32 - length) 33 (omega arith) in omega arith in
-    ap (λ octets. record { octets = octets }) (h ∙ ap (to_be_bytes w32) (ap (λ m. bits - same % m) size ∙ rw (again, is)))
-
 -- ---- arrays of tables
 
 table_from : (d : Data) → is_some (as_table d) ≡ true → IsTable d
@@ -186,7 +178,7 @@ tables_all : (vs : List Value) → AllByRecursion IsTable (map view vs) → list
 tables_all [] h = refl
 tables_all (v ∷ vs) h = rw (ap (λ d. is_some (as_table d)) h.0.1) (tables_all vs h.1)
 
-elements-view : (vs : List Value) → elements (items_view vs) ≡ map view vs
+pub elements-view : (vs : List Value) → elements (items_view vs) ≡ map view vs
 elements-view [] = refl
 elements-view (v ∷ vs) = ap (λ ds. view v ∷ ds) (elements-view vs)
 
@@ -214,3 +206,17 @@ pub tables_judged : (d : Data) (vs : List Value) (o : Option (Bor (List Value)))
     → MatchOption o ((tables : List Data) → ¬ (SaysTables d tables)) (λ found. SaysTables d (map view found.now))
 tables_judged d vs None e h = not_tables d vs e h
 tables_judged d vs (Some found) e h = rw h.1 (tables_found d vs e h.0)
+
+-- ---- arrays
+
+pub items_found : (d : Data) (vs : List Value) → Some (items_view vs) ≡ as_array d → map view vs ≡ array_elements (Some d)
+items_found d vs e = sym (elements-view vs) ∙ ap (λ x. array_elements (Some x)) (sym (array_from d _ e))
+
+pub no_items_found : (d : Data) → None ≡ as_array d → [] ≡ array_elements (Some d)
+no_items_found (string s) e = refl
+no_items_found (integer z) e = refl
+no_items_found (float x) e = refl
+no_items_found (boolean b) e = refl
+no_items_found (datetime dt) e = refl
+no_items_found (array ds) e = cc
+no_items_found (table ms) e = refl

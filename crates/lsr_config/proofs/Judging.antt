@@ -1,5 +1,5 @@
 -- Which rules are kept and broken where a table has a key or none, and a value of its kind or another.
-use Rattle.std.proofs.Common.{◌≡◌, ℕ, suc, ◌+◌, ◌<◌, length, get_or, take, drop, map, append_assoc, List, [], ◌∷◌, ◌++◌, Option, Some, None, IsSome, Result, Ok, Err, MatchResult, inl, inr, refl, sym, ap, subst, ◌∙◌}
+use Rattle.std.proofs.Common.{◌≡◌, ℕ, zero, suc, arith, ◌+◌, ◌<◌, ◌≤◌, length, get_or, take, drop, map, append_assoc, List, [], ◌∷◌, ◌++◌, Option, Some, None, IsSome, Result, Ok, Err, MatchResult, inl, inr, refl, sym, ap, subst, ◌∙◌}
 use Rattle.std.specs.Prelude.{IfSome, IsSomeAnd, MatchOption}
 use Rattle.std.proofs.lemmas.Bool.{false≢true}
 use Rattle.std.specs.List.{AllByRecursion}
@@ -7,12 +7,13 @@ use Rattle.toml.specs.Data.{Data, get}
 use Rattle.toml.specs.View.{view}
 use Rattle.toml.specs.declared.value.Value.{Value}
 use denote.Ref.{Bor}
-use Rattle.std.proofs.lemmas.List.{append-nil, map-append, take-append-drop, take_more}
+use Rattle.std.proofs.lemmas.List.{append-nil, map-append, take_all, take-append-drop, take_more}
 use Rattle.sorted_rows.specs.ListLaws.{all-append}
 use Rattle.lsr_config.specs.Keys.{key_name}
-use Rattle.lsr_config.specs.Values.{Finds, SaysTables}
-use Rattle.lsr_config.specs.Rules.{Kind, some_tables, IsOfKind, Has, Rule, given, fitting, new_number, new_address, new_prefix, known_link, few, known, Holds, fault_of, FirstBroken}
-use Rattle.lsr_config.specs.Documents.{needed, optional, in_turn, each_record, array_elements, records, SaysEach, HasOr}
+use Rattle.route_words.specs.Finding.{Finds}
+use Rattle.lsr_config.specs.Values.{SaysEach, SaysTables}
+use Rattle.lsr_config.specs.Rules.{Kind, some_tables, IsOfKind, Has, Rule, given, fitting, new_number, new_address, new_prefix, elsewhere, known_number, few, known, Holds, fault_of, FirstBroken}
+use Rattle.lsr_config.specs.Documents.{needed, optional, in_turn, each_record, table_rules, array_elements, records, HasOr}
 use Rattle.lsr_config.specs.Reading.{IsFault, Judges}
 use Rattle.lsr_config.specs.declared.key.Key.{Key}
 use Rattle.lsr_config.specs.declared.fault.ConfigFault.{ConfigFault}
@@ -162,12 +163,31 @@ fault_alone : (rule : Rule) → ¬ (Holds rule) → IsFault (rule ∷ []) (fault
 unfolding IsFault FirstBroken fault_of
 fault_alone (given key d) h = inl (h, refl)
 fault_alone (fitting kind key d) h = inl (h, refl)
-fault_alone (new_number before link) h = inl (h, refl)
+fault_alone (new_number first before d) h = inl (h, refl)
 fault_alone (new_address document before link) h = inl (h, refl)
 fault_alone (new_prefix before route) h = inl (h, refl)
-fault_alone (known_link links route) h = inl (h, refl)
+fault_alone (elsewhere document links tunnel) h = inl (h, refl)
+fault_alone (known_number first under others d) h = inl (h, refl)
 fault_alone (few key most before) h = inl (h, refl)
 fault_alone (known keys name) h = inl (h, refl)
+
+-- ---- rules that are kept, taken apart
+
+pub all_front : {A : Type 0} (P : A → Type 0) (xs ys : List A) → AllByRecursion P (xs ++ ys) → AllByRecursion P xs
+all_front P [] ys h = tt
+all_front P (x ∷ xs) ys h = (h.0, all_front P xs ys h.1)
+
+pub all_back : {A : Type 0} (P : A → Type 0) (xs ys : List A) → AllByRecursion P (xs ++ ys) → AllByRecursion P ys
+all_back P [] ys h = h
+all_back P (x ∷ xs) ys h = all_back P xs ys h.1
+
+pub turn_first : (rules : List Rule) (more : List (List Rule)) → AllByRecursion Holds (in_turn (rules ∷ more)) → AllByRecursion Holds rules
+unfolding in_turn
+turn_first rules more h = all_front Holds rules (in_turn more) h
+
+pub turn_rest : (rules : List Rule) (more : List (List Rule)) → AllByRecursion Holds (in_turn (rules ∷ more)) → AllByRecursion Holds (in_turn more)
+unfolding in_turn
+turn_rest rules more h = all_back Holds rules (in_turn more) h
 
 -- ---- records one after the other
 
@@ -192,6 +212,12 @@ says_length Reads [] [] h = refl
 says_length Reads [] (r ∷ rows) h = absurd h
 says_length Reads (d ∷ ds) [] h = absurd h
 says_length Reads (d ∷ ds) (r ∷ rows) h = ap suc (says_length Reads ds rows h.1)
+
+pub says_weaker : {A : Type 0} (P Q : Data → A → Type 0) → ((d : Data) (row : A) → P d row → Q d row) → (ds : List Data) (rows : List A) → SaysEach P ds rows → SaysEach Q ds rows
+says_weaker P Q from [] [] h = tt
+says_weaker P Q from [] (r ∷ rows) h = absurd h
+says_weaker P Q from (d ∷ ds) [] h = absurd h
+says_weaker P Q from (d ∷ ds) (r ∷ rows) h = (from d r h.0, says_weaker P Q from ds rows h.1)
 
 -- the rules of these records are kept
 abbrev pub AreKept : (List Data → Data → List Rule) → List Data → Type 0
@@ -218,6 +244,17 @@ pub one_more_says : {A : Type 0} (Reads : Data → A → Type 0) (vs : List Valu
 one_more_says Reads vs i v rows row within is so_far says =
     subst (λ ds. SaysEach Reads ds (rows ++ row ∷ [])) (sym (taken vs i v within is)) (says_more Reads (map view (take i vs)) rows (view v) row so_far says)
 
+-- all of the records
+pub all_taken : (vs : List Value) (i : ℕ) → length vs ≤ i → map view (take i vs) ≡ map view vs
+all_taken vs i whole = ap (map view) (take_all i vs whole)
+
+-- what each of the records says one does
+pub says_at : {A : Type 0} (Reads : Data → A → Type 0) (vs : List Value) (i : ℕ) (v : Value) (rows : List A) → i < length vs → v ≡ get_or vs i v → SaysEach Reads (map view vs) rows → (row : A) × Reads (view v) row
+says_at Reads [] i v rows within is h = absurd (omega (arith, within))
+says_at Reads (w ∷ vs) i v [] within is h = absurd h
+says_at Reads (w ∷ vs) zero v (row ∷ rows) within is h = (row, subst (λ x. Reads (view x) row) (sym is) h.0)
+says_at Reads (w ∷ vs) (suc i) v (row ∷ rows) within is h = says_at Reads vs i v rows (omega (arith, within)) is h.1
+
 -- the record at which the rules break
 pub fault_there : (rules : List Data → Data → List Rule) (vs : List Value) (i : ℕ) (v : Value) (f : ConfigFault) → i < length vs → v ≡ get_or vs i v → AreKept rules (map view (take i vs))
     → IsFault (rules (map view (take i vs)) (view v)) f → IsFault (each_record rules [] (map view vs)) f
@@ -231,6 +268,31 @@ fault_there rules vs i v f within is so_far h =
     ap (each_record rules []) whole ∙ each_record-append rules [] (front ++ view v ∷ []) more ∙ ap (λ x. x ++ each_record rules (front ++ view v ∷ []) more) (each_record-append rules [] front (view v ∷ [])) in
     subst (λ x. IsFault x f) (sym cut) (fault_front _ _ f (fault_past _ _ f so_far (fault_front _ [] f h)))
 
+-- ---- tables of records
+
+pub table_front : (key : Key) (rules : List Data → Data → List Rule) (d : Data) (f : ConfigFault) → IsFault (optional some_tables key d) f → IsFault (table_rules key rules d) f
+unfolding table_rules
+table_front key rules d f h = fault_front _ _ f h
+
+-- the record at which the rules break, of those that stand in the table
+pub table_there : (key : Key) (rules : List Data → Data → List Rule) (d : Data) (vs : List Value) (i : ℕ) (v : Value) (f : ConfigFault) → AllByRecursion Holds (optional some_tables key d) × (map view vs ≡ records key d)
+    → i < length vs → v ≡ get_or vs i v → AreKept rules (map view (take i vs)) → IsFault (rules (map view (take i vs)) (view v)) f → IsFault (table_rules key rules d) f
+unfolding table_rules
+table_there key rules d vs i v f tables within is so_far h =
+    fault_past (optional some_tables key d) _ f tables.0 (subst (λ ds. IsFault (each_record rules [] ds) f) tables.1 (fault_there rules vs i v f within is so_far h))
+
+-- all of the records that stand in the table were read
+pub table_read : {A : Type 0} (Reads : Data → A → Type 0) (key : Key) (rules : List Data → Data → List Rule) (d : Data) (vs : List Value) (i : ℕ) (rows : List A) → AllByRecursion Holds (optional some_tables key d) × (map view vs ≡ records key d)
+    → length vs ≤ i → AreKept rules (map view (take i vs)) × SaysEach Reads (map view (take i vs)) rows → AllByRecursion Holds (table_rules key rules d) × SaysEach Reads (records key d) rows
+unfolding table_rules
+table_read Reads key rules d vs i rows tables whole read =
+    let all = subst (λ ds. AreKept rules ds × SaysEach Reads ds rows) (all_taken vs i whole ∙ tables.1) read in
+    (all-append Holds (optional some_tables key d) (each_record rules [] (records key d)) tables.0 all.0, all.1)
+
+pub records_kept : (key : Key) (rules : List Data → Data → List Rule) (d : Data) → AllByRecursion Holds (table_rules key rules d) → AreKept rules (records key d)
+unfolding table_rules
+records_kept key rules d h = all_back Holds (optional some_tables key d) (each_record rules [] (records key d)) h
+
 -- ---- one rule
 
 pub kept_alone : (rule : Rule) → Holds rule → AllByRecursion Holds (rule ∷ [])
@@ -238,21 +300,3 @@ kept_alone rule h = (h, tt)
 
 pub broken_alone : (rule : Rule) (f : ConfigFault) → ¬ (Holds rule) → f ≡ fault_of rule → IsFault (rule ∷ []) f
 broken_alone rule f h is = subst (IsFault (rule ∷ [])) (sym is) (fault_alone rule h)
-
--- ---- rules that are kept, taken apart
-
-pub all_front : {A : Type 0} (P : A → Type 0) (xs ys : List A) → AllByRecursion P (xs ++ ys) → AllByRecursion P xs
-all_front P [] ys h = tt
-all_front P (x ∷ xs) ys h = (h.0, all_front P xs ys h.1)
-
-pub all_back : {A : Type 0} (P : A → Type 0) (xs ys : List A) → AllByRecursion P (xs ++ ys) → AllByRecursion P ys
-all_back P [] ys h = h
-all_back P (x ∷ xs) ys h = all_back P xs ys h.1
-
-pub turn_first : (rules : List Rule) (more : List (List Rule)) → AllByRecursion Holds (in_turn (rules ∷ more)) → AllByRecursion Holds rules
-unfolding in_turn
-turn_first rules more h = all_front Holds rules (in_turn more) h
-
-pub turn_rest : (rules : List Rule) (more : List (List Rule)) → AllByRecursion Holds (in_turn (rules ∷ more)) → AllByRecursion Holds (in_turn more)
-unfolding in_turn
-turn_rest rules more h = all_back Holds rules (in_turn more) h

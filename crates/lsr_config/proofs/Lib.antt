@@ -5,4 +5,5 @@ pub mod Judging
 pub mod Naming
 pub mod Opening
 pub mod Placing
+pub mod Routing
 pub mod Telling

@@ -1,6 +1,5 @@
 -- Rows that are put in their places one after the other.
-use Rattle.std.proofs.Common.{◌≡◌, ℕ, ◌+◌, ◌<◌, ◌≤◌, true, false, cond, List, [], ◌∷◌, length, get_or, take, fold, Some, is_some, inl, inr, refl, sym, ap, subst, ◌∙◌, arith, T}
-use Rattle.std.proofs.lemmas.List.{take_more}
+use Rattle.std.proofs.Common.{◌≡◌, ◌+◌, ◌≤◌, true, false, cond, List, [], ◌∷◌, ◌++◌, length, fold, Some, is_some, inl, inr, refl, sym, ap, subst, ◌∙◌, arith, T}
 use Rattle.std.proofs.lemmas.List.Sums.{fold-append}
 use Rattle.std.proofs.lemmas.Map.Lookups.{CmpEqualImpliesEq}
 use Rattle.std.specs.Cmp.{IsTotalOrder, tied_itself}
@@ -16,14 +15,11 @@ pub in_order-nil : {K V : Type 0} (cmp : K → K → Ordering) → in_order {K =
 unfolding in_order
 in_order-nil cmp = refl
 
-pub in_order-more : {K V : Type 0} (cmp : K → K → Ordering) (rows : List (K × V)) (i : ℕ) (row : K × V) (table : List (K × V)) → i < length rows → row ≡ get_or rows i row → table ≡ in_order cmp (take i rows)
-    → put cmp row.0 row.1 table ≡ in_order cmp (take (i + 1) rows)
+pub in_order-more : {K V : Type 0} (cmp : K → K → Ordering) (rows : List (K × V)) (row : K × V) (table : List (K × V)) → table ≡ in_order cmp rows
+    → put cmp row.0 row.1 table ≡ in_order cmp (rows ++ row ∷ [])
 unfolding in_order
-in_order-more {K} {V} cmp rows i row table within is so_far =
-    let place = λ (placed : List (K × V)) (r : K × V). put cmp r.0 r.1 placed in
-    ap (put cmp row.0 row.1) so_far
-    ∙ ap (λ (r : K × V). put cmp r.0 r.1 (fold place [] (take i rows))) is
-    ∙ sym (ap (fold place []) (take_more rows i row within) ∙ fold-append place [] (take i rows) (get_or rows i row ∷ []))
+in_order-more {K} {V} cmp rows row table so_far =
+    ap (put cmp row.0 row.1) so_far ∙ sym (fold-append (λ (placed : List (K × V)) (r : K × V). put cmp r.0 r.1 placed) [] rows (row ∷ []))
 
 -- ---- rows in order
 

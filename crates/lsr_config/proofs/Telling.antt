@@ -1,8 +1,8 @@
 -- What the rows so far tell of the records that were read: which numbers, addresses and prefixes they have.
-use Rattle.std.proofs.Common.{◌≡◌, ℕ, Bool, true, false, ◌&&◌, ◌||◌, ◌==◌, List, [], ◌∷◌, Option, Some, None, inl, inr, refl, sym, ap, subst, ◌∙◌, Decides}
+use Rattle.std.proofs.Common.{◌≡◌, ℕ, Bool, true, false, not, ◌&&◌, ◌||◌, ◌==◌, List, [], ◌∷◌, Option, Some, None, ◌↔◌, inl, inr, refl, sym, ap, subst, ◌∙◌, Decides}
 use Rattle.std.proofs.lemmas.Bool.{false≢true, and_parts, eqb-true, eq-eqb}
 use Rattle.std.proofs.lemmas.Slice.Eq.{bytes_eq-Decides}
-use Rattle.std.specs.Prelude.{IsSomeAnd, bytes_eq}
+use Rattle.std.specs.Prelude.{IsSomeAnd, IsTrue, bytes_eq}
 use Rattle.std.specs.List.{AllByRecursion, list_any}
 use Rattle.std.specs.Net.Addr.{ipv4_octets}
 use Rattle.std.specs.Net.Grammar.{IsIpv4Text}
@@ -10,14 +10,22 @@ use Rattle.std.proofs.NetLemmas.Theorems.{IsIpv4Text_unique}
 use Rattle.std.specs.declared.net.ipv4_addr.Ipv4Addr.{Ipv4Addr}
 use Rattle.toml.specs.Data.{Data, as_str, get}
 use Rattle.rsvp_routes.specs.declared.prefix.Prefix.{Prefix}
+use Rattle.lsr_facts.specs.Routers.{masked}
+use Rattle.lsr_facts.specs.declared.bypass.Bypass.{Bypass}
 use Rattle.lsr_facts.specs.declared.router.Link.{Link}
+use Rattle.lsr_facts.specs.declared.tunnel.Tunnel.{Tunnel}
+use Rattle.rsvp_routes.specs.declared.step.Step.{Step}
+use Rattle.session_attribute.specs.declared.attr.Attr.{Attr}
+use Rattle.route_words.specs.Rates.{tspec_with}
 use Rattle.lsr_config.specs.Keys.{key_name}
-use Rattle.lsr_config.specs.Values.{SaysText, SaysAddress, SaysWhole, SaysPrefix, IsPrefixText, masked}
-use Rattle.lsr_config.specs.Rules.{HasAddress, HasNumber, HasPrefix, SomeOf, Holds, new_number, new_address, new_prefix, known_link}
-use Rattle.lsr_config.specs.Documents.{SaysEach, SaysLink, SaysRoute}
+use Rattle.route_words.specs.Routes.{IsPrefixText}
+use Rattle.lsr_config.specs.Values.{SaysText, SaysAddress, SaysEach, SaysWhole, SaysPrefix, SaysRate, SaysSteps, SaysTspec, IsMaskedPrefixText}
+use Rattle.lsr_config.specs.Rules.{Has, HasAddress, HasNumber, HasPrefix, IsFree, SomeOf, Holds, new_number, new_prefix, known_number}
+use Rattle.lsr_config.specs.Documents.{new_tunnel, SaysAttributes, SaysBypass, SaysLink, SaysRoute, SaysTunnel}
 use Rattle.lsr_config.specs.declared.key.Key.{Key}
 use Rattle.lsr_config.specs.declared.key.Key.TheVariants as key
 use Rattle.lsr_config.proofs.Finding.{same_whole}
+use Rattle.lsr_config.proofs.Judging.{says_weaker}
 
 -- ---- a value says one thing
 
@@ -35,22 +43,23 @@ same_address = same_text IsIpv4Text IsIpv4Text_unique
 prefix_parts : (p q : Prefix) → p.address ≡ q.address → p.length ≡ q.length → p ≡ q
 prefix_parts p q a l = λ i. record { address = a i; length = l i }
 
-same_prefix_text : (text : List ℕ) (p q : Prefix) → IsPrefixText text p → IsPrefixText text q → p ≡ q
+same_written : (text : List ℕ) (p q : Prefix) → IsPrefixText text p → IsPrefixText text q → p ≡ q
+same_written text p q h k = prefix_parts p q (IsIpv4Text_unique _ p.address q.address h.0 k.0) (sym h.1.1 ∙ k.1.1)
+
+same_prefix_text : (text : List ℕ) (p q : Prefix) → IsMaskedPrefixText text p → IsMaskedPrefixText text q → p ≡ q
 same_prefix_text text p q h k =
-    let length : p.length ≡ q.length = sym h.2.1 ∙ k.2.1 in
-    let address : h.0 ≡ k.0 = IsIpv4Text_unique _ h.0 k.0 h.1 k.1 in
-    prefix_parts p q (h.3 ∙ ap (λ a. masked a p.length) address ∙ ap (masked k.0) length ∙ sym k.3) length
+    h.3 ∙ ap (λ (w : Prefix). record { address = masked w.address w.length; length = w.length }) (same_written text h.0 k.0 h.1 k.1) ∙ sym k.3
 
 same_prefix : (d : Data) (p q : Prefix) → SaysPrefix d p → SaysPrefix d q → p ≡ q
 unfolding SaysPrefix
-same_prefix = same_text IsPrefixText same_prefix_text
+same_prefix = same_text IsMaskedPrefixText same_prefix_text
 
 has_one : {A : Type 0} (Says : Data → A → Type 0) → ((d : Data) (a b : A) → Says d a → Says d b → a ≡ b) → (o : Option Data) (a b : A) → IsSomeAnd o (λ v. Says v a) → IsSomeAnd o (λ v. Says v b) → a ≡ b
 has_one Says unique None a b p q = absurd p
 has_one Says unique (Some d) a b p q = unique d a b p q
 
-pub one_number : (key : Key) (d : Data) (m n : ℕ) → HasNumber key d m → HasNumber key d n → m ≡ n
-one_number key d m n p q = has_one (SaysWhole 1 65535) (same_whole 1 65535) (get (key_name key) d) m n p q
+pub one_number : (first : ℕ) (key : Key) (d : Data) (m n : ℕ) → HasNumber first key d m → HasNumber first key d n → m ≡ n
+one_number first key d m n p q = has_one (SaysWhole first 65535) (same_whole first 65535) (get (key_name key) d) m n p q
 
 pub one_address : (key : Key) (d : Data) (a b : Ipv4Addr) → HasAddress key d a → HasAddress key d b → a ≡ b
 one_address key d a b p q = has_one SaysAddress same_address (get (key_name key) d) a b p q
@@ -87,9 +96,6 @@ module _ {R X : Type 0} (Reads : Data → R → Type 0) (Tells : Data → X → 
         | false ↦ λ t more. ((λ says. false≢true (sym t ∙ (decides r).1 (one d (part r) x (tells d r h.0) says))), untold ds rows h.1 more)
       ] refl e
 
-number_decides : (n : ℕ) (row : ℕ × Link) → Decides (row.0 == n) (row.0 ≡ n)
-number_decides n row = (eqb-true row.0 n, eq-eqb row.0 n)
-
 pub address_tells : (a b : Ipv4Addr) → Decides (bytes_eq (ipv4_octets a) (ipv4_octets b)) (a ≡ b)
 address_tells a b =
     let octets = bytes_eq-Decides (ipv4_octets a) (ipv4_octets b) in
@@ -104,58 +110,107 @@ prefix_tells a b =
       (λ e. rw (address.1 (ap (λ (p : Prefix). p.address) e)) (eq-eqb a.length b.length (ap (λ (p : Prefix). p.length) e))),
     )
 
--- ---- numbers of links
+some_weaker : (o : Option Data) (P Q : Data → Type 0) → ((v : Data) → P v → Q v) → IsSomeAnd o P → IsSomeAnd o Q
+some_weaker None P Q from h = absurd h
+some_weaker (Some v) P Q from h = from v h
 
-pub number_told : (n : ℕ) (links : List Data) (rows : List (ℕ × Link)) → SaysEach SaysLink links rows → list_any (λ row. row.0 == n) rows ≡ true → SomeOf (λ link. HasNumber key.Number link n) links
-number_told n = told SaysLink (HasNumber key.Number) (λ row. row.0) (λ row. row.0 == n) n (λ d row says. says.number) (one_number key.Number) (number_decides n)
+-- ---- numbers
 
-pub number_untold : (n : ℕ) (links : List Data) (rows : List (ℕ × Link)) → SaysEach SaysLink links rows → list_any (λ row. row.0 == n) rows ≡ false → AllByRecursion (λ link. ¬ HasNumber key.Number link n) links
-number_untold n = untold SaysLink (HasNumber key.Number) (λ row. row.0) (λ row. row.0 == n) n (λ d row says. says.number) (one_number key.Number) (number_decides n)
+number_decides : {V : Type 0} (n : ℕ) (row : ℕ × V) → Decides (row.0 == n) (row.0 ≡ n)
+number_decides n row = (eqb-true row.0 n, eq-eqb row.0 n)
 
-pub number_is_new : (n : ℕ) (link : Data) (before : List Data) (rows : List (ℕ × Link)) → HasNumber key.Number link n → SaysEach SaysLink before rows → list_any (λ row. row.0 == n) rows ≡ false → Holds (new_number before link)
+-- the records have the numbers of the rows
+abbrev pub AreNumbered : {V : Type 0} → ℕ → List Data → List (ℕ × V) → Type 0
+AreNumbered {V} first ds rows = SaysEach (λ d (row : ℕ × V). HasNumber first key.Number d row.0) ds rows
+
+pub number_told : {V : Type 0} (first n : ℕ) (ds : List Data) (rows : List (ℕ × V)) → AreNumbered first ds rows → list_any (λ row. row.0 == n) rows ≡ true → SomeOf (λ d. HasNumber first key.Number d n) ds
+number_told {V} first n = told (λ d (row : ℕ × V). HasNumber first key.Number d row.0) (HasNumber first key.Number) (λ row. row.0) (λ row. row.0 == n) n (λ d row says. says) (one_number first key.Number) (number_decides n)
+
+pub number_untold : {V : Type 0} (first n : ℕ) (ds : List Data) (rows : List (ℕ × V)) → AreNumbered first ds rows → list_any (λ row. row.0 == n) rows ≡ false → AllByRecursion (λ d. ¬ HasNumber first key.Number d n) ds
+number_untold {V} first n = untold (λ d (row : ℕ × V). HasNumber first key.Number d row.0) (HasNumber first key.Number) (λ row. row.0) (λ row. row.0 == n) n (λ d row says. says) (one_number first key.Number) (number_decides n)
+
+pub number_is_new : {V : Type 0} (first n : ℕ) (d : Data) (before : List Data) (rows : List (ℕ × V)) → HasNumber first key.Number d n → AreNumbered first before rows → list_any (λ row. row.0 == n) rows ≡ false → Holds (new_number first before d)
 unfolding Holds
-number_is_new n link before rows has says e =
-    λ m other. subst (λ k. AllByRecursion (λ d. ¬ HasNumber key.Number d k) before) (one_number key.Number link n m has other) (number_untold n before rows says e)
+number_is_new first n d before rows has says e =
+    λ m other. subst (λ k. AllByRecursion (λ x. ¬ HasNumber first key.Number x k) before) (one_number first key.Number d n m has other) (number_untold first n before rows says e)
 
-pub number_is_repeated : (n : ℕ) (link : Data) (before : List Data) (rows : List (ℕ × Link)) → HasNumber key.Number link n → SaysEach SaysLink before rows → list_any (λ row. row.0 == n) rows ≡ true → ¬ (Holds (new_number before link))
+pub number_is_repeated : {V : Type 0} (first n : ℕ) (d : Data) (before : List Data) (rows : List (ℕ × V)) → HasNumber first key.Number d n → AreNumbered first before rows → list_any (λ row. row.0 == n) rows ≡ true → ¬ (Holds (new_number first before d))
 unfolding Holds
-number_is_repeated n link before rows has says e holds = some_not_none (λ d. HasNumber key.Number d n) before (number_told n before rows says e) (holds n has)
+number_is_repeated first n d before rows has says e holds = some_not_none (λ x. HasNumber first key.Number x n) before (number_told first n before rows says e) (holds n has)
 
-pub link_is_known : (n : ℕ) (route : Data) (links : List Data) (rows : List (ℕ × Link)) → HasNumber key.Link route n → SaysEach SaysLink links rows → list_any (λ row. row.0 == n) rows ≡ true → Holds (known_link links route)
+pub number_is_known : {V : Type 0} (first n : ℕ) (under : Key) (d : Data) (others : List Data) (rows : List (ℕ × V)) → HasNumber first under d n → AreNumbered first others rows → list_any (λ row. row.0 == n) rows ≡ true → Holds (known_number first under others d)
 unfolding Holds
-link_is_known n route links rows has says e =
-    λ m other. subst (λ k. SomeOf (λ d. HasNumber key.Number d k) links) (one_number key.Link route n m has other) (number_told n links rows says e)
+number_is_known first n under d others rows has says e =
+    λ m other. subst (λ k. SomeOf (λ x. HasNumber first key.Number x k) others) (one_number first under d n m has other) (number_told first n others rows says e)
 
-pub link_is_unknown : (n : ℕ) (route : Data) (links : List Data) (rows : List (ℕ × Link)) → HasNumber key.Link route n → SaysEach SaysLink links rows → list_any (λ row. row.0 == n) rows ≡ false → ¬ (Holds (known_link links route))
+pub number_is_unknown : {V : Type 0} (first n : ℕ) (under : Key) (d : Data) (others : List Data) (rows : List (ℕ × V)) → HasNumber first under d n → AreNumbered first others rows → list_any (λ row. row.0 == n) rows ≡ false → ¬ (Holds (known_number first under others d))
 unfolding Holds
-link_is_unknown n route links rows has says e holds = some_not_none (λ d. HasNumber key.Number d n) links (holds n has) (number_untold n links rows says e)
+number_is_unknown first n under d others rows has says e holds = some_not_none (λ x. HasNumber first key.Number x n) others (holds n has) (number_untold first n others rows says e)
 
--- ---- addresses of links
+-- a number that one of the records has is one of their rows'
+pub row_of_number : {V : Type 0} (first n : ℕ) (ds : List Data) (rows : List (ℕ × V)) → AreNumbered first ds rows → SomeOf (λ d. HasNumber first key.Number d n) ds → SomeOf (λ row. row.0 ≡ n) rows
+row_of_number first n [] rows says h = absurd h
+row_of_number first n (d ∷ ds) [] says h = absurd says
+row_of_number first n (d ∷ ds) (row ∷ rows) says (inl h) = inl (one_number first key.Number d row.0 n says.0 h)
+row_of_number first n (d ∷ ds) (row ∷ rows) says (inr h) = inr (row_of_number first n ds rows says.1 h)
 
-pub address_is_new : (a router : Ipv4Addr) (document link : Data) (before : List Data) (rows : List (ℕ × Link)) → HasAddress key.Router document router → HasAddress key.Address link a → SaysEach SaysLink before rows
-    → bytes_eq (ipv4_octets a) (ipv4_octets router) ≡ false → list_any (λ row. bytes_eq (ipv4_octets row.1.address) (ipv4_octets a)) rows ≡ false → Holds (new_address document before link)
-unfolding Holds
-address_is_new a router document link before rows its has says apart e =
-    λ b other.
-    let same = one_address key.Address link a b has other in (
-      (λ taken. false≢true (sym apart ∙ (address_tells a router).1 (same ∙ one_address key.Router document b router taken its))),
-      subst (λ x. AllByRecursion (λ d. ¬ HasAddress key.Address d x) before) same
-          (untold SaysLink (HasAddress key.Address) (λ row. row.1.address) (λ row. bytes_eq (ipv4_octets row.1.address) (ipv4_octets a)) a (λ d row h. h.address) (one_address key.Address) (λ row. address_tells row.1.address a) before rows says e),
-    )
+pub links_numbered : (links : List Data) (rows : List (ℕ × Link)) → SaysEach SaysLink links rows → AreNumbered 1 links rows
+links_numbered = says_weaker SaysLink (λ d row. HasNumber 1 key.Number d row.0) (λ d row says. says.number)
 
-pub address_is_routers : (a router : Ipv4Addr) (document link : Data) (before : List Data) → HasAddress key.Router document router → HasAddress key.Address link a
-    → bytes_eq (ipv4_octets a) (ipv4_octets router) ≡ true → ¬ (Holds (new_address document before link))
-unfolding Holds
-address_is_routers a router document link before its has same holds =
-    (holds a has).0 (subst (HasAddress key.Router document) (sym ((address_tells a router).0 same)) its)
+pub tunnels_numbered : (tunnels : List Data) (rows : List (ℕ × Tunnel)) → SaysEach SaysTunnel tunnels rows → AreNumbered 0 tunnels rows
+tunnels_numbered = says_weaker SaysTunnel (λ d row. HasNumber 0 key.Number d row.0) (λ d row says. says.number)
 
-pub address_is_repeated : (a : Ipv4Addr) (document link : Data) (before : List Data) (rows : List (ℕ × Link)) → HasAddress key.Address link a → SaysEach SaysLink before rows
-    → list_any (λ row. bytes_eq (ipv4_octets row.1.address) (ipv4_octets a)) rows ≡ true → ¬ (Holds (new_address document before link))
-unfolding Holds
-address_is_repeated a document link before rows has says e holds =
-    some_not_none (λ d. HasAddress key.Address d a) before
-    (told SaysLink (HasAddress key.Address) (λ row. row.1.address) (λ row. bytes_eq (ipv4_octets row.1.address) (ipv4_octets a)) a (λ d row h. h.address) (one_address key.Address) (λ row. address_tells row.1.address a) before rows says e)
-    (holds a has).1
+pub bypasses_numbered : (bypasses : List Data) (rows : List (ℕ × Bypass)) → SaysEach SaysBypass bypasses rows → AreNumbered 0 bypasses rows
+bypasses_numbered = says_weaker SaysBypass (λ d row. HasNumber 0 key.Number d row.0) (λ d row says. says.number)
+
+-- ---- tunnels
+
+-- a record says the tunnel that is made of what it says
+pub new_said : (d : Data) (n : ℕ) (endpoint : Ipv4Addr) (attr : Attr) (route : List Step) (rate : ℕ) (tunnel : Tunnel) → HasNumber 0 key.Number d n → HasAddress key.Endpoint d endpoint → SaysAttributes d attr
+    → Has key.Route d (λ v. SaysSteps v route) → Has key.Rate d (λ v. SaysRate v rate) → tunnel ≡ new_tunnel endpoint attr route (tspec_with rate) → SaysTunnel d (n, tunnel)
+new_said d n endpoint attr route rate tunnel has ends asks leads carries is =
+    subst (λ t. SaysTunnel d (n, t)) (sym is)
+    (record {
+      number = has;
+      endpoint = ends;
+      route = leads;
+      tspec = some_weaker (get (key_name key.Rate) d) (λ v. SaysRate v rate) (λ v. SaysTspec v (tspec_with rate)) (λ v says. (rate, says, refl)) carries;
+      attr = asks;
+      first = refl;
+    })
+
+-- ---- addresses of the router and of its links
+
+abbrev pub is_linked : Ipv4Addr → ℕ × Link → Bool
+is_linked a row = bytes_eq (ipv4_octets row.1.address) (ipv4_octets a)
+
+pub address_is_free : (a router : Ipv4Addr) (document : Data) (links : List Data) (rows : List (ℕ × Link)) → HasAddress key.Router document router → SaysEach SaysLink links rows
+    → bytes_eq (ipv4_octets a) (ipv4_octets router) ≡ false → list_any (is_linked a) rows ≡ false → IsFree document links a
+address_is_free a router document links rows its says apart e = (
+  (λ taken. false≢true (sym apart ∙ (address_tells a router).1 (one_address key.Router document a router taken its))),
+  untold SaysLink (HasAddress key.Address) (λ row. row.1.address) (is_linked a) a (λ d row h. h.address) (one_address key.Address) (λ row. address_tells row.1.address a) links rows says e,
+)
+
+pub address_is_routers : (a router : Ipv4Addr) (document : Data) (links : List Data) → HasAddress key.Router document router → bytes_eq (ipv4_octets a) (ipv4_octets router) ≡ true → ¬ (IsFree document links a)
+address_is_routers a router document links its same free = free.0 (subst (HasAddress key.Router document) (sym ((address_tells a router).0 same)) its)
+
+pub address_is_links : (a : Ipv4Addr) (document : Data) (links : List Data) (rows : List (ℕ × Link)) → SaysEach SaysLink links rows → list_any (is_linked a) rows ≡ true → ¬ (IsFree document links a)
+address_is_links a document links rows says e free =
+    some_not_none (λ d. HasAddress key.Address d a) links
+    (told SaysLink (HasAddress key.Address) (λ row. row.1.address) (is_linked a) a (λ d row h. h.address) (one_address key.Address) (λ row. address_tells row.1.address a) links rows says e)
+    free.1
+
+pub free_tells : (a router : Ipv4Addr) (document : Data) (links : List Data) (rows : List (ℕ × Link)) → HasAddress key.Router document router → SaysEach SaysLink links rows
+    → bytes_eq (ipv4_octets a) (ipv4_octets router) ≡ false → IsTrue (not (list_any (is_linked a) rows)) ↔ IsFree document links a
+free_tells a router document links rows its says apart =
+    elim (list_any (is_linked a) rows) as (λ b. list_any (is_linked a) rows ≡ b → IsTrue (not b) ↔ IsFree document links a) [
+      | true ↦ λ e. ((λ no. absurd (false≢true no)), (λ free. absurd (address_is_links a document links rows says e free)))
+      | false ↦ λ e. ((λ _. address_is_free a router document links rows its says apart e), (λ _. refl))
+    ] refl
+
+-- what is free under one address that a key has is so under each
+pub free_under : (key : Key) (a : Ipv4Addr) (document d : Data) (links : List Data) → HasAddress key d a → IsFree document links a → (b : Ipv4Addr) → HasAddress key d b → IsFree document links b
+free_under key a document d links has free b other = subst (IsFree document links) (one_address key d a b has other) free
 
 -- ---- prefixes of routes
 

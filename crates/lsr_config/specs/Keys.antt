@@ -19,10 +19,18 @@ key_name key.Listen = codes "listen"
 key_name key.Send = codes "send"
 key_name key.Route = codes "route"
 key_name key.Prefix = codes "prefix"
+key_name key.Tunnel = codes "tunnel"
+key_name key.Endpoint = codes "endpoint"
+key_name key.Rate = codes "rate"
+key_name key.Setup = codes "setup"
+key_name key.Hold = codes "hold"
+key_name key.Flags = codes "flags"
+key_name key.Name = codes "name"
+key_name key.Bypass = codes "bypass"
 
 -- the keys of a document outside its records
 abbrev pub top_keys : List Key
-top_keys = key.Router ∷ key.RefreshMs ∷ key.Labels ∷ key.Link ∷ key.Route ∷ []
+top_keys = key.Router ∷ key.RefreshMs ∷ key.Labels ∷ key.Link ∷ key.Route ∷ key.Tunnel ∷ key.Bypass ∷ []
 
 -- the keys of a record of the table `link`
 abbrev pub link_keys : List Key
@@ -31,3 +39,11 @@ link_keys = key.Number ∷ key.Address ∷ key.Peer ∷ key.PeerRouter ∷ key.L
 -- the keys of a record of the table `route`
 abbrev pub route_keys : List Key
 route_keys = key.Prefix ∷ key.Link ∷ []
+
+-- the keys of a record of the table `tunnel`
+abbrev pub tunnel_keys : List Key
+tunnel_keys = key.Number ∷ key.Endpoint ∷ key.Route ∷ key.Rate ∷ key.Setup ∷ key.Hold ∷ key.Flags ∷ key.Name ∷ []
+
+-- the keys of a record of the table `bypass`
+abbrev pub bypass_keys : List Key
+bypass_keys = key.Number ∷ key.Tunnel ∷ key.Link ∷ []

@@ -1,19 +1,19 @@
 -- What the values of a configuration say.
-use Rattle.std.specs.Prelude.{◌≡◌, ℕ, ◌-◌, ◌^◌, ◌%◌, ◌<◌, ◌≤◌, Bool, List, [], ◌∷◌, ◌==◌, pos, Option, MatchOption}
-use Rattle.std.specs.Int.{w32, to_be_bytes}
-use Rattle.std.specs.List.{AllByRecursion, before_first, after_first}
-use Rattle.std.specs.Str.Parse.{IsNumeral, digits_value}
-use Rattle.std.specs.Net.Addr.{ipv4_bits}
+use Rattle.std.specs.Prelude.{◌≡◌, ℕ, ◌-◌, ◌<◌, ◌≤◌, Bool, List, [], ◌∷◌, length, pos, IsSome}
+use Rattle.std.specs.List.{AllByRecursion}
 use Rattle.std.specs.Net.Grammar.{IsIpv4Text, IsSocketText}
 use Rattle.std.specs.declared.net.ipv4_addr.Ipv4Addr.{Ipv4Addr}
 use Rattle.std.specs.declared.net.socket_addr.SocketAddr.{SocketAddr}
 use Rattle.toml.specs.Data.{Data, string, integer, boolean, array, table, Items, no_items, item, Members}
 use Rattle.rsvp_routes.specs.declared.prefix.Prefix.{Prefix}
+use Rattle.rsvp_routes.specs.declared.step.Step.{Step}
+use Rattle.rsvp_routes.specs.declared.step.Step.TheVariants.{Ipv4, Other}
+use Rattle.rsvp_traffic.specs.Rates.{rate_of}
+use Rattle.session_attribute.specs.Names.{IsName}
+use Rattle.route_words.specs.Rates.{IsRateText, tspec_with}
+use Rattle.route_words.specs.Routes.{IsPrefixText, IsStepText}
+use Rattle.lsr_facts.specs.Routers.{masked}
 use Rattle.lsr_facts.specs.declared.router.LabelRange.{LabelRange}
-
--- a value of which the fact holds, or `None` where there is none
-abbrev pub Finds : {A : Type 0} → (A → Type 0) → Option A → Type 0
-Finds {A} P found = MatchOption found ((a : A) → ¬ P a) P
 
 -- the value is a text that spells this
 abbrev pub SaysText : {A : Type 0} → (List ℕ → A → Type 0) → Data → A → Type 0
@@ -43,31 +43,15 @@ SaysLabels d labels =
     × SaysWhole 16 1048575 first labels.first × SaysWhole 16 1048575 last labels.last
     × (labels.first ≤ labels.last) × (labels.last - labels.first < 4096)
 
--- the address with the bits past a length set to 0
-unfoldable pub masked : Ipv4Addr → ℕ → Ipv4Addr
-masked address length =
-    let bits = ipv4_bits address in
-    record { octets = to_be_bytes w32 (bits - bits % 2 ^ (32 - length)) }
-
--- a slash
-abbrev pub is_slash : ℕ → Bool
-is_slash byte = byte == 47
-
--- decimal digits that write a length of at most 32
-abbrev pub IsLength : List ℕ → ℕ → Type 0
-IsLength text length = IsNumeral 10 text × (digits_value 10 text ≡ length) × (length ≤ 32)
-
--- An address stands before the first slash of the text, and a length behind it. Bits of the address past the
--- length don't count.
-abbrev pub IsPrefixText : List ℕ → Prefix → Type 0
-IsPrefixText text prefix =
-    (address : Ipv4Addr) × IsIpv4Text (before_first is_slash text) address
-    × IsLength (after_first is_slash text) prefix.length
-    × (prefix.address ≡ masked address prefix.length)
+-- The text writes a prefix of at most 32 bits. Bits of the address past the length don't count.
+abbrev pub IsMaskedPrefixText : List ℕ → Prefix → Type 0
+IsMaskedPrefixText text prefix =
+    (written : Prefix) × IsPrefixText text written × (written.length ≤ 32)
+    × (prefix ≡ record { address = masked written.address written.length; length = written.length })
 
 -- the value is a text that writes this prefix
 unfoldable pub SaysPrefix : Data → Prefix → Type 0
-SaysPrefix = SaysText IsPrefixText
+SaysPrefix = SaysText IsMaskedPrefixText
 
 -- the elements of an array
 abbrev pub elements : Items → List Data
@@ -81,3 +65,47 @@ IsTable d = (ms : Members) × (d ≡ table ms)
 -- the value is an array of these tables
 unfoldable pub SaysTables : Data → List Data → Type 0
 SaysTables d tables = (ds : Items) × (d ≡ array ds) × (elements ds ≡ tables) × AllByRecursion IsTable tables
+
+-- each of the first list says its part of the second
+abbrev pub SaysEach : {A : Type 0} → (Data → A → Type 0) → List Data → List A → Type 0
+SaysEach Says [] [] = Unit {0}
+SaysEach Says [] (row ∷ rows) = ⊥
+SaysEach Says (d ∷ ds) [] = ⊥
+SaysEach Says (d ∷ ds) (row ∷ rows) = Says d row × SaysEach Says ds rows
+
+-- a step to a prefix of at most 32 bits
+abbrev pub IsInAddress : Step → Type 0
+IsInAddress (Ipv4 loose prefix) = prefix.length ≤ 32
+IsInAddress (Other bytes) = ⊥
+
+-- the text writes this step, to a prefix of at most 32 bits
+abbrev pub IsShortStepText : List ℕ → Step → Type 0
+IsShortStepText text step = IsStepText text step × IsInAddress step
+
+-- the value is a text that writes this step
+unfoldable pub SaysStep : Data → Step → Type 0
+SaysStep = SaysText IsShortStepText
+
+-- the value is an array of at most 31 steps
+unfoldable pub SaysSteps : Data → List Step → Type 0
+SaysSteps d steps = (ds : Items) × (d ≡ array ds) × SaysEach SaysStep (elements ds) steps × (length steps ≤ 31)
+
+-- the text writes the 32 bits of this rate, which is a number of bytes per second
+abbrev pub IsDefinedRateText : List ℕ → ℕ → Type 0
+IsDefinedRateText text rate = IsRateText text rate × IsSome (rate_of rate)
+
+-- the value is a text that writes this rate
+unfoldable pub SaysRate : Data → ℕ → Type 0
+SaysRate = SaysText IsDefinedRateText
+
+-- the value writes the rate of this traffic
+abbrev pub SaysTspec : Data → List ℕ → Type 0
+SaysTspec d tspec = (rate : ℕ) × SaysRate d rate × (tspec ≡ tspec_with rate)
+
+-- the text, of at most 255 bytes, is this name (RFC 3209, 4.7.1)
+abbrev pub IsNameText : List ℕ → List ℕ → Type 0
+IsNameText text name = (text ≡ name) × IsName name
+
+-- the value is a text that is this name
+unfoldable pub SaysName : Data → List ℕ → Type 0
+SaysName = SaysText IsNameText

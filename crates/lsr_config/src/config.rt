@@ -3,7 +3,7 @@ ghost use Rattle.lsr_config.specs.declared.config.TheConstants.{BUILT_IN};
 
 use crate::document::read_document;
 use crate::fault::ConfigFault;
-use lsr_facts::Router;
+use lsr_facts::{Bypass, Router, Tunnel};
 use rsvp_routes::Prefix;
 use sorted_rows::Table;
 use std::alloc::Global;
@@ -43,6 +43,10 @@ pub struct Config {
     pub router: Router,
     /// The static routes: the number of the link to each prefix.
     pub routes: Table<Prefix, u16>,
+    /// The tunnels that begin at the router, by their numbers, each with its first LSP.
+    pub tunnels: Table<u16, Tunnel>,
+    /// The bypasses of the router's links, by their numbers.
+    pub bypasses: Table<u16, Bypass>,
 }
 
 impl Model for Config {
@@ -50,9 +54,9 @@ impl Model for Config {
 
     ghost Value = { Setup };
 
-    ghost view = { λ c. setup c.router c.routes };
+    ghost view = { λ c. setup c.router c.routes c.tunnels c.bypasses };
 
-    ghost invariant = { λ c. IsConfig (setup c.router c.routes) };
+    ghost invariant = { λ c. IsConfig (setup c.router c.routes c.tunnels c.bypasses) };
 }
 
 impl Config {
@@ -61,10 +65,11 @@ impl Config {
     /// Reads the text of a configuration. The text is TOML, with the keys that [`Key`](crate::Key) lists.
     ///
     /// The fault is that of the first rule that the text breaks: [`ConfigFault::Text`] where it isn't TOML, and then
-    /// by tables (the router's keys, `link`, `route`), records by their place, keys in the order of [`Key`](crate::Key);
-    /// at each key that it is missing, then a bad value, a value that another has, a name that isn't known; behind
-    /// the keys of a record that it is one too many; and in the very end an unknown key. [`ConfigFault::Memory`] may
-    /// come at any point.
+    /// by tables (the router's keys, `link`, `route`, `tunnel`, `bypass`), records by their place, keys in the order of
+    /// [`Key`](crate::Key), but a route's `link` behind its `prefix`, a tunnel's `route` behind its `endpoint`, and a
+    /// bypass's `link` behind its `tunnel`; at each key that it is missing, then a bad value, a value that another has,
+    /// a name that isn't known; behind the keys of a record that it is one too many; and in the very end an unknown
+    /// key. [`ConfigFault::Memory`] may come at any point.
     pub fn read(alloc: Global, text: &str) -> Result<Config, ConfigFault>
         ensures { IsRead text.now result }
     {

@@ -6,13 +6,15 @@ ghost use Rattle.lsr_config.specs.Rules.{Has, HasAddress};
 ghost use Rattle.lsr_config.specs.Documents.{router_rules, rules_of, HasOr, Says, in_order};
 ghost use Rattle.lsr_config.specs.Reading.{Judges};
 
+use crate::bypasses::read_bypasses;
 use crate::config::Config;
 use crate::fault::ConfigFault;
 use crate::key::Key;
 use crate::known::check_keys;
 use crate::links::read_links;
-use crate::reading::{address_at, labels_at, records_of, whole_or};
+use crate::reading::{address_at, labels_at, whole_or};
 use crate::routes::read_routes;
+use crate::tunnels::read_tunnels;
 use lsr_facts::{LabelRange, Router};
 use sorted_rows::Table;
 use std::alloc::{AllocError, Global};
@@ -40,13 +42,15 @@ pub(crate) fn read_document(alloc: Global, document: &Value) -> Result<Config, C
     ensures { Judges (rules_of (view document.now)) (Says (view document.now)) result }
 {
     let top = read_top(document)?;
-    let link_records = records_of(document, Key::Link)?;
-    let links = read_links(alloc, link_records, top.id)?;
-    let route_records = records_of(document, Key::Route)?;
-    let routes = read_routes(alloc, route_records, links.as_slice())?;
-    check_keys(alloc, document, link_records, route_records)?;
-    let link_table = table_of(alloc, links.as_slice())?;
-    let route_table = table_of(alloc, routes.as_slice())?;
+    let links = read_links(alloc, document, top.id)?;
+    let routes = read_routes(alloc, document, links.as_slice())?;
+    let tunnels = read_tunnels(alloc, document, top.id, links.as_slice())?;
+    let bypasses = read_bypasses(alloc, document, links.as_slice(), tunnels.as_slice())?;
+    check_keys(alloc, document)?;
+    let link_table = table_of(alloc, links)?;
+    let route_table = table_of(alloc, routes)?;
+    let tunnel_table = table_of(alloc, tunnels)?;
+    let bypass_table = table_of(alloc, bypasses)?;
     Ok(Config {
         router: Router {
             id: top.id,
@@ -55,6 +59,8 @@ pub(crate) fn read_document(alloc: Global, document: &Value) -> Result<Config, C
             links: link_table,
         },
         routes: route_table,
+        tunnels: tunnel_table,
+        bypasses: bypass_table,
     })
 }
 
@@ -82,15 +88,15 @@ fn read_top(document: &Value) -> Result<Top, ConfigFault>
 }
 
 /// The rows, each put in its place in the order of the keys.
-fn table_of<K: Ord + Copy + Drop, V: Copy + Drop>(
+fn table_of<K: Ord + Drop, V: Drop>(
     alloc: Global,
-    rows: &[(K, V)],
+    rows: Vec<(K, V)>,
 ) -> Result<Table<K, V>, AllocError>
-    ensures { IfOk result (λ table. table ≡ in_order K.cmp rows.now) }
+    ensures { IfOk result (λ table. table ≡ in_order K.cmp rows.items) }
 {
     let mut table = Table::new(alloc);
-    for row in rows {
-        table.set(row.0, row.1)?;
+    for (key, value) in rows {
+        table.set(key, value)?;
     }
     Ok(table)
 }

@@ -4,8 +4,8 @@ ghost use Rattle.lsr_config.specs.Keys.{key_name};
 
 use std::fmt;
 
-/// A key that a configuration may have. Each stands in one kind of table, but `Link`: it names the table of the
-/// links, and in a route the link that the route leads over.
+/// A key that a configuration may have. Each stands in one kind of table, but four: `number` in links, in tunnels and
+/// in bypasses, and `link`, `route` and `tunnel`, which are names of tables too.
 #[derive(Clone, Copy, Debug, PartialEq, Eq)]
 pub enum Key {
     /// `router`, the router id.
@@ -14,9 +14,9 @@ pub enum Key {
     RefreshMs,
     /// `labels`, the first and the last label that the router gives out.
     Labels,
-    /// `link`, the table of the links, and the link of a route.
+    /// `link`, the table of the links, the link of a route, and the one that a bypass protects.
     Link,
-    /// `number`, the number of a link.
+    /// `number`, the number of a link, of a tunnel or of a bypass.
     Number,
     /// `address`, the router's own address on a link.
     Address,
@@ -32,10 +32,26 @@ pub enum Key {
     Listen,
     /// `send`, the socket address to which a link's datagrams go.
     Send,
-    /// `route`, the table of the static routes.
+    /// `route`, the table of the static routes, and the route that a tunnel's LSPs are to take.
     Route,
     /// `prefix`, the addresses of a route.
     Prefix,
+    /// `tunnel`, the table of the tunnels, and the tunnel in which a bypass runs.
+    Tunnel,
+    /// `endpoint`, where a tunnel ends.
+    Endpoint,
+    /// `rate`, the traffic that a tunnel is to carry.
+    Rate,
+    /// `setup`, the priority with which a tunnel's LSPs are set up.
+    Setup,
+    /// `hold`, the priority with which they are held.
+    Hold,
+    /// `flags`, what they ask for.
+    Flags,
+    /// `name`, the name of a tunnel's LSPs.
+    Name,
+    /// `bypass`, the table of the bypasses.
+    Bypass,
 }
 
 impl Key {
@@ -58,6 +74,14 @@ impl Key {
             Key::Send => "send",
             Key::Route => "route",
             Key::Prefix => "prefix",
+            Key::Tunnel => "tunnel",
+            Key::Endpoint => "endpoint",
+            Key::Rate => "rate",
+            Key::Setup => "setup",
+            Key::Hold => "hold",
+            Key::Flags => "flags",
+            Key::Name => "name",
+            Key::Bypass => "bypass",
         }
     }
 }

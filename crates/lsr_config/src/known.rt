@@ -1,26 +1,29 @@
 // Keys that no configuration has.
 ghost use Rattle.std.specs.List.{list_any};
-ghost use Rattle.std.specs.Prelude.{◌≡◌, ◌⊎◌, [], map, bytes_eq};
+ghost use Rattle.std.specs.Prelude.{◌≡◌, ◌⊎◌, map, bytes_eq};
 ghost use Rattle.toml.specs.View.{view, table_view};
 ghost use Rattle.lsr_config.specs.Keys.{key_name};
 ghost use Rattle.lsr_config.specs.Rules.{known};
-ghost use Rattle.lsr_config.specs.Documents.{each_record, records, names, known_rules, all_known_rules};
+ghost use Rattle.lsr_config.specs.Documents.{names, known_rules, known_record_rules, all_known_rules};
 ghost use Rattle.lsr_config.specs.Reading.{Judges};
 ghost use Rattle.lsr_config.specs.declared.fault.ConfigFault.TheVariants as fault;
 
 use crate::fault::ConfigFault;
 use crate::key::Key;
+use crate::reading::records_at;
 use crate::unknown_name::UnknownName;
 use std::alloc::Global;
 use toml::{Table, Value};
 
 /// The keys of a document outside its records.
-const TOP_KEYS: [Key; 5] = [
+const TOP_KEYS: [Key; 7] = [
     Key::Router,
     Key::RefreshMs,
     Key::Labels,
     Key::Link,
     Key::Route,
+    Key::Tunnel,
+    Key::Bypass,
 ];
 
 /// The keys of a link's record.
@@ -38,30 +41,45 @@ const LINK_KEYS: [Key; 8] = [
 /// The keys of a route's record.
 const ROUTE_KEYS: [Key; 2] = [Key::Prefix, Key::Link];
 
-/// Refuses the first unknown key: of the document, then of its links, then of its routes.
-pub(crate) fn check_keys(
-    alloc: Global,
-    document: &Value,
-    links: &[Value],
-    routes: &[Value],
-) -> Result<(), ConfigFault>
-    requires links { map view links.now ≡ records Key.Link (view document.now) }
-    requires routes { map view routes.now ≡ records Key.Route (view document.now) }
+/// The keys of a tunnel's record.
+const TUNNEL_KEYS: [Key; 8] = [
+    Key::Number,
+    Key::Endpoint,
+    Key::Route,
+    Key::Rate,
+    Key::Setup,
+    Key::Hold,
+    Key::Flags,
+    Key::Name,
+];
+
+/// The keys of a bypass's record.
+const BYPASS_KEYS: [Key; 3] = [Key::Number, Key::Tunnel, Key::Link];
+
+/// Refuses the first unknown key: of the document, then of its links, of its routes, of its tunnels and of its
+/// bypasses.
+pub(crate) fn check_keys(alloc: Global, document: &Value) -> Result<(), ConfigFault>
     ensures { Judges (all_known_rules (view document.now)) (λ _. Unit {0}) result }
 {
     check_table(alloc, document, &TOP_KEYS)?;
-    check_records(alloc, links, &LINK_KEYS)?;
-    check_records(alloc, routes, &ROUTE_KEYS)?;
+    check_records(alloc, document, Key::Link, &LINK_KEYS)?;
+    check_records(alloc, document, Key::Route, &ROUTE_KEYS)?;
+    check_records(alloc, document, Key::Tunnel, &TUNNEL_KEYS)?;
+    check_records(alloc, document, Key::Bypass, &BYPASS_KEYS)?;
     Ok(())
 }
 
-/// Refuses the first unknown key of the records.
-fn check_records(alloc: Global, records: &[Value], keys: &[Key]) -> Result<(), ConfigFault>
-    ensures { Judges (each_record (λ before found. known_rules keys.now found) [] (map view records.now))
-        (λ _. Unit {0}) result }
+/// Refuses the first unknown key of the records of a table of the document.
+fn check_records(
+    alloc: Global,
+    document: &Value,
+    table: Key,
+    keys: &[Key],
+) -> Result<(), ConfigFault>
+    ensures { Judges (known_record_rules table keys.now (view document.now)) (λ _. Unit {0}) result }
 {
-    for table in records {
-        check_table(alloc, table, keys)?;
+    for record in records_at(document, table) {
+        check_table(alloc, record, keys)?;
     }
     Ok(())
 }

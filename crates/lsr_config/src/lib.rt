@@ -1,6 +1,7 @@
 //! What an operator configures.
 #![tactic(auto)]
 
+mod bypasses;
 mod config;
 mod document;
 mod fault;
@@ -9,6 +10,8 @@ mod known;
 mod links;
 mod reading;
 mod routes;
+mod tunnel_values;
+mod tunnels;
 mod unknown_name;
 mod values;
 

@@ -1,35 +1,42 @@
 // The links of a document.
 ghost use Rattle.std.specs.List.{list_any};
 ghost use Rattle.std.specs.Net.Addr.{ipv4_octets};
-ghost use Rattle.std.specs.Prelude.{◌≡◌, ◌==◌, List, [], ◌∷◌, map, bytes_eq};
+ghost use Rattle.std.specs.Prelude.{◌≡◌, ◌==◌, ◌↔◌, ℕ, List, [], ◌∷◌, IsTrue, bytes_eq};
 ghost use Rattle.toml.specs.Data.{Data};
 ghost use Rattle.toml.specs.View.{view};
-ghost use Rattle.lsr_config.specs.Rules.{HasAddress, HasNumber, new_number, new_address};
-ghost use Rattle.lsr_config.specs.Documents.{each_record, link_rules, SaysEach, SaysLink};
+ghost use Rattle.lsr_config.specs.Rules.{HasAddress, HasNumber, IsFree, new_number, new_address};
+ghost use Rattle.lsr_config.specs.Documents.{table_rules, records, link_rules, SaysLink};
+ghost use Rattle.lsr_config.specs.Values.{SaysEach};
 ghost use Rattle.lsr_config.specs.Reading.{Judges};
 
 use crate::fault::ConfigFault;
 use crate::key::Key;
-use crate::reading::{address_at, check_count, check_socket, flag_or, number_at, whole_at};
+use crate::reading::{
+    address_at, check_count, check_socket, flag_or, number_at, records_of, whole_at,
+};
 use lsr_facts::Link;
 use lsr_facts::limits::{MAX_LIMIT, MAX_LINKS};
 use std::alloc::Global;
 use std::net::Ipv4Addr;
 use toml::Value;
 
+/// The least number of a link.
+pub(crate) const FIRST_LINK: u64 = 1;
+
 /// The least limit of a link, in bytes per second.
 const NO_BANDWIDTH: u64 = 0;
 
-/// The links that the records say, with their numbers, in the order of the records.
+/// The links of a document, with their numbers, in the order of their records.
 pub(crate) fn read_links(
     alloc: Global,
-    records: &[Value],
+    document: &Value,
     router: Ipv4Addr,
 ) -> Result<Vec<(u16, Link)>, ConfigFault>
-    ensures { (document : Data) → HasAddress Key.Router document router →
-        Judges (each_record (link_rules document) [] (map view records.now))
-        (λ links. SaysEach SaysLink (map view records.now) links.items) result }
+    requires { HasAddress Key.Router (view document.now) router }
+    ensures { Judges (table_rules Key.Link (link_rules (view document.now)) (view document.now))
+        (λ links. SaysEach SaysLink (records Key.Link (view document.now)) links.items) result }
 {
+    let records = records_of(document, Key::Link)?;
     let mut links = Vec::new(alloc);
     for table in records {
         let link = read_link(table, router, links.as_slice())?;
@@ -50,7 +57,7 @@ fn read_link(
         SaysEach SaysLink earlier before.now →
         Judges (link_rules document earlier (view table.now)) (SaysLink (view table.now)) result }
 {
-    let number = number_at(table, Key::Number)?;
+    let number = number_at(table, Key::Number, FIRST_LINK)?;
     check_number(number, before)?;
     let address = address_at(table, Key::Address)?;
     check_address(address, router, before)?;
@@ -71,11 +78,23 @@ fn read_link(
     Ok((number, link))
 }
 
-/// Whether one of the links has this number.
-pub(crate) fn has_number(number: u16, links: &[(u16, Link)]) -> bool
-    ensures { result ≡ list_any (λ row. row.0 == number) links.now }
+/// Whether one of the rows has this number.
+pub(crate) fn has_number<V>(number: u16, rows: &[(u16, V)]) -> bool
+    ensures { result ≡ list_any (λ row. row.0 == number) rows.now }
 {
-    links.iter().any(|row| row.0 == number)
+    rows.iter().any(|row| row.0 == number)
+}
+
+/// Refuses a number that a row before has.
+pub(crate) fn check_number<V>(number: u16, before: &[(u16, V)]) -> Result<(), ConfigFault>
+    ensures { (first : ℕ) (d : Data) (earlier : List Data) → HasNumber first Key.Number d number →
+        SaysEach (λ other row. HasNumber first Key.Number other row.0) earlier before.now →
+        Judges (new_number first earlier d ∷ []) (λ _. Unit {0}) result }
+{
+    if has_number(number, before) {
+        return Err(ConfigFault::Repeated(Key::Number));
+    }
+    Ok(())
 }
 
 /// Whether one of the links has this address.
@@ -85,15 +104,15 @@ fn has_address(address: Ipv4Addr, links: &[(u16, Link)]) -> bool
     links.iter().any(|row| row.1.address == address)
 }
 
-/// Refuses a number that a link before has.
-fn check_number(number: u16, before: &[(u16, Link)]) -> Result<(), ConfigFault>
-    ensures { (link : Data) (earlier : List Data) → HasNumber Key.Number link number →
-        SaysEach SaysLink earlier before.now → Judges (new_number earlier link ∷ []) (λ _. Unit {0}) result }
+/// Whether the address is neither that of the router nor that of one of the links.
+pub(crate) fn is_free(address: Ipv4Addr, router: Ipv4Addr, links: &[(u16, Link)]) -> bool
+    ensures { (document : Data) (records : List Data) → HasAddress Key.Router document router →
+        SaysEach SaysLink records links.now → (IsTrue result ↔ IsFree document records address) }
 {
-    if has_number(number, before) {
-        return Err(ConfigFault::Repeated(Key::Number));
+    if address == router {
+        return false;
     }
-    Ok(())
+    !has_address(address, links)
 }
 
 /// Refuses an address that the router or a link before has.
@@ -106,10 +125,7 @@ fn check_address(
         HasAddress Key.Address link address → SaysEach SaysLink earlier before.now →
         Judges (new_address document earlier link ∷ []) (λ _. Unit {0}) result }
 {
-    if address == router {
-        return Err(ConfigFault::Repeated(Key::Address));
-    }
-    if has_address(address, before) {
+    if !is_free(address, router, before) {
         return Err(ConfigFault::Repeated(Key::Address));
     }
     Ok(())

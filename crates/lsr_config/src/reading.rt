@@ -3,23 +3,27 @@ ghost use Rattle.std.specs.Prelude.{◌≡◌, ◌≤◌, List, length, Some, No
 ghost use Rattle.toml.specs.Data.{Data, get};
 ghost use Rattle.toml.specs.View.{view};
 ghost use Rattle.lsr_config.specs.Keys.{key_name};
-ghost use Rattle.lsr_config.specs.Values.{SaysWhole, SaysFlag, SaysLabels};
-ghost use Rattle.lsr_config.specs.Rules.{an_address, a_socket, a_whole, a_flag, some_labels, a_prefix, some_tables, Has, HasAddress, HasNumber, HasPrefix, few};
+ghost use Rattle.lsr_config.specs.Values.{SaysWhole, SaysFlag, SaysLabels, SaysSteps, SaysRate, SaysName};
+ghost use Rattle.lsr_config.specs.Rules.{an_address, a_socket, a_whole, a_flag, some_labels, a_prefix, some_tables, some_steps, a_rate, a_name, Has, HasAddress, HasNumber, HasPrefix, few};
 ghost use Rattle.lsr_config.specs.Documents.{needed, optional, records, HasOr};
 ghost use Rattle.lsr_config.specs.Reading.{Judges};
 ghost use Rattle.lsr_config.specs.declared.fault.ConfigFault.TheVariants as fault;
 
 use crate::fault::ConfigFault;
 use crate::key::Key;
-use crate::values::{address_in, flag_in, labels_in, prefix_in, socket_in, tables_in, whole_in};
+use crate::tunnel_values::{name_in, rate_in, steps_in};
+use crate::values::{
+    address_in, flag_in, items_in, labels_in, prefix_in, socket_in, tables_in, whole_in,
+};
 use lsr_facts::LabelRange;
-use rsvp_routes::Prefix;
+use rsvp_routes::{Prefix, Route};
+use rsvp_traffic::RateWord;
+use session_attribute::Name;
+use std::alloc::Global;
 use std::net::Ipv4Addr;
 use toml::Value;
 
-/// The least and the greatest number of a link.
-const FIRST_NUMBER: u64 = 1;
-
+/// The greatest number of a link, of a tunnel or of a bypass.
 const LAST_NUMBER: u64 = 65_535;
 
 /// The value under a key of a table.
@@ -69,12 +73,21 @@ pub(crate) fn whole_at(table: &Value, key: Key, least: u64, most: u64) -> Result
     said(whole_in(value, least, most), key)
 }
 
-/// The number of a link that the table gives a key.
-pub(crate) fn number_at(table: &Value, key: Key) -> Result<u16, ConfigFault>
-    ensures { Judges (needed (a_whole 1 65535) key (view table.now)) (HasNumber key (view table.now)) result }
+/// The number of 16 bits, from the first, that the table gives a key.
+pub(crate) fn number_at(table: &Value, key: Key, first: u64) -> Result<u16, ConfigFault>
+    ensures { Judges (needed (a_whole first 65535) key (view table.now)) (HasNumber first key (view table.now)) result }
 {
-    let number = whole_at(table, key, FIRST_NUMBER, LAST_NUMBER)?;
+    let number = whole_at(table, key, first, LAST_NUMBER)?;
     Ok(number as u16)
+}
+
+/// The number, from 0 to `most`, that the table gives a key.
+pub(crate) fn byte_at(table: &Value, key: Key, most: u8) -> Result<u8, ConfigFault>
+    ensures { Judges (needed (a_whole 0 most) key (view table.now))
+        (λ n. Has key (view table.now) (λ v. SaysWhole 0 most v n)) result }
+{
+    let number = whole_at(table, key, 0, u64::from(most))?;
+    Ok(number as u8)
 }
 
 /// The labels that the table gives a key.
@@ -92,6 +105,35 @@ pub(crate) fn prefix_at(table: &Value, key: Key) -> Result<Prefix, ConfigFault>
 {
     let value = needed(table, key)?;
     said(prefix_in(value), key)
+}
+
+/// The steps that the table gives a key.
+pub(crate) fn steps_at(alloc: Global, table: &Value, key: Key) -> Result<Route, ConfigFault>
+    ensures { Judges (needed some_steps key (view table.now))
+        (λ steps. Has key (view table.now) (λ v. SaysSteps v steps)) result }
+{
+    let value = needed(table, key)?;
+    let steps = steps_in(alloc, value)?;
+    said(steps, key)
+}
+
+/// The rate that the table gives a key.
+pub(crate) fn rate_at(table: &Value, key: Key) -> Result<RateWord, ConfigFault>
+    ensures { Judges (needed a_rate key (view table.now))
+        (λ rate. Has key (view table.now) (λ v. SaysRate v rate)) result }
+{
+    let value = needed(table, key)?;
+    said(rate_in(value), key)
+}
+
+/// The name that the table gives a key.
+pub(crate) fn name_at(alloc: Global, table: &Value, key: Key) -> Result<Name, ConfigFault>
+    ensures { Judges (needed a_name key (view table.now))
+        (λ name. Has key (view table.now) (λ v. SaysName v name)) result }
+{
+    let value = needed(table, key)?;
+    let name = name_in(alloc, value)?;
+    said(name, key)
 }
 
 /// The whole number, from `least` to `most`, that the table gives a key, or the default where it gives none.
@@ -143,6 +185,16 @@ pub(crate) fn records_of(document: &Value, key: Key) -> Result<&[Value], ConfigF
     match value_at(document, key) {
         Some(value) => said(tables_in(value), key),
         None => Ok(&[]),
+    }
+}
+
+/// What stands under a key of the document in place of records, none where no array does.
+pub(crate) fn records_at<'a>(document: &'a Value, key: Key) -> &'a [Value]
+    ensures { map view result.now ≡ records key (view document.now) }
+{
+    match value_at(document, key) {
+        Some(value) => items_in(value),
+        None => &[],
     }
 }
 

@@ -1,33 +1,35 @@
 // The static routes of a document.
 ghost use Rattle.std.specs.List.{list_any};
 ghost use Rattle.std.specs.Net.Addr.{ipv4_octets};
-ghost use Rattle.std.specs.Prelude.{◌≡◌, ◌==◌, ◌&&◌, List, [], ◌∷◌, map, bytes_eq};
+ghost use Rattle.std.specs.Prelude.{◌≡◌, ◌==◌, ◌&&◌, List, [], ◌∷◌, bytes_eq};
 ghost use Rattle.toml.specs.Data.{Data};
 ghost use Rattle.toml.specs.View.{view};
-ghost use Rattle.lsr_config.specs.Rules.{HasNumber, HasPrefix, new_prefix, known_link};
-ghost use Rattle.lsr_config.specs.Documents.{each_record, route_rules, SaysEach, SaysLink, SaysRoute};
+ghost use Rattle.lsr_config.specs.Rules.{HasNumber, HasPrefix, new_prefix, known_number};
+ghost use Rattle.lsr_config.specs.Documents.{table_rules, records, route_rules, SaysLink, SaysRoute};
+ghost use Rattle.lsr_config.specs.Values.{SaysEach};
 ghost use Rattle.lsr_config.specs.Reading.{Judges};
 
 use crate::fault::ConfigFault;
 use crate::key::Key;
-use crate::links::has_number;
-use crate::reading::{check_count, number_at, prefix_at};
+use crate::links::{FIRST_LINK, has_number};
+use crate::reading::{check_count, number_at, prefix_at, records_of};
 use lsr_facts::Link;
 use lsr_facts::limits::MAX_ROUTES;
 use rsvp_routes::Prefix;
 use std::alloc::Global;
 use toml::Value;
 
-/// The routes over the links that the records say, in the order of the records.
+/// The routes of a document over its links, in the order of their records.
 pub(crate) fn read_routes(
     alloc: Global,
-    records: &[Value],
+    document: &Value,
     links: &[(u16, Link)],
 ) -> Result<Vec<(Prefix, u16)>, ConfigFault>
-    ensures { (link_records : List Data) → SaysEach SaysLink link_records links.now →
-        Judges (each_record (route_rules link_records) [] (map view records.now))
-        (λ routes. SaysEach SaysRoute (map view records.now) routes.items) result }
+    requires { SaysEach SaysLink (records Key.Link (view document.now)) links.now }
+    ensures { Judges (table_rules Key.Route (route_rules (records Key.Link (view document.now))) (view document.now))
+        (λ routes. SaysEach SaysRoute (records Key.Route (view document.now)) routes.items) result }
 {
+    let records = records_of(document, Key::Route)?;
     let mut routes = Vec::new(alloc);
     for table in records {
         let route = read_route(table, links, routes.as_slice())?;
@@ -50,7 +52,7 @@ fn read_route(
 {
     let prefix = prefix_at(table, Key::Prefix)?;
     check_prefix(prefix, before)?;
-    let link = number_at(table, Key::Link)?;
+    let link = number_at(table, Key::Link, FIRST_LINK)?;
     check_link(link, links)?;
     check_count(Key::Route, MAX_ROUTES, before.len())?;
     Ok((prefix, link))
@@ -76,9 +78,10 @@ fn check_prefix(prefix: Prefix, before: &[(Prefix, u16)]) -> Result<(), ConfigFa
 }
 
 /// Refuses the number of a link that isn't there.
-fn check_link(number: u16, links: &[(u16, Link)]) -> Result<(), ConfigFault>
-    ensures { (route : Data) (link_records : List Data) → HasNumber Key.Link route number →
-        SaysEach SaysLink link_records links.now → Judges (known_link link_records route ∷ []) (λ _. Unit {0}) result }
+pub(crate) fn check_link(number: u16, links: &[(u16, Link)]) -> Result<(), ConfigFault>
+    ensures { (d : Data) (link_records : List Data) → HasNumber 1 Key.Link d number →
+        SaysEach SaysLink link_records links.now →
+        Judges (known_number 1 Key.Link link_records d ∷ []) (λ _. Unit {0}) result }
 {
     if has_number(number, links) {
         return Ok(());

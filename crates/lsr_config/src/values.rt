@@ -1,12 +1,15 @@
 // Values of a configuration: what each says, or `None` where it isn't of its kind.
-ghost use Rattle.std.specs.Prelude.{◌≡◌, ◌≤◌, pos, List, map, is_some, true, false, IfSome, MatchOption};
+ghost use Rattle.std.specs.Prelude.{◌≡◌, ◌≤◌, pos, List, map, Some, is_some, true, false, IfSome, MatchOption};
 ghost use Rattle.std.specs.List.{list_all};
 ghost use Rattle.toml.specs.Data.{Data, integer, array, as_table};
 ghost use Rattle.toml.specs.View.{view, items_view};
-ghost use Rattle.lsr_config.specs.Values.{Finds, IsLength, IsPrefixText, SaysAddress, SaysSocket, SaysWhole, SaysFlag, SaysLabels, SaysPrefix, SaysTables, masked};
+ghost use Rattle.route_words.specs.Finding.{Finds};
+ghost use Rattle.lsr_config.specs.Documents.{array_elements};
+ghost use Rattle.lsr_config.specs.Values.{IsMaskedPrefixText, SaysAddress, SaysSocket, SaysWhole, SaysFlag, SaysLabels, SaysPrefix, SaysTables};
 
-use lsr_facts::LabelRange;
 use lsr_facts::limits::MAX_LABELS;
+use lsr_facts::{LabelRange, masked};
+use route_words::read_prefix;
 use rsvp_routes::Prefix;
 use std::net::{Ipv4Addr, SocketAddr};
 use toml::Value;
@@ -16,14 +19,8 @@ const FIRST_LABEL: u64 = 16;
 
 const LAST_LABEL: u64 = 1_048_575;
 
-/// The length of a prefix that is one address.
-const WHOLE_ADDRESS: u8 = 32;
-
-/// What stands between the address of a prefix and its length.
-const SLASH: char = '/';
-
-/// What may stand before a number that is read, but not before a length.
-const PLUS: char = '+';
+/// The greatest length of a prefix, that of one address.
+pub(crate) const WHOLE_ADDRESS: u8 = 32;
 
 /// The IPv4 address that the value writes.
 pub(crate) fn address_in(value: &Value) -> Option<Ipv4Addr>
@@ -124,40 +121,26 @@ pub(crate) fn prefix_in(value: &Value) -> Option<Prefix>
 
 /// The prefix that the text writes.
 fn prefix_of(text: &str) -> Option<Prefix>
-    ensures { Finds (IsPrefixText text.now) result }
+    ensures { Finds (IsMaskedPrefixText text.now) result }
 {
-    let (address, digits) = text.split_once(SLASH)?;
-    let Ok(address) = address.parse() else {
+    let Prefix { address, length } = read_prefix(text)?;
+    if length > WHOLE_ADDRESS {
         return None;
-    };
-    let length = length_in(digits)?;
+    }
     Some(Prefix {
         address: masked(address, length),
         length,
     })
 }
 
-/// The length of a prefix, at most 32, that decimal digits write.
-fn length_in(digits: &str) -> Option<u8>
-    ensures { Finds (IsLength digits.now) result }
+/// The values of an array, none where the value is no array.
+pub(crate) fn items_in(value: &Value) -> &[Value]
+    ensures { map view result.now ≡ array_elements (Some (view value.now)) }
 {
-    if digits.starts_with(PLUS) {
-        return None;
+    match value.as_array() {
+        Some(array) => array.as_slice(),
+        None => &[],
     }
-    match digits.parse() {
-        Ok(length) if length <= WHOLE_ADDRESS => Some(length),
-        _ => None,
-    }
-}
-
-/// The address with the bits past the length set to 0.
-fn masked(address: Ipv4Addr, length: u8) -> Ipv4Addr
-    requires { length ≤ 32 }
-    ensures { result ≡ masked address length }
-{
-    let bits = address.to_bits();
-    let size = 1u64 << (WHOLE_ADDRESS - length);
-    Ipv4Addr::from_bits(bits - (u64::from(bits) % size) as u32)
 }
 
 /// The tables that the value lists.

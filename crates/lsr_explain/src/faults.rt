@@ -13,7 +13,10 @@ Missing KEY
   See: docs/CONFIGURATION.md (Faults)
 BadValue KEY
   The key's value isn't of the kind that it takes, or out of its range; or a table that
-  there may be many of has one pair of brackets, as `[link]`.
+  there may be many of has one pair of brackets, as `[link]`. Of a tunnel: its endpoint is this
+  router, its route has more than 31 steps, a prefix's length is above 32, a priority is above 7,
+  or its rate isn't eight hexadecimal digits, or is negative, no number, or 2^50 bytes per
+  second or more.
   What to do: write the value as docs/CONFIGURATION.md says; head such tables `[[link]]`.
   See: docs/CONFIGURATION.md (Faults)
 Repeated KEY
@@ -21,11 +24,13 @@ Repeated KEY
   What to do: give each a value of its own.
   See: docs/CONFIGURATION.md (Faults)
 UnknownName KEY
-  The key's value is the number of a link that the configuration doesn't have.
-  What to do: add that link, or name another.
+  The key's value is the number of a link or of a tunnel, and the configuration has none of that
+  number.
+  What to do: add that link or tunnel, or name another.
   See: docs/CONFIGURATION.md (Faults)
 TooMany KEY
-  The table has more records than a router keeps: 16 links, 256 routes.
+  The table has more records than a router keeps: 16 links, 256 routes, 256 tunnels, 64
+  bypasses.
   What to do: take records out of it.
   See: docs/CONFIGURATION.md (Faults)
 UnknownKey KEY

@@ -59,7 +59,8 @@ pub const REFUSALS: &str = "\
   A PathTear and a ResvErr have to come from the
   hop that their path comes from, over the same link; a PathErr, a Resv and a ResvTear over the
   link that their path leaves by. A Resv whose record has an address of this router is
-  refused so too: it has been here before.
+  refused so too: it has been here before. And so is a Path of an LSP that begins here: no
+  other router sends it.
   What to do: nothing, where the path or reservation was torn down or expired before. Else
   compare session, sender, LSP ID and link with `show paths` and `show resvs`.
   See: RFC 2205, 3.1.5 to 3.1.8; RFC 3209, 4.4.4; docs/ROUTER.md (A Resv comes)
@@ -87,54 +88,68 @@ pub const REFUSALS: &str = "\
   compare the label with `show table`, and with the one in the Resv that the neighbour got.
   See: RFC 3031, 3.18; docs/PROGRAM.md (`lsr step`: whole frames)
 20 UnknownTunnel
-  No tunnel or bypass has the number that the command names.
-  This version takes no commands yet, and never says so.
-  What to do: name one that there is.
-  See: docs/PROVED.md (Not there yet)
+  No tunnel that begins here has the number that the command names. Of `unbypass`: no bypass
+  has it.
+  What to do: name one that there is; `show tunnels` lists the tunnels, `show bypasses` the
+  bypasses. The tunnel that a bypass is to run in has to be there first: add it with `tunnel`.
+  See: docs/ROUTER.md (A command comes)
 21 TunnelExists
-  A tunnel has this number already.
-  This version takes no commands yet, and never says so.
-  What to do: drop that one first, or take another number.
-  See: docs/PROVED.md (Not there yet)
+  A tunnel that begins here has this number already.
+  What to do: take another number; or change that tunnel with `change N RATE ROUTE..`, or drop it
+  first with `drop N`.
+  See: docs/ROUTER.md (A command comes)
 22 BadRoute
-  The tunnel's route can't be followed from here or has more than 31 steps, its
-  endpoint is this router, a priority is above 7, or its rate is no rate; of a static
-  route: its length is above 32, or there is no such route to drop.
-  This version takes no commands yet, and never says so.
-  What to do: write the first step as a neighbour over a link that is up, or as a loose step that
-  a static route leads to; and the numbers within their ranges.
-  See: RFC 3209, 4.3.4.1; docs/PROVED.md (Not there yet)
+  Of `tunnel` and `change`: the route can't be followed from here or has more than 31
+  steps, the endpoint is this router, a priority is above 7, or the rate is no rate: it is
+  negative, no number, or 2^50 bytes per second or more.
+  Of `route` and `unroute`: the prefix's length is above 32, or there is no such route to drop.
+  What to do: leave this router's own step out; write the first step as a neighbour over a link
+  that is up (`show links`), or with `~` before it where a static route leads to it. Without a
+  step a link or a static route has to lead to the endpoint. Write the rate as the eight digits
+  of its 32 bits: 47f42400 is 125000 bytes per second.
+  See: RFC 3209, 4.3.4.1; RFC 2215, 3.6; docs/ROUTER.md (A command comes)
 23 ChangePending
-  The tunnel is being changed already, and its new LSP isn't up yet.
-  This version takes no commands yet, and never says so.
-  What to do: wait until the new LSP is up, or cancel the change.
-  See: RFC 3209, 2.5; docs/PROVED.md (Not there yet)
+  The tunnel is being changed already, and the LSP of that change isn't reserved yet.
+  What to do: wait until it is, when `show tunnels` tells `pending none`; or give the change up
+  with `cancel N`.
+  See: RFC 3209, 2.5; docs/ROUTER.md (A command comes)
 24 UnknownLink
   No link has this number.
-  What to do: name a link of the configuration; docs/CONFIGURATION.md tells how links are given.
-  See: docs/ROUTER.md (A message comes)
+  What to do: name a link of the configuration; `show links` lists them.
+  See: docs/CONFIGURATION.md (`[[link]]`); docs/ROUTER.md (A message comes)
 25 BypassExists
-  A bypass has this number already.
-  This version takes no commands yet, and never says so.
-  What to do: drop that one first, or take another number.
-  See: docs/PROVED.md (Not there yet)
+  A bypass has this number already: a line `bypass` added it, or a table `[[bypass]]` of the
+  configuration. A bypass and a tunnel may have the same number.
+  Bypasses are kept and shown. This version doesn't move traffic onto one yet when its link goes
+  down.
+  What to do: take another number, or drop that bypass first with `unbypass N`. `show bypasses`
+  lists them.
+  See: docs/ROUTER.md (A command comes); docs/PROVED.md (Not there yet)
 26 BypassOnItsLink
-  The bypass would protect a link that its own tunnel runs over.
-  This version takes no commands yet, and never says so.
-  What to do: route the tunnel of the bypass over another link.
-  See: RFC 4090, 6.2; docs/PROVED.md (Not there yet)
+  A bypass that leaves by the link that it protects is no use: both are down at once. Of `bypass`:
+  the tunnel's current LSP leaves by that link. Of `change`: the tunnel's new LSP would leave by
+  a link that a bypass in this tunnel protects. A tunnel whose current LSP has no path yet is
+  taken for a bypass as it is, also from a configuration.
+  Bypasses are kept and shown. This version doesn't move traffic onto one yet when its link goes
+  down.
+  What to do: `show paths` tells by which link the tunnel leaves, `show bypasses` which links its
+  bypasses protect. Of `bypass`: name another tunnel; or lead this one over another link with
+  `change N RATE ROUTE..`, and try again once `show tunnels` tells `pending none`. Of `change`:
+  lead the tunnel over another link, or drop that bypass first with `unbypass N`.
+  See: RFC 4090, 6.2; docs/ROUTER.md (A command comes); docs/PROVED.md (Not there yet)
 27 Full
-  There are as many of this kind as the router keeps: 256 routes, 1024 LSPs, 256
-  tunnels, 64 bypasses. So it is with the LSP IDs of a tunnel once 65535 was used.
-  This version takes no commands yet, and never says so; where there is no room for the
-  LSP of a Path it says error 23/0.
+  There are as many of this kind as the router keeps: 256 static routes, 256 tunnels that
+  begin here, 64 bypasses, 1024 LSPs that begin, pass or end here. So it is with the LSP IDs of
+  a tunnel once 65535 was used. Where there is no room for the LSP of a Path it says error 23/0.
   What to do: drop one first; drop a tunnel without LSP IDs and add it anew.
-  See: docs/PROVED.md (Not there yet)
+  See: docs/ROUTER.md (A command comes)
 28 InUse
-  A bypass names the tunnel, or a repair runs over the bypass.
-  This version takes no commands yet, and never says so.
-  What to do: drop the bypass first, or wait until the repair is over.
-  See: docs/PROVED.md (Not there yet)
+  Of `drop N`: a bypass runs in tunnel N, so the tunnel has to stay.
+  Bypasses are kept and shown. This version doesn't move traffic onto one yet when its link goes
+  down.
+  What to do: `show bypasses` tells which bypasses run in it. Drop each of them first, with
+  `unbypass` and its own number.
+  See: docs/ROUTER.md (A command comes); docs/PROVED.md (Not there yet)
 29 Late
   The moment is below the last one that the router was told.
   What to do: go on from that moment: time doesn't run backwards. The same moment may come again.
@@ -154,7 +169,7 @@ pub const REFUSALS: &str = "\
   See: docs/CRATES.md (Still to come)
 42 IsCold
   The router was restarted, and lost what messages had set up in it. Until it is started it
-  takes no message, no moment, and no link that comes up or goes down.
+  takes no message, no moment, no command, and no link that comes up or goes down.
   What to do: start it: `start`. `show` and labelled frames are answered all the same.
   See: docs/ROUTER.md (A restart)
 43 WrongPort

@@ -1,3 +1,4 @@
+pub mod Bypasses
 pub mod Errors
 pub mod Lifetimes
 pub mod OrderLaws
@@ -6,3 +7,4 @@ pub mod Origins
 pub mod Refusals
 pub mod Routers
 pub mod Timeless
+pub mod Tunnels

@@ -1,5 +1,7 @@
 -- The orders of keys and of items, by what names a session and a sender (RFC 3209, 4.6.1 and 4.6.2).
-use Rattle.std.specs.Ordering.{nat_cmp, ordering_then}
+use Rattle.std.specs.Prelude.{Bool, List}
+use Rattle.std.specs.List.{list_any}
+use Rattle.std.specs.Ordering.{is_eq, nat_cmp, ordering_then}
 use Rattle.std.specs.Cmp.Lexicographic.{slice_cmp}
 use Rattle.std.specs.Net.Addr.{ipv4_octets}
 use Rattle.std.specs.declared.cmp.Ordering.{Ordering}
@@ -28,6 +30,10 @@ template_cmp a b = ordering_then (address_cmp a.sender b.sender) (nat_cmp a.lsp 
 -- keys by session, sender
 abbrev pub key_cmp : Key → Key → Ordering
 key_cmp a b = ordering_then (session_cmp a.session b.session) (template_cmp a.sender b.sender)
+
+-- the key is one of these
+abbrev pub is_one_of : List Key → Key → Bool
+is_one_of keys key = list_any (λ k. is_eq (key_cmp k key)) keys
 
 -- items by kind, key, and then link or bypass
 abbrev pub item_cmp : Item → Item → Ordering

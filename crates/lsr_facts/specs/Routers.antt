@@ -4,6 +4,7 @@ use Rattle.std.specs.Cmp.Lexicographic.{pointwise}
 use Rattle.std.specs.FinMap.Entries as rows
 use Rattle.std.specs.List.{AllByRecursion, IsDistinct}
 use Rattle.std.specs.Net.Addr.{ipv4_octets, ipv4_bits}
+use Rattle.std.specs.Int.{to_be_bytes, w32}
 use Rattle.std.specs.Ordering.{nat_cmp}
 use Rattle.std.specs.declared.net.ipv4_addr.Ipv4Addr.{Ipv4Addr}
 use Rattle.rsvp_contents.specs.Below.objects.Ranges.{IsAddress}
@@ -53,6 +54,12 @@ pub record IsRouter (r : Router) : Type 0 where
   pub few : length r.links ≤ 16
   pub links : AllByRecursion IsLink r.links
   pub apart : IsDistinct is_same (own_addresses r)
+
+-- the address with the bits past a length set to 0
+unfoldable pub masked : Ipv4Addr → ℕ → Ipv4Addr
+masked address length =
+    let bits = ipv4_bits address in
+    record { octets = to_be_bytes w32 (bits - bits % 2 ^ (32 - length)) }
 
 -- the static routes: to prefixes with no bits past their length, over links of the router, at most 256
 pub record AreRoutes (r : Router) (routes : List (Prefix × ℕ)) : Type 0 where

@@ -1,10 +1,12 @@
+use crate::bypass::Bypass;
 use crate::key::{Item, Key};
 use crate::path_fact::PathFact;
+use crate::tunnel::Tunnel;
 use rsvp_contents::Prefix;
 use sorted_rows::{Table, TryCopy};
 use std::alloc::{AllocError, Global};
 
-/// What a router knows of links, static routes, time and paths, and that events change.
+/// What a router knows of links, static routes, time, tunnels, bypasses and paths, and that events change.
 #[derive(Debug, Drop)]
 pub struct Facts {
     /// Whether it is cold: it was restarted, and not started yet.
@@ -15,6 +17,10 @@ pub struct Facts {
     pub up: Table<u16, bool>,
     /// The static routes: the number of the link to each prefix.
     pub routes: Table<Prefix, u16>,
+    /// The tunnels that begin here, by number.
+    pub tunnels: Table<u16, Tunnel>,
+    /// The bypasses of its links, by number.
+    pub bypasses: Table<u16, Bypass>,
     /// The paths, by LSP.
     pub paths: Table<Key, PathFact>,
     /// Of each Path that is kept alive at a neighbour the moment when it was sent last, in milliseconds.
@@ -28,6 +34,8 @@ impl TryCopy for Facts {
             moment: self.moment,
             up: self.up.try_copy(alloc)?,
             routes: self.routes.try_copy(alloc)?,
+            tunnels: self.tunnels.try_copy(alloc)?,
+            bypasses: self.bypasses.try_copy(alloc)?,
             paths: self.paths.try_copy(alloc)?,
             sent: self.sent.try_copy(alloc)?,
         })

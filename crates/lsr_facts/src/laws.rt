@@ -41,7 +41,7 @@ pub fn prefixes_are_in_order()
 /// Facts of the same moment with the same lists are equal, where both are cold or both run.
 pub fn same_lists_are_same_facts()
     ensures { (a b : Facts) → a.cold ≡ b.cold → a.moment ≡ b.moment →
-        a.up ≡ b.up → a.routes ≡ b.routes → a.paths ≡ b.paths → a.sent ≡ b.sent → a ≡ b }
+        a.up ≡ b.up → a.routes ≡ b.routes → a.tunnels ≡ b.tunnels → a.bypasses ≡ b.bypasses → a.paths ≡ b.paths → a.sent ≡ b.sent → a ≡ b }
 {}
 
 /// Paths in order that answer each look-up alike are the same paths.

@@ -1,6 +1,7 @@
 //! What a router knows, as plain values.
 #![tactic(auto)]
 
+mod bypass;
 mod choice;
 mod errors;
 mod facts;
@@ -10,11 +11,14 @@ mod lifetimes;
 pub mod limits;
 mod node;
 mod path_fact;
+mod prefixes;
 mod refusal;
 mod reply;
 mod router;
 mod same;
+mod tunnel;
 
+pub use bypass::Bypass;
 pub use choice::Choice;
 pub use errors::{RsvpError, UNKNOWN_CLASS, UNKNOWN_CTYPE};
 pub use facts::Facts;
@@ -22,8 +26,10 @@ pub use key::{Item, Key};
 pub use lifetimes::{begins_here, expires, has_waited, keep_living, lives_on};
 pub use node::Node;
 pub use path_fact::{Origin, PathFact, Role, Via};
+pub use prefixes::masked;
 pub use refusal::Refusal;
 pub use reply::Reply;
 pub use router::{LabelRange, Link, Router};
 pub use rsvp_contents::Passing;
 pub use same::Same;
+pub use tunnel::{Noted, Tunnel, TunnelLsp};

@@ -4,6 +4,10 @@
 pub const MAX_LINKS: usize = 16;
 /// Static routes of a router.
 pub const MAX_ROUTES: usize = 256;
+/// Tunnels that begin at a router.
+pub const MAX_TUNNELS: usize = 256;
+/// Bypasses of a router.
+pub const MAX_BYPASSES: usize = 64;
 /// LSPs of a router.
 pub const MAX_LSPS: usize = 1_024;
 /// Origins of an LSP.

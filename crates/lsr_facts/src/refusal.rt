@@ -32,7 +32,7 @@ pub enum Refusal {
     #[error("tunnel exists: a tunnel has this number; drop it or take another number")]
     TunnelExists,
     /// 22: the route can't be taken, or another word of the command is out of its range.
-    #[error("bad route: the route can't be followed from here, or a priority, rate or length is out of range")]
+    #[error("bad route: no way leads on by the route, it ends here, no such static route stands, or a word is out of its range")]
     BadRoute,
     /// 23: the tunnel is being changed.
     #[error("change pending: the tunnel's last change isn't over; wait for it or cancel it")]
@@ -47,10 +47,10 @@ pub enum Refusal {
     #[error("bypass on its link: its tunnel runs over the link that it is to protect")]
     BypassOnItsLink,
     /// 27: there are as many as there can be.
-    #[error("full: there are as many of this kind as the router keeps; drop one first")]
+    #[error("full: there are as many of this kind as the router keeps: drop one first; or the tunnel has used all its LSP IDs: add another")]
     Full,
     /// 28: it is in use.
-    #[error("in use: a bypass or a repair stands on it; drop that first")]
+    #[error("in use: a bypass runs in this tunnel; drop that bypass first")]
     InUse,
     /// 29: the moment is below the last one.
     #[error("late: the moment is below the one that the router was told last")]

@@ -15,7 +15,8 @@ use Rattle.std.specs.List.{list_all}
 use Rattle.std.proofs.lemmas.List.Sums.{AllPass-from_list_all, list_all-from_AllPass}
 use Rattle.hex.specs.Hex.{decode_of, decode_pairs, is_hex_digit}
 use Rattle.hex.proofs.HexLemmas.{decode_of-digits, decode_of-ok}
-use Rattle.lsr_lines.specs.Lines.{lines_of, NamesLink, NamesMoment, AsksOf, AsksToTake, BringsBehind}
+use Rattle.lsr_lines.specs.Lines.{lines_of, AsksOf, AsksToTake, BringsBehind}
+use Rattle.lsr_lines.specs.Numbers.{NamesLink, NamesMoment, NamesUpTo}
 
 pub own : IsNumeralModel (λ ds. all_ascii_digits ds ≡ true) (digits_value 10)
 own = numerals_by_value _ tells_all_ascii_digits
@@ -59,6 +60,9 @@ no_link digits e link plain h n = digits_parsed 16 digits (Err e) plain h (n.dec
 
 pub no_moment : {E : Type 0} (digits : List ℕ) (e : E) (moment : ℕ) → get_or digits 0 0 ≢ 43 → ParsesUnsigned 64 10 digits (Err e) → NamesMoment digits moment → ⊥
 no_moment digits e moment plain h n = digits_parsed 64 digits (Err e) plain h (n.decimal, omega (arith, n.some), omega (arith, n.value, n.high))
+
+pub no_number : {E : Type 0} (digits : List ℕ) (e : E) (most number : ℕ) → most < 2 ^ 16 → get_or digits 0 0 ≢ 43 → ParsesUnsigned 16 10 digits (Err e) → NamesUpTo most digits number → ⊥
+no_number digits e most number low plain h n = digits_parsed 16 digits (Err e) plain h (n.decimal, omega (arith, n.some), omega (arith, n.value, n.high, low))
 
 -- what is behind the word is that of the line
 pub words_of : (word line words : List ℕ) (link : ℕ) (bytes : List ℕ) → line ≡ word ++ words → (a : AsksToTake word line link bytes) → words ≡ a.link_digits ++ (32 ∷ a.hex_digits)

@@ -1,3 +1,5 @@
 pub mod Texts
+pub mod Numbers
+pub mod Commands
 pub mod Lines
 pub mod Steps

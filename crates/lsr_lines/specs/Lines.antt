@@ -1,9 +1,9 @@
 -- How a text is cut into lines, and which line asks for what.
-use Rattle.std.specs.Prelude.{◌≡◌, ◌≤◌, ◌<◌, ◌^◌, ◌==◌, ◌⊎◌, ℕ, length, List, [], ◌∷◌, ◌++◌, Ok, true, codes, if◌then◌else◌}
+use Rattle.std.specs.Prelude.{◌≡◌, ◌≤◌, ◌==◌, ◌⊎◌, ℕ, length, List, [], ◌∷◌, ◌++◌, Ok, codes, if◌then◌else◌}
 use Rattle.std.specs.List.{onto_first}
-use Rattle.std.specs.Str.{all_ascii_digits}
-use Rattle.std.specs.Str.Parse.{digits_value}
 use Rattle.hex.specs.Hex.{decode_of}
+use Rattle.lsr_lines.specs.Numbers.{NamesLink, NamesMoment}
+use Rattle.lsr_lines.specs.Commands.{words_of, BringsTunnel, SaysCommand}
 use Rattle.lsr_lines.specs.declared.lines.Request.{Request}
 use Rattle.lsr_lines.specs.declared.lines.Request.TheVariants as requests
 
@@ -11,13 +11,6 @@ use Rattle.lsr_lines.specs.declared.lines.Request.TheVariants as requests
 unfoldable pub lines_of : List ℕ → List (List ℕ)
 lines_of [] = []
 lines_of (byte ∷ rest) = if byte == 10 then [] ∷ lines_of rest else onto_first byte (lines_of rest)
-
--- A link's number: decimal digits, leading zeros taken, 1 to 65,535.
-pub record NamesLink (digits : List ℕ) (link : ℕ) : Type 0 where
-  pub decimal : all_ascii_digits digits ≡ true
-  pub value : digits_value 10 digits ≡ link
-  pub low : 1 ≤ link
-  pub high : link ≤ 65535
 
 -- A word with one space behind it, then a link, then bytes in hexadecimal digits of either case, perhaps none; the
 -- words are parted by one space.
@@ -39,12 +32,9 @@ pub record BringsBehind (word line : List ℕ) : Type 0 where
 abbrev pub BringsBytes : List ℕ → Type 0
 BringsBytes line = BringsBehind (codes "rx ") line ⊎ BringsBehind (codes "frame ") line
 
--- A moment: decimal digits, leading zeros taken, that fit 64 bits.
-pub record NamesMoment (digits : List ℕ) (moment : ℕ) : Type 0 where
-  pub some : 1 ≤ length digits
-  pub decimal : all_ascii_digits digits ≡ true
-  pub value : digits_value 10 digits ≡ moment
-  pub high : moment < 2 ^ 64
+-- A line that brings more than numbers: bytes, or a tunnel.
+abbrev pub BringsMore : List ℕ → Type 0
+BringsMore line = BringsBytes line ⊎ BringsTunnel line
 
 -- A word with one space behind it, and then a number alone; `Names` says which digits are which number.
 pub record AsksOf (Names : List ℕ → ℕ → Type 0) (word line : List ℕ) (number : ℕ) : Type 0 where
@@ -52,8 +42,8 @@ pub record AsksOf (Names : List ℕ → ℕ → Type 0) (word line : List ℕ) (
   pub parts : line ≡ word ++ digits
   pub names : Names digits number
 
--- What a line asks for: `rx LINK HEX`, `frame LINK HEX`, `tick N`, `up LINK`, `down LINK`, `restart`, `start`, or `show`
--- with what is shown.
+-- What a line asks for: `rx LINK HEX`, `frame LINK HEX`, `tick N`, `up LINK`, `down LINK`, `restart`, `start`, a command
+-- about a tunnel, a bypass or a static route, or `show` with what is shown.
 abbrev pub AsksFor : List ℕ → Request → Type 0
 AsksFor line (requests.Receive arrival) = AsksToTake (codes "rx ") line arrival.link arrival.bytes.items
 AsksFor line (requests.Frame arrival) = AsksToTake (codes "frame ") line arrival.link arrival.bytes.items
@@ -62,8 +52,11 @@ AsksFor line (requests.LinkUp link) = AsksOf NamesLink (codes "up ") line link
 AsksFor line (requests.LinkDown link) = AsksOf NamesLink (codes "down ") line link
 AsksFor line requests.Restart = line ≡ codes "restart"
 AsksFor line requests.Start = line ≡ codes "start"
+AsksFor line (requests.Command command) = SaysCommand (words_of line) command
 AsksFor line requests.ShowPaths = line ≡ codes "show paths"
 AsksFor line requests.ShowResvs = line ≡ codes "show resvs"
 AsksFor line requests.ShowTable = line ≡ codes "show table"
 AsksFor line requests.ShowLinks = line ≡ codes "show links"
+AsksFor line requests.ShowTunnels = line ≡ codes "show tunnels"
+AsksFor line requests.ShowBypasses = line ≡ codes "show bypasses"
 AsksFor line requests.ShowRecent = line ≡ codes "show recent"

@@ -1,6 +1,6 @@
 -- What a run over lines prints: its lines are requests, answered one after the other, and each answer is printed.
 use Rattle.std.specs.Prelude.{◌≡◌, ◌+◌, ℕ, List, [], ◌∷◌, ◌++◌, ◌⊎◌, length}
-use Rattle.lsr_lines.specs.Lines.{AsksFor, BringsBytes}
+use Rattle.lsr_lines.specs.Lines.{AsksFor, BringsMore}
 use Rattle.lsr_lines.specs.declared.lines.Request.{Request}
 use Rattle.lsr_lines.specs.declared.step.Ending.{Ending}
 use Rattle.lsr_lines.specs.declared.step.Ending.TheVariants as endings
@@ -27,9 +27,9 @@ pub record PrintsSome {S : Type 0} (answers : S → Request → List ℕ → S �
   pub parts : lines ≡ served ++ behind
   pub prints : Prints answers before served printed after
 
--- A line that takes memory: it brings bytes, or it asks for something, which is answered.
+-- A line that takes memory: it brings bytes or a tunnel, or it asks for something, which is answered.
 abbrev pub TakesMemory : List ℕ → Type 0
-TakesMemory line = BringsBytes line ⊎ ((request : Request) × AsksFor line request)
+TakesMemory line = BringsMore line ⊎ ((request : Request) × AsksFor line request)
 
 -- The lines were all served; or those before the first that asks for nothing, whose number counts from 1; or
 -- those before one for which memory ran out, which asks for something.

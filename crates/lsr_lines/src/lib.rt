@@ -2,13 +2,17 @@
 //! after the other, whoever answers.
 #![tactic(auto)]
 
+mod commands;
 mod input;
 mod lines;
+mod numbers;
 mod step;
 mod stream;
 #[cfg(test)]
 mod tests;
+mod words;
 
+pub use commands::{BypassRequest, ChangeRequest, CommandRequest, TunnelRequest};
 pub use input::{InputFault, MAX_INPUT_LEN, read_text};
 pub use lines::{Arrival, Request, next_line, read_request};
 pub use step::{Answers, Ending, step_lines};

@@ -6,8 +6,11 @@ ghost use Rattle.std.specs.List.{list_all};
 ghost use Rattle.std.specs.Option.{MatchOption};
 ghost use Rattle.hex.specs.Hex.{decode_of};
 ghost use Rattle.lsr_lines.specs.declared.lines.Request.{Request};
-ghost use Rattle.lsr_lines.specs.Lines.{lines_of, AsksFor, AsksOf, AsksToTake, BringsBehind, BringsBytes, NamesLink, NamesMoment};
+ghost use Rattle.lsr_lines.specs.Lines.{lines_of, AsksFor, AsksOf, AsksToTake, BringsBehind, BringsMore};
+ghost use Rattle.lsr_lines.specs.Numbers.{NamesLink, NamesMoment};
 
+use crate::commands::{CommandRequest, read_command};
+use crate::numbers::{read_link, read_moment};
 use std::alloc::{AllocError, Global};
 
 /// What came over a link.
@@ -36,6 +39,9 @@ pub enum Request {
     Restart,
     /// `start`: a cold router is started.
     Start,
+    /// `tunnel ..`, `change ..`, `cancel N`, `drop N`, `bypass N TUNNEL LINK`, `unbypass N`, `route PREFIX LINK` or `unroute
+    /// PREFIX`: a command about a tunnel, a bypass or a static route.
+    Command(CommandRequest),
     /// `show paths`: the paths that the router knows are printed.
     ShowPaths,
     /// `show resvs`: the reservations that stand are printed.
@@ -44,6 +50,10 @@ pub enum Request {
     ShowTable,
     /// `show links`: the links are printed, with what is reserved on them.
     ShowLinks,
+    /// `show tunnels`: the tunnels that begin here are printed.
+    ShowTunnels,
+    /// `show bypasses`: the bypasses of the links are printed.
+    ShowBypasses,
     /// `show recent`: the last replies are printed.
     ShowRecent,
 }
@@ -71,6 +81,10 @@ const SHOW_TABLE: &str = "show table";
 
 const SHOW_LINKS: &str = "show links";
 
+const SHOW_TUNNELS: &str = "show tunnels";
+
+const SHOW_BYPASSES: &str = "show bypasses";
+
 const SHOW_RECENT: &str = "show recent";
 
 /// The text's first line without its newline, and all that stands behind that. None where the text is empty.
@@ -89,41 +103,12 @@ pub fn next_line(text: &str) -> Option<(&str, &str)>
     }
 }
 
-/// The link that the word names: decimal digits, leading zeros taken, 1 to 65,535.
-fn read_link(digits: &str) -> Option<u16>
-    ensures { MatchOption result ((link : ℕ) → ¬ NamesLink digits.now link) (NamesLink digits.now) }
-{
-    // A sign is no digit, but `parse` takes one.
-    if digits.starts_with('+') {
-        return None;
-    }
-    match digits.parse::<u16>() {
-        Ok(0) => None,
-        Ok(link) => Some(link),
-        Err(_) => None,
-    }
-}
-
 /// The link that the line names behind the word, which ends with a space; none where it is no such line.
 fn read_link_behind(word: &str, line: &str) -> Option<u16>
     ensures { MatchOption result ((link : ℕ) → ¬ AsksOf NamesLink word.now line.now link) (AsksOf NamesLink word.now line.now) }
 {
     let digits = line.strip_prefix(word)?;
     read_link(digits)
-}
-
-/// The moment that the word names, in milliseconds: decimal digits, leading zeros taken, that fit 64 bits.
-fn read_moment(digits: &str) -> Option<u64>
-    ensures { MatchOption result ((moment : ℕ) → ¬ NamesMoment digits.now moment) (NamesMoment digits.now) }
-{
-    // A sign is no digit, but `parse` takes one.
-    if digits.starts_with('+') {
-        return None;
-    }
-    match digits.parse::<u64>() {
-        Ok(moment) => Some(moment),
-        Err(_) => None,
-    }
 }
 
 /// The moment that the line names behind the word, which ends with a space; none where it is no such line.
@@ -149,11 +134,12 @@ fn read_word(line: &str) -> Option<Request>
     None
 }
 
-/// What a line asks to be shown: `show paths|resvs|table|links|recent`; none where it is no such line.
+/// What a line asks to be shown: `show paths|resvs|table|links|tunnels|bypasses|recent`; none where it is no such line.
 fn read_show(line: &str) -> Option<Request>
     ensures { MatchOption result
         ((line.now ≢ codes "show paths") × (line.now ≢ codes "show resvs") × (line.now ≢ codes "show table")
-        × (line.now ≢ codes "show links") × (line.now ≢ codes "show recent"))
+        × (line.now ≢ codes "show links") × (line.now ≢ codes "show tunnels") × (line.now ≢ codes "show bypasses")
+        × (line.now ≢ codes "show recent"))
         (AsksFor line.now) }
 {
     if line == SHOW_PATHS {
@@ -167,6 +153,12 @@ fn read_show(line: &str) -> Option<Request>
     }
     if line == SHOW_LINKS {
         return Some(Request::ShowLinks);
+    }
+    if line == SHOW_TUNNELS {
+        return Some(Request::ShowTunnels);
+    }
+    if line == SHOW_BYPASSES {
+        return Some(Request::ShowBypasses);
     }
     if line == SHOW_RECENT {
         return Some(Request::ShowRecent);
@@ -253,14 +245,15 @@ fn read_arrival(alloc: Global, word: &str, line: &str) -> Result<Option<Arrival>
     }
 }
 
-/// What the line asks for: `rx LINK HEX`, `frame LINK HEX`, `tick N`, `up LINK`, `down LINK`, `restart`, `start`, or
-/// `show paths|resvs|table|links|recent`; none where it is no such line. Words are parted by one space. The only error is
-/// that there is no memory for bytes that the line brings, so it never comes in place of none.
+/// What the line asks for: `rx LINK HEX`, `frame LINK HEX`, `tick N`, `up LINK`, `down LINK`, `restart`, `start`, a
+/// command ([`CommandRequest`]), or `show paths|resvs|table|links|tunnels|bypasses|recent`; none where it is no such line.
+/// Words are parted by one space. The only error is that there is no memory for bytes or for a tunnel that the line brings,
+/// so it never comes in place of none.
 pub fn read_request(alloc: Global, line: &str) -> Result<Option<Request>, AllocError>
     ensures request { IfOk result (λ request. MatchOption request
         ((asked : Request) → ¬ AsksFor line.now asked)
         (AsksFor line.now)) }
-    ensures memory { OnErr result (BringsBytes line.now) }
+    ensures memory { OnErr result (BringsMore line.now) }
 {
     if let Some(request) = read_word(line) {
         return Ok(Some(request));
@@ -270,6 +263,9 @@ pub fn read_request(alloc: Global, line: &str) -> Result<Option<Request>, AllocE
     }
     if let Some(request) = read_number(line) {
         return Ok(Some(request));
+    }
+    if let Some(command) = read_command(alloc, line)? {
+        return Ok(Some(Request::Command(command)));
     }
     if let Some(arrival) = read_arrival(alloc, RECEIVE, line)? {
         return Ok(Some(Request::Receive(arrival)));

@@ -1,2 +1,3 @@
+pub mod Commands
 pub mod Requests
 pub use Rattle.router_machine.specs.States

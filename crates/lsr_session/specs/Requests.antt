@@ -1,21 +1,26 @@
 -- What a session answers to a request.
-use Rattle.std.specs.Prelude.{◌≡◌, ◌-◌, ℕ, List, ◌∷◌, ◌++◌, [], length, drop, map, flat_map, T, Result, Ok, Err}
+use Rattle.std.specs.Prelude.{◌≡◌, ◌-◌, ℕ, Bool, List, ◌∷◌, ◌++◌, [], length, drop, map, flat_map, is_some, T, Result, Ok, Err}
 use Rattle.std.specs.FinMap.Entries.{is_sorted}
+use Rattle.std.specs.Option.{option_map_or}
 use Rattle.std.specs.Ordering.{nat_cmp}
 use Rattle.datagrams.specs.declared.datagram.Passed.{Passed}
 use Rattle.datagrams.specs.declared.datagram.Passed.TheVariants as passes
 use Rattle.forwarding_table.specs.declared.action.Action.{Action}
+use Rattle.router_events.specs.declared.commands.Command.{Command}
 use Rattle.router_events.specs.declared.events.Made.{Made}
 use Rattle.router_events.specs.declared.events.Event.{Event}
 use Rattle.router_events.specs.declared.events.Event.TheVariants as events
+use Rattle.lsr_facts.specs.declared.bypass.Bypass.{Bypass}
 use Rattle.lsr_facts.specs.declared.refusal.Refusal.{Refusal}
 use Rattle.lsr_facts.specs.declared.reply.Reply.{Reply}
 use Rattle.lsr_facts.specs.declared.reply.Reply.TheVariants as replies
 use Rattle.lsr_facts.specs.declared.router.Link.{Link}
+use Rattle.lsr_facts.specs.declared.tunnel.Tunnel.{Tunnel}
 use Rattle.resv_facts.specs.Claims.{reserved_of}
 use Rattle.abstract_paths.specs.Places.{is_up}
 use Rattle.abstract_router.specs.Preempting.{claims_of}
 use Rattle.abstract_router.specs.States.{State}
+use Rattle.abstract_router.specs.Tables.{look_tunnel}
 use Rattle.router_machine.specs.Below.labels.Rows.{IsTableOf}
 use Rattle.router_machine.specs.States.{RouterState}
 use Rattle.router_machine.specs.Machines.{IsDatagramServed, IsEventServed}
@@ -23,10 +28,13 @@ use Rattle.router_machine.specs.declared.inputs.Served.{Served}
 use Rattle.router_machine.specs.declared.inputs.Served.TheVariants as serves
 use Rattle.lsr_text.specs.Answers.{answer_text, refusal_line, replies_text}
 use Rattle.lsr_text.specs.FrameLines.{delivery_line, sent_line}
-use Rattle.lsr_text.specs.Rows.{link_line, resvs_text, table_text}
+use Rattle.lsr_text.specs.Rows.{bypass_line, head_line, link_line, resvs_text, table_text}
 use Rattle.lsr_text.specs.Shown.{paths_text}
+use Rattle.lsr_text.specs.Tunnels.{tunnels_text}
+use Rattle.lsr_lines.specs.declared.commands.CommandRequest.{CommandRequest}
 use Rattle.lsr_lines.specs.declared.lines.Request.{Request}
 use Rattle.lsr_lines.specs.declared.lines.Request.TheVariants as requests
+use Rattle.lsr_session.specs.Commands.{IsCommandFor}
 
 -- a session: what its router is and knows, and the last replies, the newest at the end
 pub record SessionState : Type 0 where
@@ -97,12 +105,25 @@ abbrev pub PrintsEvent : SessionState → Event → List ℕ → SessionState �
 PrintsEvent before event printed after =
     (answer : Result Made Refusal) × TakesEvent before.router event answer after.router × Tells before answer printed after
 
--- The label table is printed: a line for each label that has an action, in the order of the labels.
-pub record PrintsTable (state : State) (printed : List ℕ) : Type 0 where
+-- what is printed for a command: for the event that it is
+abbrev pub PrintsCommand : SessionState → CommandRequest → List ℕ → SessionState → Type 0
+PrintsCommand before asked printed after = (command : Command) × IsCommandFor asked command × PrintsEvent before (events.Command command) printed after
+
+-- the line of what is done with the traffic of a tunnel, if anything is
+abbrev pub head_text : RouterState → ℕ × Tunnel → List ℕ
+head_text r tunnel = option_map_or (head_line tunnel.0) (look_tunnel r.router r.state tunnel.0) []
+
+-- those lines of tunnels, in the order of their numbers
+abbrev pub heads_text : RouterState → List (ℕ × Tunnel) → List ℕ
+heads_text r tunnels = flat_map (head_text r) tunnels
+
+-- The label table is printed: a line for each label that has an action, in the order of the labels, and then for each
+-- tunnel that begins here and has one.
+pub record PrintsTable (r : RouterState) (printed : List ℕ) : Type 0 where
   pub rows : List (ℕ × Action)
-  pub table : IsTableOf state rows
+  pub table : IsTableOf r.state rows
   pub sorted : T (is_sorted nat_cmp rows)
-  pub shown : printed ≡ table_text rows
+  pub shown : printed ≡ table_text rows ++ heads_text r r.state.facts.tunnels
 
 -- what is reserved of a link at each priority, 0 (best) to 7
 abbrev pub sums_of : State → ℕ → List ℕ
@@ -116,9 +137,21 @@ link_text s link = link_line link.0 (is_up s.facts.up link.0) link.1.limit (sums
 abbrev pub links_text : RouterState → List ℕ
 links_text r = flat_map (link_text r.state) r.router.links
 
+-- A bypass is up: there is a label under which the traffic of its tunnel is to leave (RFC 4090, 3.2).
+abbrev pub is_bypass_up : RouterState → Bypass → Bool
+is_bypass_up r bypass = is_some (look_tunnel r.router r.state bypass.tunnel)
+
+-- the line of a bypass; no repair uses one yet
+abbrev pub bypass_text : RouterState → ℕ × Bypass → List ℕ
+bypass_text r row = bypass_line row (is_bypass_up r row.1) 0
+
+-- a line for each bypass, in the order of their numbers
+abbrev pub bypasses_text : RouterState → List ℕ
+bypasses_text r = flat_map (bypass_text r) r.state.facts.bypasses
+
 -- What is printed for a request, and what the session is then: the answer to an event, whose reply is the newest of
--- the last ones; what comes of a datagram, be it a labelled frame or not; or what the session shows of itself as it
--- stands.
+-- the last ones, be it a command or not; what comes of a datagram, be it a labelled frame or not; or what the session
+-- shows of itself as it stands.
 abbrev pub PrintsAnswer : SessionState → Request → List ℕ → SessionState → Type 0
 PrintsAnswer before (requests.Receive arrival) printed after = PrintsArrival before arrival.link arrival.bytes.items printed after
 PrintsAnswer before (requests.Frame arrival) printed after = PrintsDatagram before arrival.link arrival.bytes.items printed after
@@ -127,8 +160,11 @@ PrintsAnswer before (requests.LinkUp link) printed after = PrintsEvent before (e
 PrintsAnswer before (requests.LinkDown link) printed after = PrintsEvent before (events.LinkDown link) printed after
 PrintsAnswer before requests.Restart printed after = PrintsEvent before events.Restart printed after
 PrintsAnswer before requests.Start printed after = PrintsEvent before events.Start printed after
+PrintsAnswer before (requests.Command asked) printed after = PrintsCommand before asked printed after
 PrintsAnswer before requests.ShowPaths printed after = (printed ≡ paths_text before.router.state.facts.paths) × (after ≡ before)
 PrintsAnswer before requests.ShowResvs printed after = (printed ≡ resvs_text before.router.state.resvs) × (after ≡ before)
-PrintsAnswer before requests.ShowTable printed after = PrintsTable before.router.state printed × (after ≡ before)
+PrintsAnswer before requests.ShowTable printed after = PrintsTable before.router printed × (after ≡ before)
 PrintsAnswer before requests.ShowLinks printed after = (printed ≡ links_text before.router) × (after ≡ before)
+PrintsAnswer before requests.ShowTunnels printed after = (printed ≡ tunnels_text before.router.state.facts.tunnels) × (after ≡ before)
+PrintsAnswer before requests.ShowBypasses printed after = (printed ≡ bypasses_text before.router) × (after ≡ before)
 PrintsAnswer before requests.ShowRecent printed after = (printed ≡ replies_text before.recent) × (after ≡ before)

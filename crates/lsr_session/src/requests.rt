@@ -2,13 +2,14 @@
 ghost use Rattle.std.specs.Prelude.{◌≡◌, ◌∷◌, ◌++◌, ℕ, List, [], IfOk, Ok, OnErr, string_bytes};
 ghost use Rattle.lsr_lines.specs.Steps.{IsUntold};
 ghost use Rattle.lsr_text.specs.Answers.{answer_text, refusal_line, replies_text};
-ghost use Rattle.lsr_session.specs.Requests.{PrintsAnswer, PrintsArrival, PrintsDatagram, PrintsEvent, remembered, reply_of, served_text};
+ghost use Rattle.lsr_session.specs.Requests.{PrintsAnswer, PrintsArrival, PrintsCommand, PrintsDatagram, PrintsEvent, remembered, reply_of, served_text};
 
+use crate::commands::command_of;
 use crate::passing::passed_text;
-use crate::shown::{show_links, show_paths, show_resvs, show_table};
+use crate::shown::{show_bypasses, show_links, show_paths, show_resvs, show_table, show_tunnels};
 use circular_buffer::HeapCircularBuffer;
 use lsr_facts::{Refusal, Reply};
-use lsr_lines::{Answers, Arrival, Request};
+use lsr_lines::{Answers, Arrival, CommandRequest, Request};
 use lsr_text::{answer_text, push_replies};
 use router_events::{Event, KIND_HOP, Made};
 use router_machine::{Machine, Served};
@@ -72,10 +73,13 @@ fn answer(alloc: Global, session: &mut Session, request: &Request) -> Result<Str
         Request::LinkDown(link) => answer_event(alloc, session, Event::LinkDown(*link)),
         Request::Restart => answer_event(alloc, session, Event::Restart),
         Request::Start => answer_event(alloc, session, Event::Start),
+        Request::Command(asked) => answer_command(alloc, session, asked),
         Request::ShowPaths => show_paths(alloc, &session.router),
         Request::ShowResvs => show_resvs(alloc, &session.router),
         Request::ShowTable => show_table(alloc, &session.router),
         Request::ShowLinks => show_links(alloc, &session.router),
+        Request::ShowTunnels => show_tunnels(alloc, &session.router),
+        Request::ShowBypasses => show_bypasses(alloc, &session.router),
         Request::ShowRecent => show_recent(alloc, session),
     }
 }
@@ -194,6 +198,19 @@ fn answer_event(alloc: Global, session: &mut Session, event: Event) -> Result<St
     let answer = session.router.serve_event(alloc, event);
     session.recent.push_back(reply_of(&answer));
     answer_text(alloc, &answer)
+}
+
+/// Makes the step of a command. Where memory ran out for the command the session is as it was.
+fn answer_command(
+    alloc: Global,
+    session: &mut Session,
+    asked: &CommandRequest,
+) -> Result<String, AllocError>
+    ensures told { IfOk result (λ text. PrintsCommand session.old asked.now (string_bytes text) session.new) }
+    ensures untold { OnErr result (IsUntold (PrintsCommand session.old asked.now) session.old session.new) }
+{
+    let command = command_of(alloc, asked)?;
+    answer_event(alloc, session, Event::Command(command))
 }
 
 /// The lines of the last replies, the oldest first.

@@ -2,11 +2,14 @@
 ghost use Rattle.std.specs.Prelude.{◌≡◌, ◌++◌, IfOk, OnOk, string_bytes};
 ghost use Rattle.lsr_text.specs.Rows.{resvs_text};
 ghost use Rattle.lsr_text.specs.Shown.{paths_text};
-ghost use Rattle.lsr_session.specs.Requests.{PrintsTable, link_text, links_text, sums_of};
+ghost use Rattle.lsr_text.specs.Tunnels.{tunnels_text};
+ghost use Rattle.lsr_session.specs.Requests.{PrintsTable, bypass_text, bypasses_text, head_text, heads_text, link_text, links_text, sums_of};
 
 use explicit_routes::is_up;
-use lsr_facts::Link;
-use lsr_text::{PRIORITIES, paths_text, push_link, resvs_text, table_text};
+use lsr_facts::{Bypass, Link, Tunnel};
+use lsr_text::{
+    PRIORITIES, paths_text, push_bypass, push_head, push_link, resvs_text, table_text, tunnels_text,
+};
 use resv_facts::State;
 use router_machine::Machine;
 use std::alloc::{AllocError, Global};
@@ -27,12 +30,77 @@ pub(crate) fn show_resvs(alloc: Global, router: &Machine) -> Result<String, Allo
     resvs_text(alloc, state.resvs.as_slice())
 }
 
-/// The lines of the label table. The only error is that memory ran out.
+/// Appends the line of what is done with the traffic of a tunnel of the router, if it is reserved. The only error is that
+/// memory ran out.
+fn push_head_of(
+    router: &Machine,
+    text: &mut String,
+    tunnel: &(u16, Tunnel),
+) -> Result<(), AllocError>
+    ensures { OnOk result (string_bytes text.new ≡ string_bytes text.old ++ head_text router.now tunnel.now) }
+{
+    let number = tunnel.0;
+    match router.look_tunnel(number) {
+        Some(action) => push_head(text, number, &action),
+        None => Ok(()),
+    }
+}
+
+/// Appends such lines for tunnels of the router, in their order. The only error is that memory ran out.
+fn push_heads(
+    router: &Machine,
+    text: &mut String,
+    tunnels: &[(u16, Tunnel)],
+) -> Result<(), AllocError>
+    ensures { OnOk result (string_bytes text.new ≡ string_bytes text.old ++ heads_text router.now tunnels.now) }
+{
+    for tunnel in tunnels {
+        push_head_of(router, text, tunnel)?;
+    }
+    Ok(())
+}
+
+/// The lines of the label table, those of labels and then those of tunnels. The only error is that memory ran out.
 pub(crate) fn show_table(alloc: Global, router: &Machine) -> Result<String, AllocError>
-    ensures { IfOk result (λ text. PrintsTable router.now.state (string_bytes text)) }
+    ensures { IfOk result (λ text. PrintsTable router.now (string_bytes text)) }
 {
     let actions = router.actions(alloc)?;
-    table_text(alloc, actions.as_slice())
+    let state = router.export(alloc)?;
+    let mut text = table_text(alloc, actions.as_slice())?;
+    push_heads(router, &mut text, state.facts.tunnels.as_slice())?;
+    Ok(text)
+}
+
+/// The lines of the tunnels that begin at the router. The only error is that memory ran out.
+pub(crate) fn show_tunnels(alloc: Global, router: &Machine) -> Result<String, AllocError>
+    ensures { IfOk result (λ text. string_bytes text ≡ tunnels_text router.now.state.facts.tunnels) }
+{
+    let state = router.export(alloc)?;
+    tunnels_text(alloc, state.facts.tunnels.as_slice())
+}
+
+/// Appends the line of a bypass of the router. The only error is that memory ran out.
+fn push_bypass_of(
+    router: &Machine,
+    text: &mut String,
+    row: &(u16, Bypass),
+) -> Result<(), AllocError>
+    ensures { OnOk result (string_bytes text.new ≡ string_bytes text.old ++ bypass_text router.now row.now) }
+{
+    let is_up = router.look_tunnel(row.1.tunnel).is_some();
+    push_bypass(text, row, is_up, 0)
+}
+
+/// The lines of the bypasses that the router has, in the order of their numbers. The only error is that memory ran out.
+pub(crate) fn show_bypasses(alloc: Global, router: &Machine) -> Result<String, AllocError>
+    ensures { IfOk result (λ text. string_bytes text ≡ bypasses_text router.now) }
+{
+    let state = router.export(alloc)?;
+    let mut text = String::new(alloc);
+    for row in state.facts.bypasses.as_slice() {
+        push_bypass_of(router, &mut text, row)?;
+    }
+    Ok(text)
 }
 
 /// What is reserved of a link at each priority, 0 (best) to 7, in bytes per second.

@@ -3,3 +3,4 @@ pub mod Answers
 pub mod Shown
 pub mod Rows
 pub mod FrameLines
+pub mod Tunnels

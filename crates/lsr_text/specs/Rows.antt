@@ -1,7 +1,8 @@
--- What `show` prints of reservations, of the label table and of links: a line for each row.
+-- What `show` prints of reservations, of the label table, of links and of bypasses: a line for each row.
 use Rattle.std.specs.Prelude.{ℕ, List, [], ◌++◌, codes, take, drop, flat_map, Option, Some, None, Bool, true, false}
 use Rattle.std.specs.Fmt.{decimal}
 use Rattle.hex.specs.Hex.{encode_lower}
+use Rattle.lsr_facts.specs.declared.bypass.Bypass.{Bypass}
 use Rattle.lsr_facts.specs.declared.key.Key.{Key}
 use Rattle.resv_facts.specs.declared.resv_fact.ResvFact.{ResvFact}
 use Rattle.resv_facts.specs.declared.resv_fact.ResvStyle.{ResvStyle}
@@ -55,10 +56,10 @@ abbrev pub table_text : List (ℕ × Action) → List ℕ
 table_text rows = flat_map (λ row. label_line row.0 row.1) rows
 
 -- `tunnel N push L LINK`, or `tunnel N push INNER OUTER LINK` while a repair is in use
-abbrev pub tunnel_line : ℕ → Action → List ℕ
-tunnel_line tunnel action = codes "tunnel" ++ (next_number tunnel ++ (codes " " ++ (action_words action ++ codes "\n")))
+abbrev pub head_line : ℕ → Action → List ℕ
+head_line tunnel action = codes "tunnel" ++ (next_number tunnel ++ (codes " " ++ (action_words action ++ codes "\n")))
 
--- whether a link is up
+-- whether a link is up, or a bypass
 abbrev pub state_word : Bool → List ℕ
 state_word true = codes "up"
 state_word false = codes "down"
@@ -71,3 +72,9 @@ sum_words sums = flat_map next_number sums
 abbrev pub link_line : ℕ → Bool → ℕ → List ℕ → List ℕ
 link_line number is_up limit sums =
     codes "link" ++ (next_number number ++ (codes " " ++ (state_word is_up ++ (next_number limit ++ (sum_words sums ++ codes "\n")))))
+
+-- `bypass N TUNNEL LINK up|down USES`: the tunnel that it runs in, the link that it protects, whether it is up, and how
+-- many repairs use it
+abbrev pub bypass_line : ℕ × Bypass → Bool → ℕ → List ℕ
+bypass_line row is_up uses =
+    codes "bypass" ++ (next_number row.0 ++ (next_number row.1.tunnel ++ (next_number row.1.link ++ (codes " " ++ (state_word is_up ++ (next_number uses ++ codes "\n"))))))

@@ -7,9 +7,13 @@ mod frames;
 mod names;
 mod rows;
 mod shown;
+mod tunnels;
 
 pub use answers::{answer_text, push_refusal, push_replies};
 pub use frames::{push_delivery, push_sent};
 pub use names::{OUT_OF_MEMORY, refusal_name};
-pub use rows::{PRIORITIES, push_label, push_link, push_resv, push_tunnel, resvs_text, table_text};
+pub use rows::{
+    PRIORITIES, push_bypass, push_head, push_label, push_link, push_resv, resvs_text, table_text,
+};
 pub use shown::paths_text;
+pub use tunnels::{push_tunnel, tunnels_text};

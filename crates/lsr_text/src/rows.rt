@@ -1,10 +1,10 @@
-//! What `show` prints of reservations, of the label table and of links: a line for each row.
+//! What `show` prints of reservations, of the label table, of links and of bypasses: a line for each row.
 ghost use Rattle.std.specs.Prelude.{◌≡◌, ◌++◌, IfOk, OnOk, string_bytes};
-ghost use Rattle.lsr_text.specs.Rows.{action_words, label_line, link_line, rate_bytes, resv_line, resvs_text, state_word, style_text, sum_words, table_text, tunnel_line};
+ghost use Rattle.lsr_text.specs.Rows.{action_words, bypass_line, head_line, label_line, link_line, rate_bytes, resv_line, resvs_text, state_word, style_text, sum_words, table_text};
 
 use crate::shown::push_key;
 use forwarding_table::Action;
-use lsr_facts::Key;
+use lsr_facts::{Bypass, Key};
 use resv_facts::{ResvFact, ResvStyle};
 use rsvp_traffic::Flowspec;
 use std::alloc::{AllocError, Global};
@@ -101,15 +101,15 @@ pub fn table_text(alloc: Global, rows: &[(u32, Action)]) -> Result<String, Alloc
 
 /// Appends the line of a tunnel's action at its head: `tunnel N push L LINK`, or `tunnel N push INNER OUTER LINK` while
 /// a repair is in use. The only error is that memory ran out.
-pub fn push_tunnel(text: &mut String, tunnel: u16, action: &Action) -> Result<(), AllocError>
-    ensures { OnOk result (string_bytes text.new ≡ string_bytes text.old ++ tunnel_line tunnel action.now) }
+pub fn push_head(text: &mut String, tunnel: u16, action: &Action) -> Result<(), AllocError>
+    ensures { OnOk result (string_bytes text.new ≡ string_bytes text.old ++ head_line tunnel action.now) }
 {
     write!(text, "tunnel {tunnel} ")?;
     push_action(text, action)?;
     text.push_str("\n")
 }
 
-/// Whether a link is up, as a word.
+/// Whether a link is up, or a bypass, as a word.
 fn state_word(is_up: bool) -> &'static str
     ensures { result.now ≡ state_word is_up }
 {
@@ -141,4 +141,21 @@ pub fn push_link(
     write!(text, "link {number} {state} {limit}")?;
     push_sums(text, sums)?;
     text.push_str("\n")
+}
+
+/// Appends the line of a bypass: `bypass N TUNNEL LINK up|down USES`, the tunnel that it runs in, the link that it protects,
+/// whether it is up, and how many repairs use it. The only error is that memory ran out.
+pub fn push_bypass(
+    text: &mut String,
+    row: &(u16, Bypass),
+    is_up: bool,
+    uses: usize,
+) -> Result<(), AllocError>
+    ensures { OnOk result (string_bytes text.new ≡ string_bytes text.old ++ bypass_line row.now is_up uses) }
+{
+    let (number, bypass) = row;
+    let tunnel = bypass.tunnel;
+    let link = bypass.link;
+    let state = state_word(is_up);
+    write!(text, "bypass {number} {tunnel} {link} {state} {uses}\n")
 }

@@ -31,8 +31,8 @@ Why it isn't 0 is said on standard error, and by `decode -` in its answers too.
 ";
 
 const STEP_ABOUT: &str = "\
-Serves messages, frames, moments, links that come up and go down, and restarts, a line each
-from standard input, and prints what the router answers and sends";
+Serves messages, frames, moments, links that come up and go down, commands and restarts, a
+line each from standard input, and prints what the router answers and sends";
 
 const STEP_HELP: &str = "\
 Standard input is read to its end, at most 16777216 bytes, before its first line is answered. A
@@ -49,10 +49,32 @@ newline at the very end begins no further line. Each line is one of these:
   restart           the router lost what messages had set up in it, and is cold
   start             a cold router is started; a running one goes on as it is. The router is
                     opened running
+  tunnel N ENDPOINT RATE SETUP HOLD FLAGS NAME [ROUTE..]
+                    tunnel N, 0 to 65535, is to begin here and to end at the address ENDPOINT.
+                    RATE is the rate of its traffic in bytes per second, as the eight
+                    hexadecimal digits of an IEEE 754 word: 47f42400 is 125000. SETUP and HOLD
+                    are its priorities, 0 (best) to 7; FLAGS are two hexadecimal digits: 01
+                    asks for protection, 02 for recorded labels, 04 for shared reservations;
+                    NAME has 1 to 255 bytes. Each ROUTE is a step of its route from here on, as
+                    10.0.0.3/32, or ~10.0.0.3/32 where it is loose
+  change N RATE [ROUTE..]
+                    tunnel N is to carry this rate over this route: its new LSP is set up beside
+                    the old one, and takes its place once it is reserved
+  cancel N          the change of tunnel N is given up
+  drop N            tunnel N goes; refused while a bypass runs in it
+  bypass N TUNNEL LINK
+                    bypass N, 0 to 65535, is to protect link LINK: it runs in tunnel TUNNEL, which
+                    begins here and has to leave by another link. It is kept and shown; traffic
+                    isn't moved onto it yet when its link goes down
+  unbypass N        bypass N goes
+  route PREFIX LINK what goes to PREFIX, as 10.9.0.0/16, leaves over link LINK
+  unroute PREFIX    the static route to PREFIX goes
   show paths        asks for the paths that the router knows
   show resvs        asks for the reservations that stand
   show table        asks for the label table
   show links        asks for the links, and for what is reserved on them
+  show tunnels      asks for the tunnels that begin here
+  show bypasses     asks for the bypasses of the links
   show recent       asks for the last 32 replies
 Words are parted by one space, and nothing else stands in a line: no sign, no blank before or
 behind, no carriage return. Numbers are decimal; zeros may stand before them. An empty line is
@@ -78,7 +100,9 @@ What to do next:
   refused 12 LinkDown      `up LINK` first
   refused 13 HopLimit      the frame's TTL or limit ran out: look for a loop
   refused 14 NoLabel       `show table` has the labels that frames may come under
+  refused 20 to 23, 27     `show tunnels` has the tunnels; `lsr explain N` says what is wrong
   refused 24 UnknownLink   name a link of the configuration: `show links` has them
+  refused 25, 26, 28       `show bypasses` has the bypasses; `lsr explain N` says what is wrong
   refused 29 Late          a moment below the last one: go on from that
   refused 30 BadMoment     a moment above 4611686018427387904 (2^62)
   refused 40 NoMemory      there was no memory, and nothing changed: try again
@@ -93,16 +117,25 @@ What is printed for the others, a line for each row, in order; KEY is
 ENDPOINT/TUNNEL/EXTENDED SENDER/LSP, the session, sender and LSP ID of an LSP:
   path KEY transit|tail|head OUT ORIGINS
                     what the router is on its way; the link that it leaves by, 0 for a tail;
-                    how many origins it has
+                    how many origins it has, 0 for a head
   resv KEY LINK ff|se RATE LABEL
                     the link that it is on; whether it is fixed or shared; its rate, as the
                     hexadecimal digits of its word; the label that the next hop gave
   LABEL swap L LINK
   LABEL pop         what is done with a frame that comes under LABEL: it goes on over LINK
                     under L; or the label is taken away, and its LSP ends here
+  tunnel N push L LINK
+                    what enters tunnel N is to leave over LINK under L
   link N up|down LIMIT R0 .. R7
                     how much of it may be reserved, and what is reserved at each priority, 0
                     (best) to 7, in bytes per second
+  tunnel N current C pending P error CODE VALUE
+                    the LSP ID of the LSP that carries its traffic once it is reserved; that of
+                    the one which is to take its place, or `none`; the last error that came
+                    for one of them, or `error none`
+  bypass N TUNNEL LINK up|down USES
+                    the tunnel that it runs in; the link that it protects; whether its tunnel has
+                    a label to send under; how many LSPs are repaired over it, none yet
 
 The router is the one that FILE says (docs/CONFIGURATION.md has the keys; begin with a copy
 of examples/middle.toml), or without it the built-in one: 10.0.0.2, link 1 to 10.0.0.1, link
@@ -111,7 +144,7 @@ of examples/middle.toml), or without it the built-in one: 10.0.0.2, link 1 to 10
 The status is 0 where each line was answered, whatever the answers are; 1 with one of these on
 standard error; 2 where the words of the command aren't taken:
   bad line N        line N, counted from 1, has none of the forms above, and ends the run;
-                    what the lines before it asked for is done. Mend it, and run the whole
+                    what the lines before it asked for is done. Fix it, and run the whole
                     again
   config FAULT KEY  the first fault of FILE, and the key that it is about (none for Text
                     and Memory); fix that, and run again for the next. docs/CONFIGURATION.md says what each FAULT is

@@ -20,12 +20,12 @@ pub use errors::{
     UNKNOWN_STYLE, UNSUPPORTED_SERVICE, reservation_error, style_conflict, traffic_error,
 };
 pub use explicit_routes::{
-    Frame, Output, Outputs, RouteError, RouteFault, is_up, link_at, route_to,
+    Frame, Output, Outputs, RouteError, RouteFault, Way, head_way, is_up, link_at, route_to,
 };
 pub use messages::{found_here, lsp, sent_by};
 pub use paths::{
-    carries_ipv4, drops_record, has_been_here, has_no_rate, knows_record, lifetime, link_of,
-    origins_of, rest_of, role_of, unknown_object, way_for,
+    ETHERTYPE_IPV4, carries_ipv4, drops_record, has_been_here, has_no_rate, knows_record, lifetime,
+    link_of, origins_of, rest_of, role_of, unknown_object, way_for,
 };
 pub use requests::{conflicting_style, limit_of, request_of};
 pub use tears::{is_from, is_torn_by, leaves_by, origins_without};

@@ -20,7 +20,7 @@ use std::alloc::{AllocError, Global};
 use std::net::Ipv4Addr;
 
 /// The EtherType of IPv4, which an LSP may carry.
-const ETHERTYPE_IPV4: u16 = 0x0800;
+pub const ETHERTYPE_IPV4: u16 = 0x0800;
 
 /// K: so many refreshes come late or not at all before state is lost (RFC 2205, 3.7).
 const LATE_REFRESHES: u64 = 3;

@@ -1,8 +1,8 @@
 -- The edits of what a moment takes away lead to what is left.
-use Rattle.std.specs.Prelude.{◌≡◌, ◌||◌, ℕ, not, Bool, true, false, cond, T, List, [], ◌∷◌, filter, filter_map, map, Option, Some, None}
+use Rattle.std.specs.Prelude.{◌≡◌, ◌||◌, ℕ, not, Bool, true, false, cond, T, List, [], ◌∷◌, filter, filter_map, is_some, map, Option, Some, None}
 use Rattle.std.specs.Bool.{then_some}
 use Rattle.std.specs.FinMap.Entries.{find, is_sorted, same_entries}
-use Rattle.std.specs.List.{cons_option, list_any}
+use Rattle.std.specs.List.{AllByRecursion, cons_option, list_any}
 use Rattle.std.specs.Option.{option_and_then, option_map}
 use Rattle.std.specs.declared.net.ipv4_addr.Ipv4Addr.{Ipv4Addr}
 use Rattle.std.proofs.Common.{refl, sym, ap, subst, ◌∙◌}
@@ -62,6 +62,17 @@ by_rows n paths (row ∷ rows) = ap (cons_option (expiry_at n paths row.0)) (by_
 -- the edits of all paths from which the moment takes anything away
 abbrev expiries : ℕ → List (Key × PathFact) → List (Key × Option PathFact)
 expiries n paths = filter_map (expiry_at n paths) (keys_of (filter (expires n) paths))
+
+-- They are of paths that are known.
+pub known_expiries : (n : ℕ) (paths : List (Key × PathFact)) (keys : List Key) → AllByRecursion (λ edit. is_some (find key_cmp edit.0 paths) ≡ true) (filter_map (expiry_at n paths) keys)
+known_expiries n paths [] = tt
+known_expiries n paths (key ∷ keys) = by (find key_cmp key paths) refl (known_expiries n paths keys)
+  where
+    by : (o : Option PathFact) → find key_cmp key paths ≡ o
+        → AllByRecursion (λ edit. is_some (find key_cmp edit.0 paths) ≡ true) (filter_map (expiry_at n paths) keys)
+        → AllByRecursion (λ edit. is_some (find key_cmp edit.0 paths) ≡ true) (cons_option (option_map (λ left. (key, left)) (option_map (λ fact. left_of n (key, fact)) o)) (filter_map (expiry_at n paths) keys))
+    by None is rest = rest
+    by (Some fact) is rest = (ap is_some is, rest)
 
 -- They stand in the order of keys,
 pub is_sorted-expiries : (n : ℕ) (paths : List (Key × PathFact)) → T (is_sorted key_cmp paths) → T (is_sorted key_cmp (filter_map (expiry_at n paths) (keys_of (filter (expires n) paths))))

@@ -1,2 +1,5 @@
+pub mod Counting
 pub mod Expiries
+pub mod Putting
 pub mod Staying
+pub mod Trying

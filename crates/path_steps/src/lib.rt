@@ -2,14 +2,18 @@
 //! each decision of a step, once, as a draft that holds the answer, the errors and the edits.
 #![tactic(auto)]
 
+mod heads;
 mod links;
 mod paths;
 mod relays;
+mod signals;
 mod tears;
 mod ticks;
 mod told;
 
+pub use heads::{current_key, head_key, head_of, is_head, pending_key};
 pub use links::link_change;
+pub use message_rules::leaves_by;
 pub use paths::{path_arrival, unknown_path_arrival};
 pub use relays::{exceeds_hop_limit, relay};
 pub use tears::{path_err_arrival, path_tear_arrival};

@@ -2,7 +2,7 @@
 
 ghost use Rattle.std.specs.FinMap.Entries.{put};
 ghost use Rattle.std.specs.Option.{option_copied};
-ghost use Rattle.std.specs.Prelude.{◌≡◌, ◌≤◌, ◌^◌, ◌&&◌, ◌∷◌, [], IfOk, IsTrue, Ok, is_none, is_some, length, nat_le};
+ghost use Rattle.std.specs.Prelude.{◌≡◌, ◌≤◌, ◌^◌, ◌&&◌, ◌∷◌, [], IfOk, IsTrue, Ok, OnErr, false, is_none, is_some, length, nat_le};
 ghost use Rattle.lsr_facts.specs.Orders.{address_cmp};
 ghost use Rattle.rsvp_contents.specs.Spelling.{IsMessage};
 ghost use Rattle.rsvp_contents.specs.declared.messages.Content.TheVariants as contents;
@@ -13,16 +13,17 @@ ghost use Rattle.abstract_router.specs.Outcomes.{of_paths};
 ghost use Rattle.state_views.specs.Drafts.{IsDraft};
 ghost use Rattle.state_views.specs.Edits.{unedited};
 
+use crate::heads::is_head;
 use crate::told::{failed, record_errors};
 use lsr_facts::limits::MAX_LSPS;
-use lsr_facts::{Choice, Key, Origin, PathFact, Reply, RsvpError, Via};
+use lsr_facts::{Choice, Key, Origin, PathFact, Refusal, Reply, RsvpError, Via};
 use message_rules::{
     RouteFault, carries_ipv4, has_been_here, has_no_rate, lifetime, link_of, lsp, origins_of,
     rest_of, role_of, unknown_object, way_for,
 };
 use rsvp_contents::Path;
 use sorted_rows::Table;
-use state_views::{Draft, Edits, StateView, WholeState, node_of};
+use state_views::{Draft, Edits, StateView, WholeState, node_of, refused};
 use std::alloc::{AllocError, Global};
 use std::net::Ipv4Addr;
 
@@ -179,7 +180,7 @@ fn path_on_its_way<V: WholeState>(
     }
 }
 
-/// What a Path does that is read whole. The only error is out of memory.
+/// What a Path does that is read whole. The only error is out of memory, and it comes for none that is refused.
 #[tactic(auto, unfolding(abstract_paths::specs::Paths::path_arrival))]
 pub fn path_arrival<V: WholeState>(
     alloc: Global,
@@ -189,10 +190,16 @@ pub fn path_arrival<V: WholeState>(
 ) -> Result<Draft, AllocError>
     requires moment { (V.state view.now).facts.moment ≤ 2 ^ 62 }
     requires message { IsMessage (contents.Path path.now) }
-    ensures { IfOk result (λ draft. IsDraft draft (of_paths (V.state view.now)
+    ensures draft { IfOk result (λ draft. IsDraft draft (of_paths (V.state view.now)
         (path_arrival (V.router view.now) (V.state view.now).facts link path.now))
         (V.router view.now) (V.state view.now)) }
+    ensures memory { OnErr result
+        ((path_arrival (V.router view.now) (V.state view.now).facts link path.now).is_silent ≡ false) }
 {
+    let key = lsp(path.session, path.sender);
+    if is_head(view, &key) {
+        return Ok(refused(alloc, view, Refusal::NoMatch));
+    }
     if !carries_ipv4(path) {
         return failed(alloc, view, link, path, RsvpError::UNSUPPORTED_L3PID);
     }
@@ -202,8 +209,7 @@ pub fn path_arrival<V: WholeState>(
     if has_been_here(&node_of(view), &path.recorded) {
         return failed(alloc, view, link, path, RsvpError::ROUTING_LOOP);
     }
-    let known = view.path(&lsp(path.session, path.sender));
-    path_on_its_way(alloc, view, known, link, path)
+    path_on_its_way(alloc, view, view.path(&key), link, path)
 }
 
 /// What a Path does with an object that it doesn't know. The only error is out of memory.

@@ -1,10 +1,11 @@
 //! What a PathTear and a PathErr do (RFC 2205, 3.1.5 and 3.1.7).
 
-ghost use Rattle.std.specs.Prelude.{◌≡◌, IfOk, OnErr, false};
+ghost use Rattle.std.specs.Prelude.{◌≡◌, ◌∷◌, [], IfOk, OnErr, Some, false};
 ghost use Rattle.rsvp_contents.specs.Spelling.{IsMessage};
 ghost use Rattle.rsvp_contents.specs.declared.messages.Content.TheVariants as contents;
+ghost use Rattle.abstract_paths.specs.Heads.{noted};
 ghost use Rattle.abstract_paths.specs.MessageLaws.{LeavesRoom};
-ghost use Rattle.abstract_paths.specs.Tears.{left_with, path_err_arrival, path_tear_arrival};
+ghost use Rattle.abstract_paths.specs.Tears.{left_with, noted_of, path_err_arrival, path_tear_arrival};
 ghost use Rattle.abstract_router.specs.Outcomes.{of_paths};
 ghost use Rattle.abstract_router.specs.States.{State, with_facts};
 ghost use Rattle.state_views.specs.Drafts.{IsDraft};
@@ -12,9 +13,10 @@ ghost use Rattle.state_views.specs.Edits.{edited};
 
 use crate::paths::path_edit;
 use crate::told::told_upstream;
-use lsr_facts::{Key, Origin, PathFact, Refusal, Reply};
+use lsr_facts::{Key, Noted, Origin, PathFact, Refusal, Reply, Tunnel, begins_here};
 use message_rules::{Outputs, is_torn_by, leaves_by, lsp, origins_without};
 use rsvp_contents::{PathErr, PathTear};
+use rsvp_objects::ErrorSpec;
 use sorted_rows::{Table, TryCopy};
 use state_views::{Draft, Edits, StateView, refused};
 use std::alloc::{AllocError, Global};
@@ -82,6 +84,49 @@ fn leaves_room(error: &PathErr)
     prove!(error.error.node.octets().len() == ADDRESS_LEN);
 }
 
+/// The edit of a tunnel by which an error is the last that came for one of its LSPs.
+fn noted(
+    alloc: Global,
+    number: u16,
+    tunnel: &Tunnel,
+    error: ErrorSpec,
+) -> Result<Table<u16, Option<Tunnel>>, AllocError>
+    ensures { IfOk result (λ tunnels. tunnels ≡ (number, Some (noted error tunnel.now)) ∷ []) }
+{
+    let mut changed = tunnel.try_copy(alloc)?;
+    changed.noted = Some(Noted {
+        node: error.node,
+        code: error.code,
+        value: error.value,
+    });
+    let mut tunnels = Table::new(alloc);
+    tunnels.set(number, Some(changed))?;
+    Ok(tunnels)
+}
+
+/// The edits by which the error of a path that begins here is noted in its tunnel.
+fn noted_of<V: StateView>(
+    alloc: Global,
+    view: &V,
+    error: &PathErr,
+    fact: &PathFact,
+) -> Result<Edits, AllocError>
+    ensures { IfOk result (λ edits. edited edits (V.state view.now) ≡ with_facts
+        (noted_of error.now fact.now (V.state view.now).facts) (V.state view.now)) }
+{
+    if !begins_here(fact.role) {
+        return Ok(Edits::none(alloc));
+    }
+    let number = error.session.tunnel;
+    let Some(tunnel) = view.tunnel(number) else {
+        return Ok(Edits::none(alloc));
+    };
+    Ok(Edits {
+        tunnels: noted(alloc, number, tunnel, error.error)?,
+        ..Edits::none(alloc)
+    })
+}
+
 /// What a PathErr does. The only error is out of memory.
 #[tactic(auto, unfolding(abstract_paths::specs::Tears::path_err_arrival))]
 pub fn path_err_arrival<V: StateView>(
@@ -109,6 +154,6 @@ pub fn path_err_arrival<V: StateView>(
         errors: told_upstream(alloc, &key, fact, &error.tspec, error.error)?,
         due: None,
         is_silent: false,
-        edits: Edits::none(alloc),
+        edits: noted_of(alloc, view, error, fact)?,
     })
 }

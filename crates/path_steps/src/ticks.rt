@@ -1,15 +1,20 @@
 //! What a moment that comes does (RFC 2205, 2.3 and 3.7).
 
-ghost use Rattle.std.specs.FinMap.Entries.{is_sorted};
-ghost use Rattle.std.specs.Prelude.{◌≡◌, IfOk, OnErr, T, false};
+ghost use Rattle.std.specs.FinMap.Entries.{find, is_sorted};
+ghost use Rattle.std.specs.List.{AllByRecursion};
+ghost use Rattle.std.specs.Prelude.{◌≡◌, IfOk, OnErr, T, false, is_some, true};
 ghost use Rattle.lsr_facts.specs.Lifetimes as paths;
 ghost use Rattle.lsr_facts.specs.Orders.{key_cmp};
+ghost use Rattle.lsr_facts.specs.Tunnels.{AreTunnels};
 ghost use Rattle.resv_facts.specs.Reservations as resvs;
-ghost use Rattle.sorted_rows.specs.Edits.{edited};
+ghost use Rattle.sorted_rows.specs.Edits as rows;
 ghost use Rattle.abstract_router.specs.Arrivals.{moment_comes};
 ghost use Rattle.state_views.specs.Drafts.{IsDraft};
-ghost use Rattle.path_steps.specs.Expiring.{expiry_at, left_of};
+ghost use Rattle.state_views.specs.Edits.{edited};
+ghost use Rattle.path_steps.specs.Expiring.{expired, expiry_at, left_of};
+ghost use Rattle.path_steps.specs.Signalling.{AreOfKnown};
 
+use crate::signals::signalled;
 use lsr_facts::limits::MAX_MOMENT;
 use lsr_facts::{Key, PathFact, Refusal, Reply, keep_living, lives_on};
 use message_rules::Outputs;
@@ -57,7 +62,9 @@ fn path_expiries<V: WholeState>(
     moment: u64,
 ) -> Result<Table<Key, Option<PathFact>>, AllocError>
     requires { T (is_sorted key_cmp (V.state view.now).facts.paths) }
-    ensures { IfOk result (λ edits. edited key_cmp edits (V.state view.now).facts.paths
+    ensures known { IfOk result (λ edits. AllByRecursion
+        (λ edit. is_some (find key_cmp edit.0 (V.state view.now).facts.paths) ≡ true) edits) }
+    ensures left { IfOk result (λ edits. rows.edited key_cmp edits (V.state view.now).facts.paths
         ≡ paths.expire moment (V.state view.now).facts.paths) }
 {
     let keys = view.expiring_paths(alloc, moment)?;
@@ -77,19 +84,36 @@ fn resv_expiries<V: WholeState>(
     moment: u64,
 ) -> Result<Table<Key, Option<ResvFact>>, AllocError>
     requires { T (is_sorted key_cmp (V.state view.now).resvs) }
-    ensures { IfOk result (λ edits. edited key_cmp edits (V.state view.now).resvs
+    ensures { IfOk result (λ edits. rows.edited key_cmp edits (V.state view.now).resvs
         ≡ resvs.expire moment (V.state view.now).resvs) }
 {
     let keys = view.expiring_resvs(alloc, moment)?;
     without_resvs(Table::new(alloc), keys.as_slice())
 }
 
-/// What it does that a moment comes, in milliseconds: what has expired goes of paths and of reservations, and messages
-/// are due. The only error is out of memory.
+/// The edits by which a moment comes, and that goes of paths and of reservations which has expired. The only error is out
+/// of memory.
+fn expiries<V: WholeState>(alloc: Global, view: &V, moment: u64) -> Result<Edits, AllocError>
+    requires paths { T (is_sorted key_cmp (V.state view.now).facts.paths) }
+    requires resvs { T (is_sorted key_cmp (V.state view.now).resvs) }
+    ensures known { IfOk result (λ edits. AreOfKnown edits (V.state view.now)) }
+    ensures left { IfOk result (λ edits. edited edits (V.state view.now) ≡ expired moment (V.state view.now)) }
+{
+    Ok(Edits {
+        moment: Some(moment),
+        paths: path_expiries(alloc, view, moment)?,
+        resvs: resv_expiries(alloc, view, moment)?,
+        ..Edits::none(alloc)
+    })
+}
+
+/// What it does that a moment comes, in milliseconds: what has expired goes of paths and of reservations, tunnels without
+/// a path are tried, and messages are due. The only error is out of memory.
 #[tactic(auto, unfolding(abstract_paths::specs::Time::tick, abstract_router::specs::Arrivals::moment_comes))]
 pub fn tick<V: WholeState>(alloc: Global, view: &V, moment: u64) -> Result<Draft, AllocError>
     requires paths { T (is_sorted key_cmp (V.state view.now).facts.paths) }
     requires resvs { T (is_sorted key_cmp (V.state view.now).resvs) }
+    requires tunnels { AreTunnels (V.router view.now) (V.state view.now).facts.tunnels }
     ensures draft { IfOk result (λ draft. IsDraft draft
         (moment_comes (V.router view.now) (V.state view.now) moment)
         (V.router view.now) (V.state view.now)) }
@@ -102,16 +126,12 @@ pub fn tick<V: WholeState>(alloc: Global, view: &V, moment: u64) -> Result<Draft
     if moment < view.moment() {
         return Ok(refused(alloc, view, Refusal::Late));
     }
+    let gone = expiries(alloc, view, moment)?;
     Ok(Draft {
         reply: Reply::Done,
         errors: Outputs::new(alloc),
         due: Some(moment),
         is_silent: false,
-        edits: Edits {
-            moment: Some(moment),
-            paths: path_expiries(alloc, view, moment)?,
-            resvs: resv_expiries(alloc, view, moment)?,
-            ..Edits::none(alloc)
-        },
+        edits: signalled(alloc, view, gone)?,
     })
 }

@@ -14,6 +14,8 @@ use Rattle.lsr_facts.specs.declared.key.Key.{Key}
 use Rattle.lsr_facts.specs.declared.router.Router.{Router}
 use Rattle.router_tables.specs.Below.labels.RowLaws.{table-alike}
 use Rattle.router_tables.specs.Below.labels.Rows.{AreTableEdits}
+use Rattle.router_tables.specs.Below.labels.TunnelLaws.{look_tunnel-alike, tunnel_table-alike}
+use Rattle.router_tables.specs.Below.labels.TunnelRows.{AreTunnelEdits}
 use Rattle.rsvp_traffic.specs.Traffic.{flowspec_rate}
 use Rattle.resv_facts.specs.Upstreams.{upstream_cmp}
 use Rattle.resv_facts.specs.declared.resv_fact.ResvFact.{ResvFact}
@@ -37,7 +39,7 @@ use Rattle.abstract_router.specs.States.{State}
 use Rattle.abstract_router.specs.Steps.{IsEvent, MayChooseBy, settled, taken_over, told_repaired, with_moments}
 use Rattle.abstract_router.specs.Lsps.{lsps_of}
 use Rattle.abstract_router.specs.LspLaws.{look-alike}
-use Rattle.abstract_router.specs.Tables.{look}
+use Rattle.abstract_router.specs.Tables.{look, look_tunnel}
 use Rattle.abstract_router.specs.Upstreams.{upstream_of}
 use Rattle.abstract_router.specs.Wanted.{items_of}
 use Rattle.router_core.specs.Plans.{IsPlanOf, IsSendingPlan, after_plan, drafted}
@@ -78,12 +80,25 @@ module _ (r : Router) (s : State) (is : IsSound r s) (draft : Draft) (may : IsDr
   pub next_labels : AreLabelled r (edited x s)
   next_labels = let l = next_sound.labels in record { of_lsps = l.of_lsps; from_first = l.from_first; to_last = l.to_last; apart = l.apart }
 
-  module _ (bandwidth : List (Key × Edit)) (moments : List (Item × Option ℕ)) (upstream : List (Upstream × Option ℕ)) (table : List (ℕ × Option Action))
+  module _ (bandwidth : List (Key × Edit)) (moments : List (Item × Option ℕ)) (upstream : List (Upstream × Option ℕ)) (table tunnel_table : List (ℕ × Option Action))
       (stamps : rows.edited item_cmp moments s.facts.sent ≡ item_stamps r s o.due (edited x s))
       (upstamps : rows.edited upstream_cmp upstream s.sent_upstream ≡ upstream_stamps r s o.upstream_due (edited x s))
       (resvs : rows.edited key_cmp (resv_edits bandwidth) s.resvs ≡ rows.edited key_cmp x.resvs s.resvs) where
     abbrev change : Change
-    change = record { moment = x.moment; up = x.up; paths = x.paths; bandwidth = bandwidth; labels = x.labels; moments = moments; upstream = upstream; table = table }
+    change = record {
+      moment = x.moment;
+      up = x.up;
+      routes = x.routes;
+      tunnels = x.tunnels;
+      bypasses = x.bypasses;
+      paths = x.paths;
+      bandwidth = bandwidth;
+      labels = x.labels;
+      moments = moments;
+      upstream = upstream;
+      table = table;
+      tunnel_table = tunnel_table;
+    }
 
     -- what is known after the change is what is known after the step
     changed_is : changed change s ≡ with_moments r s o (edited x s)
@@ -98,8 +113,12 @@ module _ (r : Router) (s : State) (is : IsSound r s) (draft : Draft) (may : IsDr
     looks : (label : ℕ) → look (edited x s) label ≡ look (changed change s) label
     looks label = look-alike (edited x s) (changed change s) label refl (sym resvs) refl
 
-    change_is : AreEdits bandwidth → rows.edited key_cmp (claim_edits bandwidth) (claims_of s.facts.paths s.resvs) ≡ claims_of (edited x s).facts.paths (edited x s).resvs → AreTableEdits s (edited x s) table → IsChange r s change
-    change_is edits claims are = record {
+    -- and so have tunnels
+    looks_tunnel : (number : ℕ) → look_tunnel r (edited x s) number ≡ look_tunnel r (changed change s) number
+    looks_tunnel number = look_tunnel-alike r (edited x s) (changed change s) number refl (sym resvs)
+
+    change_is : AreEdits bandwidth → rows.edited key_cmp (claim_edits bandwidth) (claims_of s.facts.paths s.resvs) ≡ claims_of (edited x s).facts.paths (edited x s).resvs → AreTableEdits s (edited x s) table → AreTunnelEdits r s (edited x s) tunnel_table → IsChange r s change
+    change_is edits claims are are_tunnels = record {
       sound = subst (IsSound r) (sym changed_is) next_sound;
       edits = edits;
       claims = claims ∙ ap (λ held. claims_of (edited x s).facts.paths held) (sym resvs);
@@ -110,17 +129,23 @@ module _ (r : Router) (s : State) (is : IsSound r s) (draft : Draft) (may : IsDr
         changes = subst (λ (f : ℕ → Option Action). All (λ edit. look s edit.0 ≢ f edit.0) table) (λ i label. looks label i) are.changes;
         none = λ alike. are.none (λ label. alike label ∙ sym (looks label));
       };
+      tunnel_table = record {
+        table = are_tunnels.table ∙ tunnel_table-alike r (edited x s) (changed change s) refl (sym resvs);
+        labels = are_tunnels.labels;
+        changes = subst (λ (f : ℕ → Option Action). All (λ edit. look_tunnel r s edit.0 ≢ f edit.0) tunnel_table) (λ i number. looks_tunnel number i) are_tunnels.changes;
+        none = λ alike. are_tunnels.none (λ number. alike number ∙ sym (looks_tunnel number));
+      };
     }
 
     -- The plan of a draft that isn't silent.
-    pub sending : (outputs : List Output) → outputs ≡ outputs_of r s (errors_in r s o) o.due o.upstream_due (edited x s) → AreEdits bandwidth → rows.edited key_cmp (claim_edits bandwidth) (claims_of s.facts.paths s.resvs) ≡ claims_of (edited x s).facts.paths (edited x s).resvs → AreTableEdits s (edited x s) table
+    pub sending : (outputs : List Output) → outputs ≡ outputs_of r s (errors_in r s o) o.due o.upstream_due (edited x s) → AreEdits bandwidth → rows.edited key_cmp (claim_edits bandwidth) (claims_of s.facts.paths s.resvs) ≡ claims_of (edited x s).facts.paths (edited x s).resvs → AreTableEdits s (edited x s) table → AreTunnelEdits r s (edited x s) tunnel_table
         → IsSendingPlan r s o (record { reply = o.reply; outputs = outputs; chosen = chosen; change = Some change })
-    sending outputs sends edits claims are = record {
+    sending outputs sends edits claims are are_tunnels = record {
       chosen = labelling;
       replied = refl;
       changed = changed_is ∙ ap (λ t. with_moments r s o t) settles;
       sent = sends ∙ sent_alike r s o (edited x s) ∙ ap (λ t. outputs_of r s (errors_in r s o) o.due o.upstream_due t) (sym changed_is);
-      change = change_is edits claims are;
+      change = change_is edits claims are are_tunnels;
     }
 
 module _ (r : Router) (s : State) (event : Event) (draft : Draft) (runs : s.facts.cold ≡ false) (possible : IsEvent event) (passes : exceeds_hop_limit r s.facts event ≡ false) (is : IsDraft draft (outcome r s event) r s) where

@@ -16,7 +16,7 @@ use Rattle.router_tables.specs.States.{emptied}
 pub sound_stopped : (r : Router) (s : State) → s.facts.paths ≡ [] → IsSound r s → IsSound r (record s { facts = record s.facts { cold = true } })
 unfolding items_of upstream_of lsps_of
 sound_stopped r s none is = record {
-  paths = record { moment = is.paths.moment; links = is.paths.links; routes = is.paths.routes; paths = is.paths.paths; cold = λ cold. none };
+  paths = record { moment = is.paths.moment; links = is.paths.links; routes = is.paths.routes; tunnels = is.paths.tunnels; bypasses = is.paths.bypasses; paths = is.paths.paths; heads = is.paths.heads; cold = λ cold. none };
   held = record { in_order = is.held.in_order; each = is.held.each; one_style = is.held.one_style; within = is.held.within };
   standing = is.standing;
   labels = record { of_lsps = is.labels.of_lsps; from_first = is.labels.from_first; to_last = is.labels.to_last; apart = is.labels.apart };

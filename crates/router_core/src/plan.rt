@@ -10,7 +10,7 @@ ghost use Rattle.abstract_paths.specs.Soundness.{ArePaths};
 ghost use Rattle.abstract_paths.specs.Touched.{is_among};
 ghost use Rattle.abstract_router.specs.Arrivals.{outcome};
 ghost use Rattle.abstract_router.specs.Soundness.{AreLabelled, IsResv};
-ghost use Rattle.abstract_router.specs.Steps.{IsEvent};
+ghost use Rattle.abstract_router.specs.Steps.{IsCommand, IsEvent};
 ghost use Rattle.abstract_router.specs.Touched.{LeavesOtherLsps};
 ghost use Rattle.router_soundness.specs.Drafted.{IsDrafted};
 ghost use Rattle.router_tables.specs.Below.views.Edits.{edited};
@@ -20,14 +20,17 @@ ghost use Rattle.router_core.specs.Plans.{IsOutFor, IsPlanOf, IsSendingPlan, dra
 
 use forwarding_table::Action;
 use lsr_facts::{Key, Refusal, Reply};
-use router_events::{Event, Outputs};
+use router_events::{Command, Event, Outputs};
 use router_steps::{draft_of, exceeds_hop_limit};
-use router_tables::{Change, Changed, Draft, Edits, Tables, table_edits};
+use router_tables::{Change, Changed, Draft, Edits, Tables, table_edits, tunnel_edits};
 use rsvp_contents::Reading;
 use sorted_rows::Table;
 use state_sends::{StateSends, appended, sends_of};
 use state_settling::{Settled, bandwidth_edits, settle};
 use std::alloc::{AllocError, Global};
+
+/// Octets of an address.
+const ADDRESS_LEN: usize = 4;
 
 /// A step that is made ready, with all the memory that it takes, and hasn't happened yet. It is of use once, on
 /// the router that it was made for, as that stood then: [`crate::Running::commit`] takes it.
@@ -52,8 +55,20 @@ impl Plan {
     }
 }
 
-/// Every event that there is can be: its message is one, and its unread bytes are few enough, by their types. A law: it does
-/// nothing when it runs.
+/// Every command that there is can be: its address has four octets, its traffic descriptor 32 bytes, by their types. A law:
+/// it does nothing when it runs.
+fn is_command(command: &Command)
+    ensures { IsCommand command.now }
+{
+    match command {
+        Command::AddTunnel(tunnel) => prove!(tunnel.endpoint.octets().len() == ADDRESS_LEN),
+        Command::AddRoute(prefix, _) => prove!(prefix.address.octets().len() == ADDRESS_LEN),
+        _ => {}
+    }
+}
+
+/// Every event that there is can be: its message is one, its unread bytes are few enough, and its command can be, by their
+/// types. A law: it does nothing when it runs.
 fn is_possible(event: &Event)
     ensures { IsEvent event.now }
 {
@@ -69,6 +84,7 @@ fn is_possible(event: &Event)
         Event::Relay(relay) => {
             relay.message.as_slice();
         }
+        Event::Command(command) => is_command(command),
         _ => {}
     }
 }
@@ -98,7 +114,7 @@ fn table_of(
 }
 
 /// The plan of the step of a draft that isn't silent: with all that follows from its own change, with what is sent, and
-/// with what becomes of the label table. The only error is out of memory.
+/// with what becomes of the label table and of the table of tunnels. The only error is out of memory.
 fn sending_plan(alloc: Global, tables: &Tables, draft: Draft) -> Result<Plan, AllocError>
     requires { IsDrafted tables.now.router tables.now.state (edited draft.edits tables.now.state) }
     ensures { IfOk result (IsSendingPlan tables.now.router tables.now.state (drafted draft tables.now.router tables.now.state)) }
@@ -117,9 +133,13 @@ fn sending_plan(alloc: Global, tables: &Tables, draft: Draft) -> Result<Plan, Al
         changed,
     } = sends_of(alloc, tables, &edits, draft.due, errors)?;
     let table = table_of(alloc, tables, &edits, &changed)?;
+    let tunnel_table = tunnel_edits(alloc, tables, &edits)?;
     let Edits {
         moment,
         up,
+        routes,
+        tunnels,
+        bypasses,
         paths,
         resvs,
         labels,
@@ -132,12 +152,16 @@ fn sending_plan(alloc: Global, tables: &Tables, draft: Draft) -> Result<Plan, Al
         change: Some(Change {
             moment,
             up,
+            routes,
+            tunnels,
+            bypasses,
             paths,
             bandwidth,
             labels,
             moments,
             upstream,
             table,
+            tunnel_table,
         }),
     })
 }

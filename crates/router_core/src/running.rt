@@ -10,7 +10,7 @@ ghost use Rattle.abstract_paths.specs.Relays.{exceeds_hop_limit};
 ghost use Rattle.abstract_router.specs.Preempting.{claims_of};
 ghost use Rattle.abstract_router.specs.Soundness.{IsSound};
 ghost use Rattle.abstract_router.specs.Steps.{Step};
-ghost use Rattle.abstract_router.specs.Tables.{look};
+ghost use Rattle.abstract_router.specs.Tables.{look, look_tunnel};
 ghost use Rattle.router_core.specs.Plans.{IsOutFor, IsPlanOf, after_plan, made_by, quiet};
 ghost use Rattle.router_core.specs.States.{IsEmpty, cold, emptied, opened};
 
@@ -154,8 +154,8 @@ impl Running {
         })
     }
 
-    /// The router loses what messages had set up in it, and is cold until it is started: links, static routes and
-    /// the moment stay. Takes no memory, and sends nothing.
+    /// The router loses what messages had set up in it, and is cold until it is started: links, static routes, tunnels and
+    /// the moment stay, but changes of tunnels that aren't over are given up. Takes no memory, and sends nothing.
     pub fn restart(self) -> Cold
         ensures restarted { result ≡ cold (record self { state = emptied self.state }) }
         ensures step { Step self.router self.state (quiet events.Restart) result.state }
@@ -178,6 +178,13 @@ impl Running {
         ensures { result ≡ look self.now.state label }
     {
         self.tables.look(label)
+    }
+
+    /// What is done with the traffic of the tunnel of this number, or `None` where nothing is (RFC 3031, 3.12).
+    pub fn look_tunnel(&self, number: u16) -> Option<Action>
+        ensures { result ≡ look_tunnel self.now.router self.now.state number }
+    {
+        self.tables.look_tunnel(number)
     }
 
     /// The tables of the router.

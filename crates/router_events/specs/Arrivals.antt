@@ -2,6 +2,7 @@
 use Rattle.std.specs.Prelude.{ℕ, Bool, true, false, refl}
 use Rattle.rsvp_contents.specs.declared.message.Reading.TheVariants as readings
 use Rattle.rsvp_contents.specs.declared.messages.Content.{Content}
+use Rattle.router_events.specs.Commanding.{has_route}
 use Rattle.router_events.specs.declared.events.Event.{Event}
 use Rattle.router_events.specs.declared.events.Event.TheVariants as events
 use Rattle.router_events.specs.declared.ways.ArrivalWay.TheVariants as ways
@@ -14,8 +15,9 @@ hop_arrive link content = record { link = link; way = ways.Hop; reading = readin
 abbrev pub comes : ℕ → Content → Event
 comes link content = events.Arrive (hop_arrive link content)
 
--- the event is a message that came, for this router or for another
-abbrev pub is_message : Event → Bool
-is_message (events.Arrive a) = true
-is_message (events.Relay m) = true
-is_message event = false
+-- A copy of the event takes memory: it is a message that came, for this router or for another, or a command with a route.
+abbrev pub takes_memory : Event → Bool
+takes_memory (events.Arrive a) = true
+takes_memory (events.Relay m) = true
+takes_memory (events.Command c) = has_route c
+takes_memory event = false

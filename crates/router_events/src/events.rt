@@ -1,8 +1,9 @@
 //! The events of a router, the frames that it sends for them, and its steps as they were made.
 
 ghost use Rattle.std.specs.Prelude.{◌≡◌, ◌∷◌, ◌++◌, [], IfOk, OnOk, OnErr, true};
-ghost use Rattle.router_events.specs.Arrivals.{is_message};
+ghost use Rattle.router_events.specs.Arrivals.{takes_memory};
 
+use crate::commands::Command;
 use crate::ways::{Arrive, Relay};
 use link_frames::Frame;
 use lsr_facts::{Key, Reply};
@@ -23,6 +24,8 @@ pub enum Event {
     LinkUp(u16),
     /// The link of this number went down.
     LinkDown(u16),
+    /// An operator told it this.
+    Command(Command),
     /// The router lost what messages had set up in it, and is cold until it is started.
     Restart,
     /// A cold router is started. A running one goes on as it is.
@@ -109,10 +112,10 @@ pub struct Made {
 }
 
 impl Event {
-    /// A copy of the event. The only error is out of memory, and it comes for messages alone.
+    /// A copy of the event. The only error is out of memory, and it comes for messages and for commands with a route alone.
     pub fn copied(&self, alloc: Global) -> Result<Event, AllocError>
         ensures ok { IfOk result (λ copy. copy ≡ self.now) }
-        ensures memory { OnErr result (is_message self.now ≡ true) }
+        ensures memory { OnErr result (takes_memory self.now ≡ true) }
     {
         match self {
             Event::Arrive(arrive) => Ok(Event::Arrive(arrive.try_copy(alloc)?)),
@@ -120,6 +123,7 @@ impl Event {
             Event::Tick(moment) => Ok(Event::Tick(*moment)),
             Event::LinkUp(number) => Ok(Event::LinkUp(*number)),
             Event::LinkDown(number) => Ok(Event::LinkDown(*number)),
+            Event::Command(command) => Ok(Event::Command(command.copied(alloc)?)),
             Event::Restart => Ok(Event::Restart),
             Event::Start => Ok(Event::Start),
         }

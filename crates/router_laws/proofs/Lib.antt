@@ -1,8 +1,15 @@
+pub mod Commanded
+pub mod GivenUp
+pub mod GoingOver
 pub mod Led
+pub mod OwnLsps
+pub mod Pushing
 pub mod Repeating
 pub mod Repeats
+pub mod Settled
 pub mod Staying
 pub mod Still
 pub mod Ticks
 pub mod Touching
+pub mod TunnelEvents
 pub mod Unchanged

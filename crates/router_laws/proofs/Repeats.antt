@@ -1,8 +1,8 @@
 -- A Path that comes again at the same moment changes nothing, and nothing is sent for it.
-use Rattle.std.specs.Prelude.{◌≡◌, ◌≢◌, ◌&&◌, ℕ, not, ◌==◌, if◌then◌else◌, Bool, true, false, cond, List, [], ◌∷◌, Option, Some, None, Result, Ok, Err, is_none, nat_eq, nat_le, length}
+use Rattle.std.specs.Prelude.{◌≡◌, ◌≢◌, ◌&&◌, ℕ, not, ◌==◌, if◌then◌else◌, Bool, true, false, cond, List, [], ◌∷◌, Option, Some, None, Result, Ok, Err, is_none, IfSome, T, nat_eq, nat_le, length}
 use Rattle.std.specs.Cmp.{IsTotalOrder}
 use Rattle.std.specs.Cmp.Lexicographic.{pointwise}
-use Rattle.std.specs.FinMap.Entries.{by_order, find, put}
+use Rattle.std.specs.FinMap.Entries.{by_order, find, is_sorted, put}
 use Rattle.std.specs.Option.{option_eq}
 use Rattle.std.specs.declared.cmp.Ordering.{Ordering}
 use Rattle.std.specs.declared.cmp.Ordering.TheVariants.{Less, Equal, Greater}
@@ -15,7 +15,7 @@ use Rattle.rsvp_routes.specs.Traces.{record_bytes}
 use Rattle.rsvp_contents.specs.declared.messages.Content.TheVariants as contents
 use Rattle.rsvp_contents.specs.declared.messages.Path.{Path}
 use Rattle.rsvp_traffic.specs.TokenBuckets.{token_rate}
-use Rattle.sorted_rows.specs.RowsLaws.{find-put_same}
+use Rattle.sorted_rows.specs.RowsLaws.{find-put_same, put-found}
 use Rattle.lsr_facts.specs.Errors.{bad_tspec, system_error, routing_loop, unsupported_l3pid, record_too_long}
 use Rattle.lsr_facts.specs.OrderLaws.{address_total, key_total}
 use Rattle.lsr_facts.specs.Orders.{address_cmp, key_cmp}
@@ -27,29 +27,36 @@ use Rattle.lsr_facts.specs.declared.facts.Facts.{Facts}
 use Rattle.lsr_facts.specs.declared.key.Key.{Key}
 use Rattle.lsr_facts.specs.declared.path_fact.Origin.{Origin}
 use Rattle.lsr_facts.specs.declared.path_fact.PathFact.{PathFact}
-use Rattle.lsr_facts.specs.declared.refusal.Refusal.TheVariants.{LinkDown, UnknownLink}
+use Rattle.lsr_facts.specs.Tunnels.{is_head}
+use Rattle.lsr_facts.specs.declared.refusal.Refusal.{Refusal}
+use Rattle.lsr_facts.specs.declared.refusal.Refusal.TheVariants.{LinkDown, NoMatch, UnknownLink}
 use Rattle.lsr_facts.specs.declared.reply.Reply.TheVariants as replies
 use Rattle.lsr_facts.specs.declared.router.Router.{Router}
+use Rattle.lsr_facts.specs.declared.tunnel.Tunnel.{Tunnel}
 use Rattle.router_events.specs.Arrivals.{hop_arrive}
 use Rattle.router_events.specs.declared.ways.Arrive.{Arrive}
 use Rattle.router_events.specs.declared.events.Made.{Made}
+use Rattle.abstract_paths.proofs.Heads.{head_known}
+use Rattle.abstract_paths.proofs.PathTable.{role_of-elsewhere}
 use Rattle.abstract_paths.specs.Changes.{with_path}
 use Rattle.abstract_paths.specs.Outcomes as paths
 use Rattle.abstract_paths.specs.Outcomes.{found_here, told_upstream}
 use Rattle.abstract_paths.specs.Paths.{drops_record, failed, has_loop, key_of, origin_of, origins_of, path_arrival, path_by, path_on_its_way, record_errors, taken, way_for, way_of}
 use Rattle.abstract_paths.specs.Places.{is_up, place_of}
 use Rattle.abstract_paths.specs.Routing.{next_hop}
+use Rattle.abstract_paths.specs.Soundness.{IsHeadOf}
 use Rattle.abstract_router.specs.Arrivals.{arrival, arrival_by, is_done, labelled_path_arrival}
 use Rattle.abstract_router.specs.Errors.{no_label}
 use Rattle.abstract_router.specs.Labels.{has_free_label}
 use Rattle.abstract_router.specs.Outcomes.{Outcome, of_paths, refused, replied}
-use Rattle.abstract_router.specs.Outputs.{item_stamps}
 use Rattle.abstract_router.specs.Soundness.{IsSound}
 use Rattle.abstract_router.specs.States.{State}
-use Rattle.abstract_router.specs.Steps.{Step, settled}
+use Rattle.abstract_router.specs.Steps.{AreSettled, Step, known_after, taken_over}
 use Rattle.router_soundness.proofs.Running.{sound_step}
 use Rattle.router_laws.specs.Words.{comes}
+use Rattle.router_laws.proofs.GivenUp.{not_given_up, path_left}
 use Rattle.router_laws.proofs.Led.{answered, led}
+use Rattle.router_laws.proofs.Settled.{heard-settles}
 use Rattle.router_laws.proofs.Still.{done-still, still_step}
 
 -- the link is one of the router's, and up
@@ -103,29 +110,32 @@ same_option : {A : Type 0} (bytes : A → List ℕ) (o : Option A) → option_eq
 same_option bytes None = refl
 same_option bytes (Some x) = nat_list_eq_equiv.refl (bytes x)
 
--- three tests that a Path passes
-passed : (b c d : Bool) (x y z w : paths.PathOutcome) → replies.Done ≢ x.reply → replies.Done ≢ y.reply → replies.Done ≢ z.reply → replies.Done ≡ (cond b x (cond c y (cond d z w))).reply → (b ≡ false) × (c ≡ false) × (d ≡ false) × (replies.Done ≡ w.reply)
-passed true c d x y z w p q n done = absurd (p done)
-passed false true d x y z w p q n done = absurd (q done)
-passed false false true x y z w p q n done = absurd (n done)
-passed false false false x y z w p q n done = (refl, refl, refl, done)
+-- a test that a Path passes
+passed : (b : Bool) (x w : paths.PathOutcome) → replies.Done ≢ x.reply → replies.Done ≡ (cond b x w).reply → (b ≡ false) × (replies.Done ≡ w.reply)
+passed true x w other done = absurd (other done)
+passed false x w other done = (refl, done)
 
-passing : (b c d : Bool) (x y z w : paths.PathOutcome) → b ≡ false → c ≡ false → d ≡ false → cond b x (cond c y (cond d z w)) ≡ w
-passing b c d x y z w p q n = ap (λ t. cond t x (cond c y (cond d z w))) p ∙ ap (λ t. cond t y (cond d z w)) q ∙ ap (λ t. cond t z w) n
+passing : (b c d e : Bool) (u x y z w : paths.PathOutcome) → b ≡ false → c ≡ false → d ≡ false → e ≡ false → cond b u (cond c x (cond d y (cond e z w))) ≡ w
+passing b c d e u x y z w o p q n =
+    ap (λ t. cond t u (cond c x (cond d y (cond e z w)))) o ∙ ap (λ t. cond t x (cond d y (cond e z w))) p ∙ ap (λ t. cond t y (cond e z w)) q ∙ ap (λ t. cond t z w) n
 
 -- an error isn't done
 not_done : (e : RsvpError) → replies.Done ≢ replies.Error e
 not_done e is = cc
 
--- a Path that is accepted
-record IsAccepted (r : Router) (p : Path) : Type 0 where
+not_done_refused : (refusal : Refusal) → replies.Done ≢ replies.Refused refusal
+not_done_refused refusal is = cc
+
+-- a Path that is accepted, by a router with these tunnels
+record IsAccepted (r : Router) (tunnels : List (ℕ × Tunnel)) (p : Path) : Type 0 where
+  elsewhere : is_head r tunnels (key_of p) ≡ false
   ipv4 : not (p.label_request.l3pid == 0x0800) ≡ false
   rated : is_none (token_rate 1 p.tspec) ≡ false
   unlooped : has_loop r p.recorded ≡ false
 
 -- its way
 record IsTaken (r : Router) (s : Facts) (known : Option PathFact) (link : ℕ) (p : Path) (o : paths.PathOutcome) : Type 0 where
-  accepted : IsAccepted r p
+  accepted : IsAccepted r s.tunnels p
   way : Choice
   is : o ≡ taken r s known link p way
 
@@ -143,12 +153,15 @@ unfolding path_arrival
 path_taken r s link p done =
     let known = find key_cmp (key_of p) s.paths in
     let on = path_on_its_way r s known link p (way_for (place_of r s) known p) in
-    let tests = passed (not (p.label_request.l3pid == 0x0800)) (is_none (token_rate 1 p.tspec)) (has_loop r p.recorded) (failed r s link p unsupported_l3pid) (failed r s link p bad_tspec) (failed r s link p routing_loop) on (not_done unsupported_l3pid) (not_done bad_tspec) (not_done routing_loop) done in
-    let way = way_taken r s known link p (way_for (place_of r s) known p) tests.3 in
+    let head = passed (is_head r s.tunnels (key_of p)) (paths.refused s NoMatch) _ (not_done_refused NoMatch) done in
+    let ipv4 = passed (not (p.label_request.l3pid == 0x0800)) (failed r s link p unsupported_l3pid) _ (not_done unsupported_l3pid) head.1 in
+    let rated = passed (is_none (token_rate 1 p.tspec)) (failed r s link p bad_tspec) _ (not_done bad_tspec) ipv4.1 in
+    let unlooped = passed (has_loop r p.recorded) (failed r s link p routing_loop) on (not_done routing_loop) rated.1 in
+    let way = way_taken r s known link p (way_for (place_of r s) known p) unlooped.1 in
     record {
-      accepted = record { ipv4 = tests.0; rated = tests.1; unlooped = tests.2 };
+      accepted = record { elsewhere = head.0; ipv4 = ipv4.0; rated = rated.0; unlooped = unlooped.0 };
       way = way.0;
-      is = passing _ _ _ (failed r s link p unsupported_l3pid) (failed r s link p bad_tspec) (failed r s link p routing_loop) on tests.0 tests.1 tests.2 ∙ way.1;
+      is = passing _ _ _ _ (paths.refused s NoMatch) (failed r s link p unsupported_l3pid) (failed r s link p bad_tspec) (failed r s link p routing_loop) on head.0 ipv4.0 rated.0 unlooped.0 ∙ way.1;
     }
 
 -- the way of a path that was taken by it
@@ -169,37 +182,23 @@ errors_again r key fact =
     ap (λ b. cond (drops_record r fact && not b) told []) (same_option record_bytes fact.recorded)
     ∙ elim (drops_record r fact) as (λ b. cond (b && false) told [] ≡ []) [ true ↦ refl | false ↦ refl ]
 
--- what is known once a Path was taken
-after_path : Facts → Option PathFact → ℕ → Path → Choice → Facts
-after_path s known link p way = with_path (key_of p) (path_by s.moment known link p way) s
-
--- taken again it changes nothing
-taken_again : (r : Router) (s : Facts) (known : Option PathFact) (link : ℕ) (p : Path) (way : Choice) → taken r (after_path s known link p way) (Some (path_by s.moment known link p way)) link p way ≡ paths.done [] (after_path s known link p way)
-unfolding after_path
-taken_again r s known link p way =
+-- A Path arrives again, where the path that it made stands at the same moment: it changes nothing.
+arrival_again : (r : Router) (s : Facts) (known : Option PathFact) (link : ℕ) (p : Path) (way : Choice) → IsAccepted r s.tunnels p → T (is_sorted key_cmp s.paths) → find key_cmp (key_of p) s.paths ≡ Some (path_by s.moment known link p way) → path_arrival r s link p ≡ paths.done [] s
+unfolding path_arrival path_on_its_way way_for
+arrival_again r s known link p way accepted in_order found =
     let key = key_of p in
     let fact = path_by s.moment known link p way in
-    let b : Facts = with_path key fact s in
-    ap (λ again. paths.done (record_errors r key (Some fact) again) (with_path key again b)) (path_again s.moment known link p way)
-    ∙ (λ i. paths.done (errors_again r key fact i) (record s { paths = put_twice key_cmp key_total key fact s.paths i }))
-
--- A Path that was taken, arriving again.
-arrival_again : (r : Router) (s : Facts) (known : Option PathFact) (link : ℕ) (p : Path) (way : Choice) → IsAccepted r p → path_arrival r (after_path s known link p way) link p ≡ paths.done [] (after_path s known link p way)
-unfolding after_path path_arrival path_on_its_way way_for
-arrival_again r s known link p way accepted =
-    let key = key_of p in
-    let fact = path_by s.moment known link p way in
-    let b : Facts = with_path key fact s in
-    passing _ _ _ (failed r b link p unsupported_l3pid) (failed r b link p bad_tspec) (failed r b link p routing_loop) _ accepted.ipv4 accepted.rated accepted.unlooped
-    ∙ ap (λ k. path_on_its_way r b k link p (way_for (place_of r b) k p)) (find-put_same key_cmp key_total key fact s.paths)
-    ∙ ap (λ t. path_on_its_way r b (Some fact) link p (cond t (Ok (way_of fact)) (next_hop (place_of r b) p.route p.session.endpoint))) (same_option route_bytes p.route)
-    ∙ ap (λ w. path_on_its_way r b (Some fact) link p (Ok w)) (way_again s.moment known link p way)
-    ∙ taken_again r s known link p way
+    passing _ _ _ _ (paths.refused s NoMatch) (failed r s link p unsupported_l3pid) (failed r s link p bad_tspec) (failed r s link p routing_loop) _ accepted.elsewhere accepted.ipv4 accepted.rated accepted.unlooped
+    ∙ ap (λ k. path_on_its_way r s k link p (way_for (place_of r s) k p)) found
+    ∙ ap (λ t. path_on_its_way r s (Some fact) link p (cond t (Ok (way_of fact)) (next_hop (place_of r s) p.route p.session.endpoint))) (same_option route_bytes p.route)
+    ∙ ap (λ w. path_on_its_way r s (Some fact) link p (Ok w)) (way_again s.moment known link p way)
+    ∙ ap (λ again. paths.done (record_errors r key (Some fact) again) (with_path key again s)) (path_again s.moment known link p way)
+    ∙ (λ i. paths.done (errors_again r key fact i) (record s { paths = put-found key_cmp key_total key fact s.paths in_order found i }))
 
 -- what a Path that is done came upon
 record IsMet (r : Router) (s : State) (link : ℕ) (p : Path) (o : Outcome) : Type 0 where
   open_link : IsOpen r s.facts link
-  accepted : IsAccepted r p
+  accepted : IsAccepted r s.facts.tunnels p
   way : Choice
   is : o ≡ of_paths s (taken r s.facts (find key_cmp (key_of p) s.facts.paths) link p way)
 
@@ -212,40 +211,61 @@ met r s link p is_done =
     let t = path_taken r s.facts link p (is_done ∙ ap (λ (o : Outcome). o.reply) (read ∙ labelled)) in
     record { open_link = was_open; accepted = t.accepted; way = t.way; is = read ∙ labelled ∙ ap (of_paths s) t.is }
 
-module _ (r : Router) (before after : State) (made : Made) (link : ℕ) (p : Path) (x : Step r before made after) (is : made.event ≡ comes link (contents.Path p)) (done : made.reply ≡ replies.Done) where
+module _ (r : Router) (before after : State) (made : Made) (link : ℕ) (p : Path) (sound : IsSound r before) (x : Step r before made after) (is : made.event ≡ comes link (contents.Path p)) (done : made.reply ≡ replies.Done) where
   meets : IsMet r before link p (arrival r before (hop_arrive link (contents.Path p)))
   meets = met r before link p (sym done ∙ answered r before after made (comes link (contents.Path p)) (arrival r before (hop_arrive link (contents.Path p))) x is refl)
 
   known : Option PathFact
   known = find key_cmp (key_of p) before.facts.paths
 
-  -- its outcome, and the facts with the moments of the messages that are wanted then
+  -- its outcome, and what is known after it
   takes : Outcome
   takes = of_paths before (taken r before.facts known link p meets.way)
 
-  stamped : Facts
-  stamped = record before.facts { sent = item_stamps r before [] (settled r made.labels takes.after) }
-
-  -- what is known after it of links, routes, time and paths
-  facts_after : after.facts ≡ after_path stamped known link p meets.way
-  unfolding takes known stamped after_path
-  facts_after = ap (λ (s : State). s.facts) (led r before after made (comes link (contents.Path p)) takes x is meets.is)
+  came : after ≡ known_after r before made.labels takes
+  unfolding takes known
+  came = led r before after made (comes link (contents.Path p)) takes x is meets.is
 
   made_path : PathFact
   made_path = path_by before.facts.moment known link p meets.way
 
   path_found : find key_cmp (key_of p) after.facts.paths ≡ Some made_path
-  unfolding made_path stamped after_path
-  path_found = ap (λ (s : Facts). find key_cmp (key_of p) s.paths) facts_after ∙ find-put_same key_cmp key_total (key_of p) made_path before.facts.paths
+  unfolding takes known made_path
+  path_found =
+      ap (λ (s : State). find key_cmp (key_of p) s.facts.paths) came
+      ∙ path_left r takes.after (key_of p) (not_given_up r takes.after sound.paths.tunnels (key_of p) meets.accepted.elsewhere)
+      ∙ find-put_same key_cmp key_total (key_of p) made_path before.facts.paths
+
+  -- the moment is the same, and the same links are up
+  moment_after : after.facts.moment ≡ before.facts.moment
+  unfolding takes taken_over
+  moment_after = ap (λ (s : State). s.facts.moment) came
+
+  up_after : after.facts.up ≡ before.facts.up
+  unfolding takes taken_over
+  up_after = ap (λ (s : State). s.facts.up) came
+
+  -- and the LSP is still no head
+  elsewhere_after : IsSound r after → is_head r after.facts.tunnels (key_of p) ≡ false
+  unfolding made_path
+  elsewhere_after is_after =
+      sym (subst (λ (o : Option PathFact). IfSome o (λ f. IsHeadOf r after.facts.tunnels (key_of p, f))) path_found (head_known r after.facts.tunnels (key_of p) after.facts.paths is_after.paths.heads))
+      ∙ role_of-elsewhere meets.way
 
   -- the same Path is done again, and leaves all as it is
-  does_again : arrival r after (hop_arrive link (contents.Path p)) ≡ replied replies.Done [] after
-  unfolding stamped after_path
-  does_again =
-      let open_link : IsOpen r after.facts link = subst (λ (s : Facts). IsOpen r s link) (sym facts_after) (record { known = meets.open_link.known; up = meets.open_link.up }) in
-      let again : path_arrival r after.facts link p ≡ paths.done [] after.facts =
-      subst (λ (s : Facts). path_arrival r s link p ≡ paths.done [] s) (sym facts_after) (arrival_again r stamped known link p meets.way meets.accepted) in
+  does_again : IsSound r after → arrival r after (hop_arrive link (contents.Path p)) ≡ replied replies.Done [] after
+  unfolding made_path
+  does_again is_after =
+      let open_link : IsOpen r after.facts link = record { known = meets.open_link.known; up = ap (λ up. not (is_up up link)) up_after ∙ meets.open_link.up } in
+      let accepted : IsAccepted r after.facts.tunnels p = record { elsewhere = elsewhere_after is_after; ipv4 = meets.accepted.ipv4; rated = meets.accepted.rated; unlooped = meets.accepted.unlooped } in
+      let found : find key_cmp (key_of p) after.facts.paths ≡ Some (path_by after.facts.moment known link p meets.way) = path_found ∙ ap (λ moment. Some (path_by moment known link p meets.way)) (sym moment_after) in
+      let again = arrival_again r after.facts known link p meets.way accepted is_after.paths.paths.in_order found in
       arrival_read r after (hop_arrive link (contents.Path p)) open_link ∙ labelled_again r after link p made_path path_found again
+
+  -- no tunnel's new LSP is reserved then
+  settled_after : AreSettled r after
+  unfolding takes
+  settled_after = subst (AreSettled r) (sym came) (heard-settles r before takes made.labels refl)
 
   -- A Path that is done makes or renews its origin.
   pub path_renews : (fact : PathFact) × (find key_cmp (key_of p) after.facts.paths ≡ Some fact) × (find address_cmp p.sender.sender fact.origins ≡ Some (origin_of before.facts.moment link p))
@@ -255,4 +275,5 @@ module _ (r : Router) (before after : State) (made : Made) (link : ℕ) (p : Pat
 -- A Path that is done, once more.
 pub path_repeats : (r : Router) (a b c : State) (one other : Made) (link : ℕ) (p : Path) → IsRouter r → IsSound r a → one.event ≡ comes link (contents.Path p) → other.event ≡ comes link (contents.Path p) → one.reply ≡ replies.Done → Step r a one b → Step r b other c → (other.reply ≡ replies.Done) × (other.outputs ≡ []) × (c ≡ b)
 path_repeats r a b c one other link p router sound is again done x y =
-    still_step r b c other (comes link (contents.Path p)) (replied replies.Done [] b) y again (does_again r a b one link p x is done) (done-still r b (sound_step r a one b router sound x))
+    let sound_b = sound_step r a one b router sound x in
+    still_step r b c other (comes link (contents.Path p)) (replied replies.Done [] b) y again (does_again r a b one link p sound x is done sound_b) (done-still r b sound_b (settled_after r a b one link p sound x is done))

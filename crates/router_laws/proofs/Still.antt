@@ -33,12 +33,13 @@ use Rattle.abstract_router.specs.Outcomes.{Outcome, replied}
 use Rattle.abstract_router.specs.Outputs.{item_stamps, outputs_of, upstream_stamps}
 use Rattle.abstract_router.specs.Soundness.{IsSound}
 use Rattle.abstract_router.specs.States.{State}
-use Rattle.abstract_router.specs.Steps.{Step, known_after, sent_in, settled, stands, taken_over, told_repaired, with_moments}
+use Rattle.abstract_router.specs.Steps.{AreSettled, Step, known_after, labelled, left_standing, sent_in, settled, stands, taken_over, told_repaired, with_moments}
 use Rattle.abstract_router.specs.UpstreamLaws.{is_sorted-upstream_sound}
 use Rattle.abstract_router.specs.Upstreams.{upstream_of}
 use Rattle.abstract_router.specs.Wanted.{items_of}
 use Rattle.abstract_router.specs.WantedLaws.{is_sorted-items}
 use Rattle.router_laws.proofs.Led.{answered, led, sends}
+use Rattle.router_laws.proofs.Settled.{taken_over-same}
 
 -- where g gives nothing of each, it gives nothing
 filter_map-none : {A B : Type 0} (g : A → Option B) (xs : List A) → AllByRecursion (λ x. g x ≡ None) xs → filter_map g xs ≡ []
@@ -66,7 +67,12 @@ sends-none cmp total was h = between-itself cmp total (send_for cmp []) was h (�
 abbrev pub IsStill : Router → State → Outcome → Type 0
 IsStill r s o = (chosen : List (Key × ℕ)) → (known_after r s chosen o ≡ s) × (sent_in r s o s ≡ [])
 
-module _ (r : Router) (s : State) (is : IsSound r s) where
+-- a silent outcome that leaves the state
+pub refused-still : (r : Router) (s : State) (o : Outcome) → o.is_silent ≡ true → o.after ≡ s → IsStill r s o
+refused-still r s o silent same chosen =
+    (ap (λ b. if b then o.after else with_moments r s o (settled r chosen o.after)) silent ∙ same, ap (λ b. if b then [] else outputs_of r s (o.errors ++ told_repaired r (taken_over r o.after)) o.due o.upstream_due s) silent)
+
+module _ (r : Router) (s : State) (is : IsSound r s) (rests : AreSettled r s) where
   -- all reservations stand, and each label is held still
   resvs-stand : filter (stands s.facts) s.resvs ≡ s.resvs
   resvs-stand = filter-all_pass (stands s.facts) s.resvs is.standing
@@ -88,7 +94,7 @@ module _ (r : Router) (s : State) (is : IsSound r s) where
       held (row ∷ rows) h = λ i. cons_option (option_map (λ label. (row.0, label)) (option_or (h.0 i) (find key_cmp row.0 chosen))) (held rows h.1 i)
 
   settled-same : (chosen : List (Key × ℕ)) → settled r chosen s ≡ s
-  settled-same chosen = λ i. record s { resvs = resvs-stand i; labels = labels-held chosen i }
+  settled-same chosen = ap (λ (t : State). labelled chosen (left_standing t)) (taken_over-same r s rests) ∙ (λ i. record s { resvs = resvs-stand i; labels = labels-held chosen i })
 
   -- all moments stay
   items_in_order : T (is_sorted item_cmp (items_of r s))
@@ -120,10 +126,6 @@ module _ (r : Router) (s : State) (is : IsSound r s) where
       ++ between-itself upstream_cmp upstream_total (tear_for s.facts.up) upstream upstream_in_order (λ u o. refl) i
       ++ sends-none item_cmp item_total items items_in_order i
       ++ sends-none upstream_cmp upstream_total upstream upstream_in_order i
-
-  pub refused-still : (o : Outcome) → o.is_silent ≡ true → o.after ≡ s → IsStill r s o
-  refused-still o silent same chosen =
-      (ap (λ b. if b then o.after else with_moments r s o (settled r chosen o.after)) silent ∙ same, ap (λ b. if b then [] else outputs_of r s (o.errors ++ told_repaired r (taken_over r o.after)) o.due o.upstream_due s) silent)
 
   pub done-still : IsStill r s (replied replies.Done [] s)
   done-still chosen = (known-same replies.Done [] chosen, sends-nothing)

@@ -1,5 +1,5 @@
 -- What a moment that comes changes, and what is sent for it.
-use Rattle.std.specs.Prelude.{◌≡◌, ◌<◌, ◌≤◌, ◌^◌, ◌+◌, ◌&&◌, ◌||◌, ◌++◌, ℕ, suc, not, nat_lt, nat_le, Bool, true, false, cond, if◌then◌else◌, T, List, [], ◌∷◌, filter, filter_map, Option, Some, None, IfSome}
+use Rattle.std.specs.Prelude.{◌≡◌, ◌<◌, ◌≤◌, ◌^◌, ◌+◌, ◌&&◌, ◌||◌, ◌++◌, ℕ, suc, not, nat_lt, nat_le, Bool, true, false, cond, if◌then◌else◌, T, List, [], ◌∷◌, filter, filter_map, length, Option, Some, None, IfSome}
 use Rattle.std.specs.Bool.{then_some}
 use Rattle.std.specs.Cmp.{IsTotalOrder}
 use Rattle.std.specs.FinMap.Entries.{find, is_sorted}
@@ -12,11 +12,12 @@ use Rattle.std.specs.declared.net.ipv4_addr.Ipv4Addr.{Ipv4Addr}
 use Rattle.std.proofs.Common.{refl, ap, arith, sym, subst, zero, ◌∙◌}
 use Rattle.std.proofs.lemmas.Bool.{cond_both, le-leb, le-ltb, lt-ltb, ltb-true}
 use Rattle.std.proofs.lemmas.List.Elements.{Contains-append_left, Contains-append_right}
-use Rattle.sorted_rows.specs.ListLaws.{all-always, all-filter, all-filter_passes, all-map}
+use Rattle.sorted_rows.specs.ListLaws.{all-always, all-filter, all-filter_passes, all-map, all-weaker}
 use Rattle.sorted_rows.specs.RowsLaws.{find-filter, find-map, is_sorted-both}
 use Rattle.lsr_facts.specs.Lifetimes.{begins_here, due_items, expire, lives_on, lives_past, living, with_living}
 use Rattle.lsr_facts.specs.OrderLaws.{address_total, item_exact, item_total, key_total}
-use Rattle.lsr_facts.specs.Orders.{address_cmp, item_cmp, key_cmp}
+use Rattle.lsr_facts.specs.Orders.{address_cmp, is_one_of, item_cmp, key_cmp}
+use Rattle.lsr_facts.specs.Tunnels.{AreTunnels, is_head}
 use Rattle.lsr_facts.specs.declared.facts.Facts.{Facts}
 use Rattle.lsr_facts.specs.declared.key.Item.{Item}
 use Rattle.lsr_facts.specs.declared.key.Key.{Key}
@@ -27,6 +28,7 @@ use Rattle.lsr_facts.specs.declared.path_fact.Role.TheVariants as roles
 use Rattle.lsr_facts.specs.declared.refusal.Refusal.TheVariants.{BadMoment, Late}
 use Rattle.lsr_facts.specs.declared.reply.Reply.TheVariants as replies
 use Rattle.lsr_facts.specs.declared.router.Router.{Router}
+use Rattle.lsr_facts.specs.declared.tunnel.Tunnel.{Tunnel}
 use Rattle.resv_facts.specs.Reservations as reservations
 use Rattle.resv_facts.specs.UpstreamOrder.{upstream_exact, upstream_total}
 use Rattle.resv_facts.specs.Upstreams.{upstream_cmp}
@@ -36,10 +38,13 @@ use Rattle.router_events.specs.declared.events.Made.{Made}
 use Rattle.router_events.specs.declared.events.Output.{Output}
 use Rattle.abstract_paths.specs.Outcomes as paths
 use Rattle.abstract_paths.specs.Outputs.{between, is_same_frame, rests, send_for, tear_for}
-use Rattle.abstract_paths.specs.Soundness.{IsPath}
+use Rattle.abstract_paths.specs.Soundness.{IsCountAs, IsHeadOf, IsPath}
 use Rattle.abstract_paths.specs.StampLaws.{find-stamps, is_due-due_items, ties}
 use Rattle.abstract_paths.specs.Stamps.{stamp, stamps}
+use Rattle.abstract_paths.specs.Heads.{signalled}
 use Rattle.abstract_paths.specs.Time.{tick}
+use Rattle.abstract_paths.proofs.Alongside.{signalled-all, signalled-other, signalled-same}
+use Rattle.abstract_paths.proofs.Heads.{head_known}
 use Rattle.abstract_paths.proofs.PathTable.{path_known}
 use Rattle.abstract_router.specs.Arrivals.{for_reservations, moment_comes}
 use Rattle.abstract_router.specs.Lsps.{lsps_of}
@@ -47,28 +52,34 @@ use Rattle.abstract_router.specs.Outcomes.{Outcome, of_paths}
 use Rattle.abstract_router.specs.Outputs.{item_stamps, outputs_of, upstream_stamps}
 use Rattle.abstract_router.specs.Soundness.{IsSound}
 use Rattle.abstract_router.specs.States.{State}
-use Rattle.abstract_router.specs.Steps.{Step, settled, stands, with_moments}
+use Rattle.abstract_router.specs.Steps.{AreSettled, Step, given_up, is_ready, settled, stands, taken_over, with_moments}
 use Rattle.abstract_router.specs.UpstreamLaws.{is_sorted-upstream_sound}
 use Rattle.abstract_router.specs.Upstreams.{upstream_of}
 use Rattle.abstract_router.specs.Wanted.{items_of}
 use Rattle.abstract_router.specs.WantedLaws.{is_sorted-items}
 use Rattle.router_laws.specs.Words.{IsUnexpired}
+use Rattle.router_laws.proofs.GivenUp.{not_given_up, path_left}
 use Rattle.router_laws.proofs.Led.{answered, led, sends}
+use Rattle.router_laws.proofs.Settled.{none_of_fewer, still_waits}
+
+-- what has not expired at a moment
+unfoldable pub lived : Facts → ℕ → Facts
+lived s n = record s { moment = n; paths = expire n s.paths }
 
 -- a moment that is done
-ticked : Router → State → ℕ → Outcome
+unfoldable pub ticked : Router → State → ℕ → Outcome
 ticked r s n = record {
   reply = replies.Done;
   errors = [];
   due = due_items r.refresh_ms s.facts.sent n;
   upstream_due = due_items r.refresh_ms s.sent_upstream n;
-  after = record s { facts = record s.facts { moment = n; paths = expire n s.facts.paths }; resvs = reservations.expire n s.resvs };
+  after = record s { facts = signalled r (lived s.facts n); resvs = reservations.expire n s.resvs };
   is_silent = false;
 }
 
 -- and as paths have it
 ticked_paths : Router → Facts → ℕ → paths.PathOutcome
-ticked_paths r s n = record (paths.done [] (record s { moment = n; paths = expire n s.paths })) { due = due_items r.refresh_ms s.sent n }
+ticked_paths r s n = record (paths.done [] (signalled r (lived s n))) { due = due_items r.refresh_ms s.sent n }
 
 -- what a moment does, by what it does to paths
 abbrev by_paths : Router → State → ℕ → paths.PathOutcome → Outcome
@@ -76,7 +87,7 @@ by_paths r s n o = for_reservations r s n (of_paths s o)
 
 -- a moment that isn't refused is done
 tick_done : (r : Router) (s : State) (n : ℕ) → replies.Done ≡ (moment_comes r s n).reply → moment_comes r s n ≡ ticked r s n
-unfolding moment_comes tick ticked
+unfolding moment_comes tick ticked lived
 tick_done r s n =
     cond_both (nat_lt (2 ^ 62) n) _ _ Does (λ above. λ done. absurd (let e = done in cc))
     (λ most. cond_both (nat_lt n s.facts.moment) _ _ Does (λ below. λ done. absurd (let e = done in cc)) (λ later. λ done. refl))
@@ -86,7 +97,7 @@ tick_done r s n =
 
 -- A moment that is neither late nor above the last one that there is is done.
 pub moment_done : (r : Router) (before after : State) (made : Made) (n : ℕ) → Step r before made after → made.event ≡ events.Tick n → before.facts.moment ≤ n → n ≤ 2 ^ 62 → made.reply ≡ replies.Done
-unfolding moment_comes tick ticked_paths
+unfolding moment_comes tick ticked_paths lived
 moment_done r before after made n x is later most =
     let s = before.facts in
     answered r before after made (events.Tick n) (moment_comes r before n) x is refl
@@ -95,7 +106,7 @@ moment_done r before after made n x is later most =
 
 -- A moment above the last one that there is.
 pub moment_none : (r : Router) (before after : State) (made : Made) (n : ℕ) → Step r before made after → made.event ≡ events.Tick n → 2 ^ 62 < n → made.reply ≡ replies.Refused BadMoment
-unfolding moment_comes tick ticked_paths
+unfolding moment_comes tick ticked_paths lived
 moment_none r before after made n x is above =
     let s = before.facts in
     answered r before after made (events.Tick n) (moment_comes r before n) x is refl
@@ -103,7 +114,7 @@ moment_none r before after made n x is above =
 
 -- A moment below the router's.
 pub moment_late : (r : Router) (before after : State) (made : Made) (n : ℕ) → Step r before made after → made.event ≡ events.Tick n → n ≤ 2 ^ 62 → n < before.facts.moment → made.reply ≡ replies.Refused Late
-unfolding moment_comes tick ticked_paths
+unfolding moment_comes tick ticked_paths lived
 moment_late r before after made n x is most below =
     let s = before.facts in
     answered r before after made (events.Tick n) (moment_comes r before n) x is refl
@@ -115,7 +126,7 @@ module _ (r : Router) (before after : State) (made : Made) (n : ℕ) (x : Step r
   does = tick_done r before n (sym is_done ∙ answered r before after made (events.Tick n) (moment_comes r before n) x is refl)
 
   -- what is known after it
-  after_tick : after ≡ with_moments r before (ticked r before n) (settled r made.labels (ticked r before n).after)
+  pub after_tick : after ≡ with_moments r before (ticked r before n) (settled r made.labels (ticked r before n).after)
   unfolding ticked
   after_tick = led r before after made (events.Tick n) (ticked r before n) x is does
 
@@ -123,37 +134,63 @@ module _ (r : Router) (before after : State) (made : Made) (n : ℕ) (x : Step r
   unfolding ticked
   sends_then = sends r before after made (events.Tick n) (ticked r before n) x is does
 
-  -- the moment, and the paths
-  moment_then : after.facts.moment ≡ n
-  unfolding ticked
-  moment_then = ap (λ (s : State). s.facts.moment) after_tick
+  -- the moment
+  moment_signalled : (signalled r (lived before.facts n)).moment ≡ n
+  unfolding lived
+  moment_signalled = ap (λ (s : Facts). s.moment) (signalled-same r (lived before.facts n))
 
-  paths_then : after.facts.paths ≡ expire n before.facts.paths
+  moment_then : after.facts.moment ≡ n
+  unfolding ticked taken_over
+  moment_then = ap (λ (s : State). s.facts.moment) after_tick ∙ moment_signalled
+
+  -- the tunnels are the same when they have been tried
+  tunnels_signalled : (ticked r before n).after.facts.tunnels ≡ before.facts.tunnels
+  unfolding ticked lived
+  tunnels_signalled = ap (λ (s : Facts). s.tunnels) (signalled-same r (lived before.facts n))
+
+  -- so each path is there that was there then and isn't given up
+  path_then : (key : Key) → AreTunnels r before.facts.tunnels → is_head r before.facts.tunnels key ≡ false → find key_cmp key after.facts.paths ≡ find key_cmp key (signalled r (lived before.facts n)).paths
   unfolding ticked
-  paths_then = ap (λ (s : State). s.facts.paths) after_tick
+  path_then key are other =
+      let s = (ticked r before n).after in
+      ap (λ (s : State). find key_cmp key s.facts.paths) after_tick
+      ∙ path_left r s key (not_given_up r s (subst (AreTunnels r) (sym tunnels_signalled) are) key (ap (λ tunnels. is_head r tunnels key) tunnels_signalled ∙ other))
 
   -- Nothing stands that has expired.
   pub none_expired : (after.facts.moment ≡ n) × AllByRecursion (IsUnexpired n) after.facts.paths
-  unfolding expire
+  unfolding ticked taken_over expire lived
   none_expired =
-      let left = filter (lives_on n) before.facts.paths in (
+      let left = filter (lives_on n) before.facts.paths in
+      let s = (ticked r before n).after in (
         moment_then,
-        subst (λ rows. AllByRecursion (IsUnexpired n) rows) (sym paths_then)
+        subst (λ (t : State). AllByRecursion (IsUnexpired n) t.facts.paths) (sym after_tick)
+            (all-filter (IsUnexpired n) (λ path. not (is_one_of (given_up r s) path.0)) s.facts.paths
+            (signalled-all r (IsUnexpired n) (λ key tunnel lsp way. tt) (lived before.facts n)
             (all-map (IsUnexpired n) (with_living n) left
-            (all-always (λ path. IsUnexpired n (with_living n path)) (λ path. all-filter_passes (λ (o : Ipv4Addr × Origin). n < o.1.expiry) (lives_past n) (λ o lives. ltb-true n o.1.expiry lives) path.1.origins) left)),
+            (all-always (λ path. IsUnexpired n (with_living n path)) (λ path. all-filter_passes (λ (o : Ipv4Addr × Origin). n < o.1.expiry) (lives_past n) (λ o lives. ltb-true n o.1.expiry lives) path.1.origins) left)))),
       )
 
   -- no reservation either
   pub no_resv_expired : AllByRecursion (λ resv. n < resv.1.expiry) after.resvs
-  unfolding ticked reservations.expire
+  unfolding ticked reservations.expire taken_over
   no_resv_expired =
-      let then_facts : Facts = record before.facts { moment = n; paths = expire n before.facts.paths } in
+      let then_facts : Facts = (taken_over r (ticked r before n).after).facts in
       subst (λ (s : State). AllByRecursion (λ resv. n < resv.1.expiry) s.resvs) (sym after_tick)
       (all-filter (λ resv. n < resv.1.expiry) (stands then_facts) (filter (λ resv. reservations.lives_past n resv.1) before.resvs)
       (all-filter_passes (λ resv. n < resv.1.expiry) (λ resv. reservations.lives_past n resv.1) (λ resv lives. ltb-true n resv.1.expiry lives) before.resvs))
 
+-- After a moment no tunnel's new LSP is reserved that was none before.
+pub ticked-settled : (r : Router) (before : State) (n : ℕ) → AreSettled r before → AreSettled r (ticked r before n).after
+unfolding ticked lived reservations.expire
+ticked-settled r before n rests =
+    let after = (ticked r before n).after in
+    subst (λ (tunnels : List (ℕ × Tunnel)). AllByRecursion (λ tunnel. is_ready r after tunnel ≡ false) tunnels) (sym (ap (λ (s : Facts). s.tunnels) (signalled-same r (lived before.facts n))))
+    (all-weaker (λ tunnel. is_ready r before tunnel ≡ false) (λ tunnel. is_ready r after tunnel ≡ false)
+    (λ tunnel waits. still_waits r before after tunnel.0 tunnel.1 (λ key none. none_of_fewer (λ resv. reservations.lives_past n resv.1) key before.resvs none) waits)
+    before.facts.tunnels rests)
+
 -- what is known of an LSP when a moment has come
-find-expire : (n : ℕ) (key : Key) (paths : List (Key × PathFact)) → T (is_sorted key_cmp paths) → find key_cmp key (expire n paths) ≡ option_map (living n) (option_and_then (λ fact. then_some (lives_on n (key, fact)) fact) (find key_cmp key paths))
+pub find-expire : (n : ℕ) (key : Key) (paths : List (Key × PathFact)) → T (is_sorted key_cmp paths) → find key_cmp key (expire n paths) ≡ option_map (living n) (option_and_then (λ fact. then_some (lives_on n (key, fact)) fact) (find key_cmp key paths))
 unfolding expire
 find-expire n key paths h =
     find-map key_cmp (living n) key (filter (lives_on n) paths) ∙ ap (option_map (living n)) (find-filter key_cmp key_total (lives_on n) key (λ y v tied. refl) paths h)
@@ -163,13 +200,31 @@ none_lives : (n : ℕ) (origins : List (Ipv4Addr × Origin)) → AllByRecursion 
 none_lives n [] old = refl
 none_lives n (o ∷ os) old = ap (λ b. b || list_any (lives_past n) os) (le-ltb n o.1.expiry old.0) ∙ none_lives n os old.1
 
+-- whether a path that is known begins here
+begins_as : (r : Router) (s : State) (key : Key) (fact : PathFact) → IsSound r s → find key_cmp key s.facts.paths ≡ Some fact → begins_here fact.role ≡ is_head r s.facts.tunnels key
+begins_as r s key fact is known = subst (λ (o : Option PathFact). IfSome o (λ f. IsHeadOf r s.facts.tunnels (key, f))) known (head_known r s.facts.tunnels key s.facts.paths is.paths.heads)
+
+-- what is known, when tunnels have been tried, of an LSP that is no head
+signalled_elsewhere : (r : Router) (s : State) (n : ℕ) (key : Key) → IsSound r s → is_head r s.facts.tunnels key ≡ false → find key_cmp key (signalled r (lived s.facts n)).paths ≡ find key_cmp key (expire n s.facts.paths)
+unfolding lived
+signalled_elsewhere r s n key is other = signalled-other r key (lived s.facts n) is.paths.tunnels other
+
 -- A path goes whose origins have all expired.
-pub path_goes : (r : Router) (before after : State) (made : Made) (n : ℕ) (key : Key) (fact : PathFact) → T (is_sorted key_cmp before.facts.paths) → Step r before made after → made.event ≡ events.Tick n → made.reply ≡ replies.Done → find key_cmp key before.facts.paths ≡ Some fact → begins_here fact.role ≡ false → AllByRecursion (λ (origin : Ipv4Addr × Origin). origin.1.expiry ≤ n) fact.origins → find key_cmp key after.facts.paths ≡ None
-path_goes r before after made n key fact h x is is_done known elsewhere old =
-    ap (find key_cmp key) (paths_then r before after made n x is is_done)
-    ∙ find-expire n key before.facts.paths h
+pub path_goes : (r : Router) (before after : State) (made : Made) (n : ℕ) (key : Key) (fact : PathFact) → IsSound r before → Step r before made after → made.event ≡ events.Tick n → made.reply ≡ replies.Done → find key_cmp key before.facts.paths ≡ Some fact → begins_here fact.role ≡ false → AllByRecursion (λ (origin : Ipv4Addr × Origin). origin.1.expiry ≤ n) fact.origins → find key_cmp key after.facts.paths ≡ None
+path_goes r before after made n key fact sound x is is_done known elsewhere old =
+    let other = sym (begins_as r before key fact sound known) ∙ elsewhere in
+    path_then r before after made n x is is_done key sound.paths.tunnels other
+    ∙ signalled_elsewhere r before n key sound other
+    ∙ find-expire n key before.facts.paths sound.paths.paths.in_order
     ∙ ap (λ o. option_map (living n) (option_and_then (λ f. then_some (lives_on n (key, f)) f) o)) known
     ∙ (λ i. option_map (living n) (then_some (elsewhere i || none_lives n fact.origins old i) fact))
+
+-- a path with an origin doesn't begin here
+has_origin : (role : Role) (sender : Ipv4Addr) (origin : Origin) (origins : List (Ipv4Addr × Origin)) → IsCountAs role (length origins) → find address_cmp sender origins ≡ Some origin → begins_here role ≡ false
+has_origin roles.Tail sender origin origins counts found = refl
+has_origin roles.Transit sender origin origins counts found = refl
+has_origin roles.Head sender origin [] counts found = absurd (let e = found in cc)
+has_origin roles.Head sender origin (o ∷ os) counts found = absurd (omega (arith, counts))
 
 -- an origin that is found and lives past a moment is one that does
 found_lives : (n : ℕ) (sender : Ipv4Addr) (origin : Origin) (origins : List (Ipv4Addr × Origin)) → find address_cmp sender origins ≡ Some origin → nat_lt n origin.expiry ≡ true → list_any (lives_past n) origins ≡ true
@@ -189,9 +244,11 @@ pub path_stays : (r : Router) (before after : State) (made : Made) (n : ℕ) (ke
 path_stays r before after made n key fact sender origin sound x is is_done known found lives =
     let past = lt-ltb n origin.expiry lives in
     let h = sound.paths.paths.in_order in
-    let knows : IsPath r before.facts.moment (key, fact) = subst (λ (o : Option PathFact). IfSome o (λ f. IsPath r before.facts.moment (key, f))) known (path_known r before.facts.moment key before.facts.paths sound.paths.paths) in (
+    let knows : IsPath r before.facts.moment (key, fact) = subst (λ (o : Option PathFact). IfSome o (λ f. IsPath r before.facts.moment (key, f))) known (path_known r before.facts.moment key before.facts.paths sound.paths.paths) in
+    let other = sym (begins_as r before key fact sound known) ∙ has_origin fact.role sender origin fact.origins knows.origins.count found in (
       living n fact,
-      ap (find key_cmp key) (paths_then r before after made n x is is_done)
+      path_then r before after made n x is is_done key sound.paths.tunnels other
+          ∙ signalled_elsewhere r before n key sound other
           ∙ find-expire n key before.facts.paths h
           ∙ ap (λ o. option_map (living n) (option_and_then (λ f. then_some (lives_on n (key, f)) f) o)) known
           ∙ ap (λ b. option_map (living n) (then_some b fact)) (lives_as fact.role (list_any (lives_past n) fact.origins) (found_lives n sender origin fact.origins found past)),
@@ -253,9 +310,14 @@ module _ (r : Router) (before after : State) (made : Made) (n at : ℕ) (sound :
   unstamped : State
   unstamped = settled r made.labels (ticked r before n).after
 
+  -- its moment
+  moment_unstamped : unstamped.facts.moment ≡ n
+  unfolding unstamped ticked taken_over
+  moment_unstamped = moment_signalled r before after made n x is is_done
+
   -- A Path that is due is sent.
   pub due_path : (item : Item) (output : Output) → find item_cmp item (items_of r after) ≡ Some output → find item_cmp item before.facts.sent ≡ Some at → at + r.refresh_ms ≤ n → Contains made.outputs output × (find item_cmp item after.facts.sent ≡ Some n)
-  unfolding outputs_of item_stamps items_of lsps_of ticked unstamped
+  unfolding outputs_of item_stamps items_of lsps_of ticked unstamped taken_over
   due_path item output wanted sent waited =
       let came = after_tick r before after made n x is is_done in
       let in_order = subst T (sym (is_sorted-both item_cmp before.facts.sent (items_of r before) sound.sent)) (is_sorted-items r before sound.paths.paths.in_order) in
@@ -269,13 +331,14 @@ module _ (r : Router) (before after : State) (made : Made) (n at : ℕ) (sound :
         subst (λ outputs. Contains outputs output) (sym (sends_then r before after made n x is is_done))
             (Contains-append_left (tears ++ resv_tears ++ sends) resv_sends output (Contains-append_right (tears ++ resv_tears) sends output out)),
         ap (λ (s : State). find item_cmp item s.facts.sent) came
+            ∙ ap (λ (m : ℕ). find item_cmp item (stamps item_cmp due (items_of r before) before.facts.sent m (items_of r unstamped))) moment_unstamped
             ∙ moment_is item_cmp item_total item_exact r.refresh_ms n at (items_of r before) (items_of r unstamped) before.facts.sent item output in_order
             (subst (λ (s : State). find item_cmp item (items_of r s) ≡ Some output) came wanted) sent waited,
       )
 
   -- So is a Resv.
   pub due_resv : (upstream : Upstream) (output : Output) → find upstream_cmp upstream (upstream_of r after) ≡ Some output → find upstream_cmp upstream before.sent_upstream ≡ Some at → at + r.refresh_ms ≤ n → Contains made.outputs output × (find upstream_cmp upstream after.sent_upstream ≡ Some n)
-  unfolding outputs_of upstream_stamps upstream_of lsps_of ticked unstamped
+  unfolding outputs_of upstream_stamps upstream_of lsps_of ticked unstamped taken_over
   due_resv upstream output wanted sent waited =
       let came = after_tick r before after made n x is is_done in
       let in_order = subst T (sym (is_sorted-both upstream_cmp before.sent_upstream (upstream_of r before) sound.sent_upstream)) (is_sorted-upstream_sound r before before.facts.moment sound.paths.paths) in
@@ -289,6 +352,7 @@ module _ (r : Router) (before after : State) (made : Made) (n at : ℕ) (sound :
         subst (λ outputs. Contains outputs output) (sym (sends_then r before after made n x is is_done))
             (Contains-append_right (tears ++ resv_tears ++ sends) resv_sends output out),
         ap (λ (s : State). find upstream_cmp upstream s.sent_upstream) came
+            ∙ ap (λ (m : ℕ). find upstream_cmp upstream (stamps upstream_cmp upstream_due (upstream_of r before) before.sent_upstream m (upstream_of r unstamped))) moment_unstamped
             ∙ moment_is upstream_cmp upstream_total upstream_exact r.refresh_ms n at (upstream_of r before) (upstream_of r unstamped) before.sent_upstream upstream output in_order
             (subst (λ (s : State). find upstream_cmp upstream (upstream_of r s) ≡ Some output) came wanted) sent waited,
       )

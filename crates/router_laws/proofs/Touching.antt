@@ -30,6 +30,7 @@ use Rattle.lsr_facts.specs.Lifetimes.{begins_here}
 use Rattle.lsr_facts.specs.OrderLaws.{key_exact, key_total}
 use Rattle.lsr_facts.specs.Orders.{key_cmp}
 use Rattle.lsr_facts.specs.Routers.{link_at}
+use Rattle.lsr_facts.specs.Tunnels.{is_head}
 use Rattle.lsr_facts.specs.declared.choice.Choice.{Choice}
 use Rattle.lsr_facts.specs.declared.errors.RsvpError.{RsvpError}
 use Rattle.lsr_facts.specs.declared.facts.Facts.{Facts}
@@ -47,12 +48,13 @@ use Rattle.router_events.specs.declared.ways.Arrive.{Arrive}
 use Rattle.router_events.specs.declared.events.Event.TheVariants as events
 use Rattle.router_events.specs.declared.events.Made.{Made}
 use Rattle.router_events.specs.declared.events.Output.{Output}
+use Rattle.abstract_paths.proofs.Alongside.{noted_of-same}
 use Rattle.abstract_paths.specs.Outcomes as paths
 use Rattle.abstract_paths.specs.Outcomes.{lsp}
 use Rattle.abstract_paths.specs.Paths.{failed, has_loop, key_of, path_arrival, path_by, path_on_its_way, taken, way_for}
 use Rattle.abstract_paths.specs.Places.{is_up, place_of}
 use Rattle.abstract_paths.specs.StampLaws.{none-is}
-use Rattle.abstract_paths.specs.Tears.{left_with, origins_without, path_err_passed_on, path_err_arrival, path_tear_arrival, torn}
+use Rattle.abstract_paths.specs.Tears.{left_with, noted_of, origins_without, path_err_passed_on, path_err_arrival, path_tear_arrival, torn}
 use Rattle.abstract_paths.specs.Tears as tears
 use Rattle.abstract_paths.specs.Tears.{leaves_by}
 use Rattle.abstract_paths.specs.TouchedLaws.{find-made}
@@ -64,29 +66,30 @@ use Rattle.abstract_router.specs.Preempting.{giving_way}
 use Rattle.abstract_router.specs.Reserving.{Failed, Granted, PassedOver, Progress, Verdict, all_descriptors, carried_on, key_in, next_descriptor, resv_arrival, resv_by, resv_failed, resv_replied, unknown_resv, verdict_of}
 use Rattle.abstract_router.specs.Soundness.{IsSound}
 use Rattle.abstract_router.specs.States.{State, is_one_of}
-use Rattle.abstract_router.specs.Steps.{Step, known_after, settled, stands, with_moments}
+use Rattle.abstract_router.specs.Steps.{Step, given_up, known_after, settled, stands, taken_over, with_moments}
 use Rattle.abstract_router.specs.Tearing.{err_onward, is_resv_torn_by, resv_err_passed_on, resv_err_arrival, resv_tear_arrival}
 use Rattle.router_laws.specs.TouchedBy.{touched_by, touched_by_descriptors, touched_by_message, touched_by_reading, touched_by_resv, touched_by_verdict}
+use Rattle.router_laws.proofs.GivenUp.{path_left}
 use Rattle.router_laws.proofs.Led.{led}
 
 -- neither of two tests passes
-neither : (a b : Bool) → (a || b) ≡ false → (a ≡ false) × (b ≡ false)
+pub neither : (a b : Bool) → (a || b) ≡ false → (a ≡ false) × (b ≡ false)
 neither true b h = absurd (let e = h in cc)
 neither false b h = (refl, h)
 
 -- keys that don't tie don't the other way round
-apart-back : (k q : Key) → is_eq (key_cmp k q) ≡ false → is_eq (key_cmp q k) ≡ false
+pub apart-back : (k q : Key) → is_eq (key_cmp k q) ≡ false → is_eq (key_cmp q k) ≡ false
 apart-back k q apart = (eq_by_cmp_equiv key_total).symm q k ∙ apart
 
 -- What an event does of itself: the same links are up, no label changes, and the LSPs that aren't touched have the path
 -- and the reservation that they had.
-record Keeps (touched : Key → Bool) (before after : State) : Type 0 where
-  up : after.facts.up ≡ before.facts.up
-  labels : after.labels ≡ before.labels
-  paths_in_order : T (is_sorted key_cmp after.facts.paths)
-  resvs_in_order : T (is_sorted key_cmp after.resvs)
-  paths : (key : Key) → touched key ≡ false → find key_cmp key after.facts.paths ≡ find key_cmp key before.facts.paths
-  resvs : (key : Key) → touched key ≡ false → find key_cmp key after.resvs ≡ find key_cmp key before.resvs
+pub record Keeps (touched : Key → Bool) (before after : State) : Type 0 where
+  pub up : after.facts.up ≡ before.facts.up
+  pub labels : after.labels ≡ before.labels
+  pub paths_in_order : T (is_sorted key_cmp after.facts.paths)
+  pub resvs_in_order : T (is_sorted key_cmp after.resvs)
+  pub paths : (key : Key) → touched key ≡ false → find key_cmp key after.facts.paths ≡ find key_cmp key before.facts.paths
+  pub resvs : (key : Key) → touched key ≡ false → find key_cmp key after.resvs ≡ find key_cmp key before.resvs
 
 -- What is left of LSPs that aren't touched: each has the path, the reservation and the label that it had, and the same
 -- links are up.
@@ -125,10 +128,11 @@ module _ (touched : Key → Bool) (s : Facts) (sorted : T (is_sorted key_cmp s.p
   path-keeps : (r : Router) (link : ℕ) (p : Path) → ((key : Key) → touched key ≡ false → is_eq (key_cmp (key_of p) key) ≡ false) → KeepsPaths touched s (path_arrival r s link p).after
   unfolding path_arrival path_on_its_way
   path-keeps r link p apart =
-      cond_both (not (p.label_request.l3pid == 0x0800)) _ _ After (λ a. paths-stay)
+      cond_both (is_head r s.tunnels (key_of p)) _ _ After (λ head. paths-stay)
+      (λ elsewhere. cond_both (not (p.label_request.l3pid == 0x0800)) _ _ After (λ a. paths-stay)
       (λ a. cond_both (is_none (token_rate 1 p.tspec)) _ _ After (λ b. paths-stay)
       (λ b. cond_both (has_loop r p.recorded) _ _ After (λ c. paths-stay)
-      (λ c. on_way (way_for (place_of r s) (find key_cmp (key_of p) s.paths) p))))
+      (λ c. on_way (way_for (place_of r s) (find key_cmp (key_of p) s.paths) p)))))
     where
       After : paths.PathOutcome → Type 0
       After o = KeepsPaths touched s o.after
@@ -151,9 +155,18 @@ module _ (touched : Key → Bool) (s : Facts) (sorted : T (is_sorted key_cmp s.p
   unfolding path_err_arrival
   err-keeps link e = by (find key_cmp (lsp e.session e.sender) s.paths)
     where
+      noted : (fact : PathFact) → KeepsPaths touched s (noted_of e fact s)
+      noted fact =
+          let same = noted_of-same e fact s in
+          record {
+            up = ap (λ (x : Facts). x.up) same;
+            in_order = subst (λ (x : Facts). T (is_sorted key_cmp x.paths)) (sym same) sorted;
+            paths = λ key apart. ap (λ (x : Facts). find key_cmp key x.paths) same;
+          }
+
       by : (known : Option PathFact) → KeepsPaths touched s (path_err_passed_on s link e known).after
       by None = paths-stay
-      by (Some fact) = cond_both (leaves_by link fact) _ _ (λ (o : paths.PathOutcome). KeepsPaths touched s o.after) (λ a. paths-stay) (λ a. paths-stay)
+      by (Some fact) = cond_both (leaves_by link fact) _ _ (λ (o : paths.PathOutcome). KeepsPaths touched s o.after) (λ a. noted fact) (λ a. paths-stay)
 
 -- no LSP that isn't touched is one of these
 abbrev AreTouched : (Key → Bool) → List Key → Type 0
@@ -288,7 +301,7 @@ module _ (r : Router) (touched : Key → Bool) (s : State) (is : IsSound r s) wh
   way-keeps ways.Stack link reading among = stays
   way-keeps ways.Routed link reading among = stays
 
-  arrival-keeps : (a : Arrive) → AreTouched touched (touched_by r s a) → Keeps touched s (arrival r s a).after
+  arrival-keeps : (a : Arrive) → AreTouched touched (touched_by_reading r s a.link a.reading) → Keeps touched s (arrival r s a).after
   unfolding arrival
   arrival-keeps a among =
       cond_both (is_none (link_at r a.link)) (refused s UnknownLink) _ (λ (o : Outcome). Keeps touched s o.after) (λ none. stays)
@@ -339,13 +352,28 @@ module _ (r : Router) (touched : Key → Bool) (s : State) (is : IsSound r s) wh
         by (Some path) None was same = absurd (let e = same in cc)
         by (Some path) (Some label) was same = ap (λ o. option_or o (find key_cmp key chosen)) was
 
-  -- so a step does
-  step-keeps : (o : Outcome) (chosen : List (Key × ℕ)) → Keeps touched s o.after → IsLeft touched s (known_after r s chosen o)
-  step-keeps o chosen keeps = by o.is_silent
+  -- those that tunnels give up are touched too
+  over-keeps : (after : State) → AreTouched touched (given_up r after) → Keeps touched s after → Keeps touched s (taken_over r after)
+  unfolding taken_over
+  over-keeps after among keeps = record {
+    up = keeps.up;
+    labels = keeps.labels;
+    paths_in_order = is_sorted-where_key key_cmp (λ k. not (is_one_of (given_up r after) k)) after.facts.paths keeps.paths_in_order;
+    resvs_in_order = keeps.resvs_in_order;
+    paths = λ key apart. path_left r after key (among key apart) ∙ keeps.paths key apart;
+    resvs = keeps.resvs;
+  }
+
+  -- So a step does.
+  pub step-keeps : (o : Outcome) (chosen : List (Key × ℕ)) → AreTouched touched (given_up r o.after) → Keeps touched s o.after → IsLeft touched s (known_after r s chosen o)
+  step-keeps o chosen among keeps = by o.is_silent
     where
+      over : Keeps touched s (taken_over r o.after)
+      over = over-keeps o.after among keeps
+
       by : (silent : Bool) → IsLeft touched s (if silent then o.after else with_moments r s o (settled r chosen o.after))
       by true = record { up = keeps.up; paths = keeps.paths; resvs = keeps.resvs; labels = λ key apart. ap (find key_cmp key) keeps.labels }
-      by false = record { up = keeps.up; paths = keeps.paths; resvs = resv-stays o.after keeps; labels = λ key apart. label-stays o.after keeps key apart chosen }
+      by false = record { up = over.up; paths = over.paths; resvs = resv-stays (taken_over r o.after) over; labels = λ key apart. label-stays (taken_over r o.after) over key apart chosen }
 
 -- In a step of a message the LSPs that it doesn't touch have the path, the reservation and the label that they had, and
 -- the same links are up.
@@ -353,5 +381,8 @@ pub left-message : (r : Router) (before after : State) (made : Made) (arrived : 
     → IsLeft (is_one_of (touched_by r before arrived)) before after
 left-message r before after made arrived is step event =
     let touched = is_one_of (touched_by r before arrived) in
-    subst (IsLeft touched before) (sym (led r before after made (events.Arrive arrived) (arrival r before arrived) step event refl))
-    (step-keeps r touched before is (arrival r before arrived) made.labels (arrival-keeps r touched before is arrived (λ key apart. apart)))
+    let o = arrival r before arrived in
+    let own = touched_by_reading r before arrived.link arrived.reading in
+    let each = λ (key : Key) (apart : touched key ≡ false). neither _ _ (sym (list_any-append (λ k. is_eq (key_cmp k key)) own (given_up r o.after)) ∙ apart) in
+    subst (IsLeft touched before) (sym (led r before after made (events.Arrive arrived) o step event refl))
+    (step-keeps r touched before is o made.labels (λ key apart. (each key apart).1) (arrival-keeps r touched before is arrived (λ key apart. (each key apart).0)))

@@ -17,7 +17,9 @@ use Rattle.abstract_paths.specs.Outcomes.{lsp}
 use Rattle.abstract_paths.specs.Paths.{key_of}
 use Rattle.abstract_router.specs.Preempting.{giving_way}
 use Rattle.abstract_router.specs.Reserving.{Failed, Granted, PassedOver, Progress, Verdict, key_in, next_descriptor, resv_by, verdict_of}
+use Rattle.abstract_router.specs.Arrivals.{arrival}
 use Rattle.abstract_router.specs.States.{State}
+use Rattle.abstract_router.specs.Steps.{given_up}
 
 -- the LSPs that a descriptor touches, by its verdict: where it is granted its own, and those that give way to it
 abbrev pub touched_by_verdict : Router → State → Key → ResvFact → Verdict → List Key
@@ -57,6 +59,6 @@ abbrev pub touched_by_reading : Router → State → ℕ → Reading → List Ke
 touched_by_reading r s link (readings.Whole content) = touched_by_message r s link content
 touched_by_reading r s link (readings.Unknown content class ctype) = touched_by_unknown r s link content
 
--- The LSPs that a message touches.
+-- The LSPs that a message touches: its own, and those that tunnels give up, where it reserves their new ones (RFC 3209, 2.5).
 abbrev pub touched_by : Router → State → Arrive → List Key
-touched_by r s a = touched_by_reading r s a.link a.reading
+touched_by r s a = touched_by_reading r s a.link a.reading ++ given_up r (arrival r s a).after

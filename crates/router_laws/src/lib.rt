@@ -5,3 +5,4 @@
 pub mod moments;
 pub mod reservations;
 pub mod stays;
+pub mod tunnels;

@@ -1,7 +1,7 @@
 //! How long what messages set up lives, and when it is sent again.
 
-ghost use Rattle.std.specs.Prelude.{◌≡◌, ◌<◌, ◌≤◌, ◌+◌, ◌^◌, ℕ, T, None, Some, false};
-ghost use Rattle.std.specs.FinMap.Entries.{find, is_sorted};
+ghost use Rattle.std.specs.Prelude.{◌≡◌, ◌<◌, ◌≤◌, ◌+◌, ◌^◌, ℕ, None, Some, false};
+ghost use Rattle.std.specs.FinMap.Entries.{find};
 ghost use Rattle.std.specs.List.{AllByRecursion, Contains};
 ghost use Rattle.std.specs.declared.net.ipv4_addr.Ipv4Addr.{Ipv4Addr};
 ghost use Rattle.rsvp_contents.specs.declared.messages.Content.TheVariants as contents;
@@ -34,7 +34,7 @@ ghost use Rattle.router_laws.specs.Words.{IsUnexpired, comes};
 /// the lifetime of the refresh period that the Path names is over, from the router's moment.
 pub fn paths_live_for_their_lifetime()
     ensures { (r : Router) (before after : State) (made : Made) (link : ℕ) (p : Path) →
-        Step r before made after → made.event ≡ comes link (contents.Path p) →
+        IsSound r before → Step r before made after → made.event ≡ comes link (contents.Path p) →
         made.reply ≡ replies.Done →
         (fact : PathFact) × (find key_cmp (key_of p) after.facts.paths ≡ Some fact)
         × (find address_cmp p.sender.sender fact.origins ≡ Some (record {
@@ -69,7 +69,7 @@ pub fn nothing_expired_stands()
         AllByRecursion (λ (resv : Key × ResvFact). n < resv.1.expiry) after.resvs }
     ensures gone { (r : Router) (before after : State) (made : Made) (n : ℕ)
         (key : Key) (fact : PathFact) →
-        T (is_sorted key_cmp before.facts.paths) →
+        IsSound r before →
         Step r before made after → made.event ≡ events.Tick n → made.reply ≡ replies.Done →
         find key_cmp key before.facts.paths ≡ Some fact → begins_here fact.role ≡ false →
         AllByRecursion (λ (origin : Ipv4Addr × Origin). origin.1.expiry ≤ n) fact.origins →

@@ -23,14 +23,15 @@ ghost use Rattle.router_events.specs.declared.events.Event.TheVariants as events
 ghost use Rattle.router_events.specs.declared.events.Made.{Made};
 ghost use Rattle.abstract_router.specs.Soundness.{IsSound};
 ghost use Rattle.abstract_router.specs.States.{State, is_one_of};
-ghost use Rattle.abstract_router.specs.Steps.{Step};
+ghost use Rattle.abstract_router.specs.Steps.{AreSettled, Step};
 ghost use Rattle.abstract_router.specs.Upstreams.{upstream_of};
 
 /// A moment takes no reservation that was refreshed in time: where its expiry is above the moment, and its path lives
 /// on, it stands as it was.
 pub fn refreshed_reservations_stay()
     ensures { (r : Router) (before after : State) (made : Made) (n : ℕ) (key : Key) (resv : ResvFact) (path : PathFact) →
-        IsSound r before → Step r before made after → made.event ≡ events.Tick n → made.reply ≡ replies.Done →
+        IsSound r before → AreSettled r before →
+        Step r before made after → made.event ≡ events.Tick n → made.reply ≡ replies.Done →
         find key_cmp key before.resvs ≡ Some resv → lives_past n resv ≡ true →
         find key_cmp key before.facts.paths ≡ Some path → lives_on n (key, path) ≡ true →
         find key_cmp key after.resvs ≡ Some resv }
@@ -45,7 +46,8 @@ pub fn refused_descriptors_change_nothing()
 
 /// In a step of a message every LSP but those that the message touches has the path, the reservation and the label that
 /// it had; and the same links are up. A Path or a PathTear touches its own LSP; a Resv those of the descriptors that
-/// are granted, and those that give way to them; a ResvTear those of its filters; a PathErr or a ResvErr none.
+/// are granted, those that give way to them, and those that tunnels give up whose new LSPs it reserves; a ResvTear those
+/// of its filters; a PathErr or a ResvErr none.
 pub fn a_message_touches_its_own_lsps()
     ensures others { (r : Router) (before after : State) (made : Made) (arrived : Arrive) (key : Key) →
         IsSound r before → Step r before made after → made.event ≡ events.Arrive arrived →
@@ -62,7 +64,7 @@ pub fn a_message_touches_its_own_lsps()
 /// at the same moment, while each of its LSPs has the very reservation that it asks for.
 pub fn repeated_reservations_are_silent()
     ensures { (r : Router) (before after : State) (made : Made) (link : ℕ) (v : Resv) (style : ResvStyle) →
-        IsSound r before → Step r before made after →
+        IsSound r before → AreSettled r before → Step r before made after →
         made.event ≡ comes link (contents.Resv v) →
         style_of v.style ≡ Some style →
         All (λ d. find key_cmp (key_in v d) before.resvs ≡ Some (resv_by before.facts.moment link style v d))

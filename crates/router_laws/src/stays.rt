@@ -16,9 +16,10 @@ ghost use Rattle.router_events.specs.declared.events.Made.{Made};
 ghost use Rattle.router_events.specs.declared.ways.Relay.{Relay};
 ghost use Rattle.abstract_paths.specs.Paths.{is_same_route, way_for, way_of};
 ghost use Rattle.abstract_paths.specs.Places.{Place, is_up};
+ghost use Rattle.abstract_paths.specs.Restarts.{all_cancelled};
 ghost use Rattle.abstract_router.specs.Soundness.{IsSound};
 ghost use Rattle.abstract_router.specs.States.{State};
-ghost use Rattle.abstract_router.specs.Steps.{Step};
+ghost use Rattle.abstract_router.specs.Steps.{AreSettled, Step};
 ghost use Rattle.abstract_router.specs.Touched.{IsSameElsewhere};
 ghost use Rattle.abstract_router.specs.Upstreams.{upstream_of};
 ghost use Rattle.abstract_router.specs.Wanted.{items_of};
@@ -38,7 +39,7 @@ pub fn paths_repeat_silently()
 /// nothing changes.
 pub fn links_repeat_silently()
     ensures { (r : Router) (before after : State) (made : Made) (number : ℕ) (so : Bool) →
-        IsRouter r → IsSound r before → HasLink r number → is_up before.facts.up number ≡ so →
+        IsRouter r → IsSound r before → AreSettled r before → HasLink r number → is_up before.facts.up number ≡ so →
         Step r before made after → made.event ≡ link_event number so →
         (made.reply ≡ replies.Done) × (made.outputs ≡ []) × (after ≡ before) }
 {}
@@ -51,13 +52,19 @@ pub fn same_routes_keep_their_way()
 {}
 
 /// A restart takes what messages set up, paths, reservations and labels, and leaves the router cold; links, static
-/// routes and the moment stay. No message goes out for it, no tear either.
+/// routes, bypasses and the moment stay, and so do tunnels, but their changes are given up. No message goes out for it, no tear
+/// either.
 pub fn restarts_lose_what_messages_set_up()
     ensures { (r : Router) (before after : State) (made : Made) →
         Step r before made after → made.event ≡ events.Restart →
         (made.reply ≡ replies.Done) × (made.outputs ≡ [])
         × (after ≡ record {
-          facts = record before.facts { cold = true; paths = []; sent = [] };
+          facts = record before.facts {
+            cold = true;
+            tunnels = all_cancelled before.facts.tunnels;
+            paths = [];
+            sent = [];
+          };
           resvs = [];
           labels = [];
           sent_upstream = [];
@@ -75,7 +82,8 @@ pub fn starts_change_nothing_else()
 /// A message for another router changes nothing that is known, be it passed on or refused.
 pub fn relays_change_nothing()
     ensures { (r : Router) (before after : State) (made : Made) (message : Relay) →
-        IsSound r before → Step r before made after → made.event ≡ events.Relay message → after ≡ before }
+        IsSound r before → AreSettled r before →
+        Step r before made after → made.event ≡ events.Relay message → after ≡ before }
 {}
 
 /// What is wanted of an LSP comes of what is known of it, and of what all LSPs share: where the same links are up and

@@ -3,7 +3,7 @@ use Rattle.std.specs.Prelude.{◌≡◌, ◌⊎◌, ℕ, List, [], ◌∷◌, Re
 use Rattle.lsr_facts.specs.declared.refusal.Refusal.{Refusal}
 use Rattle.lsr_facts.specs.declared.refusal.Refusal.TheVariants.{NoMemory}
 use Rattle.lsr_facts.specs.declared.router.Router.{Router}
-use Rattle.router_events.specs.Arrivals.{is_message}
+use Rattle.router_events.specs.Arrivals.{takes_memory}
 use Rattle.router_events.specs.declared.events.Event.{Event}
 use Rattle.router_events.specs.declared.events.Made.{Made}
 use Rattle.abstract_router.specs.Arrivals.{outcome}
@@ -26,7 +26,7 @@ unfoldable pub no_router : RouterState
 no_router = record {
   router = record { id = record { octets = [] }; refresh_ms = 0; labels = record { first = 0; last = 0 }; links = [] };
   state = record {
-    facts = record { cold = true; moment = 0; up = []; routes = []; paths = []; sent = [] };
+    facts = record { cold = true; moment = 0; up = []; routes = []; tunnels = []; bypasses = []; paths = []; sent = [] };
     resvs = [];
     labels = [];
     sent_upstream = [];
@@ -75,10 +75,10 @@ abbrev pub IsDatagramServed : Router → State → ℕ → List ℕ → State �
 IsDatagramServed r before link bytes after answer =
     (datagram : Result Datagram Refusal) × IsDatagram r (forwarded before) link bytes datagram × IsServedFor r before datagram after answer
 
--- What comes of an event that is copied first: memory may run out for the copy of a message.
+-- What comes of an event that is copied first: memory may run out for the copy of a message, or of a command with a route.
 abbrev pub IsCopyServed : Router → State → Event → State → Result Served Refusal → Type 0
 IsCopyServed r before event after answer =
-    IsMadeFor r before event after answer ⊎ ((is_message event ≡ true) × (answer ≡ Err NoMemory) × (after ≡ before))
+    IsMadeFor r before event after answer ⊎ ((takes_memory event ≡ true) × (answer ≡ Err NoMemory) × (after ≡ before))
 
 -- what comes of an input
 abbrev pub IsInputServed : Router → State → Input → State → Result Served Refusal → Type 0

@@ -10,4 +10,6 @@ pub use inputs::{Input, Served};
 pub use lsr_facts::{Refusal, Reply};
 pub use machine::Machine;
 pub use resv_facts::State;
-pub use router_events::{Event, Made, Output, Outputs};
+pub use router_events::{
+    Command, Event, Made, NewBypass, NewTunnel, Output, Outputs, TunnelChange,
+};

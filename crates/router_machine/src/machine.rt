@@ -6,7 +6,7 @@ ghost use Rattle.resv_facts.specs.Claims.{reserved_of};
 ghost use Rattle.abstract_router.specs.Preempting.{claims_of};
 ghost use Rattle.abstract_router.specs.Soundness.{IsSound};
 ghost use Rattle.abstract_router.specs.Steps.{Run, opening};
-ghost use Rattle.abstract_router.specs.Tables.{forwarded};
+ghost use Rattle.abstract_router.specs.Tables.{forwarded, look_tunnel};
 ghost use Rattle.datagrams.specs.Datagrams.{IsDatagram};
 ghost use Rattle.router_core.specs.Plans.{quiet};
 ghost use Rattle.router_core.specs.States.{opened};
@@ -122,9 +122,9 @@ impl Machine {
         config: Config,
         inputs: &[Input],
     ) -> Result<(Machine, Vec<Result<Served, Refusal>>), AllocError>
-        ensures answered { IfOk result (λ after. AreAnswered config.router (opening config.router config.routes)
+        ensures answered { IfOk result (λ after. AreAnswered config.router (opening config.router config.routes config.tunnels config.bypasses)
             inputs.now after.1.items after.0.state) }
-        ensures run { IfOk result (λ after. Run config.router (opening config.router config.routes)
+        ensures run { IfOk result (λ after. Run config.router (opening config.router config.routes config.tunnels config.bypasses)
             (steps_in after.1.items) after.0.state) }
         ensures sound { IfOk result (λ after. IsSound config.router after.0.state) }
         ensures router { IfOk result (λ after. after.0.router ≡ config.router) }
@@ -194,7 +194,7 @@ impl Machine {
         }
     }
 
-    /// Serves an event that stays the caller's: it is copied, where it is a message.
+    /// Serves an event that stays the caller's: it is copied.
     fn serve_copy(&mut self, alloc: Global, event: &Event) -> Result<Served, Refusal>
         ensures served { IsCopyServed self.old.router self.old.state event.now self.new.state result }
         ensures router { self.new.router ≡ self.old.router }
@@ -284,6 +284,14 @@ impl Machine {
         ensures { IfOk result (IsTableOf self.now.state) }
     {
         self.tables().actions(alloc)
+    }
+
+    /// What is done with the traffic of the tunnel of this number, or `None` where nothing is (RFC 3031, 3.12): a cold router
+    /// does nothing with it.
+    pub fn look_tunnel(&self, number: u16) -> Option<Action>
+        ensures { result ≡ look_tunnel self.now.router self.now.state number }
+    {
+        self.tables().look_tunnel(number)
     }
 
     /// How much of a link is reserved at this priority, 0 (best) to 7, or a better one, in bytes per second.

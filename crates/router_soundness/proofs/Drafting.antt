@@ -1,10 +1,10 @@
 -- Whatever an event does of itself leaves the state such that what follows makes it sound: each by its few primitives.
-use Rattle.std.specs.Prelude.{is_some, ◌≡◌, ◌≢◌, ◌⊎◌, IfSome, ℕ, ◌^◌, ◌&&◌, ◌==◌, Bool, true, false, not, nat_lt, List, [], ◌∷◌, length, filter, filter_map, fold, nat_le, Option, Some, None, is_none, Result, Ok, Err, IsTrue}
+use Rattle.std.specs.Prelude.{is_some, ◌≡◌, ◌⊎◌, IfSome, ℕ, ◌^◌, ◌&&◌, ◌==◌, Bool, true, false, not, nat_lt, List, [], ◌∷◌, length, filter, filter_map, fold, nat_le, Option, Some, None, is_none, option_to_list, if◌then◌else◌, Result, Ok, Err, IsTrue}
 use Rattle.std.specs.FinMap.Entries.{find, put}
 use Rattle.std.specs.Ordering.{is_eq}
 use Rattle.std.specs.List.{AllByRecursion, IsDistinct, list_any}
 use Rattle.std.specs.Option.{option_map_or}
-use Rattle.std.proofs.Common.{refl, sym, subst, inl, inr, arith}
+use Rattle.std.proofs.Common.{refl, ap, sym, subst, ◌∙◌, inl, inr, arith}
 use Rattle.std.proofs.lemmas.Bool.{and_parts, cond_both, ltb-true, not-false}
 use Rattle.rsvp_contents.proofs.Fitted.{message_fits}
 use Rattle.rsvp_contents.specs.Fitting.{are_passed_by, fits_resv, has_adspec_last, have_short_records, written_len}
@@ -31,19 +31,24 @@ use Rattle.lsr_facts.specs.Lifetimes as lifetimes
 use Rattle.lsr_facts.specs.OrderLaws.{key_exact}
 use Rattle.lsr_facts.specs.Orders.{key_cmp}
 use Rattle.lsr_facts.specs.Routers.{HasLink, IsRouter, link_at}
+use Rattle.lsr_facts.specs.Tunnels.{is_head}
 use Rattle.lsr_facts.specs.declared.choice.Choice.{Choice}
 use Rattle.lsr_facts.specs.declared.errors.RsvpError.{RsvpError}
 use Rattle.lsr_facts.specs.declared.facts.Facts.{Facts}
 use Rattle.lsr_facts.specs.declared.key.Key.{Key}
 use Rattle.lsr_facts.specs.declared.path_fact.Origin.{Origin}
 use Rattle.lsr_facts.specs.declared.path_fact.PathFact.{PathFact}
-use Rattle.lsr_facts.specs.declared.path_fact.Role.{Role}
-use Rattle.lsr_facts.specs.declared.path_fact.Role.TheVariants as roles
 use Rattle.std.specs.declared.net.ipv4_addr.Ipv4Addr.{Ipv4Addr}
+use Rattle.lsr_facts.specs.declared.refusal.Refusal.{Refusal}
 use Rattle.lsr_facts.specs.declared.refusal.Refusal.TheVariants.{LinkDown, NoMatch, UnknownLink}
 use Rattle.lsr_facts.specs.declared.router.Router.{Router}
+use Rattle.lsr_facts.specs.declared.tunnel.Tunnel.{Tunnel}
+use Rattle.lsr_facts.specs.declared.tunnel.TunnelLsp.{TunnelLsp}
 use Rattle.resv_facts.specs.Reservations.{expire, lives_past, style_of}
+use Rattle.resv_facts.specs.declared.resv_fact.ResvFact.{ResvFact}
 use Rattle.resv_facts.specs.declared.resv_fact.ResvStyle.{ResvStyle}
+use Rattle.router_events.specs.declared.commands.Command.{Command}
+use Rattle.router_events.specs.declared.commands.Command.TheVariants.{AddTunnel, ChangeTunnel, CancelChange, DropTunnel, AddBypass, DropBypass, AddRoute, DropRoute}
 use Rattle.router_events.specs.declared.ways.ArrivalWay.{ArrivalWay}
 use Rattle.router_events.specs.declared.ways.ArrivalWay.TheVariants as ways
 use Rattle.router_events.specs.declared.ways.Arrive.{Arrive}
@@ -51,7 +56,11 @@ use Rattle.router_events.specs.declared.ways.Relay.{Relay}
 use Rattle.router_events.specs.declared.events.Event.TheVariants as events
 use Rattle.router_events.specs.declared.events.Event.{Event}
 use Rattle.router_events.specs.declared.events.Output.{Output}
-use Rattle.abstract_paths.proofs.PathTable.{path_known}
+use Rattle.abstract_paths.proofs.Alongside.{commanded-all, commanded-time, noted_of-same, signalled-all, signalled-same}
+use Rattle.abstract_paths.proofs.Commanding.{MayAsk, command-stands}
+use Rattle.abstract_paths.proofs.Heads.{head_known}
+use Rattle.abstract_paths.specs.Commands.{begun_by, command, commanded, refusal_of}
+use Rattle.abstract_paths.specs.Heads.{head_path, signalled}
 use Rattle.abstract_paths.proofs.EventStanding.{LeavesStanding, link_change-stands, path_err_passed_on-stands, path_arrival-stands, path_fits, tick-stands, torn-stands}
 use Rattle.abstract_paths.specs.Links.{link_change}
 use Rattle.abstract_paths.specs.Outcomes as paths
@@ -66,7 +75,7 @@ use Rattle.abstract_router.specs.Lsps.{lsps_of}
 use Rattle.abstract_router.specs.Wanted.{items_of}
 use Rattle.abstract_paths.specs.Relays.{relay, relayed_by}
 use Rattle.abstract_paths.specs.Routing.{route_to}
-use Rattle.abstract_router.specs.Steps.{IsEvent}
+use Rattle.abstract_router.specs.Steps.{IsCommand, IsEvent}
 use Rattle.abstract_paths.specs.Tears.{is_torn_by, leaves_by, left_with, origins_without, path_err_passed_on, path_err_arrival, path_tear_arrival, torn}
 use Rattle.abstract_paths.specs.Time.{tick}
 use Rattle.rsvp_traffic.specs.TokenBuckets.{token_rate}
@@ -75,17 +84,17 @@ use Rattle.router_soundness.proofs.Granting.{IsGranted, granted_means, held_gran
 use Rattle.router_soundness.proofs.Holding.{held_where, held_with_facts}
 use Rattle.router_soundness.proofs.Settling.{Leaves, LeavesBy}
 use Rattle.router_soundness.specs.Drafted.{IsDrafted}
-use Rattle.abstract_router.specs.Arrivals.{arrival, arrival_by, for_reservations, is_done, labelled_path_arrival, lost, message_arrival, moment_comes, outcome, reading_arrival}
+use Rattle.abstract_router.specs.Arrivals.{arrival, arrival_by, command_comes, for_reservations, is_done, labelled_path_arrival, lost, message_arrival, moment_comes, outcome, reading_arrival}
 use Rattle.abstract_router.specs.Choosing.{CanLabel, HasLabel, HasLabelOrIsNew}
 use Rattle.abstract_router.specs.Errors.{unknown_style}
 use Rattle.abstract_router.specs.Labels.{has_free_label}
 use Rattle.abstract_router.specs.Preempting.{claims_of}
 use Rattle.abstract_router.specs.Upstreams.{upstream_of}
 use Rattle.resv_facts.specs.Claims.{rate_of_all, reserved_of}
-use Rattle.abstract_router.specs.Outcomes.{of_paths, refused}
+use Rattle.abstract_router.specs.Outcomes.{Outcome, of_paths, refused}
 use Rattle.abstract_router.specs.Reserving.{Progress, Verdict, Failed, PassedOver, Granted, all_descriptors, carried_on, key_in, next_descriptor, resv_arrival, resv_by, resv_failed, resv_replied, unknown_resv, verdict_of}
 use Rattle.abstract_router.specs.Soundness.{AreHeld, IsResv, IsSound}
-use Rattle.abstract_router.specs.States.{State, with_facts, with_resvs_where}
+use Rattle.abstract_router.specs.States.{State, is_one_of, with_facts, with_resvs_where, without_resvs}
 use Rattle.abstract_router.specs.Tearing.{is_resv_torn_by, resv_err_passed_on, err_onward, resv_err_arrival, resv_tear_arrival}
 
 -- A path event keeps what reservations look at, and leaves paths that can be labelled: a silent one keeps all, any other
@@ -97,23 +106,36 @@ KeepsBy r labels s false after = (after.moment ≡ s.moment) × CanLabel r label
 abbrev Keeps : Router → List (Key × ℕ) → Facts → paths.PathOutcome → Type 0
 Keeps r labels s o = KeepsBy r labels s o.is_silent o.after
 
--- a Path is in error and leaves the paths, or is done and puts its own
-abbrev pub Puts : Facts → Path → paths.PathOutcome → Type 0
-Puts s p o = (o.is_silent ≡ false) × (o.after.moment ≡ s.moment) × ((o.after.paths ≡ s.paths) ⊎ ((fact : PathFact) × (is_done o.reply ≡ true) × (o.after.paths ≡ put key_cmp (key_of p) fact s.paths)))
+-- a Path is refused and leaves the facts; or is in error and leaves the paths; or is done and puts its own, of an LSP that
+-- doesn't begin here
+abbrev pub PutsOwn : Router → Facts → Path → paths.PathOutcome → Type 0
+PutsOwn r s p o = (fact : PathFact) × (is_head r s.tunnels (key_of p) ≡ false) × (is_done o.reply ≡ true) × (o.after.paths ≡ put key_cmp (key_of p) fact s.paths)
 
-puts_on_its_way : (r : Router) (s : Facts) (known : Option PathFact) (link : ℕ) (p : Path) (way : Result Choice RsvpError) → Puts s p (path_on_its_way r s known link p way)
+abbrev pub PutsBy : Router → Facts → Path → Bool → paths.PathOutcome → Type 0
+PutsBy r s p true o = o.after ≡ s
+PutsBy r s p false o = (o.after.moment ≡ s.moment) × ((o.after.paths ≡ s.paths) ⊎ PutsOwn r s p o)
+
+abbrev pub Puts : Router → Facts → Path → paths.PathOutcome → Type 0
+Puts r s p o = PutsBy r s p o.is_silent o
+
+puts_on_its_way : (r : Router) (s : Facts) (known : Option PathFact) (link : ℕ) (p : Path) (way : Result Choice RsvpError) → is_head r s.tunnels (key_of p) ≡ false → Puts r s p (path_on_its_way r s known link p way)
 unfolding path_on_its_way
-puts_on_its_way r s known link p (Err e) = (refl, refl, inl refl)
-puts_on_its_way r s known link p (Ok way) =
-    cond_both (is_none known && nat_le 1024 (length s.paths)) (failed r s link p system_error) (taken r s known link p way) (Puts s p) (λ full. (refl, refl, inl refl)) (λ room. (refl, refl, inr (path_by s.moment known link p way, refl, refl)))
+puts_on_its_way r s known link p (Err e) other = (refl, inl refl)
+puts_on_its_way r s known link p (Ok way) other =
+    cond_both (is_none known && nat_le 1024 (length s.paths)) (failed r s link p system_error) (taken r s known link p way) (Puts r s p) (λ full. (refl, inl refl)) (λ room. (refl, inr (path_by s.moment known link p way, other, refl, refl)))
 
-pub puts_path : (r : Router) (s : Facts) (link : ℕ) (p : Path) → Puts s p (path_arrival r s link p)
+pub puts_path : (r : Router) (s : Facts) (link : ℕ) (p : Path) → Puts r s p (path_arrival r s link p)
 unfolding path_arrival
 puts_path r s link p =
-    cond_both (not (p.label_request.l3pid == 0x0800)) _ _ (Puts s p) (λ a. (refl, refl, inl refl))
-    (λ a. cond_both (is_none (token_rate 1 p.tspec)) _ _ (Puts s p) (λ b. (refl, refl, inl refl))
-    (λ b. cond_both (has_loop r p.recorded) _ _ (Puts s p) (λ c. (refl, refl, inl refl))
-    (λ c. puts_on_its_way r s (find key_cmp (key_of p) s.paths) link p (way_for (place_of r s) (find key_cmp (key_of p) s.paths) p))))
+    cond_both (is_head r s.tunnels (key_of p)) _ _ (Puts r s p) (λ head. refl)
+    (λ other. cond_both (not (p.label_request.l3pid == 0x0800)) _ _ (Puts r s p) (λ a. (refl, inl refl))
+    (λ a. cond_both (is_none (token_rate 1 p.tspec)) _ _ (Puts r s p) (λ b. (refl, inl refl))
+    (λ b. cond_both (has_loop r p.recorded) _ _ (Puts r s p) (λ c. (refl, inl refl))
+    (λ c. puts_on_its_way r s (find key_cmp (key_of p) s.paths) link p (way_for (place_of r s) (find key_cmp (key_of p) s.paths) p) other))))
+
+-- the path of a tunnel's LSP needs no label
+head_has : (labels : List (Key × ℕ)) (key : Key) (tunnel : Tunnel) (lsp : TunnelLsp) (way : Choice) → HasLabel labels (key, head_path tunnel lsp way)
+head_has labels key tunnel lsp way ours = absurd (let e = ours in cc)
 
 module _ (r : Router) (labels : List (Key × ℕ)) (s : Facts) (has : AllByRecursion (HasLabel labels) s.paths) where
   -- a path that is put where one was known has its label too, as long as neither begins here
@@ -135,7 +157,9 @@ module _ (r : Router) (labels : List (Key × ℕ)) (s : Facts) (has : AllByRecur
 
   keeps_passed : (link : ℕ) (e : PathErr) (known : Option PathFact) → Keeps r labels s (path_err_passed_on s link e known)
   keeps_passed link e None = refl
-  keeps_passed link e (Some fact) = cond_both (leaves_by link fact) _ _ (Keeps r labels s) (λ a. (refl, inl has)) (λ a. refl)
+  keeps_passed link e (Some fact) =
+      let same = noted_of-same e fact s in
+      cond_both (leaves_by link fact) _ _ (Keeps r labels s) (λ a. (ap (λ (x : Facts). x.moment) same, inl (subst (λ (x : Facts). AllByRecursion (HasLabel labels) x.paths) (sym same) has))) (λ a. refl)
 
   keeps_link : (number : ℕ) (up : Bool) → Keeps r labels s (link_change r s number up)
   unfolding link_change
@@ -259,21 +283,16 @@ resv_err-leaves r s link e is = by (filter_map (err_onward r s link e) e.descrip
     by [] = is
     by (one ∷ more) = unchanged r s is
 
--- a path that is known doesn't begin here
-not_head : (role : Role) → role ≢ roles.Head → not (begins_here role) ≡ true
-not_head roles.Tail other = refl
-not_head roles.Transit other = refl
-not_head roles.Head other = absurd (other refl)
-
 module _ (r : Router) (s : State) (p : Path) (is : IsSound r s) where
-  ours : (old : PathFact) → find key_cmp (key_of p) s.facts.paths ≡ Some old → not (begins_here old.role) ≡ true
-  ours old found =
-      not_head old.role (subst (λ o. IfSome o (λ f. standing.IsPath r s.facts.moment (key_of p, f))) found (path_known r s.facts.moment (key_of p) s.facts.paths is.paths.paths)).from_elsewhere
+  -- a path that is known under a key that is no head's doesn't begin here
+  ours : (old : PathFact) → is_head r s.facts.tunnels (key_of p) ≡ false → find key_cmp (key_of p) s.facts.paths ≡ Some old → not (begins_here old.role) ≡ true
+  ours old other found =
+      ap not (subst (λ (o : Option PathFact). IfSome o (λ f. standing.IsHeadOf r s.facts.tunnels (key_of p, f))) found (head_known r s.facts.tunnels (key_of p) s.facts.paths is.paths.heads) ∙ other)
 
   -- the path that is put can be labelled
-  can : (fact : PathFact) (o : Option PathFact) → find key_cmp (key_of p) s.facts.paths ≡ o → (true && is_none o && not (has_free_label r s.labels)) ≡ false → CanLabel r s.labels (put key_cmp (key_of p) fact s.facts.paths)
-  can fact (Some old) found room = inl (put_known r s.labels s.facts (labelled r s is) (key_of p) old fact found (ours old found))
-  can fact None found room =
+  can : (fact : PathFact) (o : Option PathFact) → is_head r s.facts.tunnels (key_of p) ≡ false → find key_cmp (key_of p) s.facts.paths ≡ o → (true && is_none o && not (has_free_label r s.labels)) ≡ false → CanLabel r s.labels (put key_cmp (key_of p) fact s.facts.paths)
+  can fact (Some old) other found room = inl (put_known r s.labels s.facts (labelled r s is) (key_of p) old fact found (ours old other found))
+  can fact None other found room =
       inr (
         key_of p,
         all-put_row key_cmp (HasLabelOrIsNew s.labels (key_of p)) (key_of p) fact (λ k tied. inl (sym (key_exact (key_of p) k tied))) (inl refl) s.facts.paths
@@ -281,12 +300,16 @@ module _ (r : Router) (s : State) (p : Path) (is : IsSound r s) where
         not-false _ room,
       )
 
-  path-keeps : (o : paths.PathOutcome) → Puts s.facts p o → (is_done o.reply && is_none (find key_cmp (key_of p) s.facts.paths) && not (has_free_label r s.labels)) ≡ false → Keeps r s.labels s.facts o
-  path-keeps o puts room = subst (λ b. KeepsBy r s.labels s.facts b o.after) (sym puts.0) (puts.1, by puts.2)
+  path-keeps : (o : paths.PathOutcome) → Puts r s.facts p o → (is_done o.reply && is_none (find key_cmp (key_of p) s.facts.paths) && not (has_free_label r s.labels)) ≡ false → Keeps r s.labels s.facts o
+  path-keeps o puts room = by_silence o.is_silent puts
     where
-      by : ((o.after.paths ≡ s.facts.paths) ⊎ ((fact : PathFact) × (is_done o.reply ≡ true) × (o.after.paths ≡ put key_cmp (key_of p) fact s.facts.paths))) → CanLabel r s.labels o.after.paths
+      by : ((o.after.paths ≡ s.facts.paths) ⊎ PutsOwn r s.facts p o) → CanLabel r s.labels o.after.paths
       by (inl same) = inl (subst (λ ps. AllByRecursion (HasLabel s.labels) ps) (sym same) (labelled r s is))
-      by (inr made) = subst (CanLabel r s.labels) (sym made.2) (can made.0 (find key_cmp (key_of p) s.facts.paths) refl (subst (λ d. (d && is_none (find key_cmp (key_of p) s.facts.paths) && not (has_free_label r s.labels)) ≡ false) made.1 room))
+      by (inr made) = subst (CanLabel r s.labels) (sym made.3) (can made.0 (find key_cmp (key_of p) s.facts.paths) made.1 refl (subst (λ d. (d && is_none (find key_cmp (key_of p) s.facts.paths) && not (has_free_label r s.labels)) ≡ false) made.2 room))
+
+      by_silence : (silent : Bool) → PutsBy r s.facts p silent o → KeepsBy r s.labels s.facts silent o.after
+      by_silence true same = same
+      by_silence false made = (made.0, by made.1)
 
 -- a Path
 path-leaves : (r : Router) (s : State) (link : ℕ) (p : Path) → IsSound r s → LeavesStanding r (path_arrival r s.facts link p) → Leaves r s (labelled_path_arrival r s link p)
@@ -356,14 +379,49 @@ unfolding moment_comes tick expire lifetimes.expire
 tick-leaves r s n is =
     cond_both (nat_lt (2 ^ 62) n) _ _ (λ o. LeavesStanding r o → Leaves r s (for_reservations r s n (of_paths s o))) (λ above. λ leaves. is)
     (λ most. cond_both (nat_lt n s.facts.moment) _ _ (λ o. LeavesStanding r o → Leaves r s (for_reservations r s n (of_paths s o))) (λ below. λ leaves. is)
-    (λ later. λ leaves. record {
+    (λ later. λ leaves.
+    let living = record s.facts { moment = n; paths = lifetimes.expire n s.facts.paths } in
+    record {
       paths = leaves;
-      held = held_with_facts r (with_resvs_where (λ resv. lives_past n resv.1) s) (record s.facts { moment = n; paths = lifetimes.expire n s.facts.paths }) (held_where r s (λ resv. lives_past n resv.1) is.held)
+      held = held_with_facts r (with_resvs_where (λ resv. lives_past n resv.1) s) (signalled r living) (held_where r s (λ resv. lives_past n resv.1) is.held)
+          (subst (λ (m : ℕ). AllByRecursion (IsResv m) (filter (λ (resv : Key × ResvFact). lives_past n resv.1) s.resvs)) (sym (ap (λ (x : Facts). x.moment) (signalled-same r living)))
           (all-both (IsResv s.facts.moment) (λ resv. lives_past n resv.1 ≡ true) (IsResv n) (λ resv was lives. record { has_rate = was.has_rate; label = was.label; live = omega (arith, ltb-true n resv.1.expiry lives); recorded = was.recorded; passing = was.passing; passed_on = was.passed_on; adspec_last = was.adspec_last }) (filter (λ resv. lives_past n resv.1) s.resvs)
-          (all-filter (IsResv s.facts.moment) (λ resv. lives_past n resv.1) s.resvs is.held.each) (all-filter_passes (λ resv. lives_past n resv.1 ≡ true) (λ resv. lives_past n resv.1) (λ resv passes. passes) s.resvs));
+          (all-filter (IsResv s.facts.moment) (λ resv. lives_past n resv.1) s.resvs is.held.each) (all-filter_passes (λ resv. lives_past n resv.1 ≡ true) (λ resv. lives_past n resv.1) (λ resv passes. passes) s.resvs)));
       labels = refl;
-      choice = inl (all-map (HasLabel s.labels) (lifetimes.with_living n) (filter (lifetimes.lives_on n) s.facts.paths) (all-filter (HasLabel s.labels) (lifetimes.lives_on n) s.facts.paths (labelled r s is)));
+      choice = inl (signalled-all r (HasLabel s.labels) (head_has s.labels) living
+          (all-map (HasLabel s.labels) (lifetimes.with_living n) (filter (lifetimes.lives_on n) s.facts.paths) (all-filter (HasLabel s.labels) (lifetimes.lives_on n) s.facts.paths (labelled r s is))));
     }))
+
+-- what a command may ask for that can be
+may_ask : (c : Command) → IsCommand c → MayAsk c
+may_ask (AddTunnel t) can = can
+may_ask (ChangeTunnel c) can = can
+may_ask (CancelChange number) can = tt
+may_ask (DropTunnel number) can = tt
+may_ask (AddBypass bypass) can = tt
+may_ask (DropBypass number) can = tt
+may_ask (AddRoute prefix link) can = tt
+may_ask (DropRoute prefix) can = tt
+
+-- a command
+command-leaves : (r : Router) (s : State) (c : Command) → IsSound r s → LeavesStanding r (command r s.facts c) → Leaves r s (command_comes r s c)
+unfolding command_comes command
+command-leaves r s c is = by (refusal_of r s.facts c)
+  where
+    done_by : paths.PathOutcome → Outcome
+    done_by o = if o.is_silent then of_paths s o else record (of_paths s o) { after = without_resvs (option_to_list (begun_by r s.facts c)) (with_facts o.after s) }
+
+    by : (refusal : Option Refusal) → LeavesStanding r (option_map_or (paths.refused s.facts) refusal (paths.done [] (commanded r s.facts c))) → Leaves r s (done_by (option_map_or (paths.refused s.facts) refusal (paths.done [] (commanded r s.facts c))))
+    by (Some refusal) leaves = is
+    by None leaves =
+        let after = commanded r s.facts c in
+        record {
+          paths = leaves;
+          held = held_where r (with_facts after s) (λ resv. not (is_one_of (option_to_list (begun_by r s.facts c)) resv.0))
+              (held_with_facts r s after is.held (subst (λ (m : ℕ). AllByRecursion (IsResv m) s.resvs) (sym (commanded-time r s.facts c).moment) is.held.each));
+          labels = refl;
+          choice = inl (commanded-all r (HasLabel s.labels) (head_has s.labels) s.facts c (labelled r s is));
+        }
 
 -- What is lost by a restart leaves nothing but links, static routes and the moment.
 lost-sound : (r : Router) (s : State) → IsSound r s → IsSound r (lost s).after
@@ -393,10 +451,12 @@ started-sound r s is = record {
 pub outcome-leaves : (r : Router) (s : State) (event : Event) → IsRouter r → IsSound r s → IsEvent event → (s.facts.cold ≡ true → event ≡ events.Start) → Leaves r s (outcome r s event)
 outcome-leaves r s (events.Arrive a) router is possible awake = arrival-leaves r s a router (runs_for s.facts.cold (events.Arrive a) (λ e. cc) awake) is possible
 outcome-leaves r s (events.Relay m) router is possible awake = relay-leaves r s m is
-outcome-leaves r s (events.Tick n) router is possible awake = tick-leaves r s n is (tick-stands r s.facts n is.paths)
+outcome-leaves r s (events.Tick n) router is possible awake = tick-leaves r s n is (tick-stands r s.facts n router (runs_for s.facts.cold (events.Tick n) (λ e. cc) awake) is.paths)
 outcome-leaves r s (events.LinkUp number) router is possible awake =
     of_paths-leaves r s (link_change r s.facts number true) is (link_change-stands r s.facts number true router is.paths) (keeps_link r s.labels s.facts (labelled r s is) number true)
 outcome-leaves r s (events.LinkDown number) router is possible awake =
     of_paths-leaves r s (link_change r s.facts number false) is (link_change-stands r s.facts number false router is.paths) (keeps_link r s.labels s.facts (labelled r s is) number false)
+outcome-leaves r s (events.Command c) router is possible awake =
+    command-leaves r s c is (command-stands r s.facts router (runs_for s.facts.cold (events.Command c) (λ e. cc) awake) is.paths c (may_ask c possible))
 outcome-leaves r s events.Restart router is possible awake = lost-sound r s is
 outcome-leaves r s events.Start router is possible awake = started-sound r s is

@@ -1,28 +1,34 @@
--- Each entry of the label table stands on a path that is known.
+-- Each entry of the label table stands on a path that is known, and each of the table of tunnels on a tunnel.
 use Rattle.std.specs.Prelude.{◌≡◌, ℕ, ◌==◌, true, false, cond, if◌then◌else◌, List, [], ◌∷◌, filter_map, find as find_first, map, Option, Some, None, IfSome}
 use Rattle.std.specs.FinMap.Entries.{find}
 use Rattle.std.specs.List.{AllByRecursion, cons_option}
 use Rattle.std.specs.Option.{option_and_then, option_map, option_map_or, unwrap_or}
-use Rattle.std.proofs.Common.{refl, ap, subst, ◌∙◌, inl, inr}
+use Rattle.std.specs.Ordering.{nat_cmp}
+use Rattle.std.proofs.Common.{refl, ap, sym, subst, ◌∙◌, inl, inr}
 use Rattle.std.proofs.lemmas.Bool.{and_parts, eqb-true}
+use Rattle.std.proofs.lemmas.Cmp.{nat_cmp_total}
+use Rattle.std.proofs.lemmas.Map.Lookups.{exact_unsigned}
 use Rattle.sorted_rows.specs.RowsLaws.{all_found, find-all_row}
 use Rattle.lsr_facts.specs.OrderLaws.{key_exact, key_total}
 use Rattle.lsr_facts.specs.Orders.{key_cmp}
+use Rattle.lsr_facts.specs.Tunnels.{current_key}
 use Rattle.lsr_facts.specs.declared.key.Key.{Key}
 use Rattle.lsr_facts.specs.declared.path_fact.PathFact.{PathFact}
 use Rattle.lsr_facts.specs.declared.router.Router.{Router}
+use Rattle.lsr_facts.specs.declared.tunnel.Tunnel.{Tunnel}
 use Rattle.forwarding_table.specs.declared.action.Action.{Action}
-use Rattle.forwarding_table.specs.declared.action.Action.TheVariants.{Pop, Swap}
+use Rattle.forwarding_table.specs.declared.action.Action.TheVariants.{Pop, PushHead, Swap}
 use Rattle.resv_facts.specs.Reservations.{timeless_resv}
 use Rattle.resv_facts.specs.declared.resv_fact.ResvFact.{ResvFact}
 use Rattle.abstract_paths.specs.Paths.{goes_on}
 use Rattle.abstract_paths.specs.Places.{is_up}
 use Rattle.abstract_paths.specs.Tears.{leaves_by}
+use Rattle.abstract_paths.specs.TouchedLaws.{find-made}
 use Rattle.abstract_router.specs.Lsps.{Lsp, lsp_of, lsps_of}
 use Rattle.abstract_router.specs.Soundness.{IsSound}
 use Rattle.abstract_router.specs.States.{State}
 use Rattle.abstract_router.specs.Steps.{stands}
-use Rattle.abstract_router.specs.Tables.{IsActionOf, IsEntry, action_of, entry_of, look, table_of}
+use Rattle.abstract_router.specs.Tables.{IsActionOf, IsEntry, IsTunnelEntry, action_of, entry_of, look, look_tunnel, push_of, table_of, tunnel_table_of}
 
 module _ (r : Router) (s : State) (is : IsSound r s) where
   -- a reservation that is found is over a link that is up
@@ -74,6 +80,20 @@ module _ (r : Router) (s : State) (is : IsSound r s) where
           | false ↦ λ off. λ e. of_entries label action paths known.1 e
         ] refl
       ] refl
+
+-- Each entry of the table of tunnels stands on a tunnel that is known, and on a reservation of its current LSP.
+pub tunnel_entry_stands : (r : Router) (s : State) (number : ℕ) (action : Action) → IsSound r s → look_tunnel r s number ≡ Some action → IsTunnelEntry r s number action
+unfolding look_tunnel tunnel_table_of
+tunnel_entry_stands r s number action is at =
+    by (find nat_cmp number s.facts.tunnels) refl (sym (find-made nat_cmp nat_cmp_total exact_unsigned (push_of r s) number s.facts.tunnels is.paths.tunnels.in_order) ∙ at)
+  where
+    by_resv : (tunnel : Tunnel) → find nat_cmp number s.facts.tunnels ≡ Some tunnel → (o : Option ResvFact) → find key_cmp (current_key r (number, tunnel)) s.resvs ≡ o → option_map (λ resv. PushHead None resv.label resv.link) o ≡ Some action → IsTunnelEntry r s number action
+    by_resv tunnel known None none e = absurd (let h = e in cc)
+    by_resv tunnel known (Some resv) found e = record { tunnel = tunnel; known = known; resv = resv; reserved = found; pushed = (let h = e in cc); up = over_up r s is (current_key r (number, tunnel)) resv found }
+
+    by : (o : Option Tunnel) → find nat_cmp number s.facts.tunnels ≡ o → option_and_then (λ (t : Tunnel). push_of r s (number, t)) o ≡ Some action → IsTunnelEntry r s number action
+    by None none e = absurd (let h = e in cc)
+    by (Some tunnel) known e = by_resv tunnel known (find key_cmp (current_key r (number, tunnel)) s.resvs) refl e
 
 -- Each entry of the table stands on a path that is known.
 pub entry_stands : (r : Router) (s : State) (label : ℕ) (action : Action) → IsSound r s → look s label ≡ Some action → IsEntry s label action

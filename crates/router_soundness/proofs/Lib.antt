@@ -9,3 +9,4 @@ pub mod Running
 pub mod Settling
 pub mod Silence
 pub mod Stepping
+pub mod TakingOver

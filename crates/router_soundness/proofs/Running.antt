@@ -3,8 +3,12 @@ use Rattle.std.specs.Prelude.{ℕ, List, [], ◌∷◌}
 use Rattle.std.specs.List.{IsDistinct}
 use Rattle.std.proofs.Common.{refl, sym, subst, arith}
 use Rattle.rsvp_routes.specs.declared.prefix.Prefix.{Prefix}
+use Rattle.lsr_facts.specs.Bypasses.{AreBypasses}
 use Rattle.lsr_facts.specs.Routers.{AreRoutes, IsRouter}
+use Rattle.lsr_facts.specs.Tunnels.{AreTunnels}
+use Rattle.lsr_facts.specs.declared.bypass.Bypass.{Bypass}
 use Rattle.lsr_facts.specs.declared.router.Router.{Router}
+use Rattle.lsr_facts.specs.declared.tunnel.Tunnel.{Tunnel}
 use Rattle.router_events.specs.declared.events.Made.{Made}
 use Rattle.resv_facts.specs.Claims.{rate_of_all, reserved_of}
 use Rattle.abstract_paths.proofs.Primitives.{opening_stands}
@@ -20,10 +24,10 @@ use Rattle.abstract_router.specs.Steps.{Run, Step, opening}
 use Rattle.abstract_router.specs.Upstreams.{upstream_of}
 
 -- A router is opened sound.
-pub sound_opening : (r : Router) (routes : List (Prefix × ℕ)) → IsRouter r → AreRoutes r routes → IsSound r (opening r routes)
+pub sound_opening : (r : Router) (routes : List (Prefix × ℕ)) (tunnels : List (ℕ × Tunnel)) (bypasses : List (ℕ × Bypass)) → IsRouter r → AreRoutes r routes → AreTunnels r tunnels → AreBypasses r tunnels bypasses → IsSound r (opening r routes tunnels bypasses)
 unfolding claims_of reserved_of rate_of_all items_of upstream_of lsps_of IsDistinct
-sound_opening r routes router are = record {
-  paths = opening_stands r routes are;
+sound_opening r routes tunnels bypasses router are begin protect = record {
+  paths = opening_stands r routes tunnels bypasses are begin protect;
   held = record { in_order = tt; each = tt; one_style = λ a b x y at_a at_b. absurd (let e = at_a in cc); within = λ link priority most. omega arith };
   standing = tt;
   labels = record { of_lsps = refl; from_first = tt; to_last = tt; apart = tt };

@@ -1,5 +1,7 @@
 -- What follows from an event's own change makes the state sound again.
-use Rattle.std.specs.Prelude.{◌≡◌, ℕ, Bool, true, false, if◌then◌else◌, List}
+use Rattle.std.specs.Prelude.{◌≡◌, ℕ, Bool, true, false, if◌then◌else◌, List, filter, is_none}
+use Rattle.std.specs.FinMap.Entries.{find}
+use Rattle.std.proofs.Common.{ap, sym, ◌∙◌}
 use Rattle.sorted_rows.specs.ListLaws.{all-filter_passes}
 use Rattle.sorted_rows.specs.Rows.{keys_of}
 use Rattle.lsr_facts.specs.declared.key.Key.{Key}
@@ -7,8 +9,9 @@ use Rattle.lsr_facts.specs.declared.router.Router.{Router}
 use Rattle.abstract_paths.proofs.Primitives.{sound_sent}
 use Rattle.abstract_paths.specs.StampLaws.{keys-stamps}
 use Rattle.resv_facts.specs.Upstreams.{upstream_cmp}
-use Rattle.router_soundness.proofs.Holding.{held_where}
+use Rattle.router_soundness.proofs.Holding.{held_where, held_with_facts}
 use Rattle.router_soundness.proofs.Labelling.{labelled_after}
+use Rattle.router_soundness.proofs.TakingOver.{labelled_taken, standing_taken}
 use Rattle.abstract_router.specs.Upstreams.{upstream_of}
 use Rattle.abstract_router.specs.Labels.{IsLabelling}
 use Rattle.abstract_router.specs.Outcomes.{Outcome}
@@ -16,10 +19,11 @@ use Rattle.abstract_router.specs.Lsps.{lsps_of}
 use Rattle.router_soundness.specs.Drafted.{IsDrafted}
 use Rattle.abstract_router.specs.Outputs.{item_stamps, upstream_stamps}
 use Rattle.abstract_router.specs.Wanted.{items_of}
-use Rattle.lsr_facts.specs.Orders.{item_cmp}
+use Rattle.abstract_paths.specs.Soundness.{IsStanding}
+use Rattle.lsr_facts.specs.Orders.{item_cmp, key_cmp}
 use Rattle.abstract_router.specs.Soundness.{AreLabelled, IsSound}
 use Rattle.abstract_router.specs.States.{State}
-use Rattle.abstract_router.specs.Steps.{settled, stands, with_moments, known_after, MayChoose, MayChooseBy}
+use Rattle.abstract_router.specs.Steps.{settled, stands, taken_over, with_moments, known_after, MayChoose, MayChooseBy}
 
 -- an outcome leaves the state sound, or such that what follows makes it so
 abbrev pub LeavesBy : Router → State → Bool → State → Type 0
@@ -38,16 +42,23 @@ stamped_upstream : (r : Router) (before : State) (o : Outcome) (s : State) → k
 unfolding upstream_stamps upstream_of lsps_of
 stamped_upstream r before o s = keys-stamps upstream_cmp o.upstream_due (upstream_of r before) before.sent_upstream s.facts.moment (upstream_of r s)
 
+-- The labels that may be chosen are the same once tunnels have gone over to their new LSPs: those have none.
+labelling_taken : (r : Router) (labels : List (Key × ℕ)) (s : State) (chosen : List (Key × ℕ)) → IsStanding r s.facts → IsLabelling r labels s.facts.paths chosen → IsLabelling r labels (taken_over r s).facts.paths chosen
+labelling_taken r labels s chosen is may = record { of_new = may.of_new ∙ ap (filter (λ key. is_none (find key_cmp key labels))) (sym (labelled_taken r s is)); given = may.given; apart = may.apart }
+
 -- The state is sound once all that follows has been done.
 pub sound_settled : (r : Router) (before : State) (o : Outcome) (chosen : List (Key × ℕ)) → AreLabelled r before → IsDrafted r before o.after → IsLabelling r before.labels o.after.facts.paths chosen
     → IsSound r (with_moments r before o (settled r chosen o.after))
+unfolding taken_over
 sound_settled r before o chosen were drafted may =
-    let standing = held_where r o.after (stands o.after.facts) drafted.held in
-    let labels = labelled_after r before o.after chosen were drafted.labels drafted.paths.paths.in_order may in
+    let s = taken_over r o.after in
+    let paths = standing_taken r o.after drafted.paths in
+    let standing = held_where r s (stands s.facts) (held_with_facts r o.after s.facts drafted.held drafted.held.each) in
+    let labels = labelled_after r before s chosen were drafted.labels paths.paths.in_order (labelling_taken r before.labels o.after chosen drafted.paths may) in
     record {
-      paths = sound_sent r o.after.facts (item_stamps r before o.due (settled r chosen o.after)) drafted.paths;
+      paths = sound_sent r s.facts (item_stamps r before o.due (settled r chosen o.after)) paths;
       held = record { in_order = standing.in_order; each = standing.each; one_style = standing.one_style; within = standing.within };
-      standing = all-filter_passes (λ resv. stands o.after.facts resv ≡ true) (stands o.after.facts) (λ resv passes. passes) o.after.resvs;
+      standing = all-filter_passes (λ resv. stands s.facts resv ≡ true) (stands s.facts) (λ resv passes. passes) o.after.resvs;
       labels = record { of_lsps = labels.of_lsps; from_first = labels.from_first; to_last = labels.to_last; apart = labels.apart };
       sent = stamped_items r before o (settled r chosen o.after);
       sent_upstream = stamped_upstream r before o (settled r chosen o.after);

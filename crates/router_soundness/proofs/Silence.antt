@@ -1,12 +1,13 @@
 -- An event that is silent changes nothing, but for a restart, and a start of a router that is cold.
-use Rattle.router_soundness.proofs.Drafting.{puts_path}
-use Rattle.abstract_router.specs.Arrivals.{arrival, arrival_by, for_reservations, is_done, labelled_path_arrival, message_arrival, moment_comes, outcome, reading_arrival}
+use Rattle.router_soundness.proofs.Drafting.{PutsBy, puts_path}
+use Rattle.abstract_router.specs.Arrivals.{arrival, arrival_by, command_comes, for_reservations, is_done, labelled_path_arrival, message_arrival, moment_comes, outcome, reading_arrival}
 use Rattle.abstract_router.specs.Errors.{unknown_style}
 use Rattle.abstract_router.specs.Labels.{has_free_label}
 use Rattle.abstract_router.specs.Outcomes.{Outcome, of_paths, refused}
 use Rattle.abstract_router.specs.Reserving.{Progress, all_descriptors, resv_arrival, resv_failed, resv_replied, unknown_resv}
-use Rattle.abstract_router.specs.States.{State, with_facts}
+use Rattle.abstract_router.specs.States.{State, with_facts, without_resvs}
 use Rattle.abstract_router.specs.Tearing.{err_onward, is_resv_torn_by, resv_err_passed_on, resv_err_arrival, resv_tear_arrival}
+use Rattle.abstract_paths.specs.Commands.{begun_by, command, commanded, refusal_of}
 use Rattle.abstract_paths.specs.Links.{link_change}
 use Rattle.abstract_paths.specs.Outcomes as path_outcomes
 use Rattle.abstract_paths.specs.Outcomes.{lsp}
@@ -21,10 +22,12 @@ use Rattle.lsr_facts.specs.Routers.{link_at}
 use Rattle.lsr_facts.specs.declared.errors.RsvpError.{RsvpError}
 use Rattle.lsr_facts.specs.declared.facts.Facts.{Facts}
 use Rattle.lsr_facts.specs.declared.path_fact.PathFact.{PathFact}
+use Rattle.lsr_facts.specs.declared.refusal.Refusal.{Refusal}
 use Rattle.lsr_facts.specs.declared.refusal.Refusal.TheVariants.{LinkDown, NoMatch, UnknownLink}
 use Rattle.lsr_facts.specs.declared.router.Router.{Router}
 use Rattle.resv_facts.specs.Reservations.{style_of}
 use Rattle.resv_facts.specs.declared.resv_fact.ResvStyle.{ResvStyle}
+use Rattle.router_events.specs.declared.commands.Command.{Command}
 use Rattle.router_events.specs.declared.ways.ArrivalWay.{ArrivalWay}
 use Rattle.router_events.specs.declared.ways.ArrivalWay.TheVariants as ways
 use Rattle.router_events.specs.declared.ways.Arrive.{Arrive}
@@ -47,7 +50,7 @@ use Rattle.std.proofs.lemmas.Bool.{cond_both}
 use Rattle.std.specs.FinMap.Entries.{find}
 use Rattle.std.specs.List.{list_any}
 use Rattle.std.specs.Option.{option_map_or}
-use Rattle.std.specs.Prelude.{ℕ, Bool, List, None, Option, Some, [], false, filter_map, is_none, nat_lt, not, true, ◌&&◌, ◌^◌, ◌∷◌, ◌≡◌, ◌≢◌}
+use Rattle.std.specs.Prelude.{ℕ, Bool, List, None, Option, Some, [], false, filter_map, is_none, option_to_list, if◌then◌else◌, nat_lt, not, true, ◌&&◌, ◌^◌, ◌∷◌, ◌≡◌, ◌≢◌}
 
 -- an outcome that is silent leaves the state as it was
 abbrev pub KeepsSilently : State → Outcome → Type 0
@@ -56,6 +59,21 @@ KeepsSilently s o = o.is_silent ≡ true → o.after ≡ s
 -- so it is with paths
 abbrev PathsKeep : Facts → path_outcomes.PathOutcome → Type 0
 PathsKeep s o = o.is_silent ≡ true → o.after ≡ s
+
+puts-keep : (r : Router) (s : Facts) (p : Path) (o : path_outcomes.PathOutcome) (silent : Bool) → PutsBy r s p silent o → silent ≡ true → o.after ≡ s
+puts-keep r s p o true same silent = same
+puts-keep r s p o false made silent = absurd (let e = silent in cc)
+
+path_arrival-keeps : (r : Router) (s : Facts) (link : ℕ) (p : Path) → PathsKeep s (path_arrival r s link p)
+path_arrival-keeps r s link p = puts-keep r s p (path_arrival r s link p) (path_arrival r s link p).is_silent (puts_path r s link p)
+
+command-keeps : (r : Router) (s : Facts) (c : Command) → PathsKeep s (command r s c)
+unfolding command
+command-keeps r s c = by (refusal_of r s c)
+  where
+    by : (refusal : Option Refusal) → PathsKeep s (option_map_or (path_outcomes.refused s) refusal (path_outcomes.done [] (commanded r s c)))
+    by None = λ silent. absurd (let e = silent in cc)
+    by (Some refusal) = λ silent. refl
 
 torn-keeps : (s : Facts) (link : ℕ) (t : PathTear) (known : Option PathFact) → PathsKeep s (torn s link t known)
 torn-keeps s link t None = λ silent. refl
@@ -78,7 +96,7 @@ module _ (r : Router) (s : State) where
   unfolding labelled_path_arrival
   path-keeps link p =
       cond_both (is_done (path_arrival r s.facts link p).reply && is_none (find key_cmp (key_of p) s.facts.paths) && not (has_free_label r s.labels)) _ _ (KeepsSilently s)
-      (λ full silent. absurd (let e = silent in cc)) (λ room silent. absurd (let e = sym (puts_path r s.facts link p).0 ∙ silent in cc))
+      (λ full silent. absurd (let e = silent in cc)) (λ room. of_paths-keeps (path_arrival r s.facts link p) (path_arrival-keeps r s.facts link p))
 
   resv-keeps : (link : ℕ) (v : Resv) → KeepsSilently s (resv_arrival r s link v)
   unfolding resv_arrival
@@ -151,6 +169,17 @@ module _ (r : Router) (s : State) where
       cond_both (nat_lt (2 ^ 62) n) _ _ (λ o. KeepsSilently s (for_reservations r s n (of_paths s o))) (λ above silent. refl)
       (λ most. cond_both (nat_lt n s.facts.moment) _ _ (λ o. KeepsSilently s (for_reservations r s n (of_paths s o))) (λ below silent. refl) (λ later silent. absurd (let f = silent in cc)))
 
+  command_comes-keeps : (c : Command) → KeepsSilently s (command_comes r s c)
+  unfolding command_comes
+  command_comes-keeps c =
+      elim (command r s.facts c).is_silent as (λ b. (command r s.facts c).is_silent ≡ b → KeepsSilently s (if b then o else record o { after = without_resvs (option_to_list (begun_by r s.facts c)) o.after })) [
+        | true ↦ λ silent. of_paths-keeps (command r s.facts c) (command-keeps r s.facts c)
+        | false ↦ λ heard silent. absurd (let e = sym heard ∙ silent in cc)
+      ] refl
+    where
+      o : Outcome
+      o = of_paths s (command r s.facts c)
+
   -- A silent event leaves a running router as it was, but for a restart.
   pub silent_keeps : (event : Event) → s.facts.cold ≡ false → event ≢ events.Restart → KeepsSilently s (outcome r s event)
   silent_keeps (events.Arrive a) runs other = arrival-keeps a
@@ -158,5 +187,6 @@ module _ (r : Router) (s : State) where
   silent_keeps (events.Tick n) runs other = tick-keeps n
   silent_keeps (events.LinkUp number) runs other = of_paths-keeps (link_change r s.facts number true) (link-keeps r s.facts number true)
   silent_keeps (events.LinkDown number) runs other = of_paths-keeps (link_change r s.facts number false) (link-keeps r s.facts number false)
+  silent_keeps (events.Command c) runs other = command_comes-keeps c
   silent_keeps events.Restart runs other = absurd (other refl)
   silent_keeps events.Start runs other = λ silent. ap (λ cold. with_facts (record s.facts { cold = cold }) s) (sym runs)

@@ -1,5 +1,5 @@
 -- What holds of one step: it is determined, and what is refused is silent.
-use Rattle.std.specs.Prelude.{Bool, ◌≡◌, ◌&&◌, ℕ, not, true, false, if◌then◌else◌, List, [], ◌∷◌, filter_map, Option, Some, None, is_none}
+use Rattle.std.specs.Prelude.{Bool, ◌≡◌, ◌&&◌, ℕ, not, true, false, if◌then◌else◌, List, [], ◌∷◌, filter_map, Option, Some, None, is_none, option_to_list}
 use Rattle.std.specs.FinMap.Entries.{find}
 use Rattle.std.specs.List.{list_any}
 use Rattle.std.specs.Option.{option_map_or}
@@ -25,6 +25,7 @@ use Rattle.lsr_facts.specs.declared.reply.Reply.TheVariants as replies
 use Rattle.lsr_facts.specs.declared.router.Router.{Router}
 use Rattle.resv_facts.specs.Reservations.{expire, style_of}
 use Rattle.resv_facts.specs.declared.resv_fact.ResvStyle.{ResvStyle}
+use Rattle.router_events.specs.declared.commands.Command.{Command}
 use Rattle.router_events.specs.declared.ways.ArrivalWay.{ArrivalWay}
 use Rattle.router_events.specs.declared.ways.ArrivalWay.TheVariants as ways
 use Rattle.router_events.specs.declared.ways.Arrive.{Arrive}
@@ -35,6 +36,7 @@ use Rattle.router_events.specs.declared.events.Output.{Output}
 use Rattle.abstract_paths.proofs.Refusals as paths
 use Rattle.abstract_paths.specs.Outcomes as path_outcomes
 use Rattle.abstract_paths.specs.Paths.{key_of, path_arrival}
+use Rattle.abstract_paths.specs.Commands.{begun_by, command}
 use Rattle.abstract_paths.specs.Links.{link_change}
 use Rattle.abstract_paths.specs.Places.{is_up}
 use Rattle.abstract_paths.specs.Relays.{exceeds_hop_limit, relay}
@@ -45,12 +47,12 @@ use Rattle.router_soundness.proofs.Choosing.{labels_to_choose}
 use Rattle.router_soundness.proofs.Drafting.{outcome-leaves}
 use Rattle.router_soundness.proofs.Settling.{Leaves, LeavesBy}
 use Rattle.abstract_router.specs.Soundness.{IsSound}
-use Rattle.abstract_router.specs.Arrivals.{arrival, arrival_by, for_reservations, is_done, labelled_path_arrival, message_arrival, moment_comes, outcome, reading_arrival, unmerged}
+use Rattle.abstract_router.specs.Arrivals.{arrival, arrival_by, command_comes, for_reservations, is_done, labelled_path_arrival, message_arrival, moment_comes, outcome, reading_arrival, unmerged}
 use Rattle.abstract_router.specs.Errors.{unknown_style}
 use Rattle.abstract_router.specs.Labels.{has_free_label}
 use Rattle.abstract_router.specs.Outcomes.{Outcome, of_paths, refused}
 use Rattle.abstract_router.specs.Reserving.{Progress, all_descriptors, resv_arrival, resv_failed, resv_replied, unknown_resv}
-use Rattle.abstract_router.specs.States.{State, with_facts}
+use Rattle.abstract_router.specs.States.{State, with_facts, without_resvs}
 use Rattle.abstract_router.specs.Steps.{MayChoose, MayChooseBy, Step, known_after, sent_in, settled, with_moments}
 use Rattle.abstract_router.specs.Tearing.{err_onward, is_resv_torn_by, resv_err_passed_on, resv_err_arrival, resv_tear_arrival}
 
@@ -149,12 +151,27 @@ module _ (r : Router) (s : State) where
   unfolding moment_comes
   tick-refuses n = moment-refuses n (of_paths s (tick r s.facts n)) (of_paths-refuses (tick r s.facts n) (paths.tick-refuses r s.facts n))
 
+  command-refuses : (c : Command) → RefusesSilently s (command_comes r s c)
+  unfolding command_comes
+  command-refuses c refusal =
+      elim (command r s.facts c).is_silent as (λ b. (command r s.facts c).is_silent ≡ b → (if b then o else comes).reply ≡ replies.Refused refusal → ((if b then o else comes).is_silent ≡ true) × ((if b then o else comes).after ≡ s)) [
+        | true ↦ λ silent is. of_paths-refuses (command r s.facts c) (paths.command-refuses r s.facts c) refusal is
+        | false ↦ λ heard is. absurd (let h = (paths.command-refuses r s.facts c refusal is).0 in cc)
+      ] refl
+    where
+      o : Outcome
+      o = of_paths s (command r s.facts c)
+
+      comes : Outcome
+      comes = record o { after = without_resvs (option_to_list (begun_by r s.facts c)) o.after }
+
   outcome-refuses : (event : Event) → RefusesSilently s (outcome r s event)
   outcome-refuses (events.Arrive a) = arrival-refuses a
   outcome-refuses (events.Relay m) = of_paths-refuses (relay r s.facts m) (paths.relay-refuses r s.facts m)
   outcome-refuses (events.Tick n) = tick-refuses n
   outcome-refuses (events.LinkUp number) = of_paths-refuses (link_change r s.facts number true) (paths.link_change-refuses r s.facts number true)
   outcome-refuses (events.LinkDown number) = of_paths-refuses (link_change r s.facts number false) (paths.link_change-refuses r s.facts number false)
+  outcome-refuses (events.Command c) = command-refuses c
   outcome-refuses events.Restart = λ refusal is. cc
   outcome-refuses events.Start = λ refusal is. cc
 

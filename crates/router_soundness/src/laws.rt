@@ -17,7 +17,7 @@ ghost use Rattle.abstract_router.specs.Arrivals.{outcome};
 ghost use Rattle.abstract_router.specs.Soundness.{IsSound};
 ghost use Rattle.abstract_router.specs.States.{State};
 ghost use Rattle.abstract_router.specs.Steps.{IsEvent, MayChoose, Step};
-ghost use Rattle.abstract_router.specs.Tables.{IsEntry, look};
+ghost use Rattle.abstract_router.specs.Tables.{IsEntry, IsTunnelEntry, look, look_tunnel};
 
 /// A step is determined by the state, the event and the labels that are chosen: its reply, what is sent, and what is
 /// known after it.
@@ -57,6 +57,12 @@ pub fn refusals_are_silent()
 pub fn entries_stand_on_live_state()
     ensures { (r : Router) (s : State) (label : ℕ) (action : Action) →
         IsSound r s → look s label ≡ Some action → IsEntry s label action }
+{}
+
+/// Each entry of the table of tunnels stands on a live reservation of the tunnel's current LSP, whose link is up.
+pub fn tunnel_entries_stand_on_live_state()
+    ensures { (r : Router) (s : State) (number : ℕ) (action : Action) →
+        IsSound r s → look_tunnel r s number ≡ Some action → IsTunnelEntry r s number action }
 {}
 
 /// A frame whose label is swapped leaves over a link that is up.

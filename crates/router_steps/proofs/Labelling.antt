@@ -1,4 +1,4 @@
--- What a Path does where it needs a label: it is never silent; and what it does with a label, and without.
+-- What a Path does where it needs a label: when it isn't silent; and what it does with a label, and without.
 use Rattle.std.specs.Prelude.{◌≡◌, ◌&&◌, ℕ, Bool, true, false, not, is_none}
 use Rattle.std.specs.FinMap.Entries.{find}
 use Rattle.std.proofs.Common.{refl, sym, ap, ◌∙◌}
@@ -13,15 +13,13 @@ use Rattle.abstract_router.specs.Errors.{no_label}
 use Rattle.abstract_router.specs.Labels.{has_free_label}
 use Rattle.abstract_router.specs.Outcomes.{Outcome, of_paths}
 use Rattle.abstract_router.specs.States.{State}
-use Rattle.path_steps.specs.SilenceLaws.{path_speaks}
 
--- What a Path does where it needs a label is never silent.
-pub labelled_path_speaks : (r : Router) (s : State) (link : ℕ) (p : Path) → (labelled_path_arrival r s link p).is_silent ≡ false
+-- What a Path does where it needs a label isn't silent, where what it does of itself isn't.
+pub labelled_path_speaks : (r : Router) (s : State) (link : ℕ) (p : Path) → (path_arrival r s.facts link p).is_silent ≡ false → (labelled_path_arrival r s link p).is_silent ≡ false
 unfolding labelled_path_arrival
-labelled_path_speaks r s link p =
+labelled_path_speaks r s link p speaks =
     let o = path_arrival r s.facts link p in
-    cond_both (is_done o.reply && is_none (find key_cmp (key_of p) s.facts.paths) && not (has_free_label r s.labels)) _ _ (λ (o : Outcome). o.is_silent ≡ false) (λ none. refl)
-    (λ some. path_speaks r s.facts link p)
+    cond_both (is_done o.reply && is_none (find key_cmp (key_of p) s.facts.paths) && not (has_free_label r s.labels)) _ _ (λ (o : Outcome). o.is_silent ≡ false) (λ none. refl) (λ some. speaks)
 
 -- what a Path lacks that is answered this
 abbrev lacks : Router → State → Path → Reply → Bool

@@ -1,4 +1,4 @@
-//! What an event does: a message that comes, a moment, a link.
+//! What an event does: a message that comes, a moment, a link, a command.
 
 ghost use Rattle.std.specs.Prelude.{◌≡◌, ◌≢◌, IfOk, OnErr, false};
 ghost use Rattle.rsvp_contents.specs.Spelling.{IsMessage};
@@ -21,6 +21,7 @@ use router_events::{ArrivalWay, Arrive, Event, Outputs};
 use rsvp_contents::{Content, Reading};
 use state_views::{Draft, Edits, WholeState, refused};
 use std::alloc::{AllocError, Global};
+use tunnel_commands::command;
 
 /// What a message does that is read whole.
 fn message_arrival<V: WholeState>(
@@ -169,6 +170,7 @@ pub fn draft_of<V: WholeState>(alloc: Global, view: &V, event: &Event) -> Result
         Event::Tick(moment) => tick(alloc, view, *moment),
         Event::LinkUp(number) => link_change(alloc, view, *number, true),
         Event::LinkDown(number) => link_change(alloc, view, *number, false),
+        Event::Command(told) => command(alloc, view, told),
         Event::Restart => unreachable!(),
         Event::Start => Ok(Draft {
             reply: Reply::Done,

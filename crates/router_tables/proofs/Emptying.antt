@@ -19,7 +19,7 @@ unfolding claims_of reserved_of rate_of_all items_of upstream_of lsps_of IsDisti
 sound_emptied r s runs is =
     let empty = sound_restarted r s.facts is.paths in
     record {
-      paths = record { moment = empty.moment; links = empty.links; routes = empty.routes; paths = empty.paths; cold = λ cold. refl };
+      paths = record { moment = empty.moment; links = empty.links; routes = empty.routes; tunnels = empty.tunnels; bypasses = empty.bypasses; paths = empty.paths; heads = tt; cold = λ cold. refl };
       held = record { in_order = tt; each = tt; one_style = λ a b x y at_a at_b. absurd (let e = at_a in cc); within = λ link priority most. omega arith };
       standing = tt;
       labels = record { of_lsps = refl; from_first = tt; to_last = tt; apart = tt };

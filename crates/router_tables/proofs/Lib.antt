@@ -2,3 +2,4 @@ mod Applying
 mod Emptying
 mod Opening
 mod Rooms
+mod Taking

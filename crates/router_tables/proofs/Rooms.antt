@@ -1,7 +1,6 @@
 -- There is room in the tables for all that a sound router knows.
 use Rattle.std.specs.Prelude.{◌≡◌, ◌≤◌, ◌&&◌, ℕ, suc, Bool, true, false, T, List, [], ◌∷◌, filter_map, length, Option, Some, None, IfSome}
 use Rattle.std.specs.FinMap.Entries.{find, is_sorted, same_entries}
-use Rattle.std.specs.List.{cons_option}
 use Rattle.std.specs.Option.{option_and_then, option_map, option_map_or}
 use Rattle.std.proofs.Common.{refl, ap, arith, ◌∙◌}
 use Rattle.std.proofs.lemmas.List.{length-map}
@@ -25,16 +24,7 @@ use Rattle.abstract_router.specs.Steps.{stands}
 use Rattle.abstract_router.specs.UpstreamLaws.{upstream-few}
 use Rattle.abstract_router.specs.Upstreams.{upstream_of}
 use Rattle.abstract_router.specs.LabelLaws.{length-labelled}
-
--- one more at most
-length_cons : {A : Type 0} (o : Option A) (xs : List A) → length (cons_option o xs) ≤ suc (length xs)
-length_cons None xs = omega arith
-length_cons (Some x) xs = omega arith
-
--- no more are given than are asked
-length_asked : {A B : Type 0} (f : A → Option B) (xs : List A) → length (filter_map f xs) ≤ length xs
-length_asked f [] = omega arith
-length_asked f (x ∷ xs) = omega (arith, length_cons (f x) (filter_map f xs), length_asked f xs)
+use Rattle.label_table.specs.RowLaws.{length_asked}
 
 -- what the rows of paths say of reservations
 abbrev resv_rows : State → List (Key × ResvFact)
@@ -63,6 +53,9 @@ resvs_of_paths r s is =
 module _ (r : Router) (s : State) (is : IsSound r s) where
   pub few_paths : length s.facts.paths ≤ 1024
   few_paths = is.paths.paths.few
+
+  pub few_tunnels : length s.facts.tunnels ≤ 256
+  few_tunnels = is.paths.tunnels.few
 
   pub few_resvs : length s.resvs ≤ 1024
   few_resvs =

@@ -1,6 +1,7 @@
 -- What a change makes of what a router knows.
 use Rattle.std.specs.Prelude.{◌≡◌}
 use Rattle.std.specs.Option.{unwrap_or}
+use Rattle.std.specs.Ordering.{nat_cmp}
 use Rattle.sorted_rows.specs.Edits as rows
 use Rattle.lsr_facts.specs.Orders.{item_cmp, key_cmp}
 use Rattle.lsr_facts.specs.declared.router.Router.{Router}
@@ -10,6 +11,7 @@ use Rattle.abstract_router.specs.Soundness.{IsSound}
 use Rattle.abstract_router.specs.States.{State}
 use Rattle.admission.specs.Bandwidths.{AreEdits, claim_edits, resv_edits}
 use Rattle.label_table.specs.Rows.{AreTableEdits}
+use Rattle.label_table.specs.TunnelRows.{AreTunnelEdits}
 use Rattle.router_tables.specs.declared.change.Change.{Change}
 
 -- what is known after a change
@@ -18,6 +20,9 @@ changed c s = record {
   facts = record s.facts {
     moment = unwrap_or c.moment s.facts.moment;
     up = unwrap_or c.up s.facts.up;
+    routes = unwrap_or c.routes s.facts.routes;
+    tunnels = rows.edited nat_cmp c.tunnels s.facts.tunnels;
+    bypasses = unwrap_or c.bypasses s.facts.bypasses;
     paths = rows.edited key_cmp c.paths s.facts.paths;
     sent = rows.edited item_cmp c.moments s.facts.sent;
   };
@@ -27,9 +32,11 @@ changed c s = record {
 }
 
 -- The change is one of a router that knows this: what is known after it is sound, what reservations claim then is what
--- its edits make of their claims, and the label table after it is what its edits make of the table before.
+-- its edits make of their claims, and the label table and the table of tunnels after it are what its edits make of those
+-- before.
 pub record IsChange (r : Router) (s : State) (c : Change) : Type 0 where
   pub sound : IsSound r (changed c s)
   pub edits : AreEdits c.bandwidth
   pub claims : rows.edited key_cmp (claim_edits c.bandwidth) (claims_of s.facts.paths s.resvs) ≡ claims_of (changed c s).facts.paths (changed c s).resvs
   pub table : AreTableEdits s (changed c s) c.table
+  pub tunnel_table : AreTunnelEdits r s (changed c s) c.tunnel_table

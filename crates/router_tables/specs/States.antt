@@ -4,10 +4,12 @@ use Rattle.lsr_config.specs.Configs.{Setup}
 use Rattle.lsr_facts.specs.Routers.{IsRouter}
 use Rattle.lsr_facts.specs.declared.facts.Facts.{Facts}
 use Rattle.lsr_facts.specs.declared.router.Router.{Router}
+use Rattle.abstract_paths.specs.Restarts.{all_cancelled}
 use Rattle.abstract_router.specs.Preempting.{claims_of}
 use Rattle.abstract_router.specs.Soundness.{IsSound}
 use Rattle.abstract_router.specs.States.{State}
 use Rattle.abstract_router.specs.Steps.{opening}
+use Rattle.abstract_router.specs.Tables.{tunnel_table_of}
 use Rattle.label_table.specs.Rows.{IsTableOf}
 use Rattle.router_tables.specs.declared.rows.Rows.{Rows}
 
@@ -16,9 +18,18 @@ pub record RouterState : Type 0 where
   pub router : Router
   pub state : State
 
--- what the rows of a running router say of its paths
+-- what the rows of a running router say of links, tunnels and paths
 abbrev pub facts_of : Rows → Facts
-facts_of t = record { cold = false; moment = t.moment; up = t.up; routes = t.routes; paths = t.paths; sent = t.timers.sent }
+facts_of t = record {
+  cold = false;
+  moment = t.moment;
+  up = t.up;
+  routes = t.routes;
+  tunnels = t.tunnels;
+  bypasses = t.bypasses;
+  paths = t.paths;
+  sent = t.timers.sent;
+}
 
 -- and all that they say
 abbrev pub state_of : Rows → State
@@ -37,11 +48,18 @@ pub record AreTables (t : Rows) : Type 0 where
   pub claims : t.bandwidth.claims ≡ claims_of t.paths t.bandwidth.resvs
   pub range : t.labels.range ≡ t.router.labels
   pub table : IsTableOf (state_of t) t.table.labels
+  pub tunnel_table : t.table.tunnels ≡ tunnel_table_of t.router (state_of t)
 
 -- the router of a configuration as it is opened
 abbrev pub opened : Setup → RouterState
-opened c = record { router = c.router; state = opening c.router c.routes }
+opened c = record { router = c.router; state = opening c.router c.routes c.tunnels c.bypasses }
 
--- what is left where all is lost that messages set up: the moment, links, static routes
+-- what is left where all is lost that messages set up: the moment, links, static routes, tunnels and bypasses, but no change of a
+-- tunnel
 abbrev pub emptied : State → State
-emptied s = record { facts = record s.facts { paths = []; sent = [] }; resvs = []; labels = []; sent_upstream = [] }
+emptied s = record {
+  facts = record s.facts { tunnels = all_cancelled s.facts.tunnels; paths = []; sent = [] };
+  resvs = [];
+  labels = [];
+  sent_upstream = [];
+}

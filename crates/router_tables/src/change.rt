@@ -1,8 +1,9 @@
 //! The change of a step.
 
 use forwarding_table::Action;
-use lsr_facts::{Item, Key, PathFact};
+use lsr_facts::{Bypass, Item, Key, PathFact, Tunnel};
 use resv_facts::{ResvFact, Upstream};
+use rsvp_routes::Prefix;
 use sorted_rows::Table;
 
 /// Edits of what LSPs have: from now on this reservation, kept at this priority, or none.
@@ -15,6 +16,12 @@ pub struct Change {
     pub moment: Option<u64>,
     /// Of each link whether it is up from now on, where a link came up or went down.
     pub up: Option<Table<u16, bool>>,
+    /// The static routes from now on, where one came or went.
+    pub routes: Option<Table<Prefix, u16>>,
+    /// What is known of tunnels that begin here from now on, by number.
+    pub tunnels: Table<u16, Option<Tunnel>>,
+    /// The bypasses from now on, by number, where one came or went.
+    pub bypasses: Option<Table<u16, Bypass>>,
     /// Of LSPs what is known of their paths from now on.
     pub paths: Table<Key, Option<PathFact>>,
     /// Of LSPs the reservation that each has from now on, and the priority at which it is kept.
@@ -27,4 +34,6 @@ pub struct Change {
     pub upstream: Table<Upstream, Option<u64>>,
     /// What is done with labels from now on.
     pub table: Table<u32, Option<Action>>,
+    /// And with the traffic of tunnels.
+    pub tunnel_table: Table<u16, Option<Action>>,
 }

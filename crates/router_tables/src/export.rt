@@ -4,6 +4,7 @@ ghost use Rattle.std.specs.Prelude.{◌≡◌, IfOk};
 ghost use Rattle.router_tables.specs.States.{state_of};
 
 use crate::rows::Rows;
+use crate::tunnels::tunnels_copied;
 use lsr_facts::Facts;
 use resv_facts::State;
 use sorted_rows::TryCopy;
@@ -19,6 +20,8 @@ pub(crate) fn export(alloc: Global, rows: &Rows) -> Result<State, AllocError>
             moment: rows.moment,
             up: rows.up.try_copy(alloc)?,
             routes: rows.routes.try_copy(alloc)?,
+            tunnels: tunnels_copied(alloc, &rows.tunnels)?,
+            bypasses: rows.bypasses.try_copy(alloc)?,
             paths: rows.paths.copied(alloc)?,
             sent: rows.timers.copied(alloc)?,
         },

@@ -6,9 +6,10 @@ mod change;
 mod export;
 mod rows;
 mod tables;
+mod tunnels;
 mod views;
 
 pub use change::Change;
-pub use label_table::table_edits;
+pub use label_table::{table_edits, tunnel_edits};
 pub use state_views::{Changed, Draft, Edits, StateView, WholeState};
 pub use tables::Tables;

@@ -1,7 +1,9 @@
 //! The rows of all tables, and what is made of them.
 
 ghost use Rattle.std.specs.Option.{unwrap_or};
-ghost use Rattle.std.specs.Prelude.{◌≡◌, ◌≤◌, [], length};
+ghost use Rattle.std.specs.Ordering.{nat_cmp};
+ghost use Rattle.std.specs.Prelude.{◌≡◌, ◌≤◌, [], All, IfSome, length};
+ghost use Rattle.forwarding_table.specs.Actions.{WritesLabels};
 ghost use Rattle.sorted_rows.specs.Edits as in_rows;
 ghost use Rattle.lsr_facts.specs.Orders.{item_cmp, key_cmp};
 ghost use Rattle.resv_facts.specs.Upstreams.{upstream_cmp};
@@ -11,17 +13,18 @@ ghost use Rattle.router_tables.specs.Changes.{IsChange, changed};
 ghost use Rattle.router_tables.specs.States.{AreTables, emptied, state_of};
 
 use crate::change::{BandwidthEdits, Change};
+use crate::tunnels::{Tunnels, cancel_all};
 use admission::Admission;
-use forwarding_table::ForwardingTable;
+use forwarding_table::{Action, ForwardingTable};
 use label_space::LabelBindings;
 use lsr_facts::laws::items_are_in_order;
 use lsr_facts::limits::MAX_LSPS;
-use lsr_facts::{Item, Key, PathFact, Router};
+use lsr_facts::{Bypass, Item, Key, PathFact, Router, Tunnel};
 use path_state::PathState;
 use refresh_timers::RefreshTimers;
 use resv_facts::Upstream;
 use rsvp_routes::Prefix;
-use sorted_rows::Table;
+use sorted_rows::{Table, make_edits};
 
 /// What a router holds: what never changes of it, and its tables.
 #[derive(Debug, Drop)]
@@ -34,6 +37,10 @@ pub(crate) struct Rows {
     pub(crate) up: Table<u16, bool>,
     /// The static routes.
     pub(crate) routes: Table<Prefix, u16>,
+    /// The tunnels that begin here.
+    pub(crate) tunnels: Tunnels,
+    /// The bypasses.
+    pub(crate) bypasses: Table<u16, Bypass>,
     /// The paths.
     pub(crate) paths: PathState,
     /// When each Path was sent last that is kept alive at a neighbour.
@@ -44,22 +51,23 @@ pub(crate) struct Rows {
     pub(crate) labels: LabelBindings,
     /// When each Resv was sent last that is kept alive at a neighbour.
     pub(crate) upstream: RefreshTimers<Upstream, MAX_LSPS>,
-    /// What is done with labelled frames.
+    /// What is done with labelled frames, and with the traffic of tunnels.
     pub(crate) table: ForwardingTable,
 }
 
-/// Makes edits of the moment, of links and of paths.
-fn edit_facts(
+/// Makes edits of the moment, of links, of routes and of bypasses.
+fn edit_place(
     rows: &mut Rows,
     moment: Option<u64>,
     up: Option<Table<u16, bool>>,
-    paths: Table<Key, Option<PathFact>>,
+    routes: Option<Table<Prefix, u16>>,
+    bypasses: Option<Table<u16, Bypass>>,
 )
-    requires { length (in_rows.edited key_cmp paths rows.old.paths) ≤ 1024 }
     ensures rows { rows.new ≡ record rows.old {
       moment = unwrap_or moment rows.old.moment;
       up = unwrap_or up rows.old.up;
-      paths = in_rows.edited key_cmp paths rows.old.paths;
+      routes = unwrap_or routes rows.old.routes;
+      bypasses = unwrap_or bypasses rows.old.bypasses;
     } }
 {
     if let Some(moment) = moment {
@@ -68,6 +76,28 @@ fn edit_facts(
     if let Some(up) = up {
         rows.up = up;
     }
+    if let Some(routes) = routes {
+        rows.routes = routes;
+    }
+    if let Some(bypasses) = bypasses {
+        rows.bypasses = bypasses;
+    }
+}
+
+/// Makes edits of tunnels and of paths.
+fn edit_paths(
+    rows: &mut Rows,
+    tunnels: Table<u16, Option<Tunnel>>,
+    paths: Table<Key, Option<PathFact>>,
+)
+    requires room { length (in_rows.edited nat_cmp tunnels rows.old.tunnels) ≤ 256 }
+    requires few { length (in_rows.edited key_cmp paths rows.old.paths) ≤ 1024 }
+    ensures rows { rows.new ≡ record rows.old {
+      tunnels = in_rows.edited nat_cmp tunnels rows.old.tunnels;
+      paths = in_rows.edited key_cmp paths rows.old.paths;
+    } }
+{
+    make_edits(&mut rows.tunnels, tunnels);
     rows.paths.edit(paths);
 }
 
@@ -105,6 +135,27 @@ fn edit_moments(
     rows.upstream.edit(upstream);
 }
 
+/// Makes edits of what is done with labels, and with the traffic of tunnels.
+fn edit_actions(
+    rows: &mut Rows,
+    labels: Table<u32, Option<Action>>,
+    tunnels: Table<u16, Option<Action>>,
+)
+    requires labels { All (λ edit. IfSome edit.1 WritesLabels) labels }
+    requires room { length (in_rows.edited nat_cmp labels rows.old.table.labels) ≤ 1024 }
+    requires tunnels { All (λ edit. IfSome edit.1 WritesLabels) tunnels }
+    requires few { length (in_rows.edited nat_cmp tunnels rows.old.table.tunnels) ≤ 256 }
+    ensures rows { rows.new ≡ record rows.old {
+      table = record {
+        labels = in_rows.edited nat_cmp labels rows.old.table.labels;
+        tunnels = in_rows.edited nat_cmp tunnels rows.old.table.tunnels;
+      };
+    } }
+{
+    rows.table.edit(labels);
+    rows.table.edit_tunnels(tunnels);
+}
+
 /// Makes a change. Takes no memory, and always succeeds.
 pub(crate) fn apply(rows: &mut Rows, change: Change)
     requires tables { AreTables rows.old }
@@ -116,29 +167,35 @@ pub(crate) fn apply(rows: &mut Rows, change: Change)
     let Change {
         moment,
         up,
+        routes,
+        tunnels,
+        bypasses,
         paths,
         bandwidth,
         labels,
         moments,
         upstream,
         table,
+        tunnel_table,
     } = change;
 
     // That the rows of the label table are in order.
     rows.table.rows_are_in_order();
-    edit_facts(rows, moment, up, paths);
+    edit_place(rows, moment, up, routes, bypasses);
+    edit_paths(rows, tunnels, paths);
     edit_held(rows, bandwidth, labels);
     edit_moments(rows, moments, upstream);
-    rows.table.edit(table);
+    edit_actions(rows, table, tunnel_table);
 }
 
-/// What messages set up goes. Takes no memory.
+/// What messages set up goes, and changes of tunnels that aren't over are given up. Takes no memory.
 pub(crate) fn forget(rows: &mut Rows)
     requires { AreTables rows.old }
     ensures tables { AreTables rows.new }
     ensures router { rows.new.router ≡ rows.old.router }
     ensures state { state_of rows.new ≡ emptied (state_of rows.old) }
 {
+    cancel_all(&mut rows.tunnels);
     rows.paths.clear();
     rows.timers.clear_all();
     rows.bandwidth.clear();

@@ -5,7 +5,7 @@ ghost use Rattle.lsr_facts.specs.Routers.{IsRouter};
 ghost use Rattle.resv_facts.specs.Claims.{reserved_of};
 ghost use Rattle.abstract_router.specs.Preempting.{claims_of};
 ghost use Rattle.abstract_router.specs.Soundness.{IsSound};
-ghost use Rattle.abstract_router.specs.Tables.{forwarded, look};
+ghost use Rattle.abstract_router.specs.Tables.{forwarded, look, look_tunnel};
 ghost use Rattle.label_table.specs.Rows.{IsTableOf};
 ghost use Rattle.router_tables.specs.Changes.{IsChange, changed};
 ghost use Rattle.router_tables.specs.States.{emptied, opened};
@@ -13,6 +13,7 @@ ghost use Rattle.router_tables.specs.States.{emptied, opened};
 use crate::change::Change;
 use crate::export::export;
 use crate::rows::{Rows, apply, forget};
+use crate::tunnels::with_room;
 use admission::Admission;
 use forwarding_table::{Action, Forwarding, ForwardingTable};
 use label_space::LabelBindings;
@@ -62,7 +63,8 @@ fn limits_of(alloc: Global, links: &[(u16, Link)]) -> Result<Vec<(u16, u64)>, Al
 
 impl Tables {
     /// The tables of the router of a configuration as it is opened: it knows no path. It reserves the memory of all
-    /// that it may ever know; the only error is that there is too little.
+    /// that it may ever know, but for static routes and bypasses, which a change replaces whole; the only error is that
+    /// there is too little.
     pub fn new(alloc: Global, config: Config) -> Result<Tables, AllocError>
         ensures { IfOk result (λ tables. tables ≡ opened config) }
     {
@@ -73,12 +75,15 @@ impl Tables {
         let labels = LabelBindings::new(alloc, config.router.labels)?;
         let bandwidth = Admission::new(alloc, Table::from_rows(limits))?;
         let table = ForwardingTable::new(alloc)?;
+        let tunnels = with_room(alloc, config.tunnels)?;
         Ok(Tables {
             rows: Rows {
                 router: config.router,
                 moment: 0,
                 up: Table::from_rows(up),
                 routes: config.routes,
+                tunnels,
+                bypasses: config.bypasses,
                 paths: PathState::new(alloc)?,
                 timers,
                 bandwidth,
@@ -97,7 +102,8 @@ impl Tables {
         apply(&mut self.rows, change);
     }
 
-    /// What messages set up goes: paths, reservations, labels, and when messages were sent. Takes no memory.
+    /// What messages set up goes: paths, reservations, labels, and when messages were sent; and changes of tunnels that
+    /// aren't over are given up. Takes no memory.
     pub fn forget(&mut self)
         ensures { self.new ≡ record self.old { state = emptied self.old.state } }
     {
@@ -116,6 +122,14 @@ impl Tables {
         ensures { result ≡ look self.now.state label }
     {
         self.rows.table.look(label)
+    }
+
+    /// What is done with the traffic of the tunnel of this number, or `None` where nothing is.
+    #[tactic(auto, unfolding(abstract_router::specs::Tables::look_tunnel))]
+    pub fn look_tunnel(&self, number: u16) -> Option<Action>
+        ensures { result ≡ look_tunnel self.now.router self.now.state number }
+    {
+        self.rows.table.look_tunnel(number)
     }
 
     /// What becomes of a frame with this stack of labels (RFC 3031, 3.10).

@@ -5,7 +5,7 @@ ghost use Rattle.abstract_router.specs.Preempting.{limit_of};
 
 use crate::tables::Tables;
 use explicit_routes::link_at;
-use lsr_facts::{Item, Key, Node, PathFact};
+use lsr_facts::{Bypass, Item, Key, Node, PathFact, Tunnel};
 use resv_facts::{Claim, Request, ResvFact, ResvStyle, Upstream};
 use rsvp_objects::Session;
 use sorted_rows::Table;
@@ -31,6 +31,14 @@ impl StateView for Tables {
 
     fn moment(&self) -> u64 {
         self.rows.moment
+    }
+
+    fn tunnel(&self, number: u16) -> Option<&Tunnel> {
+        self.rows.tunnels.get(&number)
+    }
+
+    fn bypasses(&self) -> &Table<u16, Bypass> {
+        &self.rows.bypasses
     }
 
     fn path(&self, key: &Key) -> Option<&PathFact> {
@@ -60,6 +68,10 @@ impl Tables {
 }
 
 impl WholeState for Tables {
+    fn tunnels(&self) -> &[(u16, Tunnel)] {
+        self.rows.tunnels.as_slice()
+    }
+
     fn path_count(&self) -> usize {
         self.rows.paths.len()
     }

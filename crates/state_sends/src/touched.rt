@@ -1,5 +1,5 @@
 //! The LSPs that a step touches: those that aren't the same after its edits, those of which a message is due, and all where
-//! other links are up from now on.
+//! other links are up from now on, or other routes are there.
 
 ghost use Rattle.std.specs.Prelude.{◌≡◌, ◌||◌, IfOk, false, true};
 ghost use Rattle.lsr_facts.specs.Orders.{key_cmp};
@@ -8,7 +8,7 @@ ghost use Rattle.abstract_paths.specs.Touched.{is_among, key_of_item};
 ghost use Rattle.abstract_router.specs.Lsps.{lsp_at};
 ghost use Rattle.abstract_router.specs.Touched.{LeavesOtherLsps};
 ghost use Rattle.state_views.specs.Edits.{edited, is_edited};
-ghost use Rattle.state_sends.specs.Touching.{AreAllTouched, is_lsp_of};
+ghost use Rattle.state_sends.specs.Touching.{AreAllTouched, edits_place, is_lsp_of};
 
 use crate::kept_alive::KeptAlive;
 use crate::same::is_same_lsp;
@@ -100,6 +100,13 @@ pub(crate) fn changed_lsps<V: StateView>(
     changed_among(alloc, view, edits, edited.as_slice())
 }
 
+/// Whether edits change what all LSPs share: which links are up, or which static routes there are.
+fn edits_place(edits: &Edits) -> bool
+    ensures { result ≡ edits_place edits.now }
+{
+    edits.up.is_some() || edits.routes.is_some()
+}
+
 /// All LSPs that a step touches: those of which not the same is known after its edits, and those of these items, which
 /// are due. The only error is out of memory.
 pub(crate) fn touched_by<V: WholeState>(
@@ -120,8 +127,8 @@ pub(crate) fn touched_by<V: WholeState>(
 {
     let refreshed = with_lsps_of(changed.try_copy(alloc)?, due)?;
     let touched = with_lsps_of(refreshed, upstream_due)?;
-    match &edits.up {
-        Some(_) => with_known(view, touched),
-        None => Ok(touched),
+    if edits_place(edits) {
+        return with_known(view, touched);
     }
+    Ok(touched)
 }

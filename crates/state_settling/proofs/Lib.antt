@@ -1,3 +1,4 @@
 pub mod Editing
 pub mod Moving
 pub mod Places
+pub mod Readying

@@ -1,21 +1,17 @@
 -- One more of the LSPs whose paths are edited.
-use Rattle.std.specs.Prelude.{◌≡◌, ◌+◌, ◌<◌, ◌++◌, ℕ, Bool, true, false, cond, List, [], ◌∷◌, Option, Some, None, is_some, length, take}
+use Rattle.std.specs.Prelude.{◌≡◌, ◌+◌, ◌<◌, ℕ, Bool, true, false, cond, List, Option, Some, None, is_some, length, take}
 use Rattle.std.specs.FinMap.Entries.{find, put}
 use Rattle.std.specs.Option.{option_map, option_map_or, option_or}
 use Rattle.std.specs.Ordering.{eq_by_cmp}
 use Rattle.std.proofs.Common.{get_or, refl, sym, ap, subst, ◌∙◌}
-use Rattle.std.proofs.lemmas.List.{take_more}
-use Rattle.sorted_rows.specs.RowsLaws.{find-append, find-put_other, find-put_same, ties}
+use Rattle.sorted_rows.specs.RowsLaws.{find-put_other, find-put_same, ties}
 use Rattle.lsr_facts.specs.OrderLaws.{key_exact, key_total}
 use Rattle.lsr_facts.specs.Orders.{key_cmp}
 use Rattle.lsr_facts.specs.declared.key.Key.{Key}
 use Rattle.admission.specs.Bandwidths.{Edit}
 use Rattle.state_settling.specs.Keeping.{edit_at, with_edit}
-
--- what is there, or nothing
-or_none : {A : Type 0} (o : Option A) → option_or o None ≡ o
-or_none None = refl
-or_none (Some x) = refl
+use Rattle.state_settling.specs.SwitchingLaws.{or_none}
+use Rattle.state_settling.proofs.Places.{find-one_more}
 
 -- the same, or itself
 or_same : {A : Type 0} (o : Option A) → option_or o o ≡ o
@@ -51,10 +47,6 @@ pub none_yet : {E : Type 0} (paths : List (Key × E)) (kept : List (Key × Edit)
 none_yet paths kept elsewhere q = sym (or_none (find key_cmp q kept))
 
 module _ {E : Type 0} (paths : List (Key × E)) (i : ℕ) (path : Key × E) (within : i < length paths) (is : path ≡ get_or paths i path) where
-  find-more : (q : Key) → find key_cmp q (take (i + 1) paths) ≡ option_or (find key_cmp q (take i paths)) (cond (eq_by_cmp key_cmp q path.0) (Some path.1) None)
-  find-more q =
-      ap (find key_cmp q) (take_more paths i path within ∙ ap (λ p. take i paths ++ p ∷ []) (sym is)) ∙ find-append key_cmp q (take i paths) (path ∷ [])
-
   -- One more is asked for its edit.
   pub one_more : (kept edits all : List (Key × Edit)) (elsewhere : Key → Edit) → all ≡ with_edit path.0 (elsewhere path.0) edits → ((q : Key) → find key_cmp q edits ≡ edit_at (find key_cmp q kept) (find key_cmp q (take i paths)) (elsewhere q)) → (q : Key) → find key_cmp q all ≡ edit_at (find key_cmp q kept) (find key_cmp q (take (i + 1) paths)) (elsewhere q)
   one_more kept edits all elsewhere with known q =
@@ -68,4 +60,4 @@ module _ {E : Type 0} (paths : List (Key × E)) (i : ℕ) (path : Key × E) (wit
         | false ↦ λ t.
             find-with_other q path.0 (elsewhere path.0) edits t ∙ known q ∙ ap (λ o. edit_at (find key_cmp q kept) o (elsewhere q)) (sym (or_none (find key_cmp q (take i paths))))
       ] refl
-      ∙ ap (λ o. edit_at (find key_cmp q kept) o (elsewhere q)) (sym (find-more q))
+      ∙ ap (λ o. edit_at (find key_cmp q kept) o (elsewhere q)) (sym (find-one_more key_cmp paths i path within is q))

@@ -3,3 +3,5 @@ pub mod FallingLaws
 pub mod Keeping
 pub mod Relabelling
 pub mod RelabellingLaws
+pub mod Switching
+pub mod SwitchingLaws

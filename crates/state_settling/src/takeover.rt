@@ -1,21 +1,159 @@
 //! Tunnels that go over to their new LSPs.
 
-ghost use Rattle.std.specs.Prelude.{◌≡◌, IfOk};
-ghost use Rattle.abstract_router.specs.Steps.{taken_over};
+ghost use Rattle.std.specs.FinMap.Entries.{find, is_sorted};
+ghost use Rattle.std.specs.Option.{option_and_then, option_copied, option_or};
+ghost use Rattle.std.specs.Ordering.{nat_cmp};
+ghost use Rattle.std.specs.Prelude.{◌≡◌, ℕ, IfOk, T, filter};
+ghost use Rattle.lsr_facts.specs.Orders.{key_cmp};
+ghost use Rattle.lsr_facts.specs.Tunnels.{current_key, head_key};
+ghost use Rattle.abstract_router.specs.Steps.{is_ready, taken_over};
 ghost use Rattle.state_views.specs.Edits.{edited};
+ghost use Rattle.state_settling.specs.Switching.{ready_at, with_all_switched, with_switched};
 
-use state_views::{Edits, WholeState};
+use lsr_facts::{Key, Router, Tunnel};
+use make_before_break::switch;
+use rsvp_objects::{Session, Template};
+use sorted_rows::{Table, TryCopy};
+use state_views::{Changed, Edits, StateView, WholeState, node_of};
 use std::alloc::{AllocError, Global};
+use std::net::Ipv4Addr;
 
-/// Edits, and then each tunnel whose new LSP has its reservation goes over to it. No tunnel begins here yet, so nothing is
-/// taken over.
+/// The LSP of a tunnel that has this ID: the router's id is extended tunnel ID and sender.
+fn head_key(router: &Router, number: u16, endpoint: Ipv4Addr, id: u16) -> Key
+    ensures { result ≡ head_key router.now number endpoint id }
+{
+    Key {
+        session: Session {
+            endpoint,
+            tunnel: number,
+            extended: router.id,
+        },
+        sender: Template {
+            sender: router.id,
+            lsp: id,
+        },
+    }
+}
+
+/// The LSP that carries the traffic of a tunnel.
+fn current_key(router: &Router, number: u16, tunnel: &Tunnel) -> Key
+    ensures { result ≡ current_key router.now (number, tunnel.now) }
+{
+    head_key(router, number, tunnel.endpoint, tunnel.current.id)
+}
+
+/// Whether the LSP that is to take the place of the tunnel's current one is reserved.
+fn is_ready<A: StateView>(after: &A, number: u16, tunnel: &Tunnel) -> bool
+    ensures { result ≡ is_ready (A.router after.now) (A.state after.now) (number, tunnel.now) }
+{
+    let Some(lsp) = &tunnel.pending else {
+        return false;
+    };
+    let key = head_key(node_of(after).router, number, tunnel.endpoint, lsp.id);
+    after.resv(&key).is_some()
+}
+
+/// The tunnel of a number, where its new LSP is reserved.
+fn ready_at<A: StateView>(after: &A, number: u16) -> Option<&Tunnel>
+    ensures { option_copied result ≡ ready_at (A.router after.now) (A.state after.now) number }
+{
+    let tunnel = after.tunnel(number)?;
+    if is_ready(after, number, tunnel) {
+        Some(tunnel)
+    } else {
+        None
+    }
+}
+
+/// Tunnels, and then those of these numbers whose new LSPs are reserved. The only error is out of memory.
+fn with_ready<A: StateView, E>(
+    alloc: Global,
+    tunnels: Table<u16, Tunnel>,
+    after: &A,
+    rows: &[(u16, E)],
+) -> Result<Table<u16, Tunnel>, AllocError>
+    ensures { IfOk result (λ all. (number : ℕ) → find nat_cmp number all
+        ≡ option_or (option_and_then (λ row. ready_at (A.router after.now) (A.state after.now) number) (find nat_cmp number rows.now))
+        (find nat_cmp number tunnels)) }
+{
+    let mut all = tunnels;
+    for row in rows {
+        if let Some(tunnel) = ready_at(after, row.0) {
+            all.set(row.0, tunnel.try_copy(alloc)?)?;
+        }
+    }
+    Ok(all)
+}
+
+/// The tunnels whose new LSPs are reserved after edits, in the order of their numbers. Takes no memory where there is none;
+/// the only error is out of memory.
+fn ready_tunnels<V: WholeState>(
+    alloc: Global,
+    view: &V,
+    edits: &Edits,
+) -> Result<Vec<(u16, Tunnel)>, AllocError>
+    requires { T (is_sorted nat_cmp (V.state view.now).facts.tunnels) }
+    ensures { IfOk result (λ ready. ready.items
+        ≡ filter (is_ready (V.router view.now) (edited edits.now (V.state view.now)))
+        (edited edits.now (V.state view.now)).facts.tunnels) }
+{
+    let after = Changed { under: view, edits };
+    let known = with_ready(alloc, Table::new(alloc), &after, view.tunnels())?;
+    let ready = with_ready(alloc, known, &after, edits.tunnels.as_slice())?;
+    Ok(ready.into_rows())
+}
+
+/// Edits, and then a tunnel goes over to its new LSP, and the path of the one that carried its traffic goes. The only error
+/// is out of memory.
+fn with_switched(
+    router: &Router,
+    edits: Edits,
+    number: u16,
+    mut tunnel: Tunnel,
+) -> Result<Edits, AllocError>
+    ensures { IfOk result (λ e. e ≡ with_switched router.now (number, tunnel) edits) }
+{
+    let mut paths = edits.paths;
+    paths.set(current_key(router, number, &tunnel), None)?;
+    switch(&mut tunnel);
+    let mut tunnels = edits.tunnels;
+    tunnels.set(number, Some(tunnel))?;
+    Ok(Edits {
+        paths,
+        tunnels,
+        ..edits
+    })
+}
+
+/// And so of all these. Takes no memory where there is none; the only error is out of memory.
+fn with_all_switched(
+    router: &Router,
+    edits: Edits,
+    mut tunnels: Vec<(u16, Tunnel)>,
+) -> Result<Edits, AllocError>
+    ensures { IfOk result (λ e. e ≡ with_all_switched router.now edits tunnels.items) }
+{
+    let mut all = edits;
+    while let Some((number, tunnel)) = tunnels.pop() {
+        all = with_switched(router, all, number, tunnel)?;
+    }
+    Ok(all)
+}
+
+/// Edits, and then each tunnel whose new LSP has its reservation goes over to it, and the path of the LSP that carried its
+/// traffic goes (RFC 3209, 2.5). Where there is none, the edits stay as they are, and no memory is taken. The only error is
+/// out of memory.
+#[tactic(auto, using(crate::specs::SwitchingLaws::switched_over))]
 pub(crate) fn taken_over<V: WholeState>(
-    _alloc: Global,
-    _view: &V,
+    alloc: Global,
+    view: &V,
     edits: Edits,
 ) -> Result<Edits, AllocError>
-    ensures { IfOk result (λ e. edited e (V.state _view.now)
-        ≡ taken_over (V.router _view.now) (edited edits (V.state _view.now))) }
+    requires tunnels { T (is_sorted nat_cmp (V.state view.now).facts.tunnels) }
+    requires paths { T (is_sorted key_cmp (V.state view.now).facts.paths) }
+    ensures { IfOk result (λ e. edited e (V.state view.now)
+        ≡ taken_over (V.router view.now) (edited edits (V.state view.now))) }
 {
-    Ok(edits)
+    let ready = ready_tunnels(alloc, view, &edits)?;
+    with_all_switched(node_of(view).router, edits, ready)
 }

@@ -2,8 +2,9 @@
 use Rattle.std.specs.Prelude.{◌≡◌, ◌||◌, ℕ, not, Bool, true, false, cond, T, List, [], ◌∷◌, filter, Option, Some, None}
 use Rattle.std.specs.FinMap.Entries.{find, is_sorted, put, where_key}
 use Rattle.std.specs.Option.{option_map}
-use Rattle.std.specs.Ordering.{is_eq}
+use Rattle.std.specs.Ordering.{is_eq, nat_cmp}
 use Rattle.std.proofs.Common.{refl, sym, ap, subst, ◌∙◌}
+use Rattle.std.proofs.lemmas.Cmp.{nat_cmp_total}
 use Rattle.sorted_rows.specs.EditLaws.{edited-put, find-edited}
 use Rattle.sorted_rows.specs.Edits as rows
 use Rattle.sorted_rows.specs.Rows.{keys_of}
@@ -14,6 +15,7 @@ use Rattle.lsr_facts.specs.Orders.{key_cmp}
 use Rattle.lsr_facts.specs.Timeless.{timeless_path}
 use Rattle.lsr_facts.specs.declared.key.Key.{Key}
 use Rattle.lsr_facts.specs.declared.path_fact.PathFact.{PathFact}
+use Rattle.lsr_facts.specs.declared.tunnel.Tunnel.{Tunnel}
 use Rattle.resv_facts.specs.Reservations.{timeless_resv}
 use Rattle.resv_facts.specs.declared.resv_fact.ResvFact.{ResvFact}
 use Rattle.abstract_paths.specs.StampLaws.{none-is}
@@ -23,6 +25,9 @@ use Rattle.abstract_router.specs.Lsps.{Lsp, lsp_at}
 use Rattle.abstract_router.specs.States.{State, is_one_of}
 use Rattle.state_views.specs.Edits.{edited, is_edited, without_resvs}
 use Rattle.state_views.specs.declared.edits.Edits.{Edits}
+
+pub tunnel_edited : (number : ℕ) (edits : List (ℕ × Option Tunnel)) (tunnels : List (ℕ × Tunnel)) → find nat_cmp number (rows.edited nat_cmp edits tunnels) ≡ rows.over (find nat_cmp number edits) (find nat_cmp number tunnels)
+tunnel_edited number edits tunnels = find-edited nat_cmp nat_cmp_total number edits tunnels
 
 pub path_edited : (key : Key) (edits : List (Key × Option PathFact)) (paths : List (Key × PathFact)) → find key_cmp key (rows.edited key_cmp edits paths) ≡ rows.over (find key_cmp key edits) (find key_cmp key paths)
 path_edited key edits paths = find-edited key_cmp key_total key edits paths

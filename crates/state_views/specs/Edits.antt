@@ -2,6 +2,7 @@
 use Rattle.std.specs.Prelude.{◌||◌, Bool, List, [], ◌∷◌, Option, None, T}
 use Rattle.std.specs.FinMap.Entries.{is_sorted, put}
 use Rattle.std.specs.Option.{unwrap_or}
+use Rattle.std.specs.Ordering.{nat_cmp}
 use Rattle.sorted_rows.specs.Edits as rows
 use Rattle.lsr_facts.specs.Orders.{key_cmp}
 use Rattle.lsr_facts.specs.declared.key.Key.{Key}
@@ -12,7 +13,7 @@ use Rattle.state_views.specs.declared.edits.Edits.{Edits}
 
 -- nothing changes
 abbrev pub unedited : Edits
-unedited = record { moment = None; up = None; paths = []; resvs = []; labels = [] }
+unedited = record { moment = None; up = None; routes = None; tunnels = []; bypasses = None; paths = []; resvs = []; labels = [] }
 
 -- what is known after edits; the moments at which messages were sent are no part of them
 abbrev pub edited : Edits → State → State
@@ -20,6 +21,9 @@ edited e s = record s {
   facts = record s.facts {
     moment = unwrap_or e.moment s.facts.moment;
     up = unwrap_or e.up s.facts.up;
+    routes = unwrap_or e.routes s.facts.routes;
+    tunnels = rows.edited nat_cmp e.tunnels s.facts.tunnels;
+    bypasses = unwrap_or e.bypasses s.facts.bypasses;
     paths = rows.edited key_cmp e.paths s.facts.paths;
   };
   resvs = rows.edited key_cmp e.resvs s.resvs;
@@ -28,6 +32,7 @@ edited e s = record s {
 
 -- the tables that edits go by the keys of are in order
 pub record AreInOrder (s : State) : Type 0 where
+  pub tunnels : T (is_sorted nat_cmp s.facts.tunnels)
   pub paths : T (is_sorted key_cmp s.facts.paths)
   pub resvs : T (is_sorted key_cmp s.resvs)
   pub labels : T (is_sorted key_cmp s.labels)

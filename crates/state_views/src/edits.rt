@@ -2,6 +2,7 @@
 
 ghost use Rattle.std.specs.FinMap.Entries.{find, is_sorted};
 ghost use Rattle.std.specs.Option.{option_copied};
+ghost use Rattle.std.specs.Ordering.{nat_cmp};
 ghost use Rattle.std.specs.Prelude.{◌≡◌, IfOk, T};
 ghost use Rattle.sorted_rows.specs.Edits as rows;
 ghost use Rattle.lsr_facts.specs.Orders.{key_cmp};
@@ -10,8 +11,9 @@ ghost use Rattle.state_views.specs.Edits.{AreInOrder, edited, unedited, without_
 ghost use Rattle.state_views.specs.Joining.{joined_rows, later_or};
 
 use crate::views::StateView;
-use lsr_facts::{Key, Node, PathFact};
+use lsr_facts::{Bypass, Key, Node, PathFact, Tunnel};
 use resv_facts::ResvFact;
+use rsvp_routes::Prefix;
 use sorted_rows::Table;
 use std::alloc::{AllocError, Global};
 
@@ -22,6 +24,12 @@ pub struct Edits {
     pub moment: Option<u64>,
     /// Of each link whether it is up from now on, where a link came up or went down.
     pub up: Option<Table<u16, bool>>,
+    /// The static routes from now on, where one came or went.
+    pub routes: Option<Table<Prefix, u16>>,
+    /// What is known of tunnels that begin here from now on, by number: `None` where one goes.
+    pub tunnels: Table<u16, Option<Tunnel>>,
+    /// The bypasses from now on, by number, where one came or went.
+    pub bypasses: Option<Table<u16, Bypass>>,
     /// Of LSPs what is known of their paths from now on: `None` where a path goes.
     pub paths: Table<Key, Option<PathFact>>,
     /// Of LSPs what is known of their reservations from now on: `None` where one goes.
@@ -38,10 +46,20 @@ impl Edits {
         Edits {
             moment: None,
             up: None,
+            routes: None,
+            tunnels: Table::new(alloc),
+            bypasses: None,
             paths: Table::new(alloc),
             resvs: Table::new(alloc),
             labels: Table::new(alloc),
         }
+    }
+
+    /// The edit of the tunnel of a number, if there is one.
+    pub fn tunnel(&self, number: u16) -> Option<&Option<Tunnel>>
+        ensures { option_copied result ≡ find nat_cmp number self.now.tunnels }
+    {
+        self.tunnels.get(&number)
     }
 
     /// The edit of an LSP's path, if there is one.
@@ -68,11 +86,11 @@ impl Edits {
 
 /// Rows of edits with others that are made after them. The only error is out of memory.
 #[tactic(auto, using(crate::specs::Joining::joined_last))]
-fn joined_rows<V: Drop>(
-    rows: Table<Key, Option<V>>,
-    later: Table<Key, Option<V>>,
-) -> Result<Table<Key, Option<V>>, AllocError>
-    ensures { IfOk result (λ all. all ≡ joined_rows rows later) }
+fn joined_rows<K: Ord + Drop, V: Drop>(
+    rows: Table<K, Option<V>>,
+    later: Table<K, Option<V>>,
+) -> Result<Table<K, Option<V>>, AllocError>
+    ensures { IfOk result (λ all. all ≡ joined_rows K.cmp rows later) }
 {
     let mut all = rows;
     let mut later = later.into_rows();
@@ -102,6 +120,9 @@ pub fn joined<V: StateView>(_view: &V, edits: Edits, later: Edits) -> Result<Edi
     Ok(Edits {
         moment: later_or(later.moment, edits.moment),
         up: later_or(later.up, edits.up),
+        routes: later_or(later.routes, edits.routes),
+        tunnels: joined_rows(edits.tunnels, later.tunnels)?,
+        bypasses: later_or(later.bypasses, edits.bypasses),
         paths: joined_rows(edits.paths, later.paths)?,
         resvs: joined_rows(edits.resvs, later.resvs)?,
         labels: joined_rows(edits.labels, later.labels)?,
@@ -138,8 +159,12 @@ impl<'a, V: StateView> StateView for Changed<'a, V> {
 
     fn node(&self) -> Node<'_> {
         let node = self.under.node();
-        match &self.edits.up {
+        let node = match &self.edits.up {
             Some(up) => Node { up, ..node },
+            None => node,
+        };
+        match &self.edits.routes {
+            Some(routes) => Node { routes, ..node },
             None => node,
         }
     }
@@ -152,6 +177,21 @@ impl<'a, V: StateView> StateView for Changed<'a, V> {
         match self.edits.moment {
             Some(moment) => moment,
             None => self.under.moment(),
+        }
+    }
+
+    #[tactic(auto, using(crate::specs::EditLaws::tunnel_edited))]
+    fn tunnel(&self, number: u16) -> Option<&Tunnel> {
+        match self.edits.tunnel(number) {
+            Some(edit) => edit.as_ref(),
+            None => self.under.tunnel(number),
+        }
+    }
+
+    fn bypasses(&self) -> &Table<u16, Bypass> {
+        match &self.edits.bypasses {
+            Some(bypasses) => bypasses,
+            None => self.under.bypasses(),
         }
     }
 

@@ -3,6 +3,7 @@
 ghost use Rattle.std.specs.FinMap.Entries.{find};
 ghost use Rattle.std.specs.List.{list_any};
 ghost use Rattle.std.specs.Option.{option_copied, option_map};
+ghost use Rattle.std.specs.Ordering.{nat_cmp};
 ghost use Rattle.std.specs.Prelude.{◌≡◌, ◌≤◌, ◌^◌, IfOk, IfSome, T, filter, find as find_first, is_some, length, not, slice_get};
 ghost use Rattle.lsr_facts.specs.Lifetimes.{due_items, expires};
 ghost use Rattle.lsr_facts.specs.Orders.{item_cmp, key_cmp};
@@ -18,7 +19,7 @@ ghost use Rattle.abstract_router.specs.Preempting.{claims_of, limit_of};
 ghost use Rattle.abstract_router.specs.Reserving.{conflicts};
 ghost use Rattle.abstract_router.specs.States.{State};
 
-use lsr_facts::{Item, Key, Node, PathFact};
+use lsr_facts::{Bypass, Item, Key, Node, PathFact, Tunnel};
 use resv_facts::{Claim, Request, ResvFact, ResvStyle, Upstream};
 use rsvp_objects::Session;
 use sorted_rows::Table;
@@ -44,6 +45,14 @@ pub trait StateView {
     fn moment(&self) -> u64
         ensures moment { result ≡ (state self.now).facts.moment };
 
+    /// The tunnel of a number that begins here.
+    fn tunnel(&self, number: u16) -> Option<&Tunnel>
+        ensures tunnel { option_copied result ≡ find nat_cmp number (state self.now).facts.tunnels };
+
+    /// The bypasses, by number.
+    fn bypasses(&self) -> &Table<u16, Bypass>
+        ensures bypasses { result.now ≡ (state self.now).facts.bypasses };
+
     /// What is known of an LSP's path.
     fn path(&self, key: &Key) -> Option<&PathFact>
         ensures path { option_copied result ≡ find key_cmp key.now (state self.now).facts.paths };
@@ -59,6 +68,10 @@ pub trait StateView {
 
 /// What is asked of all that is known together: by place, by moment, by session, by what reservations claim.
 pub trait WholeState: StateView {
+    /// All tunnels that begin here, in the order of their numbers.
+    fn tunnels(&self) -> &[(u16, Tunnel)]
+        ensures tunnels { result.now ≡ (Self.state self.now).facts.tunnels };
+
     /// How many paths are known.
     fn path_count(&self) -> usize
         ensures count { result ≡ length (Self.state self.now).facts.paths };

@@ -1,6 +1,6 @@
-use Rattle.std.proofs.Common.{◌≡◌, take}
+use Rattle.std.proofs.Common.{◌≡◌}
 use Rattle.lsr_config.specs.Documents.{in_order}
 use Rattle.lsr_config.proofs.document.table_of.Given as goal
 
-abbrev pub invariant-loop-row : goal.invariant-loop-row
-invariant-loop-row g l = l.table ≡ in_order g.K.Ord.cmp (take l.row-index l.rows)
+abbrev pub invariant-loop-key : goal.invariant-loop-key
+invariant-loop-key g l = l.table ≡ in_order g.K.Ord.cmp l.yielded

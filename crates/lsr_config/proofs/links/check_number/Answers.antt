@@ -6,9 +6,9 @@ use Rattle.lsr_config.proofs.links.check_number.Goals as goal
 
 pub returns-then-has_number : goal.returns-then-has_number
 unfolding fault_of
-returns-then-has_number c = λ link earlier has says.
-    broken_alone (new_number earlier link) _ (number_is_repeated c.args.number link earlier c.args.before.now has says (sym c.has_number.ensures ∙ c.if-has_number.true)) refl
+returns-then-has_number g c = λ first d earlier has says.
+    broken_alone (new_number first earlier d) _ (number_is_repeated first c.args.number d earlier c.args.before.now has says (sym c.has_number.ensures ∙ c.if-has_number.true)) refl
 
 pub returns : goal.returns
-returns c = λ link earlier has says.
-    (kept_alone (new_number earlier link) (number_is_new c.args.number link earlier c.args.before.now has says (sym c.has_number.ensures ∙ c.if-has_number.false)), tt)
+returns g c = λ first d earlier has says.
+    (kept_alone (new_number first earlier d) (number_is_new first c.args.number d earlier c.args.before.now has says (sym c.has_number.ensures ∙ c.if-has_number.false)), tt)

@@ -2,6 +2,7 @@ use Rattle.std.proofs.lemmas.Result.{err_from_is_err_and}
 use Rattle.toml.specs.View.{view}
 use Rattle.lsr_config.specs.Documents.{link_rules, SaysLink}
 use Rattle.lsr_config.proofs.Judging.{turn_front, turn_past, turn_kept, turn_end, says_length}
+use Rattle.lsr_config.proofs.Telling.{links_numbered}
 use Rattle.lsr_config.proofs.links.read_link.Goals as goal
 
 pub returns-in_err-number : goal.returns-in_err-number
@@ -17,7 +18,7 @@ returns-in_err-check_number c = λ document earlier its says.
     let p = err_from_is_err_and c.from_residual-in_err-check_number.result c.from_residual-in_err-check_number.ensures.1 in
     rw (p.1, p.2)
     (turn_past _ _ _ c.in_ok-number.ensures.0
-    (turn_front _ _ _ (c.in_err-check_number.ensures (view c.args.table.now) earlier c.in_ok-number.ensures.1 says)))
+    (turn_front _ _ _ (c.in_err-check_number.ensures 1 (view c.args.table.now) earlier c.in_ok-number.ensures.1 (links_numbered earlier c.args.before.now says))))
 
 pub returns-in_err-address : goal.returns-in_err-address
 unfolding link_rules
@@ -25,7 +26,7 @@ returns-in_err-address c = λ document earlier its says.
     let p = err_from_is_err_and c.from_residual-in_err-address.result c.from_residual-in_err-address.ensures.1 in
     rw (p.1, p.2)
     (turn_past _ _ _ c.in_ok-number.ensures.0
-    (turn_past _ _ _ (c.in_ok-check_number.ensures (view c.args.table.now) earlier c.in_ok-number.ensures.1 says).0
+    (turn_past _ _ _ (c.in_ok-check_number.ensures 1 (view c.args.table.now) earlier c.in_ok-number.ensures.1 (links_numbered earlier c.args.before.now says)).0
     (turn_front _ _ _ c.in_err-address.ensures)))
 
 pub returns-in_err-check_address : goal.returns-in_err-check_address
@@ -34,7 +35,7 @@ returns-in_err-check_address c = λ document earlier its says.
     let p = err_from_is_err_and c.from_residual-in_err-check_address.result c.from_residual-in_err-check_address.ensures.1 in
     rw (p.1, p.2)
     (turn_past _ _ _ c.in_ok-number.ensures.0
-    (turn_past _ _ _ (c.in_ok-check_number.ensures (view c.args.table.now) earlier c.in_ok-number.ensures.1 says).0
+    (turn_past _ _ _ (c.in_ok-check_number.ensures 1 (view c.args.table.now) earlier c.in_ok-number.ensures.1 (links_numbered earlier c.args.before.now says)).0
     (turn_past _ _ _ c.in_ok-address.ensures.0
     (turn_front _ _ _ (c.in_err-check_address.ensures document (view c.args.table.now) earlier its c.in_ok-address.ensures.1 says)))))
 
@@ -44,7 +45,7 @@ returns-in_err-peer c = λ document earlier its says.
     let p = err_from_is_err_and c.from_residual-in_err-peer.result c.from_residual-in_err-peer.ensures.1 in
     rw (p.1, p.2)
     (turn_past _ _ _ c.in_ok-number.ensures.0
-    (turn_past _ _ _ (c.in_ok-check_number.ensures (view c.args.table.now) earlier c.in_ok-number.ensures.1 says).0
+    (turn_past _ _ _ (c.in_ok-check_number.ensures 1 (view c.args.table.now) earlier c.in_ok-number.ensures.1 (links_numbered earlier c.args.before.now says)).0
     (turn_past _ _ _ c.in_ok-address.ensures.0
     (turn_past _ _ _ (c.in_ok-check_address.ensures document (view c.args.table.now) earlier its c.in_ok-address.ensures.1 says).0
     (turn_front _ _ _ c.in_err-peer.ensures)))))
@@ -55,7 +56,7 @@ returns-in_err-peer_router c = λ document earlier its says.
     let p = err_from_is_err_and c.from_residual-in_err-peer_router.result c.from_residual-in_err-peer_router.ensures.1 in
     rw (p.1, p.2)
     (turn_past _ _ _ c.in_ok-number.ensures.0
-    (turn_past _ _ _ (c.in_ok-check_number.ensures (view c.args.table.now) earlier c.in_ok-number.ensures.1 says).0
+    (turn_past _ _ _ (c.in_ok-check_number.ensures 1 (view c.args.table.now) earlier c.in_ok-number.ensures.1 (links_numbered earlier c.args.before.now says)).0
     (turn_past _ _ _ c.in_ok-address.ensures.0
     (turn_past _ _ _ (c.in_ok-check_address.ensures document (view c.args.table.now) earlier its c.in_ok-address.ensures.1 says).0
     (turn_past _ _ _ c.in_ok-peer.ensures.0
@@ -67,7 +68,7 @@ returns-in_err-limit c = λ document earlier its says.
     let p = err_from_is_err_and c.from_residual-in_err-limit.result c.from_residual-in_err-limit.ensures.1 in
     rw (p.1, p.2)
     (turn_past _ _ _ c.in_ok-number.ensures.0
-    (turn_past _ _ _ (c.in_ok-check_number.ensures (view c.args.table.now) earlier c.in_ok-number.ensures.1 says).0
+    (turn_past _ _ _ (c.in_ok-check_number.ensures 1 (view c.args.table.now) earlier c.in_ok-number.ensures.1 (links_numbered earlier c.args.before.now says)).0
     (turn_past _ _ _ c.in_ok-address.ensures.0
     (turn_past _ _ _ (c.in_ok-check_address.ensures document (view c.args.table.now) earlier its c.in_ok-address.ensures.1 says).0
     (turn_past _ _ _ c.in_ok-peer.ensures.0
@@ -80,7 +81,7 @@ returns-in_err-up c = λ document earlier its says.
     let p = err_from_is_err_and c.from_residual-in_err-up.result c.from_residual-in_err-up.ensures.1 in
     rw (p.1, p.2)
     (turn_past _ _ _ c.in_ok-number.ensures.0
-    (turn_past _ _ _ (c.in_ok-check_number.ensures (view c.args.table.now) earlier c.in_ok-number.ensures.1 says).0
+    (turn_past _ _ _ (c.in_ok-check_number.ensures 1 (view c.args.table.now) earlier c.in_ok-number.ensures.1 (links_numbered earlier c.args.before.now says)).0
     (turn_past _ _ _ c.in_ok-address.ensures.0
     (turn_past _ _ _ (c.in_ok-check_address.ensures document (view c.args.table.now) earlier its c.in_ok-address.ensures.1 says).0
     (turn_past _ _ _ c.in_ok-peer.ensures.0
@@ -94,7 +95,7 @@ returns-in_err-check_socket c = λ document earlier its says.
     let p = err_from_is_err_and c.from_residual-in_err-check_socket.result c.from_residual-in_err-check_socket.ensures.1 in
     rw (p.1, p.2)
     (turn_past _ _ _ c.in_ok-number.ensures.0
-    (turn_past _ _ _ (c.in_ok-check_number.ensures (view c.args.table.now) earlier c.in_ok-number.ensures.1 says).0
+    (turn_past _ _ _ (c.in_ok-check_number.ensures 1 (view c.args.table.now) earlier c.in_ok-number.ensures.1 (links_numbered earlier c.args.before.now says)).0
     (turn_past _ _ _ c.in_ok-address.ensures.0
     (turn_past _ _ _ (c.in_ok-check_address.ensures document (view c.args.table.now) earlier its c.in_ok-address.ensures.1 says).0
     (turn_past _ _ _ c.in_ok-peer.ensures.0
@@ -109,7 +110,7 @@ returns-in_err-check_socket-2 c = λ document earlier its says.
     let p = err_from_is_err_and c.from_residual-in_err-check_socket-2.result c.from_residual-in_err-check_socket-2.ensures.1 in
     rw (p.1, p.2)
     (turn_past _ _ _ c.in_ok-number.ensures.0
-    (turn_past _ _ _ (c.in_ok-check_number.ensures (view c.args.table.now) earlier c.in_ok-number.ensures.1 says).0
+    (turn_past _ _ _ (c.in_ok-check_number.ensures 1 (view c.args.table.now) earlier c.in_ok-number.ensures.1 (links_numbered earlier c.args.before.now says)).0
     (turn_past _ _ _ c.in_ok-address.ensures.0
     (turn_past _ _ _ (c.in_ok-check_address.ensures document (view c.args.table.now) earlier its c.in_ok-address.ensures.1 says).0
     (turn_past _ _ _ c.in_ok-peer.ensures.0
@@ -125,7 +126,7 @@ returns-in_err-check_count c = λ document earlier its says.
     let p = err_from_is_err_and c.from_residual-in_err-check_count.result c.from_residual-in_err-check_count.ensures.1 in
     rw (p.1, p.2)
     (turn_past _ _ _ c.in_ok-number.ensures.0
-    (turn_past _ _ _ (c.in_ok-check_number.ensures (view c.args.table.now) earlier c.in_ok-number.ensures.1 says).0
+    (turn_past _ _ _ (c.in_ok-check_number.ensures 1 (view c.args.table.now) earlier c.in_ok-number.ensures.1 (links_numbered earlier c.args.before.now says)).0
     (turn_past _ _ _ c.in_ok-address.ensures.0
     (turn_past _ _ _ (c.in_ok-check_address.ensures document (view c.args.table.now) earlier its c.in_ok-address.ensures.1 says).0
     (turn_past _ _ _ c.in_ok-peer.ensures.0
@@ -140,7 +141,7 @@ pub returns : goal.returns
 unfolding link_rules
 returns c = λ document earlier its says. (
   (turn_kept _ _ c.in_ok-number.ensures.0
-      (turn_kept _ _ (c.in_ok-check_number.ensures (view c.args.table.now) earlier c.in_ok-number.ensures.1 says).0
+      (turn_kept _ _ (c.in_ok-check_number.ensures 1 (view c.args.table.now) earlier c.in_ok-number.ensures.1 (links_numbered earlier c.args.before.now says)).0
       (turn_kept _ _ c.in_ok-address.ensures.0
       (turn_kept _ _ (c.in_ok-check_address.ensures document (view c.args.table.now) earlier its c.in_ok-address.ensures.1 says).0
       (turn_kept _ _ c.in_ok-peer.ensures.0

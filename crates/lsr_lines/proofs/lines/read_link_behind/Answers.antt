@@ -1,6 +1,6 @@
 -- What stands behind the word is what names the link.
 use Rattle.std.proofs.Common.{sym, ap, ◌∙◌, ◌++◌}
-use Rattle.lsr_lines.specs.Lines.{NamesLink}
+use Rattle.lsr_lines.specs.Numbers.{NamesLink}
 use Rattle.lsr_lines.proofs.LineLaws.{number_behind}
 use Rattle.lsr_lines.proofs.lines.read_link_behind.Goals as goal
 

@@ -1,6 +1,6 @@
 -- What stands behind the word is what names the moment.
 use Rattle.std.proofs.Common.{sym, ap, ◌∙◌, ◌++◌}
-use Rattle.lsr_lines.specs.Lines.{NamesMoment}
+use Rattle.lsr_lines.specs.Numbers.{NamesMoment}
 use Rattle.lsr_lines.proofs.LineLaws.{number_behind}
 use Rattle.lsr_lines.proofs.lines.read_moment_behind.Goals as goal
 

@@ -9,3 +9,6 @@ returns-in-Receive-clause-untold c = rw c.in-Receive.is c.answer_arrival.ensures
 pub returns-in-Frame-clause-untold : goal.returns-in-Frame-clause-untold
 returns-in-Frame-clause-untold c =
     given_untold c.answer_frame.result (PrintsAnswer c.args.session.now c.args.request.now) c.args.session.now c.answer_frame.new.session (rw c.in-Frame.is c.answer_frame.ensures.untold)
+
+pub returns-in-Command-clause-untold : goal.returns-in-Command-clause-untold
+returns-in-Command-clause-untold c = rw c.in-Command.is c.answer_command.ensures.untold

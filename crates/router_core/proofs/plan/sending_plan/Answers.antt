@@ -5,8 +5,20 @@ use Rattle.abstract_router.specs.Outputs.{outputs_of}
 use Rattle.router_events.specs.declared.events.Output.{Output}
 use Rattle.router_tables.specs.Below.views.Drafts.{due_by, upstream_due_by}
 use Rattle.router_tables.specs.Below.views.Edits.{edited}
-use Rattle.router_core.proofs.Planning.{next_labels, next_rates, next_resvs, sending}
+use Rattle.router_core.proofs.Planning.{next_labels, next_paths, next_rates, next_resvs, sending}
 use Rattle.router_core.proofs.plan.sending_plan.Goals as goal
+
+pub sends_of-requires-clause-paths : goal.sends_of-requires-clause-paths
+sends_of-requires-clause-paths c =
+    let t = c.args.tables.now in
+    let x = c.in_ok-edits in
+    next_paths t.router t.state c.soundness.ensures.sound c.args.draft c.requires x.field-0.edits x.field-0.chosen x.ensures.after x.ensures.chosen
+
+pub table_of-requires-clause-paths : goal.table_of-requires-clause-paths
+table_of-requires-clause-paths c =
+    let t = c.args.tables.now in
+    let x = c.in_ok-edits in
+    next_paths t.router t.state c.soundness.ensures.sound c.args.draft c.requires x.field-0.edits x.field-0.chosen x.ensures.after x.ensures.chosen
 
 pub sends_of-requires-clause-resvs : goal.sends_of-requires-clause-resvs
 sends_of-requires-clause-resvs c =
@@ -26,6 +38,12 @@ table_of-requires-clause-resvs c =
     let x = c.in_ok-edits in
     next_resvs t.router t.state c.soundness.ensures.sound c.args.draft c.requires x.field-0.edits x.field-0.chosen x.ensures.after x.ensures.chosen
 
+pub tunnel_edits-requires-clause-resvs : goal.tunnel_edits-requires-clause-resvs
+tunnel_edits-requires-clause-resvs c =
+    let t = c.args.tables.now in
+    let x = c.in_ok-edits in
+    next_resvs t.router t.state c.soundness.ensures.sound c.args.draft c.requires x.field-0.edits x.field-0.chosen x.ensures.after x.ensures.chosen
+
 pub bandwidth_edits-requires-clause-rated : goal.bandwidth_edits-requires-clause-rated
 bandwidth_edits-requires-clause-rated c =
     let t = c.args.tables.now in
@@ -39,4 +57,4 @@ returns c =
     let sends = c.in_ok-outputs in
     let bandwidth = c.in_ok-bandwidth in
     sending t.router t.state c.soundness.ensures.sound c.args.draft c.requires x.field-0.edits x.field-0.chosen x.ensures.after x.ensures.chosen
-    bandwidth.bandwidth sends.field-0.moments sends.field-0.upstream c.in_ok-table.table sends.ensures.moments sends.ensures.upstream bandwidth.ensures.resvs sends.field-0.outputs (sends.ensures.outputs ∙ ap (λ (errors : List Output). outputs_of t.router t.state errors (due_by c.args.draft.due t.router t.state) (upstream_due_by c.args.draft.due t.router t.state) (edited x.field-0.edits t.state)) (c.in_ok-errors.ensures ∙ ap (λ (told : List Output). c.args.draft.errors ++ told) x.ensures.told)) bandwidth.ensures.edits bandwidth.ensures.claims c.in_ok-table.ensures
+    bandwidth.bandwidth sends.field-0.moments sends.field-0.upstream c.in_ok-table.table c.in_ok-tunnel_table.tunnel_table sends.ensures.moments sends.ensures.upstream bandwidth.ensures.resvs sends.field-0.outputs (sends.ensures.outputs ∙ ap (λ (errors : List Output). outputs_of t.router t.state errors (due_by c.args.draft.due t.router t.state) (upstream_due_by c.args.draft.due t.router t.state) (edited x.field-0.edits t.state)) (c.in_ok-errors.ensures ∙ ap (λ (told : List Output). c.args.draft.errors ++ told) x.ensures.told)) bandwidth.ensures.edits bandwidth.ensures.claims c.in_ok-table.ensures c.in_ok-tunnel_table.ensures

@@ -5,12 +5,14 @@ use Rattle.forwarding_table.specs.declared.action.Action.{Action}
 use Rattle.label_space.specs.Bindings.{Bindings}
 use Rattle.label_table.specs.RowLaws.{table-no_path}
 use Rattle.label_table.specs.Rows.{IsTableOf}
+use Rattle.label_table.specs.TunnelLaws.{tunnel_table-no_resv}
 use Rattle.lsr_facts.specs.declared.key.Item.{Item}
 use Rattle.refresh_timers.specs.Timers.{Timers}
 use Rattle.resv_facts.specs.declared.upstream.Upstream.{Upstream}
 use Rattle.abstract_router.specs.Preempting.{claims_of}
 use Rattle.abstract_router.specs.Soundness.{IsSound}
 use Rattle.abstract_router.specs.States.{State}
+use Rattle.abstract_router.specs.Tables.{tunnel_table_of}
 use Rattle.router_tables.specs.States.{emptied, facts_of, state_of}
 use Rattle.router_tables.proofs.Emptying.{sound_emptied}
 use Rattle.router_tables.proofs.rows.forget.Goals as goal
@@ -19,9 +21,9 @@ pub returns-clause-tables : goal.returns-clause-tables
 unfolding claims_of
 returns-clause-tables c =
     let t = c.args.rows.now in
-    let state : state_of (record t { paths = c.clear.new.self; timers = c.clear_all.new.self; bandwidth = c.clear-2.new.self; labels = c.clear-3.new.self; upstream = c.clear_all-2.new.self; table = c.clear-4.new.self }) ≡ emptied (state_of t) =
+    let state : state_of (record t { tunnels = c.cancel_all.new.tunnels; paths = c.clear.new.self; timers = c.clear_all.new.self; bandwidth = c.clear-2.new.self; labels = c.clear-3.new.self; upstream = c.clear_all-2.new.self; table = c.clear-4.new.self }) ≡ emptied (state_of t) =
     λ i. record {
-      facts = record (facts_of t) { paths = c.clear.ensures i; sent = (c.clear_all.ensures i).sent };
+      facts = record (facts_of t) { tunnels = c.cancel_all.ensures i; paths = c.clear.ensures i; sent = (c.clear_all.ensures i).sent };
       resvs = (c.clear-2.ensures i).resvs;
       labels = (c.clear-3.ensures i).labels;
       sent_upstream = (c.clear_all-2.ensures i).sent;
@@ -34,4 +36,7 @@ returns-clause-tables c =
       claims = ap (λ (b : Bandwidth). b.claims) c.clear-2.ensures ∙ sym (λ i. claims_of (c.clear.ensures i) (c.clear-2.ensures i).resvs);
       range = ap (λ (labels : Bindings). labels.range) c.clear-3.ensures ∙ c.requires.range;
       table = subst (λ (s : State). IsTableOf s c.clear-4.new.self.labels) (sym state) (subst (λ (rows : List (ℕ × Action)). IsTableOf (emptied (state_of t)) rows) (sym (ap (λ (table : Actions). table.labels) c.clear-4.ensures)) (table-no_path (emptied (state_of t)) refl));
+      tunnel_table =
+          ap (λ (table : Actions). table.tunnels) c.clear-4.ensures
+          ∙ sym (ap (tunnel_table_of t.router) state ∙ tunnel_table-no_resv t.router (emptied (state_of t)) refl);
     }

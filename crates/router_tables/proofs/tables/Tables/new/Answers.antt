@@ -8,6 +8,7 @@ use Rattle.forwarding_table.specs.declared.action.Action.{Action}
 use Rattle.label_space.specs.Bindings.{Bindings}
 use Rattle.label_table.specs.RowLaws.{table-no_path}
 use Rattle.label_table.specs.Rows.{IsTableOf}
+use Rattle.label_table.specs.TunnelLaws.{tunnel_table-no_resv}
 use Rattle.lsr_facts.specs.declared.key.Item.{Item}
 use Rattle.refresh_timers.specs.Timers.{Timers}
 use Rattle.resv_facts.specs.declared.upstream.Upstream.{Upstream}
@@ -16,6 +17,7 @@ use Rattle.abstract_router.specs.Preempting.{claims_of}
 use Rattle.abstract_router.specs.Soundness.{IsSound}
 use Rattle.abstract_router.specs.States.{State}
 use Rattle.abstract_router.specs.Steps.{opening}
+use Rattle.abstract_router.specs.Tables.{tunnel_table_of}
 use Rattle.router_tables.specs.States.{opened}
 use Rattle.router_tables.proofs.Opening.{opening_is}
 use Rattle.router_tables.proofs.tables.Tables.new.Goals as goal
@@ -45,20 +47,23 @@ invariant_of-result c =
     let labels = c.in_ok-labels.ensures in
     let bandwidth = c.in_ok-bandwidth.ensures in
     let table = c.in_ok-table.ensures in
-    let state = opening_is config.router config.routes c.from_rows-2.result c.in_ok-new.field-0 c.in_ok-timers.timers c.in_ok-bandwidth.bandwidth c.in_ok-labels.labels c.in_ok-upstream.upstream up paths timers c.from_rows.result bandwidth labels upstream in
+    let state = opening_is config.router config.routes config.tunnels c.in_ok-tunnels.tunnels config.bypasses c.from_rows-2.result c.in_ok-new.field-0 c.in_ok-timers.timers c.in_ok-bandwidth.bandwidth c.in_ok-labels.labels c.in_ok-upstream.upstream c.in_ok-tunnels.ensures up paths timers c.from_rows.result bandwidth labels upstream in
     record {
       router = c.config.invariant.router;
-      sound = subst (IsSound config.router) state (sound_opening config.router config.routes c.config.invariant.router c.config.invariant.routes);
+      sound = subst (IsSound config.router) state (sound_opening config.router config.routes config.tunnels config.bypasses c.config.invariant.router c.config.invariant.routes c.config.invariant.tunnels c.config.invariant.bypasses);
       period = ap (λ (t : Timers Item). t.refresh_ms) timers;
       upstream_period = ap (λ (t : Timers Upstream). t.refresh_ms) upstream;
       claims = ap (λ (b : Bandwidth). b.claims) bandwidth ∙ sym (λ i. claims_of (paths i) (bandwidth i).resvs);
       range = ap (λ (b : Bindings). b.range) labels;
-      table = subst (λ (s : State). IsTableOf s c.in_ok-table.table.labels) state (subst (λ (rows : List (ℕ × Action)). IsTableOf (opening config.router config.routes) rows) (sym (ap (λ (t : Actions). t.labels) table)) (table-no_path (opening config.router config.routes) refl));
+      table = subst (λ (s : State). IsTableOf s c.in_ok-table.table.labels) state (subst (λ (rows : List (ℕ × Action)). IsTableOf (opening config.router config.routes config.tunnels config.bypasses) rows) (sym (ap (λ (t : Actions). t.labels) table)) (table-no_path (opening config.router config.routes config.tunnels config.bypasses) refl));
+      tunnel_table =
+          ap (λ (t : Actions). t.tunnels) table
+          ∙ sym (ap (tunnel_table_of config.router) (sym state) ∙ tunnel_table-no_resv config.router (opening config.router config.routes config.tunnels config.bypasses) refl);
     }
 
 pub returns : goal.returns
 returns c =
     let config = c.config.inside in
     let up = c.from_rows-2.ensures ∙ c.in_ok-up.ensures ∙ ap (map (λ l. (l.0, l.1.up))) c.as_slice.ensures.rows in
-    let state = opening_is config.router config.routes c.from_rows-2.result c.in_ok-new.field-0 c.in_ok-timers.timers c.in_ok-bandwidth.bandwidth c.in_ok-labels.labels c.in_ok-upstream.upstream up c.in_ok-new.ensures c.in_ok-timers.ensures c.from_rows.result c.in_ok-bandwidth.ensures c.in_ok-labels.ensures c.in_ok-upstream.ensures in
+    let state = opening_is config.router config.routes config.tunnels c.in_ok-tunnels.tunnels config.bypasses c.from_rows-2.result c.in_ok-new.field-0 c.in_ok-timers.timers c.in_ok-bandwidth.bandwidth c.in_ok-labels.labels c.in_ok-upstream.upstream c.in_ok-tunnels.ensures up c.in_ok-new.ensures c.in_ok-timers.ensures c.from_rows.result c.in_ok-bandwidth.ensures c.in_ok-labels.ensures c.in_ok-upstream.ensures in
     ap (λ (s : State). record { router = config.router; state = s }) (sym state) ∙ ap opened c.config.view_is

@@ -1,0 +1,79 @@
+// The bypasses of a document.
+ghost use Rattle.std.specs.Prelude.{List, [], ◌∷◌};
+ghost use Rattle.toml.specs.Data.{Data};
+ghost use Rattle.toml.specs.View.{view};
+ghost use Rattle.lsr_config.specs.Rules.{HasNumber, known_number};
+ghost use Rattle.lsr_config.specs.Values.{SaysEach};
+ghost use Rattle.lsr_config.specs.Documents.{table_rules, records, bypass_rules, SaysBypass, SaysLink, SaysTunnel};
+ghost use Rattle.lsr_config.specs.Reading.{Judges};
+
+use crate::fault::ConfigFault;
+use crate::key::Key;
+use crate::links::{FIRST_LINK, check_number, has_number};
+use crate::reading::{check_count, number_at, records_of};
+use crate::routes::check_link;
+use crate::tunnels::FIRST_TUNNEL;
+use lsr_facts::limits::MAX_BYPASSES;
+use lsr_facts::{Bypass, Link, Tunnel};
+use std::alloc::Global;
+use toml::Value;
+
+/// The least number of a bypass.
+const FIRST_BYPASS: u64 = 0;
+
+/// The bypasses of a document in its tunnels and for its links, with their numbers, in the order of their records.
+pub(crate) fn read_bypasses(
+    alloc: Global,
+    document: &Value,
+    links: &[(u16, Link)],
+    tunnels: &[(u16, Tunnel)],
+) -> Result<Vec<(u16, Bypass)>, ConfigFault>
+    requires links { SaysEach SaysLink (records Key.Link (view document.now)) links.now }
+    requires tunnels { SaysEach SaysTunnel (records Key.Tunnel (view document.now)) tunnels.now }
+    ensures { Judges (table_rules Key.Bypass (bypass_rules (view document.now)) (view document.now))
+        (λ bypasses. SaysEach SaysBypass (records Key.Bypass (view document.now)) bypasses.items) result }
+{
+    let records = records_of(document, Key::Bypass)?;
+    let mut bypasses = Vec::new(alloc);
+    for table in records {
+        let bypass = read_bypass(table, links, tunnels, bypasses.as_slice())?;
+        let Ok(()) = bypasses.push(bypass) else {
+            return Err(ConfigFault::Memory);
+        };
+    }
+    Ok(bypasses)
+}
+
+/// The bypass that a record says, with its number, behind the bypasses before it.
+fn read_bypass(
+    table: &Value,
+    links: &[(u16, Link)],
+    tunnels: &[(u16, Tunnel)],
+    before: &[(u16, Bypass)],
+) -> Result<(u16, Bypass), ConfigFault>
+    ensures { (document : Data) (earlier : List Data) →
+        SaysEach SaysLink (records Key.Link document) links.now →
+        SaysEach SaysTunnel (records Key.Tunnel document) tunnels.now → SaysEach SaysBypass earlier before.now →
+        Judges (bypass_rules document earlier (view table.now)) (SaysBypass (view table.now)) result }
+{
+    let number = number_at(table, Key::Number, FIRST_BYPASS)?;
+    check_number(number, before)?;
+    let tunnel = number_at(table, Key::Tunnel, FIRST_TUNNEL)?;
+    check_tunnel(tunnel, tunnels)?;
+    let link = number_at(table, Key::Link, FIRST_LINK)?;
+    check_link(link, links)?;
+    check_count(Key::Bypass, MAX_BYPASSES, before.len())?;
+    Ok((number, Bypass { tunnel, link }))
+}
+
+/// Refuses the number of a tunnel that isn't there.
+fn check_tunnel(number: u16, tunnels: &[(u16, Tunnel)]) -> Result<(), ConfigFault>
+    ensures { (d : Data) (tunnel_records : List Data) → HasNumber 0 Key.Tunnel d number →
+        SaysEach SaysTunnel tunnel_records tunnels.now →
+        Judges (known_number 0 Key.Tunnel tunnel_records d ∷ []) (λ _. Unit {0}) result }
+{
+    if has_number(number, tunnels) {
+        return Ok(());
+    }
+    Err(ConfigFault::UnknownName(Key::Tunnel))
+}

@@ -1,0 +1,28 @@
+-- Bypasses of a router's links (RFC 4090, 3.2).
+use Rattle.std.specs.Prelude.{◌≡◌, ℕ, ◌≤◌, ◌==◌, ◌&&◌, Bool, true, List, length, is_some, T}
+use Rattle.std.specs.FinMap.Entries as rows
+use Rattle.std.specs.List.{AllByRecursion, list_any}
+use Rattle.std.specs.Ordering.{nat_cmp}
+use Rattle.lsr_facts.specs.Routers.{HasLink}
+use Rattle.lsr_facts.specs.declared.bypass.Bypass.{Bypass}
+use Rattle.lsr_facts.specs.declared.router.Router.{Router}
+use Rattle.lsr_facts.specs.declared.tunnel.Tunnel.{Tunnel}
+
+-- a bypass runs in the tunnel of this number
+abbrev pub is_for_bypass : List (ℕ × Bypass) → ℕ → Bool
+is_for_bypass bypasses tunnel = list_any (λ bypass. bypass.1.tunnel == tunnel) bypasses
+
+-- and protects this link
+abbrev pub is_to_protect : List (ℕ × Bypass) → ℕ → ℕ → Bool
+is_to_protect bypasses tunnel link = list_any (λ bypass. (bypass.1.tunnel == tunnel) && (bypass.1.link == link)) bypasses
+
+-- a bypass: it protects a link of the router, and runs in a tunnel that begins there
+pub record IsBypass (r : Router) (tunnels : List (ℕ × Tunnel)) (bypass : ℕ × Bypass) : Type 0 where
+  pub protects : HasLink r bypass.1.link
+  pub runs : is_some (rows.find nat_cmp bypass.1.tunnel tunnels) ≡ true
+
+-- the bypasses of a router: each has a number of its own, and there are at most 64
+pub record AreBypasses (r : Router) (tunnels : List (ℕ × Tunnel)) (bypasses : List (ℕ × Bypass)) : Type 0 where
+  pub in_order : T (rows.is_sorted nat_cmp bypasses)
+  pub few : length bypasses ≤ 64
+  pub each : AllByRecursion (IsBypass r tunnels) bypasses

@@ -1,0 +1,113 @@
+-- What lines that command a router say of tunnels, of bypasses and of static routes, word by word.
+use Rattle.std.specs.Prelude.{◌≡◌, ◌≤◌, ◌==◌, ℕ, Bool, false, List, [], ◌∷◌, ◌⊎◌, codes, length, Option, Some, None, ⊤}
+use Rattle.std.specs.List.{list_any, slice_split}
+use Rattle.std.specs.Net.Grammar.{IsIpv4Text}
+use Rattle.std.specs.Str.Parse.{IsNumeral, digits_value}
+use Rattle.rsvp_routes.specs.declared.prefix.Prefix.{Prefix}
+use Rattle.rsvp_routes.specs.declared.step.Step.{Step}
+use Rattle.session_attribute.specs.Names.{IsName}
+use Rattle.session_attribute.specs.declared.attr.Attr.{Attr}
+use Rattle.route_words.specs.Rates.{IsRateText}
+use Rattle.route_words.specs.Routes.{IsPrefixText, IsStepText}
+use Rattle.lsr_lines.specs.Numbers.{NamesLink, NamesUpTo}
+use Rattle.lsr_lines.specs.declared.commands.BypassRequest.{BypassRequest}
+use Rattle.lsr_lines.specs.declared.commands.ChangeRequest.{ChangeRequest}
+use Rattle.lsr_lines.specs.declared.commands.CommandRequest.{CommandRequest}
+use Rattle.lsr_lines.specs.declared.commands.CommandRequest.TheVariants as commands
+use Rattle.lsr_lines.specs.declared.commands.TunnelRequest.{TunnelRequest}
+use denote.Ref.{Bor}
+
+-- a space
+abbrev pub is_space : ℕ → Bool
+is_space byte = byte == 32
+
+-- The words of a text: one space parts each two of them.
+abbrev pub words_of : List ℕ → List (List ℕ)
+words_of text = slice_split is_space text
+
+-- the words of what is left of a line, if anything is
+abbrev pub words_left : Option (Bor (List ℕ)) → List (List ℕ)
+words_left None = []
+words_left (Some text) = words_of text.now
+
+-- the first of the words is this, and the others are such
+abbrev pub IsBehind : List ℕ → (List (List ℕ) → Type 0) → List (List ℕ) → Type 0
+IsBehind word Says [] = ⊥
+IsBehind word Says (first ∷ others) = (first ≡ word) × Says others
+
+-- The word writes flags: two hexadecimal digits, of either case.
+pub record IsFlagsText (text : List ℕ) (flags : ℕ) : Type 0 where
+  pub two : length text ≡ 2
+  pub hexadecimal : IsNumeral 16 text
+  pub value : digits_value 16 text ≡ flags
+
+-- `SETUP HOLD FLAGS NAME`: priorities of one byte each, flags, and a name of 1 to 255 bytes, none of them a carriage return.
+pub record SaysAttr (setup hold flags name : List ℕ) (attr : Attr) : Type 0 where
+  pub no_affinities : attr.affinities ≡ None
+  pub setup_priority : NamesUpTo 255 setup attr.setup
+  pub hold_priority : NamesUpTo 255 hold attr.hold
+  pub flags_set : IsFlagsText flags attr.flags
+  pub called : attr.name ≡ name
+  pub some : 1 ≤ length name
+  pub short : IsName name
+  pub no_return : list_any (λ byte. byte == 13) name ≡ false
+
+-- each word writes its step
+abbrev pub AreSteps : List (List ℕ) → List Step → Type 0
+AreSteps [] [] = ⊤
+AreSteps (word ∷ words) (step ∷ steps) = IsStepText word step × AreSteps words steps
+AreSteps words steps = ⊥
+
+-- `[ROUTE..]`: the steps of a route, as many as an EXPLICIT_ROUTE carries or fewer.
+abbrev pub SaysRoute : List (List ℕ) → List Step → Type 0
+SaysRoute words steps = AreSteps words steps × (length steps ≤ 8191)
+
+-- `N ENDPOINT RATE SETUP HOLD FLAGS NAME [ROUTE..]`
+abbrev pub SaysTunnel : List (List ℕ) → TunnelRequest → Type 0
+SaysTunnel (number ∷ endpoint ∷ rate ∷ setup ∷ hold ∷ flags ∷ name ∷ steps) t =
+    NamesUpTo 65535 number t.number × IsIpv4Text endpoint t.endpoint × IsRateText rate t.rate
+    × SaysAttr setup hold flags name t.attr × SaysRoute steps t.route
+SaysTunnel words t = ⊥
+
+-- `N RATE [ROUTE..]`
+abbrev pub SaysChange : List (List ℕ) → ChangeRequest → Type 0
+SaysChange (number ∷ rate ∷ steps) c = NamesUpTo 65535 number c.number × IsRateText rate c.rate × SaysRoute steps c.route
+SaysChange words c = ⊥
+
+-- `N`
+abbrev pub SaysNumber : List (List ℕ) → ℕ → Type 0
+SaysNumber (number ∷ []) n = NamesUpTo 65535 number n
+SaysNumber words n = ⊥
+
+-- `N TUNNEL LINK`
+abbrev pub SaysBypass : List (List ℕ) → BypassRequest → Type 0
+SaysBypass (number ∷ tunnel ∷ link ∷ []) b = NamesUpTo 65535 number b.number × NamesUpTo 65535 tunnel b.tunnel × NamesLink link b.link
+SaysBypass words b = ⊥
+
+-- `PREFIX`
+abbrev pub SaysPrefix : List (List ℕ) → Prefix → Type 0
+SaysPrefix (text ∷ []) prefix = IsPrefixText text prefix
+SaysPrefix words prefix = ⊥
+
+-- `PREFIX LINK`
+abbrev pub SaysStatic : List (List ℕ) → Prefix → ℕ → Type 0
+SaysStatic (text ∷ digits ∷ []) prefix link = IsPrefixText text prefix × NamesLink digits link
+SaysStatic words prefix link = ⊥
+
+-- What words command a router: `tunnel N ENDPOINT RATE SETUP HOLD FLAGS NAME [ROUTE..]`, `change N RATE [ROUTE..]`,
+-- `cancel N`, `drop N`, `bypass N TUNNEL LINK`, `unbypass N`, `route PREFIX LINK` or `unroute PREFIX`.
+abbrev pub SaysCommand : List (List ℕ) → CommandRequest → Type 0
+SaysCommand words (commands.AddTunnel t) = IsBehind (codes "tunnel") (λ others. SaysTunnel others t) words
+SaysCommand words (commands.ChangeTunnel c) = IsBehind (codes "change") (λ others. SaysChange others c) words
+SaysCommand words (commands.CancelChange number) = IsBehind (codes "cancel") (λ others. SaysNumber others number) words
+SaysCommand words (commands.DropTunnel number) = IsBehind (codes "drop") (λ others. SaysNumber others number) words
+SaysCommand words (commands.AddBypass b) = IsBehind (codes "bypass") (λ others. SaysBypass others b) words
+SaysCommand words (commands.DropBypass number) = IsBehind (codes "unbypass") (λ others. SaysNumber others number) words
+SaysCommand words (commands.AddRoute prefix link) = IsBehind (codes "route") (λ others. SaysStatic others prefix link) words
+SaysCommand words (commands.DropRoute prefix) = IsBehind (codes "unroute") (λ others. SaysPrefix others prefix) words
+
+-- a line that asks for a tunnel, or for a tunnel to be changed
+abbrev pub BringsTunnel : List ℕ → Type 0
+BringsTunnel line =
+    ((t : TunnelRequest) × SaysCommand (words_of line) (commands.AddTunnel t))
+    ⊎ ((c : ChangeRequest) × SaysCommand (words_of line) (commands.ChangeTunnel c))

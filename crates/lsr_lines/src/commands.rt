@@ -1,0 +1,393 @@
+//! Lines that command a router: about the tunnels that begin here, about bypasses, and about static routes.
+ghost use Rattle.std.specs.Prelude.{◌≡◌, ◌≢◌, ◌==◌, ◌<◌, ◌∷◌, List, IfOk, OnErr, codes, length};
+ghost use Rattle.std.specs.Bool.{MatchBool};
+ghost use Rattle.std.specs.List.{list_any};
+ghost use Rattle.std.specs.Option.{MatchOption};
+ghost use Rattle.rsvp_routes.specs.declared.step.Step.{Step};
+ghost use Rattle.session_attribute.specs.declared.attr.Attr.{Attr};
+ghost use Rattle.route_words.specs.Finding.{Finds};
+ghost use Rattle.lsr_lines.specs.Commands.{BringsTunnel, IsFlagsText, SaysAttr, SaysBypass, SaysChange, SaysCommand, SaysNumber, SaysPrefix, SaysRoute, SaysStatic, SaysTunnel, words_left, words_of};
+ghost use Rattle.lsr_lines.specs.declared.commands.ChangeRequest.{ChangeRequest};
+ghost use Rattle.lsr_lines.specs.declared.commands.CommandRequest.{CommandRequest};
+ghost use Rattle.lsr_lines.specs.declared.commands.TunnelRequest.{TunnelRequest};
+
+use crate::numbers::{read_link, read_up_to};
+use crate::words::{next_word, only_word};
+use route_words::{read_prefix, read_rate, read_step};
+use rsvp_routes::{Prefix, Route};
+use rsvp_traffic::RateWord;
+use session_attribute::numbers::MAX_NAME_LEN;
+use session_attribute::{Attr, Name};
+use std::alloc::{AllocError, Global};
+use std::net::Ipv4Addr;
+
+/// A tunnel that is to begin here, as `tunnel N ENDPOINT RATE SETUP HOLD FLAGS NAME [ROUTE..]` asks for it.
+#[derive(Debug, Drop)]
+pub struct TunnelRequest {
+    /// Its number.
+    pub number: u16,
+    /// Where it is to end.
+    pub endpoint: Ipv4Addr,
+    /// The rate of the traffic that it is to carry. Any 32 bits.
+    pub rate: RateWord,
+    /// Priorities, flags and name, without affinities. A priority above 7 is kept as it came.
+    pub attr: Attr,
+    /// The route that it is to take from here, without this router's own step.
+    pub route: Route,
+}
+
+/// What a tunnel that begins here is to become, as `change N RATE [ROUTE..]` asks for it.
+#[derive(Debug, Drop)]
+pub struct ChangeRequest {
+    /// The tunnel's number.
+    pub number: u16,
+    /// The rate of the traffic that it is to carry. Any 32 bits.
+    pub rate: RateWord,
+    /// The route that it is to take from here, without this router's own step.
+    pub route: Route,
+}
+
+/// A bypass that is to protect a link, as `bypass N TUNNEL LINK` asks for it.
+#[derive(Clone, Copy, Debug, PartialEq, Eq)]
+pub struct BypassRequest {
+    /// Its number.
+    pub number: u16,
+    /// The number of the tunnel that it is to run in.
+    pub tunnel: u16,
+    /// The number of the link that it is to protect, at least 1.
+    pub link: u16,
+}
+
+/// What a line commands a router.
+#[derive(Debug, Drop)]
+pub enum CommandRequest {
+    /// `tunnel N ENDPOINT RATE SETUP HOLD FLAGS NAME [ROUTE..]`: a tunnel is to begin here.
+    AddTunnel(TunnelRequest),
+    /// `change N RATE [ROUTE..]`: a tunnel is to take another route, or to carry other traffic.
+    ChangeTunnel(ChangeRequest),
+    /// `cancel N`: the change of the tunnel of this number is to be given up.
+    CancelChange(u16),
+    /// `drop N`: the tunnel of this number is to go.
+    DropTunnel(u16),
+    /// `bypass N TUNNEL LINK`: a bypass is to protect a link.
+    AddBypass(BypassRequest),
+    /// `unbypass N`: the bypass of this number is to go.
+    DropBypass(u16),
+    /// `route PREFIX LINK`: what goes to these addresses is to leave by the link of this number, at least 1. The prefix is
+    /// as it was written, also a length above 32.
+    AddRoute(Prefix, u16),
+    /// `unroute PREFIX`: the static route to these addresses is to go.
+    DropRoute(Prefix),
+}
+
+// The first words of lines.
+const TUNNEL: &str = "tunnel";
+
+const CHANGE: &str = "change";
+
+const CANCEL: &str = "cancel";
+
+const DROP: &str = "drop";
+
+const BYPASS: &str = "bypass";
+
+const UNBYPASS: &str = "unbypass";
+
+const ROUTE: &str = "route";
+
+const UNROUTE: &str = "unroute";
+
+/// The greatest number of a tunnel or a bypass.
+const MAX_NUMBER: u16 = 65_535;
+
+/// The greatest priority that a word can say: one byte's.
+const MAX_PRIORITY: u16 = 255;
+
+/// How many digits write flags.
+const FLAGS_DIGITS: usize = 2;
+
+/// The base that they are written in.
+const HEX: u32 = 16;
+
+/// What `parse` takes before a number, though it is no digit.
+const SIGN: char = '+';
+
+/// The most steps that an EXPLICIT_ROUTE carries, of 8 bytes each.
+const MAX_STEPS: usize = 8191;
+
+/// The words of a line that asks for a tunnel.
+#[derive(Clone, Copy, Debug)]
+struct TunnelWords<'a> {
+    number: &'a str,
+    endpoint: &'a str,
+    rate: &'a str,
+    setup: &'a str,
+    hold: &'a str,
+    flags: &'a str,
+    name: &'a str,
+    steps: Option<&'a str>,
+}
+
+/// The first seven words and what is left behind them; none where there are fewer words.
+fn cut_tunnel(left: Option<&str>) -> Option<TunnelWords>
+    ensures { MatchOption result
+        (length (words_left left.entry) < 7)
+        (λ w. words_left left.entry ≡ w.number.now ∷ w.endpoint.now ∷ w.rate.now ∷ w.setup.now ∷ w.hold.now ∷ w.flags.now ∷ w.name.now ∷ words_left w.steps) }
+{
+    let (number, left) = next_word(left)?;
+    let (endpoint, left) = next_word(left)?;
+    let (rate, left) = next_word(left)?;
+    let (setup, left) = next_word(left)?;
+    let (hold, left) = next_word(left)?;
+    let (flags, left) = next_word(left)?;
+    let (name, steps) = next_word(left)?;
+    Some(TunnelWords {
+        number,
+        endpoint,
+        rate,
+        setup,
+        hold,
+        flags,
+        name,
+        steps,
+    })
+}
+
+/// The flags that the word writes: two hexadecimal digits, of either case.
+fn read_flags(digits: &str) -> Option<u8>
+    ensures { Finds (IsFlagsText digits.now) result }
+{
+    if digits.len() != FLAGS_DIGITS || digits.starts_with(SIGN) {
+        return None;
+    }
+    match u8::from_str_radix(digits, HEX) {
+        Ok(flags) => Some(flags),
+        Err(_) => None,
+    }
+}
+
+/// Whether a carriage return is in the word.
+fn has_return(word: &str) -> bool
+    ensures { result ≡ list_any (λ byte. byte == 13) word.now }
+{
+    word.as_bytes().iter().any(|byte| *byte == b'\r')
+}
+
+/// The attributes of a tunnel that its words say. The only error is that there is no memory for the name.
+fn read_attr(alloc: Global, words: &TunnelWords) -> Result<Option<Attr>, AllocError>
+    ensures attr { IfOk result (Finds (SaysAttr words.now.setup.now words.now.hold.now words.now.flags.now words.now.name.now)) }
+    ensures memory { OnErr result ((attr : Attr) × SaysAttr words.now.setup.now words.now.hold.now words.now.flags.now words.now.name.now attr) }
+{
+    let Some(setup) = read_up_to(MAX_PRIORITY, words.setup) else {
+        return Ok(None);
+    };
+    let Some(hold) = read_up_to(MAX_PRIORITY, words.hold) else {
+        return Ok(None);
+    };
+    let Some(flags) = read_flags(words.flags) else {
+        return Ok(None);
+    };
+    if words.name.is_empty() || words.name.len() > MAX_NAME_LEN || has_return(words.name) {
+        return Ok(None);
+    }
+    Ok(Some(Attr {
+        affinities: None,
+        setup: setup as u8,
+        hold: hold as u8,
+        flags,
+        name: Name::copy_of(alloc, words.name.as_bytes())?,
+    }))
+}
+
+/// Whether the words are the steps of a route.
+fn is_route(words: Option<&str>) -> bool
+    ensures { MatchBool result
+        ((steps : List Step) × SaysRoute (words_left words.entry) steps)
+        ((steps : List Step) → ¬ SaysRoute (words_left words.entry) steps) }
+{
+    let mut left = words;
+    let mut count = 0;
+    while let Some((word, rest)) = next_word(left) {
+        if count == MAX_STEPS {
+            return false;
+        }
+        let Some(_step) = read_step(word) else {
+            return false;
+        };
+        count += 1;
+        left = rest;
+    }
+    true
+}
+
+/// The route whose steps the words are. The only error is out of memory.
+fn read_route(alloc: Global, words: Option<&str>) -> Result<Route, AllocError>
+    requires { (steps : List Step) × SaysRoute (words_left words) steps }
+    ensures { IfOk result (SaysRoute (words_left words.entry)) }
+{
+    let mut left = words;
+    let mut steps = Vec::new(alloc);
+    while let Some((word, rest)) = next_word(left) {
+        let Some(step) = read_step(word) else {
+            unreachable!()
+        };
+        steps.push(step)?;
+        left = rest;
+    }
+    Ok(Route::from_vec(steps))
+}
+
+/// The tunnel that the words ask for; none where they ask for none. The only error is that there is no memory for it.
+fn read_tunnel(alloc: Global, left: Option<&str>) -> Result<Option<TunnelRequest>, AllocError>
+    ensures tunnel { IfOk result (Finds (SaysTunnel (words_left left.entry))) }
+    ensures memory { OnErr result ((t : TunnelRequest) × SaysTunnel (words_left left.entry) t) }
+{
+    let Some(words) = cut_tunnel(left) else {
+        return Ok(None);
+    };
+    let Some(number) = read_up_to(MAX_NUMBER, words.number) else {
+        return Ok(None);
+    };
+    let Ok(endpoint) = words.endpoint.parse() else {
+        return Ok(None);
+    };
+    let Some(rate) = read_rate(words.rate) else {
+        return Ok(None);
+    };
+    if !is_route(words.steps) {
+        return Ok(None);
+    }
+    let Some(attr) = read_attr(alloc, &words)? else {
+        return Ok(None);
+    };
+    Ok(Some(TunnelRequest {
+        number,
+        endpoint,
+        rate,
+        attr,
+        route: read_route(alloc, words.steps)?,
+    }))
+}
+
+/// The change of a tunnel that the words ask for; none where they ask for none. The only error is that there is no memory
+/// for its route.
+fn read_change(alloc: Global, left: Option<&str>) -> Result<Option<ChangeRequest>, AllocError>
+    ensures change { IfOk result (Finds (SaysChange (words_left left.entry))) }
+    ensures memory { OnErr result ((c : ChangeRequest) × SaysChange (words_left left.entry) c) }
+{
+    let Some((number, left)) = next_word(left) else {
+        return Ok(None);
+    };
+    let Some((rate, left)) = next_word(left) else {
+        return Ok(None);
+    };
+    let Some(number) = read_up_to(MAX_NUMBER, number) else {
+        return Ok(None);
+    };
+    let Some(rate) = read_rate(rate) else {
+        return Ok(None);
+    };
+    if !is_route(left) {
+        return Ok(None);
+    }
+    Ok(Some(ChangeRequest {
+        number,
+        rate,
+        route: read_route(alloc, left)?,
+    }))
+}
+
+/// The number of a tunnel or a bypass that is the only word.
+fn only_number(left: Option<&str>) -> Option<u16>
+    ensures { Finds (SaysNumber (words_left left.entry)) result }
+{
+    read_up_to(MAX_NUMBER, only_word(left)?)
+}
+
+/// The bypass that the words ask for; none where they ask for none.
+fn read_bypass(left: Option<&str>) -> Option<BypassRequest>
+    ensures { Finds (SaysBypass (words_left left.entry)) result }
+{
+    let (number, left) = next_word(left)?;
+    let (tunnel, left) = next_word(left)?;
+    let digits = only_word(left)?;
+    let number = read_up_to(MAX_NUMBER, number)?;
+    let tunnel = read_up_to(MAX_NUMBER, tunnel)?;
+    let link = read_link(digits)?;
+    Some(BypassRequest {
+        number,
+        tunnel,
+        link,
+    })
+}
+
+/// The prefix that is the only word.
+fn only_prefix(left: Option<&str>) -> Option<Prefix>
+    ensures { Finds (SaysPrefix (words_left left.entry)) result }
+{
+    read_prefix(only_word(left)?)
+}
+
+/// The prefix and the link that are the only words.
+fn prefix_and_link(left: Option<&str>) -> Option<(Prefix, u16)>
+    ensures { Finds (λ route. SaysStatic (words_left left.entry) route.0 route.1) result }
+{
+    let (prefix, left) = next_word(left)?;
+    let digits = only_word(left)?;
+    let prefix = read_prefix(prefix)?;
+    let link = read_link(digits)?;
+    Some((prefix, link))
+}
+
+/// What a word and the others command of a tunnel that is there, of a bypass or of a static route: `cancel N`, `drop N`,
+/// `bypass N TUNNEL LINK`, `unbypass N`, `route PREFIX LINK` or `unroute PREFIX`; none where they do not.
+fn read_short(word: &str, left: Option<&str>) -> Option<CommandRequest>
+    requires no_tunnel { word.now ≢ codes "tunnel" }
+    requires no_change { word.now ≢ codes "change" }
+    ensures { Finds (SaysCommand (word.now ∷ words_left left.entry)) result }
+{
+    if word == CANCEL {
+        return Some(CommandRequest::CancelChange(only_number(left)?));
+    }
+    if word == DROP {
+        return Some(CommandRequest::DropTunnel(only_number(left)?));
+    }
+    if word == BYPASS {
+        return Some(CommandRequest::AddBypass(read_bypass(left)?));
+    }
+    if word == UNBYPASS {
+        return Some(CommandRequest::DropBypass(only_number(left)?));
+    }
+    if word == ROUTE {
+        let (prefix, link) = prefix_and_link(left)?;
+        return Some(CommandRequest::AddRoute(prefix, link));
+    }
+    if word == UNROUTE {
+        return Some(CommandRequest::DropRoute(only_prefix(left)?));
+    }
+    None
+}
+
+/// What the line commands a router; none where it commands nothing. The only error is that there is no memory for a tunnel
+/// that the line brings.
+pub(crate) fn read_command(alloc: Global, line: &str) -> Result<Option<CommandRequest>, AllocError>
+    ensures command { IfOk result (Finds (SaysCommand (words_of line.now))) }
+    ensures memory { OnErr result (BringsTunnel line.now) }
+{
+    let Some((word, left)) = next_word(Some(line)) else {
+        return Ok(None);
+    };
+    if word == TUNNEL {
+        return match read_tunnel(alloc, left)? {
+            Some(tunnel) => Ok(Some(CommandRequest::AddTunnel(tunnel))),
+            None => Ok(None),
+        };
+    }
+    if word == CHANGE {
+        return match read_change(alloc, left)? {
+            Some(change) => Ok(Some(CommandRequest::ChangeTunnel(change))),
+            None => Ok(None),
+        };
+    }
+    Ok(read_short(word, left))
+}

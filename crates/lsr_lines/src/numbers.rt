@@ -1,0 +1,50 @@
+//! The numbers that words name.
+ghost use Rattle.std.specs.Prelude.{◌≤◌, ℕ};
+ghost use Rattle.std.specs.Option.{MatchOption};
+ghost use Rattle.lsr_lines.specs.Numbers.{NamesLink, NamesMoment, NamesUpTo};
+
+/// What `parse` takes before a number, though it is no digit.
+const SIGN: char = '+';
+
+/// The link that the word names: decimal digits, leading zeros taken, 1 to 65,535.
+pub(crate) fn read_link(digits: &str) -> Option<u16>
+    ensures { MatchOption result ((link : ℕ) → ¬ NamesLink digits.now link) (NamesLink digits.now) }
+{
+    if digits.starts_with(SIGN) {
+        return None;
+    }
+    match digits.parse::<u16>() {
+        Ok(0) => None,
+        Ok(link) => Some(link),
+        Err(_) => None,
+    }
+}
+
+/// The moment that the word names, in milliseconds: decimal digits, leading zeros taken, that fit 64 bits.
+pub(crate) fn read_moment(digits: &str) -> Option<u64>
+    ensures { MatchOption result ((moment : ℕ) → ¬ NamesMoment digits.now moment) (NamesMoment digits.now) }
+{
+    if digits.starts_with(SIGN) {
+        return None;
+    }
+    match digits.parse::<u64>() {
+        Ok(moment) => Some(moment),
+        Err(_) => None,
+    }
+}
+
+/// The number that the word names: decimal digits, leading zeros taken, 0 to `most`.
+pub(crate) fn read_up_to(most: u16, digits: &str) -> Option<u16>
+    ensures { MatchOption result ((number : ℕ) → ¬ NamesUpTo most digits.now number) (NamesUpTo most digits.now) }
+{
+    if digits.starts_with(SIGN) {
+        return None;
+    }
+    let Ok(number) = digits.parse::<u16>() else {
+        return None;
+    };
+    if number > most {
+        return None;
+    }
+    Some(number)
+}

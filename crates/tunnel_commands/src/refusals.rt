@@ -1,0 +1,170 @@
+//! Why commands are refused: of each its tests, in their order. None takes memory.
+
+ghost use Rattle.std.specs.Prelude.{◌≡◌, ◌≤◌};
+ghost use Rattle.abstract_paths.specs.Commands.{has_route, refusal_of};
+ghost use Rattle.abstract_paths.specs.Heads.{is_full};
+ghost use Rattle.router_events.specs.declared.commands.Command.TheVariants.{AddTunnel, ChangeTunnel, CancelChange, DropTunnel, AddBypass, DropBypass, AddRoute, DropRoute};
+
+use crate::protecting::{is_for_bypass, is_onto_its_link, runs_over};
+use crate::requests::{is_bad_tunnel, requested_way};
+use crate::routes::{MAX_LENGTH, masked_prefix};
+use explicit_routes::link_at;
+use lsr_facts::Refusal;
+use lsr_facts::limits::{MAX_BYPASSES, MAX_LSPS, MAX_ROUTES, MAX_TUNNELS};
+use make_before_break::MAX_LSP_ID;
+use router_events::{Command, NewBypass, NewTunnel, TunnelChange};
+use rsvp_contents::Prefix;
+use state_views::{StateView, WholeState};
+
+/// Whether there is no room for another LSP.
+fn is_full<V: WholeState>(view: &V) -> bool
+    ensures { result ≡ is_full (V.state view.now).facts }
+{
+    view.path_count() >= MAX_LSPS
+}
+
+/// Why a tunnel isn't added, if it isn't.
+fn of_new_tunnel<V: WholeState>(view: &V, asked: &NewTunnel) -> Option<Refusal>
+    ensures { result ≡ refusal_of (V.router view.now) (V.state view.now).facts (AddTunnel asked.now) }
+{
+    if view.tunnel(asked.number).is_some() {
+        return Some(Refusal::TunnelExists);
+    }
+    if view.tunnels().len() >= MAX_TUNNELS || is_full(view) {
+        return Some(Refusal::Full);
+    }
+    if is_bad_tunnel(view, asked) {
+        return Some(Refusal::BadRoute);
+    }
+    None
+}
+
+/// Why a tunnel isn't changed, if it isn't.
+fn of_change<V: WholeState>(view: &V, change: &TunnelChange) -> Option<Refusal>
+    ensures { result ≡ refusal_of (V.router view.now) (V.state view.now).facts (ChangeTunnel change.now) }
+{
+    let Some(tunnel) = view.tunnel(change.number) else {
+        return Some(Refusal::UnknownTunnel);
+    };
+    if tunnel.pending.is_some() {
+        return Some(Refusal::ChangePending);
+    }
+    if tunnel.last == MAX_LSP_ID || is_full(view) {
+        return Some(Refusal::Full);
+    }
+    let Some(way) = requested_way(view, tunnel.endpoint, &change.route, &change.tspec) else {
+        return Some(Refusal::BadRoute);
+    };
+    if is_onto_its_link(view.bypasses(), change.number, &way) {
+        return Some(Refusal::BypassOnItsLink);
+    }
+    None
+}
+
+/// Why a tunnel's change isn't given up, if it isn't: no tunnel has the number.
+fn of_cancelling<V: StateView>(view: &V, number: u16) -> Option<Refusal>
+    ensures { result ≡ refusal_of (V.router view.now) (V.state view.now).facts (CancelChange number) }
+{
+    match view.tunnel(number) {
+        Some(_) => None,
+        None => Some(Refusal::UnknownTunnel),
+    }
+}
+
+/// Why a tunnel isn't dropped, if it isn't.
+fn of_old_tunnel<V: StateView>(view: &V, number: u16) -> Option<Refusal>
+    ensures { result ≡ refusal_of (V.router view.now) (V.state view.now).facts (DropTunnel number) }
+{
+    if view.tunnel(number).is_none() {
+        return Some(Refusal::UnknownTunnel);
+    }
+    if is_for_bypass(view.bypasses(), number) {
+        return Some(Refusal::InUse);
+    }
+    None
+}
+
+/// Why a bypass isn't added, if it isn't.
+fn of_new_bypass<V: StateView>(view: &V, asked: &NewBypass) -> Option<Refusal>
+    ensures { result ≡ refusal_of (V.router view.now) (V.state view.now).facts (AddBypass asked.now) }
+{
+    if link_at(view.node().router, asked.link).is_none() {
+        return Some(Refusal::UnknownLink);
+    }
+    let Some(tunnel) = view.tunnel(asked.tunnel) else {
+        return Some(Refusal::UnknownTunnel);
+    };
+    let bypasses = view.bypasses();
+    if bypasses.contains_key(&asked.number) {
+        return Some(Refusal::BypassExists);
+    }
+    if bypasses.as_slice().len() >= MAX_BYPASSES {
+        return Some(Refusal::Full);
+    }
+    if runs_over(view, asked.link, asked.tunnel, tunnel) {
+        return Some(Refusal::BypassOnItsLink);
+    }
+    None
+}
+
+/// Why a bypass isn't dropped, if it isn't: there is none of the number.
+fn of_old_bypass<V: StateView>(view: &V, number: u16) -> Option<Refusal>
+    ensures { result ≡ refusal_of (V.router view.now) (V.state view.now).facts (DropBypass number) }
+{
+    if view.bypasses().contains_key(&number) {
+        None
+    } else {
+        Some(Refusal::UnknownTunnel)
+    }
+}
+
+/// Whether a static route to exactly these addresses stands.
+fn has_route<V: StateView>(view: &V, prefix: Prefix) -> bool
+    requires { prefix.length ≤ 32 }
+    ensures { result ≡ has_route (V.state view.now).facts prefix }
+{
+    view.node().routes.contains_key(&masked_prefix(prefix))
+}
+
+/// Why a static route isn't added, if it isn't.
+fn of_new_route<V: StateView>(view: &V, prefix: Prefix, link: u16) -> Option<Refusal>
+    ensures { result ≡ refusal_of (V.router view.now) (V.state view.now).facts (AddRoute prefix link) }
+{
+    if prefix.length > MAX_LENGTH {
+        return Some(Refusal::BadRoute);
+    }
+    let node = view.node();
+    if link_at(node.router, link).is_none() {
+        return Some(Refusal::UnknownLink);
+    }
+    if !has_route(view, prefix) && node.routes.as_slice().len() >= MAX_ROUTES {
+        return Some(Refusal::Full);
+    }
+    None
+}
+
+/// Why a static route isn't dropped, if it isn't.
+fn of_old_route<V: StateView>(view: &V, prefix: Prefix) -> Option<Refusal>
+    ensures { result ≡ refusal_of (V.router view.now) (V.state view.now).facts (DropRoute prefix) }
+{
+    if prefix.length > MAX_LENGTH || !has_route(view, prefix) {
+        return Some(Refusal::BadRoute);
+    }
+    None
+}
+
+/// Why a command is refused, if it is. Takes no memory.
+pub(crate) fn refusal_of<V: WholeState>(view: &V, command: &Command) -> Option<Refusal>
+    ensures { result ≡ refusal_of (V.router view.now) (V.state view.now).facts command.now }
+{
+    match command {
+        Command::AddTunnel(asked) => of_new_tunnel(view, asked),
+        Command::ChangeTunnel(change) => of_change(view, change),
+        Command::CancelChange(number) => of_cancelling(view, *number),
+        Command::DropTunnel(number) => of_old_tunnel(view, *number),
+        Command::AddBypass(asked) => of_new_bypass(view, asked),
+        Command::DropBypass(number) => of_old_bypass(view, *number),
+        Command::AddRoute(prefix, link) => of_new_route(view, *prefix, *link),
+        Command::DropRoute(prefix) => of_old_route(view, *prefix),
+    }
+}
