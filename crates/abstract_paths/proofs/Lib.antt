@@ -1,6 +1,7 @@
 pub mod Alongside
 pub mod Bypasses
 pub mod Commanding
+pub mod Detouring
 pub mod EventStanding
 pub mod Heads
 pub mod Masked

@@ -1,4 +1,5 @@
--- The next hop: it is a link of the router, and what is left of the route is within the limits.
+-- The next hop: it is a link of the router, and what is left of the route is within the limits and begins with a step of
+-- type IPv4.
 use Rattle.std.specs.Prelude.{◌≡◌, ℕ, ◌+◌, ◌≤◌, Bool, true, false, not, if◌then◌else◌, nat_le, nat_lt, IsTrue, List, [], ◌∷◌, drop, length, Option, Some, None, is_some, Result, Ok, Err, IfSome, IfOk}
 use Rattle.std.specs.List.{AllByRecursion, list_all, prefix_len, reduce}
 use Rattle.std.specs.Net.Addr.{ipv4_octets}
@@ -24,14 +25,17 @@ use Rattle.lsr_facts.specs.declared.errors.RsvpError.{RsvpError}
 use Rattle.lsr_facts.specs.declared.router.Link.{Link}
 use Rattle.lsr_facts.specs.declared.router.Router.{Router}
 use Rattle.abstract_paths.specs.Places.{Place, contains, is_here, is_own, is_up, neighbour, up_links}
-use Rattle.abstract_paths.specs.Routing.{longer, routes_to, route_to, nodes_of, is_loose, leads_here, step_to, hop_to_endpoint, with_neighbour, hop_to_step, hop_by_rest, hop_by_route, next_hop}
+use Rattle.abstract_paths.specs.Routing.{longer, routes_to, route_to, nodes_of, leads_here, step_to, hop_to_endpoint, with_neighbour, hop_to_step, hop_by_rest, hop_by_route, next_hop}
 use Rattle.abstract_paths.specs.RowLaws.{find-holds, reduce-holds, option_map-holds, option_or-holds, ok_or-holds, length-drop_most, flat_map-drop_most, list_all-drop}
+use Rattle.abstract_paths.specs.Soundness.{begins_with_ipv4}
 use Rattle.lsr_facts.specs.Routers.{AreRoutes, HasLink, IsLink, IsRouter, is_same, link_at}
 
--- A way that may be taken: it ends here, or it goes on by a link of the router with a rest within the limits.
+-- A way that may be taken: it ends here, or it goes on by a link of the router with a rest within the limits that begins
+-- with a step of type IPv4.
 abbrev pub LeadsOn : Router → Choice → Type 0
 LeadsOn r choices.Tail = Unit {0}
-LeadsOn r (choices.Link link rest) = HasLink r link × IsTrue (option_map_or is_short_route rest true)
+LeadsOn r (choices.Link link rest) =
+    HasLink r link × IsTrue (option_map_or is_short_route rest true) × IsTrue (option_map_or begins_with_ipv4 rest true)
 
 -- a next hop that is one leads on
 abbrev pub Leads : Router → Result Choice RsvpError → Type 0
@@ -80,7 +84,7 @@ hop_to_endpoint-leads n endpoint is =
     (λ other.
     ok_or-holds (LeadsOn n.router) _ no_route
     (option_map-holds (LeadsOn n.router) (λ link. choices.Link link None) (route_to n endpoint)
-    (IfSome_then (route_to n endpoint) (route_to-there n endpoint is) (λ link there. (there, refl)))))
+    (IfSome_then (route_to n endpoint) (route_to-there n endpoint is) (λ link there. (there, refl, refl)))))
 
 -- steps that leave room for one more before them, their addresses of four octets
 pub record HasRoomBefore (steps : List Step) : Type 0 where
@@ -114,32 +118,38 @@ neighbour-short steps (Some l) four room = room-step l.peer steps four room
 pub with_neighbour-short : (r : Router) (steps : List Step) (link : ℕ) → IsRouter r → HasRoomBefore steps → IsTrue (is_short_route (with_neighbour r steps link))
 with_neighbour-short r steps link is room = neighbour-short steps (link_at r link) (link_at-peer r link is) room
 
--- a way over the neighbour, where there is one, or another
-neighbour-leads : (r : Router) (steps : List Step) (o : Option (ℕ × Link)) (other : Result Choice RsvpError) → IfSome o (λ l. HasLink r l.0) → IsTrue (is_short_route steps) → Leads r other → Leads r (option_map_or (λ l. Ok (choices.Link l.0 (Some steps))) o other)
-neighbour-leads r steps None other there short h = h
-neighbour-leads r steps (Some l) other there short h = (there, short)
+-- they begin with a step of type IPv4 then, where they did before
+neighbour-begins : (steps : List Step) (o : Option Link) → IsTrue (begins_with_ipv4 steps) → IsTrue (begins_with_ipv4 (option_map_or (λ l. step_to l.peer ∷ steps) o steps))
+neighbour-begins steps None begins = begins
+neighbour-begins steps (Some l) begins = refl
 
--- the way to a step
-pub hop_to_step-leads : (n : Place) (loose : Bool) (nodes : Prefix) (steps : List Step) → IsPlace n → HasRoomBefore steps → Leads n.router (hop_to_step n loose nodes steps)
+-- a way over the neighbour, where there is one, or another
+neighbour-leads : (r : Router) (steps : List Step) (o : Option (ℕ × Link)) (other : Result Choice RsvpError) → IfSome o (λ l. HasLink r l.0) → IsTrue (is_short_route steps) → IsTrue (begins_with_ipv4 steps) → Leads r other → Leads r (option_map_or (λ l. Ok (choices.Link l.0 (Some steps))) o other)
+neighbour-leads r steps None other there short begins h = h
+neighbour-leads r steps (Some l) other there short begins h = (there, short, begins)
+
+-- the way to a step, which is of type IPv4
+pub hop_to_step-leads : (n : Place) (loose : Bool) (nodes : Prefix) (steps : List Step) → IsPlace n → HasRoomBefore steps → IsTrue (begins_with_ipv4 steps) → Leads n.router (hop_to_step n loose nodes steps)
 unfolding hop_to_step
-hop_to_step-leads n loose nodes steps is room =
-    neighbour-leads n.router steps (neighbour (contains nodes) n) _ (neighbour-there n (contains nodes) is.router) (room-short steps room)
+hop_to_step-leads n loose nodes steps is room begins =
+    neighbour-leads n.router steps (neighbour (contains nodes) n) _ (neighbour-there n (contains nodes) is.router) (room-short steps room) begins
     (cond_both (not loose) _ _ (Leads n.router) (λ strict. tt)
     (λ other.
     ok_or-holds (LeadsOn n.router) _ bad_loose_node
     (option_map-holds (LeadsOn n.router) (λ link. choices.Link link (Some (with_neighbour n.router steps link))) (route_to n nodes.address)
-    (IfSome_then (route_to n nodes.address) (route_to-there n nodes.address is) (λ link there. (there, with_neighbour-short n.router steps link is.router room))))))
+    (IfSome_then (route_to n nodes.address) (route_to-there n nodes.address is) (λ link there. (there, with_neighbour-short n.router steps link is.router room, neighbour-begins steps (link_at n.router link) begins))))))
 
--- the way to a step that may not be of type IPv4
-nodes-lead : (n : Place) (loose : Bool) (o : Option Prefix) (steps : List Step) → IsPlace n → HasRoomBefore steps → Leads n.router (option_map_or (λ nodes. hop_to_step n loose nodes steps) o (Err bad_explicit_route))
-nodes-lead n loose None steps is room = tt
-nodes-lead n loose (Some nodes) steps is room = hop_to_step-leads n loose nodes steps is room
+-- the way to a step of type IPv4 that may lead to no nodes
+nodes-lead : (n : Place) (loose : Bool) (o : Option Prefix) (steps : List Step) → IsPlace n → HasRoomBefore steps → IsTrue (begins_with_ipv4 steps) → Leads n.router (option_map_or (λ nodes. hop_to_step n loose nodes steps) o (Err bad_explicit_route))
+nodes-lead n loose None steps is room begins = tt
+nodes-lead n loose (Some nodes) steps is room begins = hop_to_step-leads n loose nodes steps is room begins
 
 -- the way by what is left of a route
 pub hop_by_rest-leads : (n : Place) (steps : List Step) (endpoint : Ipv4Addr) → IsPlace n → HasRoomBefore steps → Leads n.router (hop_by_rest n steps endpoint)
 unfolding hop_by_rest
 hop_by_rest-leads n [] endpoint is room = hop_to_endpoint-leads n endpoint is
-hop_by_rest-leads n (step ∷ steps) endpoint is room = nodes-lead n (is_loose step) (nodes_of step) (step ∷ steps) is room
+hop_by_rest-leads n (Ipv4 loose prefix ∷ steps) endpoint is room = nodes-lead n loose (nodes_of (Ipv4 loose prefix)) (Ipv4 loose prefix ∷ steps) is room refl
+hop_by_rest-leads n (Other bytes ∷ steps) endpoint is room = tt
 
 -- steps behind one of type IPv4 leave room for it
 pub room-behind : (loose : Bool) (prefix : Prefix) (steps : List Step) → IsTrue (is_short_route (Ipv4 loose prefix ∷ steps)) → HasRoomBefore steps
@@ -157,7 +167,7 @@ room-behind loose prefix steps short =
     }
 
 -- and so do those of them from a place on
-room-drop : (at : ℕ) (steps : List Step) → HasRoomBefore steps → HasRoomBefore (drop at steps)
+pub room-drop : (at : ℕ) (steps : List Step) → HasRoomBefore steps → HasRoomBefore (drop at steps)
 room-drop at steps room = record {
   count = omega (arith, length-drop_most at steps, room.count);
   size = omega (arith, flat_map-drop_most step_bytes at steps, room.size);
@@ -181,7 +191,7 @@ hop_by_route-leads n (Ipv4 loose prefix ∷ steps) endpoint is short =
     ]
 hop_by_route-leads n (Other bytes ∷ steps) endpoint is short = tt
 
--- The next hop: a link of the router, and a rest within the limits where the route is.
+-- The next hop: a link of the router, and a rest that begins with a step of type IPv4, within the limits where the route is.
 pub next_hop-leads : (n : Place) (route : Option (List Step)) (endpoint : Ipv4Addr) → IsPlace n → IsTrue (option_map_or is_short_route route true) → Leads n.router (next_hop n route endpoint)
 unfolding next_hop
 next_hop-leads n None endpoint is short = hop_to_endpoint-leads n endpoint is

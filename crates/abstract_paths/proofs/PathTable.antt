@@ -26,7 +26,7 @@ use Rattle.lsr_facts.specs.declared.router.Router.{Router}
 use Rattle.abstract_paths.specs.Paths.{key_of, goes_on, way_of, role_of, link_of, rest_of, origin_of, origins_of, path_by}
 use Rattle.abstract_paths.specs.OriginLaws.{one_origin}
 use Rattle.abstract_paths.specs.RowLaws.{keys-map, length-filter_most, length-put_some}
-use Rattle.abstract_paths.specs.Soundness.{IsOrigin, AreOrigins, ArePaths, IsCountAs, IsWayAs, IsWithinLimits, IsPath}
+use Rattle.abstract_paths.specs.Soundness.{IsOrigin, AreOrigins, ArePaths, IsCountAs, IsWayAs, IsWithinLimits, IsPath, begins_with_ipv4}
 use Rattle.lsr_facts.specs.Lifetimes.{begins_here, expire, lives_on, lives_past, with_living}
 use Rattle.abstract_paths.proofs.NextHops.{LeadsOn}
 
@@ -73,6 +73,7 @@ with_origins r moment later key fact origins is others = record {
   limits = record {
     given = is.limits.given;
     rest = is.limits.rest;
+    begins = is.limits.begins;
     recorded = is.limits.recorded;
     passing = is.limits.passing;
     passed_on = is.limits.passed_on;
@@ -82,13 +83,13 @@ with_origins r moment later key fact origins is others = record {
 }
 
 -- the way of a path leads on
-way-leads : (r : Router) (role : Role) (link : ℕ) (rest : Option (List Step)) → IsWayAs r role link rest → IsTrue (option_map_or is_short_route rest true) → LeadsOn r (if goes_on role then choices.Link link rest else choices.Tail)
-way-leads r roles.Tail link rest is short = tt
-way-leads r roles.Transit link rest is short = (is, short)
-way-leads r roles.Head link rest is short = (is, short)
+way-leads : (r : Router) (role : Role) (link : ℕ) (rest : Option (List Step)) → IsWayAs r role link rest → IsTrue (option_map_or is_short_route rest true) → IsTrue (option_map_or begins_with_ipv4 rest true) → LeadsOn r (if goes_on role then choices.Link link rest else choices.Tail)
+way-leads r roles.Tail link rest is short begins = tt
+way-leads r roles.Transit link rest is short begins = (is, short, begins)
+way-leads r roles.Head link rest is short begins = (is, short, begins)
 
 pub way_of-leads : (r : Router) (moment : ℕ) (path : Key × PathFact) → IsPath r moment path → LeadsOn r (way_of path.1)
-way_of-leads r moment path is = way-leads r path.1.role path.1.out_link path.1.rest is.way is.limits.rest
+way_of-leads r moment path is = way-leads r path.1.role path.1.out_link path.1.rest is.way is.limits.rest is.limits.begins
 
 -- a way that leads on makes a path of its role, which doesn't begin here
 pub role_of-elsewhere : (way : Choice) → begins_here (role_of way) ≡ false
@@ -103,15 +104,19 @@ pub rest_of-short : (r : Router) (way : Choice) → LeadsOn r way → IsTrue (op
 rest_of-short r choices.Tail leads = refl
 rest_of-short r (choices.Link link rest) leads = leads.1
 
+pub rest_of-begins : (r : Router) (way : Choice) → LeadsOn r way → IsTrue (option_map_or begins_with_ipv4 (rest_of way) true)
+rest_of-begins r choices.Tail leads = refl
+rest_of-begins r (choices.Link link rest) leads = leads.2
+
 -- what a Path that fits carries is within the limits
-limits_fit : (moment : ℕ) (known : Option PathFact) (link : ℕ) (p : Path) (way : Choice) → IsTrue (fits_path p) → IsTrue (option_map_or is_short_route (rest_of way) true) → IsWithinLimits (path_by moment known link p way)
-limits_fit moment known link p way fits rest =
+limits_fit : (moment : ℕ) (known : Option PathFact) (link : ℕ) (p : Path) (way : Choice) → IsTrue (fits_path p) → IsTrue (option_map_or is_short_route (rest_of way) true) → IsTrue (option_map_or begins_with_ipv4 (rest_of way) true) → IsWithinLimits (path_by moment known link p way)
+limits_fit moment known link p way fits rest begins =
     let a = and_parts (option_map_or is_short_route p.route true) _ fits in
     let b = and_parts (option_map_or is_short_record p.recorded true) _ a.1 in
     let c = and_parts (is_short_passing p.passing) _ b.1 in
     let d = and_parts (are_passed_on p.passing) _ c.1 in
     let e = and_parts (has_adspec_last p.passing) _ d.1 in
-    record { given = a.0; rest = rest; recorded = b.0; passing = c.0; passed_on = d.0; adspec_last = e.0; one_fast_reroute = e.1 }
+    record { given = a.0; rest = rest; begins = begins; recorded = b.0; passing = c.0; passed_on = d.0; adspec_last = e.0; one_fast_reroute = e.1 }
 
 -- what a Path says that is taken: it came over a link of the router, it fits, it carries IPv4, its rate is defined
 pub record IsTaken (r : Router) (link : ℕ) (p : Path) : Type 0 where
@@ -125,7 +130,7 @@ path_sound r moment known link p way is knows leads = record {
   origins = origins_put r moment (key_of p) way (origin_of moment link p) (origins_of known) (record { over_link = is.over_link; live = omega arith }) (origins_before r moment (key_of p) known knows);
   way = way-as r way leads;
   whole_tspec = is.whole_tspec;
-  limits = limits_fit moment known link p way is.fits (rest_of-short r way leads);
+  limits = limits_fit moment known link p way is.fits (rest_of-short r way leads) (rest_of-begins r way leads);
 }
 
 -- A path that is left with some of its origins stands as paths do.

@@ -128,6 +128,7 @@ head_sound r moment number tunnel lsp last (choices.Link link rest) is leads goe
   limits = record {
     given = room-short lsp.route (room-behind false (record { address = r.id; length = 32 }) lsp.route is.route);
     rest = leads.1;
+    begins = leads.2;
     recorded = refl;
     passing = refl;
     passed_on = refl;

@@ -1,5 +1,6 @@
 pub mod Changes
 pub mod Commands
+pub mod Detouring
 pub mod Heads
 pub mod Links
 pub mod MessageLaws

@@ -1,10 +1,11 @@
 -- What holds of paths, tunnels, bypasses, links, routes and time in every state that a router comes to.
-use Rattle.std.specs.Prelude.{◌≡◌, ℕ, ◌^◌, ◌≤◌, true, List, [], length, Option, None, IsTrue, T}
+use Rattle.std.specs.Prelude.{◌≡◌, ℕ, ◌^◌, ◌≤◌, Bool, true, false, List, [], ◌∷◌, length, Option, None, IsTrue, T}
 use Rattle.std.specs.FinMap.Entries.{is_sorted}
 use Rattle.std.specs.List.{AllByRecursion}
 use Rattle.std.specs.Option.{option_map_or}
 use Rattle.std.specs.declared.net.ipv4_addr.Ipv4Addr.{Ipv4Addr}
 use Rattle.rsvp_routes.specs.declared.step.Step.{Step}
+use Rattle.rsvp_routes.specs.declared.step.Step.TheVariants.{Ipv4, Other}
 use Rattle.rsvp_contents.specs.Fitting.{are_passed_on, has_adspec_last, has_one_fast_reroute}
 use Rattle.rsvp_contents.specs.Limits.{is_short_route, is_short_record, is_short_passing}
 use Rattle.sorted_rows.specs.Rows.{keys_of}
@@ -57,10 +58,17 @@ IsWayAs r roles.Head link rest = HasLink r link
 abbrev pub IsWay : Router → PathFact → Type 0
 IsWay r fact = IsWayAs r fact.role fact.out_link fact.rest
 
--- what a path carries fits a message
+-- a route's first step, where it has one, is of type IPv4 (RFC 3209, 4.3.3.2)
+abbrev pub begins_with_ipv4 : List Step → Bool
+begins_with_ipv4 [] = true
+begins_with_ipv4 (Ipv4 loose prefix ∷ steps) = true
+begins_with_ipv4 (Other bytes ∷ steps) = false
+
+-- what a path carries fits a message, and what is left of its route begins with a step of type IPv4
 pub record IsWithinLimits (fact : PathFact) : Type 0 where
   pub given : IsTrue (option_map_or is_short_route fact.given true)
   pub rest : IsTrue (option_map_or is_short_route fact.rest true)
+  pub begins : IsTrue (option_map_or begins_with_ipv4 fact.rest true)
   pub recorded : IsTrue (option_map_or is_short_record fact.recorded true)
   pub passing : IsTrue (is_short_passing fact.passing)
   pub passed_on : IsTrue (are_passed_on fact.passing)

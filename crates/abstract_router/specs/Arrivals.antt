@@ -1,6 +1,7 @@
 -- What events do: messages that come, moments, links, commands, a restart and a start.
-use Rattle.std.specs.Prelude.{ℕ, ◌&&◌, not, Bool, true, false, if◌then◌else◌, [], is_none, option_to_list}
+use Rattle.std.specs.Prelude.{ℕ, ◌==◌, ◌&&◌, not, Bool, true, false, if◌then◌else◌, [], is_none, option_to_list}
 use Rattle.std.specs.FinMap.Entries.{find}
+use Rattle.std.specs.List.{list_any}
 use Rattle.rsvp_contents.specs.Picking.{content_in}
 use Rattle.rsvp_contents.specs.declared.message.Reading.TheVariants as readings
 use Rattle.rsvp_contents.specs.declared.message.Reading.{Reading}
@@ -10,12 +11,13 @@ use Rattle.rsvp_contents.specs.declared.messages.Path.{Path}
 use Rattle.lsr_facts.specs.Orders.{key_cmp}
 use Rattle.lsr_facts.specs.Routers.{link_at}
 use Rattle.lsr_facts.specs.declared.refusal.Refusal.{Refusal}
-use Rattle.lsr_facts.specs.declared.refusal.Refusal.TheVariants.{LinkDown, NoMatch, NoMerge, UnknownLink}
+use Rattle.lsr_facts.specs.declared.refusal.Refusal.TheVariants.{InUse, LinkDown, NoMatch, NoMerge, UnknownLink}
 use Rattle.lsr_facts.specs.declared.reply.Reply.TheVariants as replies
 use Rattle.lsr_facts.specs.declared.reply.Reply.{Reply}
 use Rattle.lsr_facts.specs.declared.router.Router.{Router}
-use Rattle.resv_facts.specs.Reservations.{expire}
+use Rattle.resv_facts.specs.Reservations.{expire, expire_repairs}
 use Rattle.router_events.specs.declared.commands.Command.{Command}
+use Rattle.router_events.specs.declared.commands.Command.TheVariants.{DropBypass}
 use Rattle.router_events.specs.declared.ways.ArrivalWay.{ArrivalWay}
 use Rattle.router_events.specs.declared.ways.ArrivalWay.TheVariants as ways
 use Rattle.router_events.specs.declared.ways.Arrive.{Arrive}
@@ -34,7 +36,7 @@ use Rattle.abstract_router.specs.Errors.{no_label}
 use Rattle.abstract_router.specs.Labels.{has_free_label}
 use Rattle.abstract_router.specs.Outcomes.{Outcome, of_paths, refused}
 use Rattle.abstract_router.specs.Reserving.{resv_arrival, unknown_resv}
-use Rattle.abstract_router.specs.States.{State, without_resvs}
+use Rattle.abstract_router.specs.States.{State, without_held}
 use Rattle.abstract_router.specs.Tearing.{resv_err_arrival, resv_tear_arrival}
 
 -- the reply is that it was done
@@ -91,28 +93,39 @@ arrival r s a =
     else if not (is_up s.facts.up a.link) then refused s LinkDown
     else arrival_by r s a.way a.link a.reading
 
--- Where the moment may come, it comes for reservations too: those that have expired go (RFC 2205, 2.3), and Resvs are due
--- (RFC 2205, 3.7).
+-- Where the moment may come, it comes for reservations and repairs too: those that have expired go (RFC 2205, 2.3), and
+-- Resvs are due (RFC 2205, 3.7).
 abbrev pub for_reservations : Router → State → ℕ → Outcome → Outcome
 for_reservations r s n o =
     if o.is_silent then o
-    else record o { after = record o.after { resvs = expire n s.resvs }; upstream_due = due_items r.refresh_ms s.sent_upstream n }
+    else record o { after = record o.after { resvs = expire n s.resvs; repairs = expire_repairs n s.repairs }; upstream_due = due_items r.refresh_ms s.sent_upstream n }
 
 -- A moment comes.
 unfoldable pub moment_comes : Router → State → ℕ → Outcome
 moment_comes r s n = for_reservations r s n (of_paths s (tick r s.facts n))
 
--- A command. Of the LSP that it has signalled no reservation is known: one of a path of another role under its key is lost.
+-- the command would drop a bypass that an LSP runs over
+abbrev pub takes_used_bypass : State → Command → Bool
+takes_used_bypass s (DropBypass number) = list_any (λ repair. repair.1.bypass == number) s.repairs
+takes_used_bypass s c = false
+
+-- What a command does that paths, tunnels, bypasses and routes admit. Of the LSP that it has signalled neither reservation
+-- nor repair is known: what a path of another role had under its key is lost.
+abbrev pub commanded_by : Router → State → Command → Outcome → Outcome
+commanded_by r s c o =
+    if takes_used_bypass s c then refused s InUse else record o { after = without_held (option_to_list (begun_by r s.facts c)) o.after }
+
+-- A command.
 unfoldable pub command_comes : Router → State → Command → Outcome
 command_comes r s c =
     let o = of_paths s (command r s.facts c) in
-    if o.is_silent then o else record o { after = without_resvs (option_to_list (begun_by r s.facts c)) o.after }
+    if o.is_silent then o else commanded_by r s c o
 
--- A restart: what messages set up is lost, reservations and labels too.
+-- A restart: what messages set up is lost, reservations, repairs and labels too.
 abbrev pub lost : State → Outcome
 lost s =
     let o = of_paths s (restarted s.facts) in
-    record o { after = record o.after { resvs = []; labels = []; sent_upstream = [] } }
+    record o { after = record o.after { resvs = []; repairs = []; labels = []; sent_upstream = [] } }
 
 -- What an event does of itself.
 abbrev pub outcome : Router → State → Event → Outcome

@@ -38,3 +38,7 @@ unacceptable_label = record { code = 24; value = 6 }
 
 abbrev pub no_label : RsvpError
 no_label = record { code = 24; value = 9 }
+
+-- an LSP runs over a bypass (RFC 4090, 6.5: tunnel locally repaired)
+abbrev pub locally_repaired : RsvpError
+locally_repaired = record { code = 25; value = 3 }

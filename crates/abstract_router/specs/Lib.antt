@@ -2,6 +2,7 @@ pub mod Arrivals
 pub mod Choosing
 pub mod ChoosingLaws
 pub mod ClaimsLaws
+pub mod Detours
 pub mod Errors
 pub mod LabelLaws
 pub mod Labels
@@ -10,12 +11,15 @@ pub mod Lsps
 pub mod Outcomes
 pub mod Outputs
 pub mod Preempting
+pub mod Protecting
+pub mod Repairing
 pub mod Reserving
 pub mod Soundness
 pub mod States
 pub mod Steps
 pub mod Tables
 pub mod Tearing
+pub mod Through
 pub mod Touched
 pub mod UpstreamLaws
 pub mod Upstreams

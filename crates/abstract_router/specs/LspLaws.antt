@@ -2,7 +2,7 @@
 use Rattle.std.specs.Prelude.{◌≡◌, ◌==◌, ℕ, Bool, not, T, List, filter_map, find as find_first, map}
 use Rattle.std.specs.FinMap.Entries.{find, is_sorted, where_key}
 use Rattle.std.specs.Option.{option_map}
-use Rattle.std.proofs.Common.{sym, ap, subst, ◌∙◌}
+use Rattle.std.proofs.Common.{sym, subst, ◌∙◌}
 use Rattle.sorted_rows.specs.Rows.{keys_of}
 use Rattle.sorted_rows.specs.RowsLaws.{is_sorted-both}
 use Rattle.lsr_facts.specs.OrderLaws.{key_exact, key_total}
@@ -11,10 +11,12 @@ use Rattle.lsr_facts.specs.declared.key.Key.{Key}
 use Rattle.lsr_facts.specs.declared.path_fact.PathFact.{PathFact}
 use Rattle.lsr_facts.specs.declared.router.Router.{Router}
 use Rattle.forwarding_table.specs.declared.action.Action.{Action}
+use Rattle.abstract_paths.specs.Places.{place_of}
 use Rattle.abstract_paths.specs.RowLaws.{keys-map}
 use Rattle.abstract_paths.specs.StampLaws.{find-map_row}
 use Rattle.abstract_paths.specs.Touched.{is_among}
 use Rattle.abstract_paths.specs.TouchedLaws.{same_elsewhere, where_key-among}
+use Rattle.abstract_router.specs.Detours.{detours_of}
 use Rattle.abstract_router.specs.Lsps.{Lsp, lsp_at, lsp_of, lsps_of}
 use Rattle.abstract_router.specs.States.{State}
 use Rattle.abstract_router.specs.Tables.{entry_of, look, table_of}
@@ -48,14 +50,20 @@ lsps-among s es g h =
     where_key-among key_cmp key_total key_exact es (lsps_of s) g (is_sorted-lsps s h)
     ∙ (λ i. filter_map (λ e. option_map (λ lsp. (e.0, lsp)) (find-lsps e.0 s i)) es)
 
--- The LSPs stand on paths, reservations and labels alone,
-pub lsps-alike : (s t : State) → s.facts.paths ≡ t.facts.paths → s.resvs ≡ t.resvs → s.labels ≡ t.labels → lsps_of s ≡ lsps_of t
-unfolding lsps_of
-lsps-alike s t paths resvs labels = λ i. map (λ (row : Key × PathFact). (row.0, lsp_of (record s { resvs = resvs i; labels = labels i }) row.0 row.1)) (paths i)
+-- Two states know the same of the reservations, the repairs and the labels of LSPs.
+pub record AreAlike (s t : State) : Type 0 where
+  pub resvs : s.resvs ≡ t.resvs
+  pub repairs : s.repairs ≡ t.repairs
+  pub labels : s.labels ≡ t.labels
 
--- and so does the action of a label.
-pub look-alike : (s t : State) (label : ℕ) → s.facts.paths ≡ t.facts.paths → s.resvs ≡ t.resvs → s.labels ≡ t.labels → look s label ≡ look t label
+-- The LSPs stand on these and on paths alone,
+pub lsps-alike : (s t : State) → s.facts.paths ≡ t.facts.paths → AreAlike s t → lsps_of s ≡ lsps_of t
+unfolding lsps_of
+lsps-alike s t paths are =
+    λ i. map (λ (row : Key × PathFact). (row.0, lsp_of (record s { resvs = are.resvs i; repairs = are.repairs i; labels = are.labels i }) row.0 row.1)) (paths i)
+
+-- and so does the action of a label, with what bypasses run over.
+pub look-alike : (r : Router) (s t : State) (label : ℕ) → detours_of r s ≡ detours_of r t → s.facts.paths ≡ t.facts.paths → AreAlike s t → look r s label ≡ look r t label
 unfolding look table_of
-look-alike s t label paths resvs labels =
-    ap (λ (lsps : List (Key × Lsp)). option_map (λ (entry : ℕ × Action). entry.1) (find_first (λ (entry : ℕ × Action). entry.0 == label) (filter_map (λ (lsp : Key × Lsp). entry_of lsp.1) lsps)))
-    (lsps-alike s t paths resvs labels)
+look-alike r s t label detours paths are =
+    λ i. option_map (λ (entry : ℕ × Action). entry.1) (find_first (λ (entry : ℕ × Action). entry.0 == label) (filter_map (λ (lsp : Key × Lsp). entry_of (record { place = place_of r s.facts; detours = detours i }) lsp.1) (lsps-alike s t paths are i)))

@@ -1,5 +1,5 @@
 -- What a Resv does, descriptor by descriptor (RFC 2205, 3.1.4 and 3.7; RFC 3209, 2.4, 4.1 and 4.6.3).
-use Rattle.std.specs.Prelude.{ℕ, ◌+◌, ◌++◌, not, Bool, true, false, if◌then◌else◌, List, [], ◌∷◌, fold, Option, Some, None, Result, Ok, Err, find as find_first}
+use Rattle.std.specs.Prelude.{ℕ, ◌+◌, ◌||◌, ◌++◌, not, Bool, true, false, if◌then◌else◌, List, [], ◌∷◌, fold, Option, Some, None, Result, Ok, Err, find as find_first}
 use Rattle.std.specs.FinMap.Entries.{find}
 use Rattle.std.specs.List.{list_any}
 use Rattle.std.specs.Option.{option_map_or, option_or, option_to_list}
@@ -29,7 +29,7 @@ use Rattle.abstract_router.specs.Errors.{no_bandwidth, no_path, no_sender, style
 use Rattle.abstract_router.specs.Outcomes.{Outcome, replied, reservation_error, refused, told_downstream}
 use Rattle.abstract_router.specs.Preempting.{all_told_preempted, fits, giving_way}
 use Rattle.forwarding_table.specs.Labels.{is_label}
-use Rattle.abstract_router.specs.States.{State, is_reserved, with_resv, without_resvs}
+use Rattle.abstract_router.specs.States.{State, is_held, is_repaired, with_resv, without_resvs}
 
 -- the LSP that a descriptor is for
 abbrev pub key_in : Resv → FlowDescriptor → Key
@@ -70,10 +70,10 @@ verdict_by_rate r s key fact (Ok rate) =
     else if not (fits r s key fact) then Failed no_bandwidth
     else Granted
 
--- What becomes of it where its LSP has this path (RFC 2205, B, 5).
+-- What becomes of it where its LSP has this path (RFC 2205, B, 5). One for a repaired LSP comes through no bypass here.
 abbrev pub verdict_on_path : Router → State → Key → ResvFact → PathFact → Verdict
 verdict_on_path r s key fact path =
-    if not (leaves_by fact.link path) then PassedOver
+    if not (leaves_by fact.link path) || is_repaired s key then PassedOver
     else option_map_or (λ other. Failed (style_conflict other.1.style)) (find_first (conflicts fact.link fact.style key) s.resvs)
     (verdict_by_rate r s key fact (flowspec_rate fact.flowspec))
 
@@ -95,10 +95,10 @@ pub record Progress : Type 0 where
 abbrev pub named : FlowDescriptor → ErrorDescriptor
 named d = record { flowspec = Some d.flowspec; filter = d.filter }
 
--- The error of a descriptor goes back over the link that the Resv came by; it says in place where the LSP is reserved
--- (RFC 2205, 3.1.8 and A.5).
+-- The error of a descriptor goes back over the link that the Resv came by; it says in place where the LSP is reserved or
+-- repaired (RFC 2205, 3.1.8 and A.5).
 abbrev pub told_failed : Router → State → ℕ → Resv → FlowDescriptor → RsvpError → List Output
-told_failed r s link v d e = option_to_list (told_downstream r link v.session (reservation_error r (is_reserved s (key_in v d)) e) v.style (named d ∷ []))
+told_failed r s link v d e = option_to_list (told_downstream r link v.session (reservation_error r (is_held s (key_in v d)) e) v.style (named d ∷ []))
 
 -- What comes of a descriptor. One that is granted has its reservation put, once those who give way have lost theirs.
 abbrev pub carried_on : Router → ℕ → Resv → FlowDescriptor → ResvFact → Progress → Verdict → Progress
@@ -145,12 +145,12 @@ abbrev pub first_named : List FlowDescriptor → List ErrorDescriptor
 first_named [] = []
 first_named (d ∷ ds) = named d ∷ []
 
--- its LSP is reserved
-abbrev pub first_is_reserved : State → Resv → List FlowDescriptor → Bool
-first_is_reserved s v [] = false
-first_is_reserved s v (d ∷ ds) = is_reserved s (key_in v d)
+-- its LSP is reserved or repaired
+abbrev pub first_is_held : State → Resv → List FlowDescriptor → Bool
+first_is_held s v [] = false
+first_is_held s v (d ∷ ds) = is_held s (key_in v d)
 
 -- A Resv with an object that it doesn't know is in error, for the first descriptor (RFC 2205, 3.10 and B, 13 and 14).
 unfoldable pub unknown_resv : Router → State → ℕ → Resv → ℕ → ℕ → Outcome
 unknown_resv r s link v class ctype =
-    resv_failed r s link v (first_is_reserved s v v.descriptors) (first_named v.descriptors) (unknown_object class ctype)
+    resv_failed r s link v (first_is_held s v v.descriptors) (first_named v.descriptors) (unknown_object class ctype)

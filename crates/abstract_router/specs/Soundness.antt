@@ -1,5 +1,5 @@
 -- What holds of every state that a label switching router comes to.
-use Rattle.std.specs.Prelude.{◌≡◌, ℕ, ◌≤◌, true, List, Some, IsOk, IsTrue, T, nat_eq}
+use Rattle.std.specs.Prelude.{◌≡◌, ℕ, ◌≤◌, true, List, Some, None, IsOk, IsTrue, T, nat_eq}
 use Rattle.std.specs.FinMap.Entries.{find, is_sorted}
 use Rattle.std.specs.List.{AllByRecursion, IsDistinct}
 use Rattle.std.specs.Option.{option_map_or}
@@ -11,6 +11,7 @@ use Rattle.lsr_facts.specs.Orders.{key_cmp}
 use Rattle.lsr_facts.specs.declared.key.Key.{Key}
 use Rattle.lsr_facts.specs.declared.router.Router.{Router}
 use Rattle.resv_facts.specs.Claims.{is_same_session, reserved_of}
+use Rattle.resv_facts.specs.declared.repair.Repair.{Repair}
 use Rattle.resv_facts.specs.declared.resv_fact.ResvFact.{ResvFact}
 use Rattle.abstract_paths.specs.Soundness.{IsStanding}
 use Rattle.abstract_router.specs.Wanted.{items_of}
@@ -18,6 +19,7 @@ use Rattle.abstract_router.specs.Upstreams.{upstream_of}
 use Rattle.abstract_router.specs.Labels.{labelled_keys}
 use Rattle.abstract_router.specs.Preempting.{claims_of, limit_of}
 use Rattle.forwarding_table.specs.Labels.{is_label}
+use Rattle.abstract_router.specs.Repairing.{repair_stands}
 use Rattle.abstract_router.specs.Reserving.{is_same_style}
 use Rattle.abstract_router.specs.States.{State}
 use Rattle.abstract_router.specs.Steps.{stands}
@@ -47,6 +49,13 @@ pub record AreHeld (r : Router) (s : State) : Type 0 where
   pub one_style : AreOfOneStyle s.resvs
   pub within : (link priority : ℕ) → priority ≤ 7 → reserved_of link priority (claims_of s.facts.paths s.resvs) ≤ limit_of r link
 
+-- The table of repairs: in the order of keys, each keeps a reservation as it should be, and no LSP is both reserved and
+-- repaired.
+pub record AreRepaired (s : State) : Type 0 where
+  pub in_order : T (is_sorted key_cmp s.repairs)
+  pub each : AllByRecursion (λ repair. IsResv s.facts.moment (repair.0, repair.1.resv)) s.repairs
+  pub apart : AllByRecursion (λ (repair : Key × Repair). find key_cmp repair.0 s.resvs ≡ None) s.repairs
+
 -- The labels: held by exactly the LSPs that don't begin here, each by one, all of the router's range (RFC 3031, 3.1 and 3.14).
 pub record AreLabelled (r : Router) (s : State) : Type 0 where
   pub of_lsps : keys_of s.labels ≡ labelled_keys s.facts.paths
@@ -55,12 +64,14 @@ pub record AreLabelled (r : Router) (s : State) : Type 0 where
   pub apart : IsDistinct nat_eq (values_of s.labels)
 
 -- What holds of every state: links, routes, time and paths are as they should be; reservations are within the limits of
--- their links, and each stands on its path; each LSP that doesn't begin here has a label of its own; and the moments are
--- known of exactly the Paths and the Resvs that are wanted.
+-- their links, and each stands on its path; each repair stands on its path and on a bypass that is up; each LSP that
+-- doesn't begin here has a label of its own; and the moments are known of exactly the Paths and the Resvs that are wanted.
 pub record IsSound (r : Router) (s : State) : Type 0 where
   pub paths : IsStanding r s.facts
   pub held : AreHeld r s
   pub standing : AllByRecursion (λ resv. stands s.facts resv ≡ true) s.resvs
+  pub repaired : AreRepaired s
+  pub repairs_standing : AllByRecursion (λ repair. repair_stands r s repair ≡ true) s.repairs
   pub labels : AreLabelled r s
   pub sent : keys_of s.facts.sent ≡ keys_of (items_of r s)
   pub sent_upstream : keys_of s.sent_upstream ≡ keys_of (upstream_of r s)

@@ -1,11 +1,12 @@
 -- What a label switching router knows, and the changes that events make of it.
 pub use Rattle.resv_facts.specs.declared.state.State.{State}
-use Rattle.std.specs.Prelude.{not, Bool, List, filter, is_some}
+use Rattle.std.specs.Prelude.{◌||◌, not, Bool, List, filter, is_some}
 use Rattle.std.specs.FinMap.Entries.{find, put}
 pub use Rattle.lsr_facts.specs.Orders.{is_one_of}
 use Rattle.lsr_facts.specs.Orders.{key_cmp}
 use Rattle.lsr_facts.specs.declared.facts.Facts.{Facts}
 use Rattle.lsr_facts.specs.declared.key.Key.{Key}
+use Rattle.resv_facts.specs.declared.repair.Repair.{Repair}
 use Rattle.resv_facts.specs.declared.resv_fact.ResvFact.{ResvFact}
 
 -- what is known of links, routes, time and paths is replaced
@@ -15,6 +16,14 @@ with_facts facts s = record s { facts = facts }
 -- the LSP has a reservation
 abbrev pub is_reserved : State → Key → Bool
 is_reserved s key = is_some (find key_cmp key s.resvs)
+
+-- it is repaired: it runs over a bypass
+abbrev pub is_repaired : State → Key → Bool
+is_repaired s key = is_some (find key_cmp key s.repairs)
+
+-- one or the other
+abbrev pub is_held : State → Key → Bool
+is_held s key = is_reserved s key || is_repaired s key
 
 -- the reservation of an LSP is put
 abbrev pub with_resv : Key → ResvFact → State → State
@@ -27,3 +36,11 @@ with_resvs_where test s = record s { resvs = filter test s.resvs }
 -- the reservations of these LSPs go
 abbrev pub without_resvs : List Key → State → State
 without_resvs keys s = with_resvs_where (λ resv. not (is_one_of keys resv.0)) s
+
+-- the repairs that pass the test are kept
+abbrev pub with_repairs_where : (Key × Repair → Bool) → State → State
+with_repairs_where test s = record s { repairs = filter test s.repairs }
+
+-- the reservations and the repairs of these LSPs go
+abbrev pub without_held : List Key → State → State
+without_held keys s = with_repairs_where (λ repair. not (is_one_of keys repair.0)) (without_resvs keys s)

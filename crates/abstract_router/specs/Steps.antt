@@ -35,11 +35,12 @@ use Rattle.abstract_router.specs.Arrivals.{outcome}
 use Rattle.abstract_router.specs.Labels.{IsLabelling, labels_after}
 use Rattle.abstract_router.specs.Outcomes.{Outcome}
 use Rattle.abstract_router.specs.Outputs.{item_stamps, outputs_of, upstream_stamps}
+use Rattle.abstract_router.specs.Repairing.{repaired, repairs_left, told_repaired}
 use Rattle.abstract_router.specs.States.{State, is_reserved, with_facts, with_resvs_where}
 
--- a router as it is opened: no path, no reservation, no label
+-- a router as it is opened: no path, no reservation, no repair, no label
 abbrev pub opening : Router → List (Prefix × ℕ) → List (ℕ × Tunnel) → List (ℕ × Bypass) → State
-opening r routes tunnels bypasses = record { facts = opening_facts r routes tunnels bypasses; resvs = []; labels = []; sent_upstream = [] }
+opening r routes tunnels bypasses = record { facts = opening_facts r routes tunnels bypasses; resvs = []; repairs = []; labels = []; sent_upstream = [] }
 
 -- the LSP that is to take the place of the tunnel's current one is reserved
 abbrev pub is_ready : Router → State → ℕ × Tunnel → Bool
@@ -61,30 +62,28 @@ taken_over r s = with_facts (without_paths (given_up r s) (record s.facts { tunn
 abbrev pub AreSettled : Router → State → Type 0
 AreSettled r s = AllByRecursion (λ tunnel. is_ready r s tunnel ≡ false) s.facts.tunnels
 
--- Then what a lost link takes away is repaired (RFC 4090, 6.4). Nothing is repaired yet.
-abbrev pub repaired : Router → State → State
-repaired r s = s
-
--- The errors that repair tells to the origins of what it repairs, in the order of the keys (RFC 4090, 6.5): none yet.
-abbrev pub told_repaired : Router → State → List Output
-told_repaired r s = []
-
 -- A reservation stands on its path: on the link that this leaves by, which is up.
 abbrev pub stands : Facts → Key × ResvFact → Bool
 stands facts resv = is_up facts.up resv.1.link && option_map_or (leaves_by resv.1.link) (find key_cmp resv.0 facts.paths) false
 
--- Then reservations go that stand no more: their path went, or leaves by another link, or ends here now; or their link
--- went down (RFC 2205, 2.3 and 3.6).
-abbrev pub left_standing : State → State
-left_standing s = with_resvs_where (stands s.facts) s
+-- reservations go that stand no more: their path went, or leaves by another link, or ends here now; or their link went
+-- down (RFC 2205, 2.3 and 3.6)
+abbrev pub resvs_left : State → State
+resvs_left s = with_resvs_where (stands s.facts) s
+
+-- Then reservations go that stand no more, and by what is left of them repairs: a bypass that lost its own reservation
+-- isn't up.
+abbrev pub left_standing : Router → State → State
+left_standing r s = repairs_left r (resvs_left s)
 
 -- At last each LSP that is new has the label that was chosen for it, and the labels of those that went are free.
 abbrev pub labelled : List (Key × ℕ) → State → State
 labelled chosen s = record s { labels = labels_after s.labels chosen s.facts.paths }
 
--- what follows from an event's own change, in this order
+-- What follows from an event's own change, in this order: tunnels go over to new LSPs, what a lost link takes away is
+-- repaired, what stands no more goes, and labels are given.
 abbrev pub settled : Router → List (Key × ℕ) → State → State
-settled r chosen s = labelled chosen (left_standing (repaired r (taken_over r s)))
+settled r chosen s = labelled chosen (left_standing r (repaired r (taken_over r s)))
 
 -- and when each message was sent last
 abbrev pub with_moments : Router → State → Outcome → State → State

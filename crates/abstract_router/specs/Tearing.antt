@@ -2,7 +2,7 @@
 use Rattle.std.specs.Prelude.{ℕ, ◌==◌, ◌&&◌, not, Bool, if◌then◌else◌, List, [], ◌∷◌, filter_map, Option, Some, None}
 use Rattle.std.specs.FinMap.Entries.{find}
 use Rattle.std.specs.List.{flat_map, list_any}
-use Rattle.std.specs.Option.{option_and_then, option_map, option_to_list}
+use Rattle.std.specs.Option.{option_and_then, option_map, option_or, option_to_list}
 use Rattle.std.specs.Ordering.{is_eq}
 use Rattle.rsvp_contents.specs.declared.messages.ResvErr.{ResvErr}
 use Rattle.rsvp_contents.specs.declared.messages.ResvTear.{ResvTear}
@@ -18,8 +18,10 @@ use Rattle.router_events.specs.declared.events.Output.{Output}
 use Rattle.abstract_paths.specs.Outcomes.{lsp}
 use Rattle.abstract_paths.specs.Paths.{goes_on}
 use Rattle.abstract_paths.specs.Tears.{is_from}
+use Rattle.abstract_router.specs.Lsps.{around_of}
 use Rattle.abstract_router.specs.Outcomes.{Outcome, replied, refused, told_downstream}
 use Rattle.abstract_router.specs.States.{State, with_resvs_where}
+use Rattle.abstract_router.specs.Through.{err_through}
 
 -- one of the tear's filters names the reservation, and it is on the link; style and hop don't count
 abbrev pub is_resv_torn_by : ℕ → ResvTear → Key × ResvFact → Bool
@@ -36,15 +38,22 @@ resv_tear_arrival s link t =
 abbrev pub is_from_origin : ℕ → ResvErr → PathFact → Bool
 is_from_origin link e path = list_any (λ origin. is_from link e.hop.address origin.1) path.origins
 
--- A ResvErr goes on for an LSP whose reservation stands, its error and style unchanged; where the LSP ends here it
--- has come to its end, and nothing is sent. None: it matches nothing here.
+-- where a ResvErr of an LSP goes on to, its error and style unchanged: the next hop where the LSP is reserved, the bypass's
+-- end where it is repaired
+abbrev pub err_to : Router → State → ResvErr → ErrorDescriptor → Key → Option (List Output)
+err_to r s e d key =
+    option_or (option_map (λ resv. option_to_list (told_downstream r resv.link e.session e.error e.style (d ∷ []))) (find key_cmp key s.resvs))
+    (option_map (λ repair. option_to_list (err_through (around_of r s) repair e d)) (find key_cmp key s.repairs))
+
+-- A ResvErr goes on for an LSP that is reserved or repaired; where the LSP ends here it has come to its end, and nothing is
+-- sent. None: it matches nothing here.
 abbrev pub err_onward : Router → State → ℕ → ResvErr → ErrorDescriptor → Option (List Output)
 err_onward r s link e d =
     let key = lsp e.session d.filter in
     option_and_then (λ path.
     if not (is_from_origin link e path) then None
     else if not (goes_on path.role) then Some []
-    else option_map (λ resv. option_to_list (told_downstream r resv.link e.session e.error e.style (d ∷ []))) (find key_cmp key s.resvs))
+    else err_to r s e d key)
     (find key_cmp key s.facts.paths)
 
 -- what comes of the descriptors that matched

@@ -46,7 +46,7 @@ filter-none_pass p [] h = refl
 filter-none_pass p (x ∷ xs) h = ap (λ b. cond b (x ∷ filter p xs) (filter p xs)) h.0 ∙ filter-none_pass p xs h.1
 
 -- what holds of each that g may give holds of all that it gives
-all-filter_map : {A B : Type 0} (P : B → Type 0) (g : A → Option B) → ((x : A) → IfSome (g x) P) → (xs : List A) → AllByRecursion P (filter_map g xs)
+pub all-filter_map : {A B : Type 0} (P : B → Type 0) (g : A → Option B) → ((x : A) → IfSome (g x) P) → (xs : List A) → AllByRecursion P (filter_map g xs)
 all-filter_map P g holds [] = tt
 all-filter_map {A} {B} P g holds (x ∷ xs) = by (g x) (holds x) (all-filter_map P g holds xs)
   where
@@ -138,7 +138,7 @@ module _ (a : Around) (lsp : Key × Lsp) where
 
   -- what holds of no Resvs, and of those that any label and reservation make, holds of those that the path wants
   rows-are : (P : List (Upstream × Output) → Type 0) → P [] → ((label : ℕ) (said : Reserved) → P (filter_map (upstream_row a lsp label said) lsp.1.path.origins)) → P (upstream_rows a lsp)
-  rows-are P none some = by lsp.1.label (reserved_for lsp.1)
+  rows-are P none some = by lsp.1.label (reserved_for a lsp)
     where
       by : (l : Option ℕ) (o : Option Reserved) → P (option_map_or (λ label. option_map_or (λ said. filter_map (upstream_row a lsp label said) lsp.1.path.origins) o []) l [])
       by None o = none

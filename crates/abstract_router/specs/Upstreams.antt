@@ -1,5 +1,5 @@
 -- The Resvs that the state wants kept alive at the neighbours upstream (RFC 2205, 3.1.4 and 3.7; RFC 3209, 2.2 and 4.4).
-use Rattle.std.specs.Prelude.{ℕ, ◌%◌, ◌/◌, ◌==◌, ◌++◌, Bool, false, if◌then◌else◌, List, [], ◌∷◌, filter_map, Option, Some, None}
+use Rattle.std.specs.Prelude.{ℕ, ◌+◌, ◌%◌, ◌/◌, ◌==◌, ◌++◌, Bool, true, false, if◌then◌else◌, List, [], ◌∷◌, filter_map, Option, Some, None}
 use Rattle.std.specs.FinMap.Entries.{where_key}
 use Rattle.std.specs.List.{flat_map}
 use Rattle.std.specs.Option.{option_and_then, option_map, option_map_or, unwrap_or}
@@ -24,11 +24,12 @@ use Rattle.resv_facts.specs.declared.resv_fact.ResvStyle.{ResvStyle}
 use Rattle.resv_facts.specs.declared.resv_fact.ResvStyle.TheVariants.{FixedFilter, SharedExplicit}
 use Rattle.router_events.specs.declared.events.Output.{Output}
 use Rattle.abstract_paths.specs.Outcomes.{sent_by}
-use Rattle.abstract_paths.specs.Paths.{goes_on, own_entry, short_only}
+use Rattle.abstract_paths.specs.Paths.{goes_on, short_only}
 use Rattle.abstract_paths.specs.Places.{is_up}
 use Rattle.resv_facts.specs.Reservations.{style_word}
 use Rattle.resv_facts.specs.declared.upstream.Upstream.{Upstream}
-use Rattle.abstract_router.specs.Lsps.{Around, Lsp, around_of, lsp_at, lsps_of}
+use Rattle.abstract_router.specs.Lsps.{Around, Lsp, around_of, held_of, lsp_at, lsps_of}
+use Rattle.abstract_router.specs.Protecting.{selected}
 use Rattle.abstract_router.specs.States.{State}
 
 -- the Path asks for its labels to be recorded (RFC 3209, 4.7.1: flag 0x02)
@@ -39,10 +40,12 @@ records_labels attr = option_map_or (λ a. a.flags / 0x02 % 2 == 1) attr false
 abbrev pub wants_sharing : Option Attr → Bool
 wants_sharing attr = option_map_or (λ a. a.flags / 0x04 % 2 == 1) attr false
 
--- What a Resv says of an LSP: style, traffic, the route that it took so far, and what it passes on.
+-- What a Resv says of an LSP: style, traffic, how this router protects the LSP, the route that the Resv took so far, and
+-- what it passes on.
 pub record Reserved : Type 0 where
   pub style : ResvStyle
   pub flowspec : List ℕ
+  pub flags : ℕ
   pub recorded : List Trace
   pub passing : List Raw
 
@@ -51,30 +54,48 @@ abbrev pub reserved_by_end : PathFact → Reserved
 reserved_by_end path = record {
   style = if wants_sharing path.attr then SharedExplicit else FixedFilter;
   flowspec = flowspec_of path.tspec;
+  flags = 0;
   recorded = [];
   passing = [];
 }
 
--- Of any other LSP, what its next hop reserved is passed on.
-abbrev pub reserved_by_next : ResvFact → Reserved
-reserved_by_next resv = record { style = resv.style; flowspec = resv.flowspec; recorded = unwrap_or resv.recorded []; passing = resv.passing }
+-- Of any other LSP, what its next hop reserved is passed on, also while the LSP is repaired.
+abbrev pub reserved_by_next : ℕ → ResvFact → Reserved
+reserved_by_next flags resv = record { style = resv.style; flowspec = resv.flowspec; flags = flags; recorded = unwrap_or resv.recorded []; passing = resv.passing }
 
--- what is said of an LSP to its origins, if it is reserved
-abbrev pub reserved_for : Lsp → Option Reserved
-reserved_for lsp = if goes_on lsp.path.role then option_map reserved_by_next lsp.resv else Some (reserved_by_end lsp.path)
+-- how a bypass protects, in this router's own entry: local protection is available (0x01), in use (0x02), and protects the
+-- next router too (0x08) (RFC 4090, 4.4)
+abbrev pub protection_flags : Bool → Bool → ℕ
+protection_flags in_use is_later = 0x01 + (if in_use then 0x02 else 0) + (if is_later then 0x08 else 0)
+
+-- how an LSP is protected that is reserved: by the bypass over which it would be repaired, if there is one
+abbrev pub flags_ready : Around → Key × Lsp → ResvFact → ℕ
+flags_ready a lsp resv = option_map_or (λ choice. protection_flags false choice.is_later) (selected a lsp.0 lsp.1.path resv) 0
+
+-- How this router protects an LSP: by the bypass over which it runs, or would run.
+unfoldable pub own_flags : Around → Key × Lsp → ℕ
+own_flags a lsp = option_map_or (flags_ready a lsp) lsp.1.resv (option_map_or (λ repair. protection_flags true repair.is_later) lsp.1.repair 0)
+
+-- what is said of an LSP to its origins, if it is reserved or repaired
+abbrev pub reserved_for : Around → Key × Lsp → Option Reserved
+reserved_for a lsp = if goes_on lsp.1.path.role then option_map (reserved_by_next (own_flags a lsp)) (held_of lsp.1) else Some (reserved_by_end lsp.1.path)
 
 -- this router's label as a record says it: flag 0x01, since it holds on every link (RFC 3209, 4.4.1.3)
 abbrev pub label_entry : ℕ → Trace
 label_entry label = traces.Label 0x01 label
 
+-- this router's id, with how it protects the LSP
+abbrev pub flagged_entry : Router → ℕ → Trace
+flagged_entry r flags = traces.Ipv4 (record { address = r.id; length = 32 }) flags
+
 -- this router's own entries in it: its id, and its label where the Path asks for that
-abbrev pub own_entries : Router → PathFact → ℕ → List Trace
-own_entries r path label = if records_labels path.attr then own_entry r ∷ label_entry label ∷ [] else own_entry r ∷ []
+abbrev pub own_entries : Router → ℕ → PathFact → ℕ → List Trace
+own_entries r flags path label = if records_labels path.attr then flagged_entry r flags ∷ label_entry label ∷ [] else flagged_entry r flags ∷ []
 
 -- The record of a Resv, which begins with this router (RFC 3209, 4.4.3). None where the Path has no record, or where it
 -- would be above this router's limit of 64 entries and 1,024 bytes: then nothing tells of it, where 4.4.3 has a ResvErr.
-unfoldable pub record_upstream : Router → PathFact → ℕ → List Trace → Option (List Trace)
-record_upstream r path label recorded = option_and_then (λ came. short_only (own_entries r path label ++ recorded)) path.recorded
+unfoldable pub record_upstream : Router → ℕ → PathFact → ℕ → List Trace → Option (List Trace)
+record_upstream r flags path label recorded = option_and_then (λ came. short_only (own_entries r flags path label ++ recorded)) path.recorded
 
 -- The Resv to an origin: this router is its hop, with the interface handle that the origin named; the label is its own
 -- (RFC 2205, 3.1.4; RFC 3209, 4.1.1).
@@ -89,7 +110,7 @@ resv_to r key path origin link label a = record {
     flowspec = a.flowspec;
     filter = key.sender;
     label = record { number = label };
-    recorded = record_upstream r path label a.recorded;
+    recorded = record_upstream r a.flags path label a.recorded;
   } ∷ [];
 }
 
@@ -111,7 +132,7 @@ upstream_row a lsp label said origin = option_and_then (upstream_over a lsp labe
 -- what all origins of an LSP are sent, in the order of their senders
 abbrev pub upstream_rows : Around → Key × Lsp → List (Upstream × Output)
 upstream_rows a lsp =
-    option_map_or (λ label. option_map_or (λ said. filter_map (upstream_row a lsp label said) lsp.1.path.origins) (reserved_for lsp.1) []) lsp.1.label []
+    option_map_or (λ label. option_map_or (λ said. filter_map (upstream_row a lsp label said) lsp.1.path.origins) (reserved_for a lsp) []) lsp.1.label []
 
 -- All Resvs that the state wants, in the order of the LSPs.
 unfoldable pub upstream_of : Router → State → List (Upstream × Output)

@@ -18,7 +18,7 @@ use std::alloc::Global;
 use std::net::Ipv4Addr;
 
 /// The nodes that a step leads to, if it is of type IPv4 and its prefix is one.
-fn nodes_of(step: &Step) -> Option<Prefix>
+pub fn nodes_of(step: &Step) -> Option<Prefix>
     ensures { result ≡ nodes_of step.now }
 {
     match step {

@@ -15,7 +15,7 @@ use std::marker::Model;
 use std::net::Ipv4Addr;
 
 /// A step to this address alone.
-fn step_to(address: Ipv4Addr) -> Step
+pub fn step_to(address: Ipv4Addr) -> Step
     ensures { result ≡ step_to address }
 {
     Step::Ipv4 {

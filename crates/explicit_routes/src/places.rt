@@ -37,7 +37,7 @@ pub fn is_own(router: &Router, address: Ipv4Addr) -> bool
 }
 
 /// The prefix of one node, by its address.
-pub(crate) fn node_at(address: Ipv4Addr) -> Prefix
+pub fn node_at(address: Ipv4Addr) -> Prefix
     ensures { result ≡ record { address = address; length = 32 } }
 {
     Prefix {
@@ -55,7 +55,7 @@ fn first_bits(address: Ipv4Addr, count: u8) -> u64
 
 /// Whether a prefix contains an address (RFC 3209, 4.3.3.2).
 #[tactic(auto, unfolding(abstract_paths::specs::Places::contains))]
-pub(crate) fn contains(prefix: Prefix, address: Ipv4Addr) -> bool
+pub fn contains(prefix: Prefix, address: Ipv4Addr) -> bool
     ensures { result ≡ contains prefix address }
 {
     first_bits(address, prefix.length) == first_bits(prefix.address, prefix.length)

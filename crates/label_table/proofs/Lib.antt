@@ -1,4 +1,6 @@
+pub mod Acting
 pub mod Asking
+pub mod Bypassing
 pub mod Changing
 pub mod Keeping
 pub mod Pushing

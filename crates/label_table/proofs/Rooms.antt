@@ -9,6 +9,7 @@ use Rattle.std.proofs.lemmas.Bool.{eqb-true}
 use Rattle.std.proofs.lemmas.Cmp.{nat_cmp_total, tied_itself}
 use Rattle.sorted_rows.specs.ListLaws.{all-both, all-weaker}
 use Rattle.sorted_rows.specs.RowsLaws.{all-below, all_found, first, second}
+use Rattle.lsr_facts.specs.declared.router.Router.{Router}
 use Rattle.forwarding_table.specs.declared.action.Action.{Action}
 use Rattle.abstract_router.specs.States.{State}
 use Rattle.abstract_router.specs.Tables.{table_of}
@@ -71,7 +72,7 @@ some_entry None action e = absurd (let h = e in cc)
 some_entry (Some entry) action e = refl
 
 -- The rows of a table are no more than the paths.
-pub table_few : (s : State) (rows : List (ℕ × Action)) → T (is_sorted nat_cmp rows) → IsTableOf s rows → length rows ≤ length s.facts.paths
-table_few s rows h is =
-    let among = all-weaker (λ (row : ℕ × Action). find nat_cmp row.0 rows ≡ Some row.1) (λ (row : ℕ × Action). has (table_of s) row.0 ≡ true) (λ row found. some_entry (find_first (λ entry. entry.0 == row.0) (table_of s)) row.1 (sym (is row.0 ∙ look-entry s row.0) ∙ found)) rows (all_found nat_cmp nat_cmp_total rows h) in
-    omega (arith, length_among rows (table_of s) h among, length_table s)
+pub table_few : (r : Router) (s : State) (rows : List (ℕ × Action)) → T (is_sorted nat_cmp rows) → IsTableOf r s rows → length rows ≤ length s.facts.paths
+table_few r s rows h is =
+    let among = all-weaker (λ (row : ℕ × Action). find nat_cmp row.0 rows ≡ Some row.1) (λ (row : ℕ × Action). has (table_of r s) row.0 ≡ true) (λ row found. some_entry (find_first (λ entry. entry.0 == row.0) (table_of r s)) row.1 (sym (is row.0 ∙ look-entry r s row.0) ∙ found)) rows (all_found nat_cmp nat_cmp_total rows h) in
+    omega (arith, length_among rows (table_of r s) h among, length_table r s)

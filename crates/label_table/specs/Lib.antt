@@ -1,4 +1,5 @@
 pub mod Below
+pub mod Bypassed
 pub mod RowLaws
 pub mod Rows
 pub mod TunnelLaws

@@ -1,8 +1,8 @@
--- What a state's table of tunnels has for a tunnel: the action of its current LSP, where that is reserved.
-use Rattle.std.specs.Prelude.{◌≡◌, ℕ, ◌≤◌, T, List, [], ◌∷◌, filter_map, length, None}
+-- What a state's table of tunnels has for a tunnel: the action of its current LSP, where that is reserved or repaired.
+use Rattle.std.specs.Prelude.{◌≡◌, ℕ, ◌≤◌, T, List, [], ◌∷◌, filter_map, length}
 use Rattle.std.specs.FinMap.Entries.{find, is_sorted}
 use Rattle.std.specs.List.{cons_option}
-use Rattle.std.specs.Option.{option_map}
+use Rattle.std.specs.Option.{option_and_then, option_map, option_or}
 use Rattle.std.specs.Ordering.{nat_cmp}
 use Rattle.std.proofs.Common.{ap, refl}
 use Rattle.std.proofs.lemmas.Cmp.{nat_cmp_total}
@@ -12,11 +12,10 @@ use Rattle.lsr_facts.specs.Tunnels.{current_key}
 use Rattle.lsr_facts.specs.declared.router.Router.{Router}
 use Rattle.lsr_facts.specs.declared.tunnel.Tunnel.{Tunnel}
 use Rattle.forwarding_table.specs.declared.action.Action.{Action}
-use Rattle.forwarding_table.specs.declared.action.Action.TheVariants.{PushHead}
-use Rattle.resv_facts.specs.declared.resv_fact.ResvFact.{ResvFact}
 use Rattle.abstract_paths.specs.TouchedLaws.{find-made, is_sorted-made}
+use Rattle.abstract_router.specs.Detours.{detours_of}
 use Rattle.abstract_router.specs.States.{State}
-use Rattle.abstract_router.specs.Tables.{look_tunnel, push_of, tunnel_table_of}
+use Rattle.abstract_router.specs.Tables.{look_tunnel, push_by, push_of, push_through, tunnel_table_of}
 use Rattle.label_table.specs.RowLaws.{length_asked}
 use Rattle.label_table.specs.TunnelRows.{push_at}
 
@@ -40,22 +39,25 @@ pub length_tunnel_table : (r : Router) (s : State) → length (tunnel_table_of r
 unfolding tunnel_table_of
 length_tunnel_table r s = length_asked (λ (tunnel : ℕ × Tunnel). option_map {U = ℕ × Action} (λ action. (tunnel.0, action)) (push_of r s tunnel)) s.facts.tunnels
 
--- Where nothing is reserved no tunnel has an action.
-none_pushed : (r : Router) (s : State) → s.resvs ≡ [] → (tunnels : List (ℕ × Tunnel)) → filter_map (λ (tunnel : ℕ × Tunnel). option_map {U = ℕ × Action} (λ action. (tunnel.0, action)) (push_of r s tunnel)) tunnels ≡ []
-none_pushed r s none [] = refl
-none_pushed r s none (tunnel ∷ tunnels) =
-    λ i. cons_option (option_map {U = ℕ × Action} (λ action. (tunnel.0, action)) (option_map (λ resv. PushHead None resv.label resv.link) (find key_cmp (current_key r tunnel) (none i)))) (none_pushed r s none tunnels i)
+-- Where nothing is reserved or repaired no tunnel has an action.
+none_pushed : (r : Router) (s : State) → s.resvs ≡ [] → s.repairs ≡ [] → (tunnels : List (ℕ × Tunnel)) → filter_map (λ (tunnel : ℕ × Tunnel). option_map {U = ℕ × Action} (λ action. (tunnel.0, action)) (push_of r s tunnel)) tunnels ≡ []
+none_pushed r s no_resv no_repair [] = refl
+none_pushed r s no_resv no_repair (tunnel ∷ tunnels) =
+    λ i. cons_option (option_map {U = ℕ × Action} (λ action. (tunnel.0, action))
+    (option_or (option_map push_by (find key_cmp (current_key r tunnel) (no_resv i))) (option_and_then (push_through (detours_of r s)) (find key_cmp (current_key r tunnel) (no_repair i)))))
+    (none_pushed r s no_resv no_repair tunnels i)
 
-pub tunnel_table-no_resv : (r : Router) (s : State) → s.resvs ≡ [] → tunnel_table_of r s ≡ []
+pub tunnel_table-none : (r : Router) (s : State) → s.resvs ≡ [] → s.repairs ≡ [] → tunnel_table_of r s ≡ []
 unfolding tunnel_table_of
-tunnel_table-no_resv r s none = none_pushed r s none s.facts.tunnels
+tunnel_table-none r s no_resv no_repair = none_pushed r s no_resv no_repair s.facts.tunnels
 
--- The table stands on tunnels and reservations alone.
-pub tunnel_table-alike : (r : Router) (s t : State) → s.facts.tunnels ≡ t.facts.tunnels → s.resvs ≡ t.resvs → tunnel_table_of r s ≡ tunnel_table_of r t
+-- The table stands on tunnels, on reservations and repairs, and on what bypasses run over alone.
+pub tunnel_table-alike : (r : Router) (s t : State) → detours_of r s ≡ detours_of r t → s.facts.tunnels ≡ t.facts.tunnels → s.resvs ≡ t.resvs → s.repairs ≡ t.repairs → tunnel_table_of r s ≡ tunnel_table_of r t
 unfolding tunnel_table_of
-tunnel_table-alike r s t tunnels resvs =
-    λ i. filter_map (λ (tunnel : ℕ × Tunnel). option_map {U = ℕ × Action} (λ action. (tunnel.0, action)) (option_map (λ (resv : ResvFact). PushHead None resv.label resv.link) (find key_cmp (current_key r tunnel) (resvs i)))) (tunnels i)
+tunnel_table-alike r s t detours tunnels resvs repairs =
+    λ i. filter_map (λ (tunnel : ℕ × Tunnel). option_map {U = ℕ × Action} (λ action. (tunnel.0, action))
+    (option_or (option_map push_by (find key_cmp (current_key r tunnel) (resvs i))) (option_and_then (push_through (detours i)) (find key_cmp (current_key r tunnel) (repairs i))))) (tunnels i)
 
-pub look_tunnel-alike : (r : Router) (s t : State) (number : ℕ) → s.facts.tunnels ≡ t.facts.tunnels → s.resvs ≡ t.resvs → look_tunnel r s number ≡ look_tunnel r t number
+pub look_tunnel-alike : (r : Router) (s t : State) (number : ℕ) → detours_of r s ≡ detours_of r t → s.facts.tunnels ≡ t.facts.tunnels → s.resvs ≡ t.resvs → s.repairs ≡ t.repairs → look_tunnel r s number ≡ look_tunnel r t number
 unfolding look_tunnel
-look_tunnel-alike r s t number tunnels resvs = ap (find nat_cmp number) (tunnel_table-alike r s t tunnels resvs)
+look_tunnel-alike r s t number detours tunnels resvs repairs = ap (find nat_cmp number) (tunnel_table-alike r s t detours tunnels resvs repairs)

@@ -10,7 +10,7 @@ use Rattle.lsr_facts.specs.declared.router.Router.{Router}
 use Rattle.abstract_router.specs.States.{State}
 use Rattle.abstract_router.specs.Tables.{look_tunnel, push_of, tunnel_table_of}
 
--- what is done with the traffic of the tunnel of a number, if there is one and its current LSP is reserved
+-- what is done with the traffic of the tunnel of a number, if there is one and its current LSP is reserved or repaired
 abbrev pub push_at : Router → State → ℕ → Option Action
 push_at r s number = option_and_then (λ tunnel. push_of r s (number, tunnel)) (find nat_cmp number s.facts.tunnels)
 

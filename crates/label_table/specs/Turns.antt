@@ -1,7 +1,7 @@
 -- The rows that LSPs have in the label table, and what changes between rows and others.
 use Rattle.std.specs.Prelude.{ℕ, ◌==◌, ◌&&◌, nat_eq, Bool, true, false, if◌then◌else◌, List, [], ◌∷◌, Option, Some, None}
 use Rattle.std.specs.FinMap.Entries.{find, put}
-use Rattle.std.specs.Option.{option_and_then, option_eq, option_map}
+use Rattle.std.specs.Option.{option_and_then, option_eq, option_map, option_or}
 use Rattle.std.specs.Ordering.{nat_cmp}
 use Rattle.forwarding_table.specs.declared.action.Action.{Action}
 use Rattle.forwarding_table.specs.declared.action.Action.TheVariants.{Pop, PushHead, Swap, SwapPush}
@@ -9,7 +9,9 @@ use Rattle.lsr_facts.specs.Orders.{key_cmp}
 use Rattle.std.specs.declared.cmp.Ordering.{Ordering}
 use Rattle.lsr_facts.specs.declared.key.Key.{Key}
 use Rattle.lsr_facts.specs.declared.router.Router.{Router}
+use Rattle.abstract_router.specs.Detours.{detours_of}
 use Rattle.abstract_router.specs.States.{State}
+use Rattle.abstract_router.specs.Tables.{swap_by, swap_through}
 use Rattle.label_table.specs.Rows.{action_at}
 use Rattle.label_table.specs.TunnelRows.{push_at}
 
@@ -27,13 +29,17 @@ abbrev pub put_each : {K E X : Type 0} → (K → Option (ℕ × X)) → List (K
 put_each f [] rows = rows
 put_each f (touched ∷ more) rows = put_each f more (put_row nat_cmp (f touched.0) rows)
 
+-- what is done with a frame of an LSP that goes on: it is reserved, or repaired
+abbrev pub onward_at : Router → State → Key → Option Action
+onward_at r s key = option_or (option_map swap_by (find key_cmp key s.resvs)) (option_and_then (swap_through (detours_of r s)) (find key_cmp key s.repairs))
+
 -- the row of an LSP: its action, under its label
-abbrev pub row_at : State → Key → Option (ℕ × Action)
-row_at s key = option_and_then (λ label. option_map (λ action. (label, action)) (action_at s key)) (find key_cmp key s.labels)
+abbrev pub row_at : Router → State → Key → Option (ℕ × Action)
+row_at r s key = option_and_then (λ label. option_map (λ action. (label, action)) (action_at r s key)) (find key_cmp key s.labels)
 
 -- the rows of these LSPs
-abbrev pub rows_of : {E : Type 0} → State → List (Key × E) → List (ℕ × Action)
-rows_of s touched = put_each (row_at s) touched []
+abbrev pub rows_of : {E : Type 0} → Router → State → List (Key × E) → List (ℕ × Action)
+rows_of r s touched = put_each (row_at r s) touched []
 
 -- the actions are the same
 abbrev pub is_same_action : Action → Action → Bool

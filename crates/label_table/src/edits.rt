@@ -6,37 +6,66 @@ ghost use Rattle.std.specs.Prelude.{◌≡◌, IfOk, OnOk};
 ghost use Rattle.lsr_facts.specs.Orders.{key_cmp};
 ghost use Rattle.abstract_paths.specs.Soundness.{ArePaths};
 ghost use Rattle.abstract_paths.specs.Touched.{is_among};
+ghost use Rattle.abstract_router.specs.Detours.{detours_of};
 ghost use Rattle.abstract_router.specs.Soundness.{AreLabelled, IsResv};
+ghost use Rattle.abstract_router.specs.Tables.{swap_through};
 ghost use Rattle.abstract_router.specs.Touched.{LeavesOtherLsps};
+ghost use Rattle.state_views.specs.Edits.{edited};
 ghost use Rattle.label_table.specs.Rows.{AreTableEdits, action_at};
-ghost use Rattle.label_table.specs.Turns.{change, change_at, is_same, put_each, put_row, row_at, rows_of};
+ghost use Rattle.label_table.specs.Turns.{change, change_at, is_same, onward_at, put_each, put_row, row_at, rows_of};
 
+use crate::bypassed::with_bypassed;
+use facility_backup::over_at;
 use forwarding_table::Action;
 use lsr_facts::Key;
 use message_rules::goes_on;
+use resv_facts::Repair;
 use sorted_rows::Table;
-use state_views::StateView;
+use state_views::{Changed, Edits, StateView, WholeState};
 use std::alloc::{AllocError, Global};
 
-/// What is done with a frame of an LSP (RFC 3031, 3.10): where the LSP ends here its label is taken away; where it goes
-/// on, and is reserved, the label is replaced by the next hop's. Else there is no action.
+/// What is done with a frame of a repaired LSP (RFC 4090, 3.2): the label is replaced by that of the bypass's end, and the
+/// bypass's own label is pushed over it. There is no action where the bypass isn't up.
+fn swap_through<V: StateView>(view: &V, repair: &Repair) -> Option<Action>
+    ensures { result ≡ swap_through (detours_of (V.router view.now) (V.state view.now)) repair.now }
+{
+    let over = over_at(view, repair.bypass)?;
+    Some(Action::SwapPush {
+        inner: repair.resv.label,
+        outer: over.label,
+        link: over.link,
+    })
+}
+
+/// What is done with a frame of an LSP that goes on (RFC 3031, 3.10): where it is reserved its label is replaced by the next
+/// hop's, and where it is repaired it goes through its bypass. Else there is no action.
+fn onward_at<V: StateView>(view: &V, key: &Key) -> Option<Action>
+    ensures { result ≡ onward_at (V.router view.now) (V.state view.now) key.now }
+{
+    if let Some(resv) = view.resv(key) {
+        return Some(Action::Swap {
+            label: resv.label,
+            link: resv.link,
+        });
+    }
+    swap_through(view, view.repair(key)?)
+}
+
+/// What is done with a frame of an LSP: where the LSP ends here its label is taken away; else it goes on, or there is no
+/// action.
 fn action_at<V: StateView>(view: &V, key: &Key) -> Option<Action>
-    ensures { result ≡ action_at (V.state view.now) key.now }
+    ensures { result ≡ action_at (V.router view.now) (V.state view.now) key.now }
 {
     let path = view.path(key)?;
     if !goes_on(path.role) {
         return Some(Action::Pop);
     }
-    let resv = view.resv(key)?;
-    Some(Action::Swap {
-        label: resv.label,
-        link: resv.link,
-    })
+    onward_at(view, key)
 }
 
 /// The row of an LSP in the label table: its action, under its label.
 fn row_at<V: StateView>(view: &V, key: &Key) -> Option<(u32, Action)>
-    ensures { result ≡ row_at (V.state view.now) key.now }
+    ensures { result ≡ row_at (V.router view.now) (V.state view.now) key.now }
 {
     let label = view.label(key)?;
     let action = action_at(view, key)?;
@@ -49,7 +78,7 @@ fn rows_of<V: StateView, E>(
     view: &V,
     touched: &[(Key, E)],
 ) -> Result<Table<u32, Action>, AllocError>
-    ensures { IfOk result (λ rows. rows ≡ rows_of (V.state view.now) touched.now) }
+    ensures { IfOk result (λ rows. rows ≡ rows_of (V.router view.now) (V.state view.now) touched.now) }
 {
     let mut rows = Table::new(alloc);
     for lsp in touched {
@@ -104,30 +133,38 @@ fn put_changes(
     Ok(())
 }
 
-/// What becomes of the label table where these LSPs alone changed: each label that one of them had before or has after, and
-/// whose action is another in the state after, has that action, or none. It asks that in both states each label is held by one LSP,
-/// that what reservations take for labels are labels, and that of all other LSPs the same is known before and after, but
-/// for when they expire. The only error is out of memory.
-pub fn table_edits<B: StateView, A: StateView, E>(
+/// What becomes of the label table by edits, where these LSPs alone change: each label that one of them has before or
+/// after, or a repaired one where bypasses run over something else after, and whose action is another after the edits, has
+/// that action, or none. It asks that before and after each label is held by one LSP, that what reservations and repairs
+/// take for labels after are labels, and that of all other LSPs the same is known before and after, but for when they
+/// expire. The only error is out of memory.
+pub fn table_edits<V: WholeState>(
     alloc: Global,
-    before: &B,
-    after: &A,
-    touched: &[(Key, E)],
+    view: &V,
+    edits: &Edits,
+    changed: Table<Key, ()>,
 ) -> Result<Table<u32, Option<Action>>, AllocError>
-    requires paths_before { ArePaths (B.router before.now) (B.state before.now).facts.moment (B.state before.now).facts.paths }
-    requires paths_after { ArePaths (A.router after.now) (A.state after.now).facts.moment (A.state after.now).facts.paths }
-    requires labels_before { AreLabelled (B.router before.now) (B.state before.now) }
-    requires labels_after { AreLabelled (A.router after.now) (A.state after.now) }
-    requires resvs_after { AllByRecursion (IsResv (A.state after.now).facts.moment) (A.state after.now).resvs }
-    requires elsewhere { LeavesOtherLsps (is_among key_cmp touched.now)
-        (B.state before.now) (A.state after.now) }
-    ensures { IfOk result (AreTableEdits (B.state before.now)
-        (A.state after.now)) }
+    requires paths_before { ArePaths (V.router view.now) (V.state view.now).facts.moment (V.state view.now).facts.paths }
+    requires paths_after { ArePaths (V.router view.now) (edited edits.now (V.state view.now)).facts.moment
+        (edited edits.now (V.state view.now)).facts.paths }
+    requires labels_before { AreLabelled (V.router view.now) (V.state view.now) }
+    requires labels_after { AreLabelled (V.router view.now) (edited edits.now (V.state view.now)) }
+    requires resvs_after { AllByRecursion (IsResv (edited edits.now (V.state view.now)).facts.moment)
+        (edited edits.now (V.state view.now)).resvs }
+    requires repairs_after { AllByRecursion
+        (λ repair. IsResv (edited edits.now (V.state view.now)).facts.moment (repair.0, repair.1.resv))
+        (edited edits.now (V.state view.now)).repairs }
+    requires elsewhere { LeavesOtherLsps (is_among key_cmp changed)
+        (V.state view.now) (edited edits.now (V.state view.now)) }
+    ensures { IfOk result (AreTableEdits (V.router view.now) (V.state view.now)
+        (edited edits.now (V.state view.now))) }
 {
-    let was = rows_of(alloc, before, touched)?;
-    let now = rows_of(alloc, after, touched)?;
-    let mut edits = Table::new(alloc);
-    put_changes(&mut edits, &was, &now, was.as_slice())?;
-    put_changes(&mut edits, &was, &now, now.as_slice())?;
-    Ok(edits)
+    let after = Changed { under: view, edits };
+    let touched = with_bypassed(view, edits, changed)?;
+    let was = rows_of(alloc, view, touched.as_slice())?;
+    let now = rows_of(alloc, &after, touched.as_slice())?;
+    let mut changes = Table::new(alloc);
+    put_changes(&mut changes, &was, &now, was.as_slice())?;
+    put_changes(&mut changes, &was, &now, now.as_slice())?;
+    Ok(changes)
 }

@@ -2,6 +2,7 @@
 //! and those of the tunnels that begin here.
 #![tactic(auto)]
 
+mod bypassed;
 mod edits;
 pub mod laws;
 mod tunnels;

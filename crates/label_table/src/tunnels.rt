@@ -4,49 +4,53 @@ ghost use Rattle.std.specs.FinMap.Entries.{is_sorted};
 ghost use Rattle.std.specs.List.{AllByRecursion};
 ghost use Rattle.std.specs.Ordering.{nat_cmp};
 ghost use Rattle.std.specs.Prelude.{◌≡◌, IfOk, OnOk, T};
-ghost use Rattle.lsr_facts.specs.Tunnels.{current_key};
+ghost use Rattle.abstract_router.specs.Detours.{detours_of};
 ghost use Rattle.abstract_router.specs.Soundness.{IsResv};
+ghost use Rattle.abstract_router.specs.Tables.{push_through};
 ghost use Rattle.state_views.specs.Edits.{edited};
 ghost use Rattle.label_table.specs.TunnelRows.{AreTunnelEdits, push_at};
 ghost use Rattle.label_table.specs.Turns.{push_change, push_change_of, put_each, put_row};
 
+use crate::bypassed::with_bypassed;
 use crate::edits::put_change;
+use facility_backup::over_at;
 use forwarding_table::Action;
-use lsr_facts::{Key, Router, Tunnel};
-use rsvp_contents::{Session, Template};
+use lsr_facts::Key;
+use message_rules::current_key;
+use resv_facts::Repair;
 use sorted_rows::Table;
-use state_views::{Changed, Edits, StateView};
+use state_views::{Changed, Edits, StateView, WholeState};
 use std::alloc::{AllocError, Global};
 
-/// The LSP that carries the traffic of the tunnel of a number: the router's id is its extended tunnel ID, and its sender.
-fn current_key(router: &Router, number: u16, tunnel: &Tunnel) -> Key
-    ensures { result ≡ current_key router.now (number, tunnel.now) }
+/// What is done with the traffic of a tunnel whose current LSP is repaired (RFC 4090, 3.2): it leaves under the label that
+/// the bypass's end takes, with the bypass's own label over it. There is no action where the bypass isn't up.
+fn push_through<V: StateView>(view: &V, repair: &Repair) -> Option<Action>
+    ensures { result ≡ push_through (detours_of (V.router view.now) (V.state view.now)) repair.now }
 {
-    Key {
-        session: Session {
-            endpoint: tunnel.endpoint,
-            tunnel: number,
-            extended: router.id,
-        },
-        sender: Template {
-            sender: router.id,
-            lsp: tunnel.current.id,
-        },
-    }
+    let over = over_at(view, repair.bypass)?;
+    Some(Action::PushHead {
+        inner: Some(repair.resv.label),
+        label: over.label,
+        link: over.link,
+    })
 }
 
 /// What is done with the traffic of the tunnel of a number (RFC 3031, 3.12): where there is one, and its current LSP is
-/// reserved, it leaves under the label of that LSP's next hop. Else there is no action.
+/// reserved, it leaves under the label of that LSP's next hop; where that LSP is repaired, it goes through the bypass. Else
+/// there is no action.
 fn push_at<V: StateView>(view: &V, number: u16) -> Option<Action>
     ensures { result ≡ push_at (V.router view.now) (V.state view.now) number }
 {
     let tunnel = view.tunnel(number)?;
-    let resv = view.resv(&current_key(view.node().router, number, tunnel))?;
-    Some(Action::PushHead {
-        inner: None,
-        label: resv.label,
-        link: resv.link,
-    })
+    let key = current_key(view.node().router, number, tunnel);
+    if let Some(resv) = view.resv(&key) {
+        return Some(Action::PushHead {
+            inner: None,
+            label: resv.label,
+            link: resv.link,
+        });
+    }
+    push_through(view, view.repair(&key)?)
 }
 
 /// The tunnel of a number has the action that edits lead to, where that is another. The only error is out of memory.
@@ -100,10 +104,11 @@ fn put_pushes_of<V: StateView, E>(
     Ok(())
 }
 
-/// What becomes of the table of tunnels by edits: each tunnel that is edited, or of which a reservation is, and whose action
-/// is another after them, has that action, or none. It asks that the tunnels are in order, and that what reservations take
-/// for labels after the edits are labels. The only error is out of memory.
-pub fn tunnel_edits<V: StateView>(
+/// What becomes of the table of tunnels by edits: each tunnel that is edited, or of which a reservation or a repair is, or
+/// an LSP that is repaired where bypasses run over something else after, and whose action is another after the edits, has
+/// that action, or none. It asks that the tunnels are in order, and that what reservations and repairs take for labels after
+/// the edits are labels. The only error is out of memory.
+pub fn tunnel_edits<V: WholeState>(
     alloc: Global,
     view: &V,
     edits: &Edits,
@@ -111,11 +116,17 @@ pub fn tunnel_edits<V: StateView>(
     requires tunnels { T (is_sorted nat_cmp (V.state view.now).facts.tunnels) }
     requires resvs { AllByRecursion (IsResv (edited edits.now (V.state view.now)).facts.moment)
         (edited edits.now (V.state view.now)).resvs }
+    requires repairs { AllByRecursion
+        (λ repair. IsResv (edited edits.now (V.state view.now)).facts.moment (repair.0, repair.1.resv))
+        (edited edits.now (V.state view.now)).repairs }
     ensures { IfOk result (AreTunnelEdits (V.router view.now) (V.state view.now)
         (edited edits.now (V.state view.now))) }
 {
+    let bypassed = with_bypassed(view, edits, Table::new(alloc))?;
     let mut changes = Table::new(alloc);
     put_pushes(&mut changes, view, edits, edits.tunnels.as_slice())?;
     put_pushes_of(&mut changes, view, edits, edits.resvs.as_slice())?;
+    put_pushes_of(&mut changes, view, edits, edits.repairs.as_slice())?;
+    put_pushes_of(&mut changes, view, edits, bypassed.as_slice())?;
     Ok(changes)
 }

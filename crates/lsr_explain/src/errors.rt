@@ -160,10 +160,10 @@ pub const ERRORS: &str = "\
   See: RFC 3209, 7.3 and 4.4.3
 25/3 LocallyRepaired
   Notify: a link or router on the way failed, and the tunnel goes round it over a bypass.
-  This is news and no failure: the tunnel works. This version doesn't move traffic onto a bypass
-  yet, and never says so; it passes it on, and where the tunnel begins here `show tunnels`
-  tells it.
+  This is news and no failure: the tunnel works. This router says so to the neighbours that an
+  LSP's Paths came from when it moves the LSP onto a bypass; what another router says it passes
+  on, and where the tunnel begins here `show tunnels` tells it.
   What to do: route the tunnel anew while the bypass carries it: where it begins,
   `change N RATE ROUTE..` sets up the new way before it leaves the old one.
-  See: RFC 3209, 7.3; RFC 4090, 6.5.1
+  See: RFC 3209, 7.3; RFC 4090, 6.5.1; docs/ROUTER.md (Bypasses and local repair)
 ";

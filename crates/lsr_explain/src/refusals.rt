@@ -55,7 +55,7 @@ pub const REFUSALS: &str = "\
   See: docs/WIRE.md (Limits); docs/WIRE.md (Frames)
 10 NoMatch
   Nothing here is what the message speaks of, or no route leads to the router that a Routed
-  frame is for. One that is for this router would speak of a repair, and there is none yet.
+  frame is for. One that is for this router would speak of a repair, and isn't taken yet.
   A PathTear and a ResvErr have to come from the
   hop that their path comes from, over the same link; a PathErr, a Resv and a ResvTear over the
   link that their path leaves by. A Resv whose record has an address of this router is
@@ -120,23 +120,20 @@ pub const REFUSALS: &str = "\
 25 BypassExists
   A bypass has this number already: a line `bypass` added it, or a table `[[bypass]]` of the
   configuration. A bypass and a tunnel may have the same number.
-  Bypasses are kept and shown. This version doesn't move traffic onto one yet when its link goes
-  down.
   What to do: take another number, or drop that bypass first with `unbypass N`. `show bypasses`
   lists them.
-  See: docs/ROUTER.md (A command comes); docs/PROVED.md (Not there yet)
+  See: docs/ROUTER.md (A command comes; Bypasses and local repair)
 26 BypassOnItsLink
   A bypass that leaves by the link that it protects is no use: both are down at once. Of `bypass`:
   the tunnel's current LSP leaves by that link. Of `change`: the tunnel's new LSP would leave by
   a link that a bypass in this tunnel protects. A tunnel whose current LSP has no path yet is
-  taken for a bypass as it is, also from a configuration.
-  Bypasses are kept and shown. This version doesn't move traffic onto one yet when its link goes
-  down.
+  taken for a bypass as it is, also from a configuration. It may come to leave by that link later;
+  no LSP is then repaired over it.
   What to do: `show paths` tells by which link the tunnel leaves, `show bypasses` which links its
   bypasses protect. Of `bypass`: name another tunnel; or lead this one over another link with
   `change N RATE ROUTE..`, and try again once `show tunnels` tells `pending none`. Of `change`:
   lead the tunnel over another link, or drop that bypass first with `unbypass N`.
-  See: RFC 4090, 6.2; docs/ROUTER.md (A command comes); docs/PROVED.md (Not there yet)
+  See: RFC 4090, 6.2; docs/ROUTER.md (A command comes; Bypasses and local repair)
 27 Full
   There are as many of this kind as the router keeps: 256 static routes, 256 tunnels that
   begin here, 64 bypasses, 1024 LSPs that begin, pass or end here. So it is with the LSP IDs of
@@ -144,12 +141,12 @@ pub const REFUSALS: &str = "\
   What to do: drop one first; drop a tunnel without LSP IDs and add it anew.
   See: docs/ROUTER.md (A command comes)
 28 InUse
-  Of `drop N`: a bypass runs in tunnel N, so the tunnel has to stay.
-  Bypasses are kept and shown. This version doesn't move traffic onto one yet when its link goes
-  down.
-  What to do: `show bypasses` tells which bypasses run in it. Drop each of them first, with
-  `unbypass` and its own number.
-  See: docs/ROUTER.md (A command comes); docs/PROVED.md (Not there yet)
+  Of `drop N`: a bypass runs in tunnel N, so the tunnel has to stay. Of `unbypass N`: LSPs run
+  over bypass N since the link that it protects went down, so it has to stay.
+  What to do: of `drop`: `show bypasses` tells which bypasses run in the tunnel. Drop each of them
+  first, with `unbypass` and its own number. Of `unbypass`: the last number of the bypass's line
+  tells how many LSPs run over it. Wait until they are torn down or led elsewhere by their heads.
+  See: docs/ROUTER.md (A command comes; Bypasses and local repair)
 29 Late
   The moment is below the last one that the router was told.
   What to do: go on from that moment: time doesn't run backwards. The same moment may come again.

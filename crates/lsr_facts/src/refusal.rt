@@ -50,7 +50,7 @@ pub enum Refusal {
     #[error("full: there are as many of this kind as the router keeps: drop one first; or the tunnel has used all its LSP IDs: add another")]
     Full,
     /// 28: it is in use.
-    #[error("in use: a bypass runs in this tunnel; drop that bypass first")]
+    #[error("in use: a bypass runs in this tunnel, or LSPs run over this bypass; end that first")]
     InUse,
     /// 29: the moment is below the last one.
     #[error("late: the moment is below the one that the router was told last")]

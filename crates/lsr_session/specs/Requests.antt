@@ -1,6 +1,7 @@
 -- What a session answers to a request.
-use Rattle.std.specs.Prelude.{◌≡◌, ◌-◌, ℕ, Bool, List, ◌∷◌, ◌++◌, [], length, drop, map, flat_map, is_some, T, Result, Ok, Err}
+use Rattle.std.specs.Prelude.{◌≡◌, ◌-◌, ◌==◌, ℕ, Bool, List, ◌∷◌, ◌++◌, [], length, drop, map, flat_map, is_some, T, Result, Ok, Err}
 use Rattle.std.specs.FinMap.Entries.{is_sorted}
+use Rattle.std.specs.List.{count_by}
 use Rattle.std.specs.Option.{option_map_or}
 use Rattle.std.specs.Ordering.{nat_cmp}
 use Rattle.datagrams.specs.declared.datagram.Passed.{Passed}
@@ -18,6 +19,7 @@ use Rattle.lsr_facts.specs.declared.router.Link.{Link}
 use Rattle.lsr_facts.specs.declared.tunnel.Tunnel.{Tunnel}
 use Rattle.resv_facts.specs.Claims.{reserved_of}
 use Rattle.abstract_paths.specs.Places.{is_up}
+use Rattle.abstract_router.specs.Detours.{detours_of, over_at}
 use Rattle.abstract_router.specs.Preempting.{claims_of}
 use Rattle.abstract_router.specs.States.{State}
 use Rattle.abstract_router.specs.Tables.{look_tunnel}
@@ -121,7 +123,7 @@ heads_text r tunnels = flat_map (head_text r) tunnels
 -- tunnel that begins here and has one.
 pub record PrintsTable (r : RouterState) (printed : List ℕ) : Type 0 where
   pub rows : List (ℕ × Action)
-  pub table : IsTableOf r.state rows
+  pub table : IsTableOf r.router r.state rows
   pub sorted : T (is_sorted nat_cmp rows)
   pub shown : printed ≡ table_text rows ++ heads_text r r.state.facts.tunnels
 
@@ -137,13 +139,17 @@ link_text s link = link_line link.0 (is_up s.facts.up link.0) link.1.limit (sums
 abbrev pub links_text : RouterState → List ℕ
 links_text r = flat_map (link_text r.state) r.router.links
 
--- A bypass is up: there is a label under which the traffic of its tunnel is to leave (RFC 4090, 3.2).
-abbrev pub is_bypass_up : RouterState → Bypass → Bool
-is_bypass_up r bypass = is_some (look_tunnel r.router r.state bypass.tunnel)
+-- the bypass of a number is up
+abbrev pub is_bypass_up : RouterState → ℕ → Bool
+is_bypass_up r number = is_some (over_at (detours_of r.router r.state) number)
 
--- the line of a bypass; no repair uses one yet
+-- how many LSPs are repaired over it
+abbrev pub uses_of : RouterState → ℕ → ℕ
+uses_of r number = count_by (λ repair. repair.1.bypass == number) r.state.repairs
+
+-- the line of a bypass
 abbrev pub bypass_text : RouterState → ℕ × Bypass → List ℕ
-bypass_text r row = bypass_line row (is_bypass_up r row.1) 0
+bypass_text r row = bypass_line row (is_bypass_up r row.0) (uses_of r row.0)
 
 -- a line for each bypass, in the order of their numbers
 abbrev pub bypasses_text : RouterState → List ℕ

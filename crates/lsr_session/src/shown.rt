@@ -1,16 +1,16 @@
 //! What a session shows of its router.
-ghost use Rattle.std.specs.Prelude.{◌≡◌, ◌++◌, IfOk, OnOk, string_bytes};
+ghost use Rattle.std.specs.Prelude.{◌≡◌, ◌==◌, ◌++◌, IfOk, OnOk, count_by, string_bytes};
 ghost use Rattle.lsr_text.specs.Rows.{resvs_text};
 ghost use Rattle.lsr_text.specs.Shown.{paths_text};
 ghost use Rattle.lsr_text.specs.Tunnels.{tunnels_text};
 ghost use Rattle.lsr_session.specs.Requests.{PrintsTable, bypass_text, bypasses_text, head_text, heads_text, link_text, links_text, sums_of};
 
 use explicit_routes::is_up;
-use lsr_facts::{Bypass, Link, Tunnel};
+use lsr_facts::{Bypass, Key, Link, Tunnel};
 use lsr_text::{
     PRIORITIES, paths_text, push_bypass, push_head, push_link, resvs_text, table_text, tunnels_text,
 };
-use resv_facts::State;
+use resv_facts::{Repair, State};
 use router_machine::Machine;
 use std::alloc::{AllocError, Global};
 
@@ -79,16 +79,28 @@ pub(crate) fn show_tunnels(alloc: Global, router: &Machine) -> Result<String, Al
     tunnels_text(alloc, state.facts.tunnels.as_slice())
 }
 
-/// Appends the line of a bypass of the router. The only error is that memory ran out.
+/// How many LSPs are repaired over the bypass of a number.
+fn uses_of(repairs: &[(Key, Repair)], number: u16) -> usize
+    ensures { result ≡ count_by (λ repair. repair.1.bypass == number) repairs.now }
+{
+    repairs
+        .iter()
+        .filter(|repair| repair.1.bypass == number)
+        .count()
+}
+
+/// Appends the line of a bypass of the router, which knows this. The only error is that memory ran out.
 fn push_bypass_of(
     router: &Machine,
+    state: &State,
     text: &mut String,
     row: &(u16, Bypass),
 ) -> Result<(), AllocError>
+    requires { state.now ≡ router.now.state }
     ensures { OnOk result (string_bytes text.new ≡ string_bytes text.old ++ bypass_text router.now row.now) }
 {
-    let is_up = router.look_tunnel(row.1.tunnel).is_some();
-    push_bypass(text, row, is_up, 0)
+    let is_up = router.over_at(row.0).is_some();
+    push_bypass(text, row, is_up, uses_of(state.repairs.as_slice(), row.0))
 }
 
 /// The lines of the bypasses that the router has, in the order of their numbers. The only error is that memory ran out.
@@ -98,7 +110,7 @@ pub(crate) fn show_bypasses(alloc: Global, router: &Machine) -> Result<String, A
     let state = router.export(alloc)?;
     let mut text = String::new(alloc);
     for row in state.facts.bypasses.as_slice() {
-        push_bypass_of(router, &mut text, row)?;
+        push_bypass_of(router, &state, &mut text, row)?;
     }
     Ok(text)
 }

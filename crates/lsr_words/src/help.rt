@@ -64,9 +64,9 @@ newline at the very end begins no further line. Each line is one of these:
   drop N            tunnel N goes; refused while a bypass runs in it
   bypass N TUNNEL LINK
                     bypass N, 0 to 65535, is to protect link LINK: it runs in tunnel TUNNEL, which
-                    begins here and has to leave by another link. It is kept and shown; traffic
-                    isn't moved onto it yet when its link goes down
-  unbypass N        bypass N goes
+                    begins here and has to leave by another link. When LINK goes down, LSPs over it
+                    that want protection go on over the bypass
+  unbypass N        bypass N goes; refused while LSPs are repaired over it
   route PREFIX LINK what goes to PREFIX, as 10.9.0.0/16, leaves over link LINK
   unroute PREFIX    the static route to PREFIX goes
   show paths        asks for the paths that the router knows
@@ -122,10 +122,14 @@ ENDPOINT/TUNNEL/EXTENDED SENDER/LSP, the session, sender and LSP ID of an LSP:
                     the link that it is on; whether it is fixed or shared; its rate, as the
                     hexadecimal digits of its word; the label that the next hop gave
   LABEL swap L LINK
+  LABEL swappush INNER OUTER LINK
   LABEL pop         what is done with a frame that comes under LABEL: it goes on over LINK
-                    under L; or the label is taken away, and its LSP ends here
+                    under L, or on a bypass under OUTER above INNER; or the label is taken
+                    away, and its LSP ends here
   tunnel N push L LINK
-                    what enters tunnel N is to leave over LINK under L
+  tunnel N push INNER OUTER LINK
+                    what enters tunnel N is to leave over LINK under L, or on a bypass under
+                    OUTER above INNER
   link N up|down LIMIT R0 .. R7
                     how much of it may be reserved, and what is reserved at each priority, 0
                     (best) to 7, in bytes per second
@@ -135,7 +139,7 @@ ENDPOINT/TUNNEL/EXTENDED SENDER/LSP, the session, sender and LSP ID of an LSP:
                     for one of them, or `error none`
   bypass N TUNNEL LINK up|down USES
                     the tunnel that it runs in; the link that it protects; whether its tunnel has
-                    a label to send under; how many LSPs are repaired over it, none yet
+                    a label to send under; how many LSPs are repaired over it
 
 The router is the one that FILE says (docs/CONFIGURATION.md has the keys; begin with a copy
 of examples/middle.toml), or without it the built-in one: 10.0.0.2, link 1 to 10.0.0.1, link

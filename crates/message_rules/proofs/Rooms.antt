@@ -154,3 +154,9 @@ resv_err_rooms e short a b c d =
   where
     by : (whole session hop error style named : ℕ) → 8 + whole ≤ 4096 → whole ≡ session + (hop + (error + (style + named))) → session ≡ 16 → hop ≡ 12 → error ≡ 12 → style ≡ 8 → 0 + named ≤ 4040
     by whole session hop error style named few is s h r y = omega arith
+
+-- So it has for one under another sender, as it has for that one.
+pub renamed_has_room : (d : ErrorDescriptor) (t : Template) → HaveRoom (d ∷ []) → length (ipv4_octets d.filter.sender) ≡ 4 → length (ipv4_octets t.sender) ≡ 4 → HaveRoom (record d { filter = t } ∷ [])
+renamed_has_room d t room a b =
+    let renamed : ErrorDescriptor = record d { filter = t } in
+    room_by (renamed ∷ []) (omega (arith, room, length-flat_map-spelling (error_objects None (d ∷ [])), one_alone d, one_alone renamed, filter-size d.filter a, filter-size t b))

@@ -1,4 +1,4 @@
-//! The errors that reservations meet.
+//! The errors that reservations meet, and the one that tells of local repair.
 
 ghost use Rattle.std.specs.Prelude.{◌≡◌};
 ghost use Rattle.abstract_router.specs.Errors.{style_conflict};
@@ -29,6 +29,8 @@ pub const BAD_FLOWSPEC: RsvpError = RsvpError { code: 21, value: 3 };
 pub const UNACCEPTABLE_LABEL: RsvpError = RsvpError { code: 24, value: 6 };
 /// 24/9: no label is free (RFC 3209, 7.3).
 pub const NO_LABEL: RsvpError = RsvpError { code: 24, value: 9 };
+/// 25/3: an LSP runs over a bypass (RFC 4090, 6.5: tunnel locally repaired).
+pub const LOCALLY_REPAIRED: RsvpError = RsvpError { code: 25, value: 3 };
 
 /// The code of an error that another LSP of the session is reserved in another style (RFC 2205, B, 5).
 const STYLE_CONFLICT: u8 = 5;

@@ -4,8 +4,8 @@ ghost use Rattle.std.specs.Prelude.{◌≡◌};
 ghost use Rattle.abstract_router.specs.Errors as errors;
 
 use crate::errors::{
-    BAD_FLOWSPEC, NO_BANDWIDTH, NO_LABEL, NO_PATH, NO_SENDER, PREEMPTED, UNACCEPTABLE_LABEL,
-    UNKNOWN_STYLE, UNSUPPORTED_SERVICE,
+    BAD_FLOWSPEC, LOCALLY_REPAIRED, NO_BANDWIDTH, NO_LABEL, NO_PATH, NO_SENDER, PREEMPTED,
+    UNACCEPTABLE_LABEL, UNKNOWN_STYLE, UNSUPPORTED_SERVICE,
 };
 
 /// The errors have the codes and values of the standards.
@@ -19,4 +19,5 @@ pub fn errors_have_their_numbers()
     ensures flowspec { BAD_FLOWSPEC ≡ errors.bad_flowspec }
     ensures unacceptable { UNACCEPTABLE_LABEL ≡ errors.unacceptable_label }
     ensures label { NO_LABEL ≡ errors.no_label }
+    ensures repaired { LOCALLY_REPAIRED ≡ errors.locally_repaired }
 {}

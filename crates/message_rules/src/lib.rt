@@ -5,23 +5,27 @@
 
 mod descriptors;
 mod errors;
+mod heads;
 pub mod laws;
 mod messages;
 mod paths;
 mod requests;
 mod spelling;
 mod tears;
+mod through;
 mod told;
 mod wanted;
 
 pub use descriptors::{key_in, named, resv_by};
 pub use errors::{
-    BAD_FLOWSPEC, NO_BANDWIDTH, NO_LABEL, NO_PATH, NO_SENDER, PREEMPTED, UNACCEPTABLE_LABEL,
-    UNKNOWN_STYLE, UNSUPPORTED_SERVICE, reservation_error, style_conflict, traffic_error,
+    BAD_FLOWSPEC, LOCALLY_REPAIRED, NO_BANDWIDTH, NO_LABEL, NO_PATH, NO_SENDER, PREEMPTED,
+    UNACCEPTABLE_LABEL, UNKNOWN_STYLE, UNSUPPORTED_SERVICE, reservation_error, style_conflict,
+    traffic_error,
 };
 pub use explicit_routes::{
     Frame, Output, Outputs, RouteError, RouteFault, Way, head_way, is_up, link_at, route_to,
 };
+pub use heads::{current_key, head_key, pending_key};
 pub use messages::{found_here, lsp, sent_by};
 pub use paths::{
     ETHERTYPE_IPV4, carries_ipv4, drops_record, has_been_here, has_no_rate, knows_record, lifetime,
@@ -29,5 +33,9 @@ pub use paths::{
 };
 pub use requests::{conflicting_style, limit_of, request_of};
 pub use tears::{is_from, is_torn_by, leaves_by, origins_without};
-pub use told::{resv_err_leaves_room, resv_leaves_room, told_downstream, told_preempted};
+pub use through::{head_through, hop_through, labelled_by, stack_under};
+pub use told::{
+    renamed_leaves_room, resv_err, resv_err_leaves_room, resv_leaves_room, told_downstream,
+    told_preempted,
+};
 pub use wanted::{goes_on, path_onward};

@@ -20,14 +20,14 @@ use resv_facts::ResvFact;
 use router_events::Output;
 use rsvp_contents::{Content, Message, Resv, ResvErr};
 use rsvp_flows::{ErrorDescriptor, ErrorDescriptors};
-use rsvp_objects::{ErrorSpec, Hop, Session, Style};
+use rsvp_objects::{ErrorSpec, Hop, Session, Style, Template};
 use std::alloc::{AllocError, Global};
 
 /// Bytes of an IPv4 address.
 const ADDRESS_LEN: usize = 4;
 
 /// A ResvErr. It asks for descriptors that leave room for the rest of the message.
-fn resv_err(error: ResvErr) -> Message
+pub fn resv_err(error: ResvErr) -> Message
     requires counted { IsTrue (counts_on false error.descriptors) }
     requires room { HaveRoom error.descriptors }
     ensures { result ≡ contents.ResvErr error }
@@ -130,4 +130,14 @@ pub fn resv_err_leaves_room(error: &ResvErr)
     prove!(error.session.extended.octets().len() == ADDRESS_LEN);
     prove!(error.hop.address.octets().len() == ADDRESS_LEN);
     prove!(error.error.node.octets().len() == ADDRESS_LEN);
+}
+
+/// That a ResvErr has room for an LSP under another sender, as it has for the LSP.
+#[tactic(auto, using(crate::proofs::Rooms::renamed_has_room))]
+pub fn renamed_leaves_room(descriptor: &ErrorDescriptor, filter: &Template)
+    requires { HaveRoom (descriptor.now ∷ []) }
+    ensures { HaveRoom (record descriptor.now { filter = filter.now } ∷ []) }
+{
+    prove!(descriptor.filter.sender.octets().len() == ADDRESS_LEN);
+    prove!(filter.sender.octets().len() == ADDRESS_LEN);
 }

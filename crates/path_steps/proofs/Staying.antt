@@ -1,18 +1,19 @@
--- The reservations that stay where others expire.
-use Rattle.std.specs.Prelude.{◌≡◌, ◌||◌, ℕ, not, Bool, true, false, cond, T, List, [], ◌∷◌, filter, is_some, Some}
+-- The rows that stay where others go.
+use Rattle.std.specs.Prelude.{◌≡◌, ◌||◌, not, Bool, true, false, cond, T, List, [], ◌∷◌, filter, is_some, Some}
 use Rattle.std.specs.FinMap.Entries.{find, is_sorted}
 use Rattle.std.specs.Ordering.{eq_by_cmp}
 use Rattle.std.proofs.Common.{refl, ap, ◌∙◌}
 use Rattle.std.proofs.lemmas.Cmp.{eq_by_cmp_equiv}
+use Rattle.sorted_rows.specs.Edits.{edited}
 use Rattle.sorted_rows.specs.ListLaws.{all-weaker, filter_agree_within}
 use Rattle.sorted_rows.specs.Rows.{keys_of}
 use Rattle.sorted_rows.specs.RowsLaws.{all_kept}
 use Rattle.lsr_facts.specs.OrderLaws.{key_total}
 use Rattle.lsr_facts.specs.Orders.{key_cmp}
 use Rattle.lsr_facts.specs.declared.key.Key.{Key}
-use Rattle.resv_facts.specs.Reservations.{expire, lives_past}
-use Rattle.resv_facts.specs.declared.resv_fact.ResvFact.{ResvFact}
 use Rattle.abstract_router.specs.States.{is_one_of}
+use Rattle.state_views.specs.EditLaws.{rows_without}
+use Rattle.state_views.specs.Edits.{without_rows}
 
 -- a key is among those of rows where it is found
 among-rows : {X : Type 0} (key : Key) (rows : List (Key × X)) → is_one_of (keys_of rows) key ≡ is_some (find key_cmp key rows)
@@ -25,12 +26,15 @@ twice : (b : Bool) → not (not b) ≡ b
 twice true = refl
 twice false = refl
 
--- Without those that expire, those are left that live past the moment.
-pub without_expired : (n : ℕ) (resvs : List (Key × ResvFact)) → T (is_sorted key_cmp resvs) → filter (λ resv. not (is_one_of (keys_of (filter (λ resv. not (lives_past n resv.1)) resvs)) resv.0)) resvs ≡ expire n resvs
-unfolding expire
-without_expired n resvs h =
-    let gone = λ (resv : Key × ResvFact). not (lives_past n resv.1) in
-    filter_agree_within (λ resv. not (is_one_of (keys_of (filter gone resvs)) resv.0)) (λ resv. lives_past n resv.1) resvs
-    (all-weaker (λ resv. is_some (find key_cmp resv.0 (filter gone resvs)) ≡ gone resv) (λ resv. not (is_one_of (keys_of (filter gone resvs)) resv.0) ≡ lives_past n resv.1)
-    (λ resv is. ap not (among-rows resv.0 (filter gone resvs) ∙ is) ∙ twice (lives_past n resv.1)) resvs
-    (all_kept key_cmp key_total gone resvs h))
+-- without those that fail the test, those are left that pass it
+without_failing : {X : Type 0} (stays : Key × X → Bool) (rows : List (Key × X)) → T (is_sorted key_cmp rows) → filter (λ row. not (is_one_of (keys_of (filter (λ row. not (stays row)) rows)) row.0)) rows ≡ filter stays rows
+without_failing {X} stays rows h =
+    let goes = λ (row : Key × X). not (stays row) in
+    filter_agree_within (λ row. not (is_one_of (keys_of (filter goes rows)) row.0)) stays rows
+    (all-weaker (λ row. is_some (find key_cmp row.0 (filter goes rows)) ≡ goes row) (λ row. not (is_one_of (keys_of (filter goes rows)) row.0) ≡ stays row)
+    (λ row is. ap not (among-rows row.0 (filter goes rows) ∙ is) ∙ twice (stays row)) rows
+    (all_kept key_cmp key_total goes rows h))
+
+-- The edits by which those go that fail the test lead to those that pass it.
+pub edited_staying : {X : Type 0} (stays : Key × X → Bool) (rows : List (Key × X)) → T (is_sorted key_cmp rows) → edited key_cmp (without_rows [] (keys_of (filter (λ row. not (stays row)) rows))) rows ≡ filter stays rows
+edited_staying stays rows h = rows_without [] (keys_of (filter (λ row. not (stays row)) rows)) rows h ∙ without_failing stays rows h

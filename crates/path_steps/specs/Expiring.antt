@@ -21,6 +21,10 @@ left_at moment paths key = option_map (λ fact. left_of moment (key, fact)) (fin
 abbrev pub expiry_at : ℕ → List (Key × PathFact) → Key → Option (Key × Option PathFact)
 expiry_at moment paths key = option_map (λ left. (key, left)) (left_at moment paths key)
 
--- what a moment leaves of all that is known: what expires of paths and of reservations goes
+-- what a moment leaves of all that is known: what expires of paths, of reservations and of repairs goes
 abbrev pub expired : ℕ → State → State
-expired moment s = record s { facts = record s.facts { moment = moment; paths = expire moment s.facts.paths }; resvs = resvs.expire moment s.resvs }
+expired moment s = record s {
+  facts = record s.facts { moment = moment; paths = expire moment s.facts.paths };
+  resvs = resvs.expire moment s.resvs;
+  repairs = resvs.expire_repairs moment s.repairs;
+}

@@ -3,52 +3,18 @@
 ghost use Rattle.std.specs.Prelude.{◌≡◌, IfOk, IfSome, IsTrue};
 ghost use Rattle.rsvp_contents.specs.Limits.{is_short_route};
 ghost use Rattle.lsr_facts.specs.Orders.{is_one_of};
-ghost use Rattle.lsr_facts.specs.Tunnels.{current_key, head_key, heads_of, is_head, pending_key, route_from};
+ghost use Rattle.lsr_facts.specs.Tunnels.{head_key, heads_of, is_head, route_from};
 ghost use Rattle.abstract_paths.specs.Heads.{head_path, with_head};
 ghost use Rattle.path_steps.specs.Signalling.{with_some};
 
 use lsr_facts::{Choice, Key, PathFact, Role, Router, Tunnel, TunnelLsp};
-use message_rules::{ETHERTYPE_IPV4, head_way, link_of, rest_of};
+use message_rules::{
+    ETHERTYPE_IPV4, current_key, head_key, head_way, link_of, pending_key, rest_of,
+};
 use rsvp_contents::{LabelRequest, Passing, Record};
-use rsvp_objects::{Session, Template};
 use sorted_rows::Table;
 use state_views::{StateView, node_of};
 use std::alloc::{AllocError, Global};
-use std::net::Ipv4Addr;
-
-/// The LSP of a tunnel that has this ID: the router's id is its extended tunnel ID, and its sender.
-pub fn head_key(router: &Router, number: u16, endpoint: Ipv4Addr, id: u16) -> Key
-    ensures { result ≡ head_key router.now number endpoint id }
-{
-    Key {
-        session: Session {
-            endpoint,
-            tunnel: number,
-            extended: router.id,
-        },
-        sender: Template {
-            sender: router.id,
-            lsp: id,
-        },
-    }
-}
-
-/// The LSP that carries the traffic of the tunnel of a number.
-pub fn current_key(router: &Router, number: u16, tunnel: &Tunnel) -> Key
-    ensures { result ≡ current_key router.now (number, tunnel.now) }
-{
-    head_key(router, number, tunnel.endpoint, tunnel.current.id)
-}
-
-/// The LSP that is to take its place, if there is one.
-pub fn pending_key(router: &Router, number: u16, tunnel: &Tunnel) -> Option<Key>
-    ensures { result ≡ pending_key router.now (number, tunnel.now) }
-{
-    match &tunnel.pending {
-        Some(lsp) => Some(head_key(router, number, tunnel.endpoint, lsp.id)),
-        None => None,
-    }
-}
 
 /// Whether the LSP is one of the tunnel of a number.
 fn is_of(router: &Router, number: u16, tunnel: &Tunnel, key: &Key) -> bool

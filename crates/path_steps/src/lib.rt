@@ -11,11 +11,11 @@ mod tears;
 mod ticks;
 mod told;
 
-pub use heads::{current_key, head_key, head_of, is_head, pending_key};
+pub use heads::{head_of, is_head};
 pub use links::link_change;
-pub use message_rules::leaves_by;
+pub use message_rules::{current_key, head_key, leaves_by, pending_key};
 pub use paths::{path_arrival, unknown_path_arrival};
 pub use relays::{exceeds_hop_limit, relay};
 pub use tears::{path_err_arrival, path_tear_arrival};
 pub use ticks::tick;
-pub use told::failed;
+pub use told::{failed, told_upstream};

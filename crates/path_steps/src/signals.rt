@@ -10,9 +10,10 @@ ghost use Rattle.abstract_router.specs.States.{State, with_facts};
 ghost use Rattle.state_views.specs.Edits.{edited};
 ghost use Rattle.path_steps.specs.Signalling.{AreOfKnown, IsCounted, is_passed_over};
 
-use crate::heads::{current_key, head_of};
+use crate::heads::head_of;
 use lsr_facts::limits::MAX_LSPS;
 use lsr_facts::{Key, PathFact, Tunnel};
+use message_rules::current_key;
 use state_views::{Changed, Edits, StateView, WholeState};
 use std::alloc::{AllocError, Global};
 

@@ -18,9 +18,9 @@ use crate::signals::signalled;
 use lsr_facts::limits::MAX_MOMENT;
 use lsr_facts::{Key, PathFact, Refusal, Reply, keep_living, lives_on};
 use message_rules::Outputs;
-use resv_facts::ResvFact;
+use resv_facts::{Repair, ResvFact};
 use sorted_rows::{Table, TryCopy};
-use state_views::{Draft, Edits, StateView, WholeState, refused, without_resvs};
+use state_views::{Draft, Edits, StateView, WholeState, refused, without_rows};
 use std::alloc::{AllocError, Global};
 
 /// What a moment leaves of an LSP's path: nothing, or the path with the origins that live past it.
@@ -88,14 +88,29 @@ fn resv_expiries<V: WholeState>(
         ≡ resvs.expire moment (V.state view.now).resvs) }
 {
     let keys = view.expiring_resvs(alloc, moment)?;
-    without_resvs(Table::new(alloc), keys.as_slice())
+    without_rows(Table::new(alloc), keys.as_slice())
 }
 
-/// The edits by which a moment comes, and that goes of paths and of reservations which has expired. The only error is out
-/// of memory.
+/// The edits by which the repairs go that have expired at a moment. The only error is out of memory.
+fn repair_expiries<V: WholeState>(
+    alloc: Global,
+    view: &V,
+    moment: u64,
+) -> Result<Table<Key, Option<Repair>>, AllocError>
+    requires { T (is_sorted key_cmp (V.state view.now).repairs) }
+    ensures { IfOk result (λ edits. rows.edited key_cmp edits (V.state view.now).repairs
+        ≡ resvs.expire_repairs moment (V.state view.now).repairs) }
+{
+    let keys = view.expiring_repairs(alloc, moment)?;
+    without_rows(Table::new(alloc), keys.as_slice())
+}
+
+/// The edits by which a moment comes, and that goes of paths, of reservations and of repairs which has expired. The only
+/// error is out of memory.
 fn expiries<V: WholeState>(alloc: Global, view: &V, moment: u64) -> Result<Edits, AllocError>
     requires paths { T (is_sorted key_cmp (V.state view.now).facts.paths) }
     requires resvs { T (is_sorted key_cmp (V.state view.now).resvs) }
+    requires repairs { T (is_sorted key_cmp (V.state view.now).repairs) }
     ensures known { IfOk result (λ edits. AreOfKnown edits (V.state view.now)) }
     ensures left { IfOk result (λ edits. edited edits (V.state view.now) ≡ expired moment (V.state view.now)) }
 {
@@ -103,16 +118,18 @@ fn expiries<V: WholeState>(alloc: Global, view: &V, moment: u64) -> Result<Edits
         moment: Some(moment),
         paths: path_expiries(alloc, view, moment)?,
         resvs: resv_expiries(alloc, view, moment)?,
+        repairs: repair_expiries(alloc, view, moment)?,
         ..Edits::none(alloc)
     })
 }
 
-/// What it does that a moment comes, in milliseconds: what has expired goes of paths and of reservations, tunnels without
-/// a path are tried, and messages are due. The only error is out of memory.
+/// What it does that a moment comes, in milliseconds: what has expired goes of paths, of reservations and of repairs,
+/// tunnels without a path are tried, and messages are due. The only error is out of memory.
 #[tactic(auto, unfolding(abstract_paths::specs::Time::tick, abstract_router::specs::Arrivals::moment_comes))]
 pub fn tick<V: WholeState>(alloc: Global, view: &V, moment: u64) -> Result<Draft, AllocError>
     requires paths { T (is_sorted key_cmp (V.state view.now).facts.paths) }
     requires resvs { T (is_sorted key_cmp (V.state view.now).resvs) }
+    requires repairs { T (is_sorted key_cmp (V.state view.now).repairs) }
     requires tunnels { AreTunnels (V.router view.now) (V.state view.now).facts.tunnels }
     ensures draft { IfOk result (λ draft. IsDraft draft
         (moment_comes (V.router view.now) (V.state view.now) moment)

@@ -55,8 +55,9 @@ fn told_to(
     Ok(Some(sent_by(link, message)))
 }
 
-/// An error of a path, told to each of its origins.
-pub(crate) fn told_upstream(
+/// An error of a path, told to each of its origins that is a neighbour (RFC 2205, 3.1.7). It asks for a Tspec, if any, that
+/// leaves room for the rest of the message. The only error is out of memory.
+pub fn told_upstream(
     alloc: Global,
     key: &Key,
     fact: &PathFact,

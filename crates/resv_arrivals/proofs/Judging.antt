@@ -29,7 +29,7 @@ use Rattle.abstract_router.specs.Preempting.{claims_of, fits, giving_way, limit_
 use Rattle.abstract_paths.specs.Paths.{has_loop}
 use Rattle.abstract_paths.specs.Tears.{leaves_by}
 use Rattle.abstract_router.specs.Reserving.{Verdict, Failed, PassedOver, Granted, conflicts, verdict_by_rate, verdict_of, verdict_on_path}
-use Rattle.abstract_router.specs.States.{State}
+use Rattle.abstract_router.specs.States.{State, is_repaired}
 use Rattle.forwarding_table.specs.Labels.{is_label}
 use Rattle.resv_facts.specs.declared.claim.Claim.{Claim}
 use Rattle.resv_arrivals.proofs.Claiming.{claims_sorted}
@@ -63,13 +63,14 @@ has_own_path key path (row ∷ rows) =
     either true b h = refl
     either false b h = h
 
--- So the verdict on a path that leaves by the link is told by the style of the first that stands against it.
-pub on_path_is : (r : Router) (s : State) (key : Key) (fact : ResvFact) (path : PathFact) (found : Option ResvStyle) → leaves_by fact.link path ≡ true
+-- So the verdict on a path that leaves by the link, of an LSP that isn't repaired, is told by the style of the first that
+-- stands against it.
+pub on_path_is : (r : Router) (s : State) (key : Key) (fact : ResvFact) (path : PathFact) (found : Option ResvStyle) → leaves_by fact.link path ≡ true → is_repaired s key ≡ false
     → found ≡ option_map (λ other. other.1.style) (find_first (conflicts fact.link fact.style key) s.resvs)
     → verdict_on_path r s key fact path ≡ option_map_or (λ style. Failed (style_conflict style)) found (verdict_by_rate r s key fact (flowspec_rate fact.flowspec))
-on_path_is r s key fact path found leaves found_is =
+on_path_is r s key fact path found leaves unrepaired found_is =
     let rest = verdict_by_rate r s key fact (flowspec_rate fact.flowspec) in
-    ap (λ b. cond (not b) PassedOver (option_map_or (λ (other : Key × ResvFact). Failed (style_conflict other.1.style)) (find_first (conflicts fact.link fact.style key) s.resvs) rest)) leaves
+    (λ i. cond (not (leaves i) || unrepaired i) PassedOver (option_map_or (λ (other : Key × ResvFact). Failed (style_conflict other.1.style)) (find_first (conflicts fact.link fact.style key) s.resvs) rest))
     ∙ by_style (find_first (conflicts fact.link fact.style key) s.resvs) rest
     ∙ ap (λ (o : Option ResvStyle). option_map_or (λ style. Failed (style_conflict style)) o rest) (sym found_is)
 
@@ -96,7 +97,7 @@ module _ (r : Router) (s : State) (key : Key) (fact : ResvFact) where
 
   rated_on_path : (path : PathFact) → IsRated (verdict_on_path r s key fact path)
   rated_on_path path =
-      cond_both (not (leaves_by fact.link path)) _ _ IsRated (λ other. λ e. absurd (let h = e in cc))
+      cond_both (not (leaves_by fact.link path) || is_repaired s key) _ _ IsRated (λ other. λ e. absurd (let h = e in cc))
       (λ leaves. by (find_first (conflicts fact.link fact.style key) s.resvs))
     where
       by : (o : Option (Key × ResvFact)) → IsRated (option_map_or (λ other. Failed (style_conflict other.1.style)) o (verdict_by_rate r s key fact (flowspec_rate fact.flowspec)))

@@ -8,6 +8,7 @@ ghost use Rattle.rsvp_contents.specs.declared.messages.Content.TheVariants as co
 ghost use Rattle.abstract_paths.specs.Soundness.{ArePaths};
 ghost use Rattle.abstract_router.specs.Reserving.{all_descriptors, resv_arrival, resv_failed, resv_replied, unknown_resv};
 ghost use Rattle.abstract_router.specs.Soundness.{AreHeld};
+ghost use Rattle.abstract_router.specs.States.{is_held};
 ghost use Rattle.abstract_router.specs.Steps.{stands};
 ghost use Rattle.message_rules.specs.Rooms.{HaveRoom};
 ghost use Rattle.state_views.specs.Drafts.{IsDraft};
@@ -16,7 +17,7 @@ ghost use Rattle.resv_arrivals.specs.Progresses.{is_heard, reached};
 use crate::asked::Asked;
 use crate::granting::{next_descriptor, with_told};
 use crate::progress::Progress;
-use lsr_facts::{Refusal, Reply, RsvpError};
+use lsr_facts::{Key, Refusal, Reply, RsvpError};
 use message_rules::{
     UNKNOWN_STYLE, key_in, named, reservation_error, resv_leaves_room, told_downstream,
     unknown_object,
@@ -34,17 +35,17 @@ fn resv_failed<V: StateView>(
     view: &V,
     link: u16,
     resv: &Resv,
-    is_reserved: bool,
+    in_place: bool,
     descriptor: Option<ErrorDescriptor>,
     error: RsvpError,
 ) -> Result<Draft, AllocError>
     requires { HaveRoom (option_to_list descriptor) }
     ensures { IfOk result (λ draft. IsDraft draft
-        (resv_failed (V.router view.now) (V.state view.now) link resv.now is_reserved
+        (resv_failed (V.router view.now) (V.state view.now) link resv.now in_place
         (option_to_list descriptor) error) (V.router view.now) (V.state view.now)) }
 {
     let router = view.node().router;
-    let found = reservation_error(router, is_reserved, error);
+    let found = reservation_error(router, in_place, error);
     let told = told_downstream(
         alloc,
         router,
@@ -149,6 +150,13 @@ pub fn resv_arrival<V: WholeState>(
     Ok(replied(alloc, view, progress))
 }
 
+/// Whether an LSP is reserved or repaired.
+fn is_held<V: StateView>(view: &V, key: &Key) -> bool
+    ensures { result ≡ is_held (V.state view.now) key.now }
+{
+    view.resv(key).is_some() || view.repair(key).is_some()
+}
+
 /// What a Resv does with an object that it doesn't know: it is in error, for its first flow descriptor (RFC 2205, 3.10
 /// and B, 13 and 14). The only error is out of memory.
 #[tactic(auto, unfolding(abstract_router::specs::Reserving::unknown_resv))]
@@ -171,9 +179,9 @@ pub fn unknown_resv<V: WholeState>(
     let error = unknown_object(class, ctype);
     match resv.descriptors.as_slice() {
         [first, ..] => {
-            let is_reserved = view.resv(&key_in(resv, first)).is_some();
+            let in_place = is_held(view, &key_in(resv, first));
             let first = Some(named(first)?);
-            resv_failed(alloc, view, link, resv, is_reserved, first, error)
+            resv_failed(alloc, view, link, resv, in_place, first, error)
         }
         [] => resv_failed(alloc, view, link, resv, false, None, error),
     }

@@ -16,7 +16,7 @@ ghost use Rattle.resv_arrivals.specs.Progresses.{IsOwn, IsReached, IsRenewed, fa
 use crate::asked::Asked;
 use crate::claims::{claims_for_next, giving_way};
 use crate::edits::edits_with;
-use crate::progress::{Progress, resv_now};
+use crate::progress::{Progress, is_held_now, resv_now};
 use crate::verdicts::{Verdict, verdict_of};
 use lsr_facts::{Key, RsvpError};
 use message_rules::{named, reservation_error, resv_by, told_downstream, told_preempted};
@@ -38,7 +38,7 @@ pub fn with_told(errors: Outputs, told: Option<Output>) -> Result<Outputs, Alloc
 }
 
 /// A flow descriptor is in error: that goes back over the link that the Resv came by, and changes nothing. It says in
-/// place where the LSP is reserved (RFC 2205, A.5).
+/// place where the LSP is reserved or repaired (RFC 2205, A.5).
 fn failed<V: WholeState>(
     alloc: Global,
     view: &V,
@@ -63,8 +63,8 @@ fn failed<V: WholeState>(
         ..
     } = *asked;
     let router = view.node().router;
-    let is_reserved = resv_now(view, &progress.edits, &key).is_some();
-    let found = reservation_error(router, is_reserved, error);
+    let in_place = is_held_now(view, &progress.edits, &key);
+    let found = reservation_error(router, in_place, error);
     let told = told_downstream(
         alloc,
         router,

@@ -5,6 +5,7 @@ ghost use Rattle.std.specs.Option.{option_copied};
 ghost use Rattle.std.specs.Prelude.{◌≡◌, [], None, false};
 ghost use Rattle.lsr_facts.specs.Orders.{key_cmp};
 ghost use Rattle.sorted_rows.specs.Edits.{edited};
+ghost use Rattle.abstract_router.specs.States.{State, is_held};
 
 use lsr_facts::{Key, RsvpError};
 use resv_facts::{Claim, ResvFact};
@@ -56,4 +57,11 @@ pub fn resv_now<'a, V: StateView>(
         Some(edit) => edit.as_ref(),
         None => view.resv(key),
     }
+}
+
+/// Whether an LSP is reserved or repaired after edits of reservations.
+pub fn is_held_now<V: StateView>(view: &V, edits: &Table<Key, Option<ResvFact>>, key: &Key) -> bool
+    ensures { result ≡ is_held (record (V.state view.now) { resvs = edited key_cmp edits.now (V.state view.now).resvs }) key.now }
+{
+    resv_now(view, edits, key).is_some() || view.repair(key).is_some()
 }

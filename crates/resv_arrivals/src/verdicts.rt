@@ -1,11 +1,12 @@
 //! What becomes of a flow descriptor of a Resv (RFC 2205, 3.1.4 and B; RFC 3209, 4.1 and 4.4.4).
 
 ghost use Rattle.std.specs.FinMap.Entries.{find};
-ghost use Rattle.std.specs.Prelude.{◌≡◌, Ok, Some, true};
+ghost use Rattle.std.specs.Prelude.{◌≡◌, Ok, Some, false, true};
 ghost use Rattle.lsr_facts.specs.Orders.{key_cmp};
 ghost use Rattle.rsvp_traffic.specs.Traffic.{flowspec_rate};
 ghost use Rattle.abstract_paths.specs.Tears.{leaves_by};
 ghost use Rattle.abstract_router.specs.Reserving.{verdict_by_rate, verdict_of, verdict_on_path};
+ghost use Rattle.abstract_router.specs.States.{is_repaired};
 ghost use Rattle.resv_arrivals.specs.Progresses.{IsReached, IsVerdict, fact_at, reached};
 
 use crate::asked::Asked;
@@ -85,7 +86,7 @@ fn verdict_by_rate<V: WholeState>(
     }
 }
 
-/// What becomes of a flow descriptor whose LSP has this path, which leaves by the link.
+/// What becomes of a flow descriptor whose LSP has this path, which leaves by the link, and isn't repaired.
 fn verdict_on_way<V: WholeState>(
     view: &V,
     progress: &Progress,
@@ -95,6 +96,7 @@ fn verdict_on_way<V: WholeState>(
     requires reached { IsReached (V.router view.now) (V.state view.now) progress.now }
     requires path { find key_cmp asked.now.key (V.state view.now).facts.paths ≡ Some path.now }
     requires leaves { leaves_by asked.now.link path.now ≡ true }
+    requires unrepaired { is_repaired (V.state view.now) asked.now.key ≡ false }
     ensures { IsVerdict (V.router view.now) (V.state view.now) progress.now asked.now result
         (verdict_on_path (V.router view.now) (reached (V.state view.now) progress.now).state asked.now.key
         (fact_at (V.state view.now).facts.moment asked.now) path.now) }
@@ -105,7 +107,8 @@ fn verdict_on_way<V: WholeState>(
     }
 }
 
-/// What becomes of a flow descriptor whose LSP has this path.
+/// What becomes of a flow descriptor whose LSP has this path. One for a repaired LSP is passed over: it comes through no
+/// bypass here.
 fn verdict_on_path<V: WholeState>(
     view: &V,
     progress: &Progress,
@@ -118,7 +121,7 @@ fn verdict_on_path<V: WholeState>(
         (verdict_on_path (V.router view.now) (reached (V.state view.now) progress.now).state asked.now.key
         (fact_at (V.state view.now).facts.moment asked.now) path.now) }
 {
-    if !leaves_by(asked.link, path) {
+    if !leaves_by(asked.link, path) || view.repair(&asked.key).is_some() {
         return Verdict::PassedOver;
     }
     verdict_on_way(view, progress, asked, path)

@@ -3,6 +3,7 @@ use Rattle.std.specs.Prelude.{ℕ, nat_lt, Bool, if◌then◌else◌, List, filt
 use Rattle.rsvp_flows.specs.Styles.{is_fixed, is_shared}
 use Rattle.rsvp_objects.specs.declared.values.Style.{Style}
 use Rattle.lsr_facts.specs.declared.key.Key.{Key}
+use Rattle.resv_facts.specs.declared.repair.Repair.{Repair}
 use Rattle.resv_facts.specs.declared.resv_fact.ResvFact.{ResvFact}
 use Rattle.resv_facts.specs.declared.resv_fact.ResvStyle.{ResvStyle}
 use Rattle.resv_facts.specs.declared.resv_fact.ResvStyle.TheVariants.{FixedFilter, SharedExplicit}
@@ -31,3 +32,11 @@ expire moment resvs = filter (λ resv. lives_past moment resv.1) resvs
 -- a reservation, whenever it expires, which no message says
 abbrev pub timeless_resv : ResvFact → ResvFact
 timeless_resv resv = record resv { expiry = 0 }
+
+-- a repair, whenever it expires
+abbrev pub timeless_repair : Repair → Repair
+timeless_repair repair = record repair { resv = timeless_resv repair.resv }
+
+-- A repair expires as the reservation does from which it comes.
+unfoldable pub expire_repairs : ℕ → List (Key × Repair) → List (Key × Repair)
+expire_repairs moment repairs = filter (λ repair. lives_past moment repair.1.resv) repairs

@@ -5,6 +5,7 @@
 mod claim;
 pub mod laws;
 mod priorities;
+mod repair;
 mod resv_fact;
 mod session;
 mod state;
@@ -12,6 +13,7 @@ mod upstream;
 
 pub use claim::{Claim, Request};
 pub use priorities::{WORST_PRIORITY, holding_of, setup_of};
+pub use repair::{Detour, Over, Repair, Selected};
 pub use resv_fact::{ResvFact, ResvStyle, is_same_style};
 pub use session::is_same_session;
 pub use state::State;

@@ -1,5 +1,6 @@
 //! All that a router knows, as a value.
 
+use crate::repair::Repair;
 use crate::resv_fact::ResvFact;
 use crate::upstream::Upstream;
 use lsr_facts::{Facts, Key};
@@ -13,6 +14,8 @@ pub struct State {
     pub facts: Facts,
     /// The reservations, by LSP.
     pub resvs: Table<Key, ResvFact>,
+    /// The repairs in use, by LSP.
+    pub repairs: Table<Key, Repair>,
     /// The label of each LSP that doesn't begin here.
     pub labels: Table<Key, u32>,
     /// Of each Resv that is kept alive at a neighbour the moment when it was sent last, in milliseconds.
@@ -24,6 +27,7 @@ impl TryCopy for State {
         Ok(State {
             facts: self.facts.try_copy(alloc)?,
             resvs: self.resvs.try_copy(alloc)?,
+            repairs: self.repairs.try_copy(alloc)?,
             labels: self.labels.try_copy(alloc)?,
             sent_upstream: self.sent_upstream.try_copy(alloc)?,
         })

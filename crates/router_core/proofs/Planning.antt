@@ -12,12 +12,13 @@ use Rattle.lsr_facts.specs.Routers.{IsRouter}
 use Rattle.lsr_facts.specs.declared.key.Item.{Item}
 use Rattle.lsr_facts.specs.declared.key.Key.{Key}
 use Rattle.lsr_facts.specs.declared.router.Router.{Router}
-use Rattle.router_tables.specs.Below.labels.RowLaws.{table-alike}
+use Rattle.router_tables.specs.Below.labels.RowLaws.{detours-alike, table-alike}
 use Rattle.router_tables.specs.Below.labels.Rows.{AreTableEdits}
 use Rattle.router_tables.specs.Below.labels.TunnelLaws.{look_tunnel-alike, tunnel_table-alike}
 use Rattle.router_tables.specs.Below.labels.TunnelRows.{AreTunnelEdits}
 use Rattle.rsvp_traffic.specs.Traffic.{flowspec_rate}
 use Rattle.resv_facts.specs.Upstreams.{upstream_cmp}
+use Rattle.resv_facts.specs.declared.repair.Repair.{Repair}
 use Rattle.resv_facts.specs.declared.resv_fact.ResvFact.{ResvFact}
 use Rattle.resv_facts.specs.declared.upstream.Upstream.{Upstream}
 use Rattle.router_events.specs.declared.events.Event.{Event}
@@ -36,9 +37,11 @@ use Rattle.abstract_router.specs.Outputs.{item_stamps, outputs_of, upstream_stam
 use Rattle.abstract_router.specs.Preempting.{claims_of}
 use Rattle.abstract_router.specs.Soundness.{AreLabelled, IsResv, IsSound}
 use Rattle.abstract_router.specs.States.{State}
-use Rattle.abstract_router.specs.Steps.{IsEvent, MayChooseBy, settled, taken_over, told_repaired, with_moments}
+use Rattle.abstract_router.specs.Repairing.{told_repaired}
+use Rattle.abstract_router.specs.Steps.{IsEvent, MayChooseBy, settled, taken_over, with_moments}
+use Rattle.abstract_router.specs.Detours.{detours_of}
 use Rattle.abstract_router.specs.Lsps.{lsps_of}
-use Rattle.abstract_router.specs.LspLaws.{look-alike}
+use Rattle.abstract_router.specs.LspLaws.{AreAlike, look-alike}
 use Rattle.abstract_router.specs.Tables.{look, look_tunnel}
 use Rattle.abstract_router.specs.Upstreams.{upstream_of}
 use Rattle.abstract_router.specs.Wanted.{items_of}
@@ -57,7 +60,7 @@ errors_in r s o = o.errors ++ told_repaired r (taken_over r o.after)
 
 -- what is sent doesn't depend on when messages were sent
 sent_alike : (r : Router) (s : State) (o : Outcome) (t : State) → outputs_of r s (errors_in r s o) o.due o.upstream_due t ≡ outputs_of r s (errors_in r s o) o.due o.upstream_due (with_moments r s o t)
-unfolding outputs_of items_of upstream_of lsps_of
+unfolding outputs_of items_of upstream_of lsps_of detours_of
 sent_alike r s o t = refl
 
 module _ (r : Router) (s : State) (is : IsSound r s) (draft : Draft) (may : IsDrafted r s (edited draft.edits s)) (x : Edits) (chosen : List (Key × ℕ))
@@ -73,6 +76,9 @@ module _ (r : Router) (s : State) (is : IsSound r s) (draft : Draft) (may : IsDr
 
   pub next_resvs : AllByRecursion (IsResv (edited x s).facts.moment) (edited x s).resvs
   next_resvs = next_sound.held.each
+
+  pub next_repairs : AllByRecursion (λ (repair : Key × Repair). IsResv (edited x s).facts.moment (repair.0, repair.1.resv)) (edited x s).repairs
+  next_repairs = next_sound.repaired.each
 
   pub next_rates : AllByRecursion (λ (resv : Key × ResvFact). IsOk (flowspec_rate resv.1.flowspec)) (edited x s).resvs
   next_rates = all-weaker (IsResv (edited x s).facts.moment) (λ (resv : Key × ResvFact). IsOk (flowspec_rate resv.1.flowspec)) (λ resv is. is.has_rate) (edited x s).resvs next_resvs
@@ -93,6 +99,7 @@ module _ (r : Router) (s : State) (is : IsSound r s) (draft : Draft) (may : IsDr
       bypasses = x.bypasses;
       paths = x.paths;
       bandwidth = bandwidth;
+      repairs = x.repairs;
       labels = x.labels;
       moments = moments;
       upstream = upstream;
@@ -105,40 +112,48 @@ module _ (r : Router) (s : State) (is : IsSound r s) (draft : Draft) (may : IsDr
     changed_is = λ i. record {
       facts = record (edited x s).facts { sent = stamps i };
       resvs = resvs i;
+      repairs = rows.edited key_cmp x.repairs s.repairs;
       labels = rows.edited key_cmp x.labels s.labels;
       sent_upstream = upstamps i;
     }
 
+    -- the same is known of LSPs after both, and bypasses run over the same
+    alike : AreAlike (edited x s) (changed change s)
+    alike = record { resvs = sym resvs; repairs = refl; labels = refl }
+
+    detours : detours_of r (edited x s) ≡ detours_of r (changed change s)
+    detours = detours-alike r (edited x s) (changed change s) refl refl refl (sym resvs)
+
     -- labels have the same actions after both
-    looks : (label : ℕ) → look (edited x s) label ≡ look (changed change s) label
-    looks label = look-alike (edited x s) (changed change s) label refl (sym resvs) refl
+    looks : (label : ℕ) → look r (edited x s) label ≡ look r (changed change s) label
+    looks label = look-alike r (edited x s) (changed change s) label detours refl alike
 
     -- and so have tunnels
     looks_tunnel : (number : ℕ) → look_tunnel r (edited x s) number ≡ look_tunnel r (changed change s) number
-    looks_tunnel number = look_tunnel-alike r (edited x s) (changed change s) number refl (sym resvs)
+    looks_tunnel number = look_tunnel-alike r (edited x s) (changed change s) number detours refl (sym resvs) refl
 
-    change_is : AreEdits bandwidth → rows.edited key_cmp (claim_edits bandwidth) (claims_of s.facts.paths s.resvs) ≡ claims_of (edited x s).facts.paths (edited x s).resvs → AreTableEdits s (edited x s) table → AreTunnelEdits r s (edited x s) tunnel_table → IsChange r s change
+    change_is : AreEdits bandwidth → rows.edited key_cmp (claim_edits bandwidth) (claims_of s.facts.paths s.resvs) ≡ claims_of (edited x s).facts.paths (edited x s).resvs → AreTableEdits r s (edited x s) table → AreTunnelEdits r s (edited x s) tunnel_table → IsChange r s change
     change_is edits claims are are_tunnels = record {
       sound = subst (IsSound r) (sym changed_is) next_sound;
       edits = edits;
       claims = claims ∙ ap (λ held. claims_of (edited x s).facts.paths held) (sym resvs);
       table = record {
-        table = λ was of_before. table-alike (edited x s) (changed change s) (rows.edited nat_cmp table was) refl (sym resvs) refl (are.table was of_before);
+        table = λ was of_before. table-alike r (edited x s) (changed change s) (rows.edited nat_cmp table was) detours refl alike (are.table was of_before);
         room = are.room;
         labels = are.labels;
-        changes = subst (λ (f : ℕ → Option Action). All (λ edit. look s edit.0 ≢ f edit.0) table) (λ i label. looks label i) are.changes;
-        none = λ alike. are.none (λ label. alike label ∙ sym (looks label));
+        changes = subst (λ (f : ℕ → Option Action). All (λ edit. look r s edit.0 ≢ f edit.0) table) (λ i label. looks label i) are.changes;
+        none = λ same. are.none (λ label. same label ∙ sym (looks label));
       };
       tunnel_table = record {
-        table = are_tunnels.table ∙ tunnel_table-alike r (edited x s) (changed change s) refl (sym resvs);
+        table = are_tunnels.table ∙ tunnel_table-alike r (edited x s) (changed change s) detours refl (sym resvs) refl;
         labels = are_tunnels.labels;
         changes = subst (λ (f : ℕ → Option Action). All (λ edit. look_tunnel r s edit.0 ≢ f edit.0) tunnel_table) (λ i number. looks_tunnel number i) are_tunnels.changes;
-        none = λ alike. are_tunnels.none (λ number. alike number ∙ sym (looks_tunnel number));
+        none = λ same. are_tunnels.none (λ number. same number ∙ sym (looks_tunnel number));
       };
     }
 
     -- The plan of a draft that isn't silent.
-    pub sending : (outputs : List Output) → outputs ≡ outputs_of r s (errors_in r s o) o.due o.upstream_due (edited x s) → AreEdits bandwidth → rows.edited key_cmp (claim_edits bandwidth) (claims_of s.facts.paths s.resvs) ≡ claims_of (edited x s).facts.paths (edited x s).resvs → AreTableEdits s (edited x s) table → AreTunnelEdits r s (edited x s) tunnel_table
+    pub sending : (outputs : List Output) → outputs ≡ outputs_of r s (errors_in r s o) o.due o.upstream_due (edited x s) → AreEdits bandwidth → rows.edited key_cmp (claim_edits bandwidth) (claims_of s.facts.paths s.resvs) ≡ claims_of (edited x s).facts.paths (edited x s).resvs → AreTableEdits r s (edited x s) table → AreTunnelEdits r s (edited x s) tunnel_table
         → IsSendingPlan r s o (record { reply = o.reply; outputs = outputs; chosen = chosen; change = Some change })
     sending outputs sends edits claims are are_tunnels = record {
       chosen = labelling;

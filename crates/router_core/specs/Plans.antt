@@ -13,7 +13,8 @@ use Rattle.abstract_router.specs.Labels.{IsLabelling}
 use Rattle.abstract_router.specs.Outcomes.{Outcome}
 use Rattle.abstract_router.specs.Outputs.{outputs_of}
 use Rattle.abstract_router.specs.States.{State}
-use Rattle.abstract_router.specs.Steps.{Step, settled, taken_over, told_repaired, with_moments}
+use Rattle.abstract_router.specs.Repairing.{told_repaired}
+use Rattle.abstract_router.specs.Steps.{Step, settled, taken_over, with_moments}
 use Rattle.router_tables.specs.Below.views.Drafts.{due_by, upstream_due_by}
 use Rattle.router_tables.specs.Below.views.Edits.{edited}
 use Rattle.router_tables.specs.Below.views.declared.draft.Draft.{Draft}

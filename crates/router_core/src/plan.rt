@@ -22,7 +22,7 @@ use forwarding_table::Action;
 use lsr_facts::{Key, Refusal, Reply};
 use router_events::{Command, Event, Outputs};
 use router_steps::{draft_of, exceeds_hop_limit};
-use router_tables::{Change, Changed, Draft, Edits, Tables, table_edits, tunnel_edits};
+use router_tables::{Change, Draft, Edits, Tables, table_edits, tunnel_edits};
 use rsvp_contents::Reading;
 use sorted_rows::Table;
 use state_sends::{StateSends, appended, sends_of};
@@ -94,23 +94,22 @@ fn table_of(
     alloc: Global,
     tables: &Tables,
     edits: &Edits,
-    changed: &Table<Key, ()>,
+    changed: Table<Key, ()>,
 ) -> Result<Table<u32, Option<Action>>, AllocError>
     requires paths { ArePaths tables.now.router (edited edits.now tables.now.state).facts.moment
         (edited edits.now tables.now.state).facts.paths }
     requires labels { AreLabelled tables.now.router (edited edits.now tables.now.state) }
     requires resvs { AllByRecursion (IsResv (edited edits.now tables.now.state).facts.moment)
         (edited edits.now tables.now.state).resvs }
-    requires changed { LeavesOtherLsps (is_among key_cmp changed.now) tables.now.state
+    requires repairs { AllByRecursion
+        (λ repair. IsResv (edited edits.now tables.now.state).facts.moment (repair.0, repair.1.resv))
+        (edited edits.now tables.now.state).repairs }
+    requires changed { LeavesOtherLsps (is_among key_cmp changed) tables.now.state
         (edited edits.now tables.now.state) }
-    ensures { IfOk result (AreTableEdits tables.now.state (edited edits.now tables.now.state)) }
+    ensures { IfOk result (AreTableEdits tables.now.router tables.now.state (edited edits.now tables.now.state)) }
 {
     tables.soundness();
-    let after = Changed {
-        under: tables,
-        edits,
-    };
-    table_edits(alloc, tables, &after, changed.as_slice())
+    table_edits(alloc, tables, edits, changed)
 }
 
 /// The plan of the step of a draft that isn't silent: with all that follows from its own change, with what is sent, and
@@ -132,7 +131,7 @@ fn sending_plan(alloc: Global, tables: &Tables, draft: Draft) -> Result<Plan, Al
         upstream,
         changed,
     } = sends_of(alloc, tables, &edits, draft.due, errors)?;
-    let table = table_of(alloc, tables, &edits, &changed)?;
+    let table = table_of(alloc, tables, &edits, changed)?;
     let tunnel_table = tunnel_edits(alloc, tables, &edits)?;
     let Edits {
         moment,
@@ -142,6 +141,7 @@ fn sending_plan(alloc: Global, tables: &Tables, draft: Draft) -> Result<Plan, Al
         bypasses,
         paths,
         resvs,
+        repairs,
         labels,
     } = edits;
     let bandwidth = bandwidth_edits(alloc, tables, &paths, resvs)?;
@@ -157,6 +157,7 @@ fn sending_plan(alloc: Global, tables: &Tables, draft: Draft) -> Result<Plan, Al
             bypasses,
             paths,
             bandwidth,
+            repairs,
             labels,
             moments,
             upstream,

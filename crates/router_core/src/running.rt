@@ -175,7 +175,7 @@ impl Running {
 
     /// What is done with a frame that comes under this label, or `None` where nothing is (RFC 3031, 3.10).
     pub fn look(&self, label: u32) -> Option<Action>
-        ensures { result ≡ look self.now.state label }
+        ensures { result ≡ look self.now.router self.now.state label }
     {
         self.tables.look(label)
     }

@@ -13,6 +13,7 @@ use Rattle.sorted_rows.specs.ListLaws.{all-weaker}
 use Rattle.sorted_rows.specs.RowsLaws.{all_found, ties}
 use Rattle.lsr_facts.specs.OrderLaws.{key_exact}
 use Rattle.lsr_facts.specs.Orders.{is_one_of, key_cmp}
+use Rattle.lsr_facts.specs.Routers.{IsRouter}
 use Rattle.lsr_facts.specs.Tunnels.{AreTunnels, IsPendingAs, current_key, head_key}
 use Rattle.lsr_facts.specs.declared.facts.Facts.{Facts}
 use Rattle.lsr_facts.specs.declared.key.Key.{Key}
@@ -20,6 +21,8 @@ use Rattle.lsr_facts.specs.declared.router.Router.{Router}
 use Rattle.lsr_facts.specs.declared.tunnel.Tunnel.{Tunnel}
 use Rattle.lsr_facts.specs.declared.tunnel.TunnelLsp.{TunnelLsp}
 use Rattle.make_before_break.specs.Changes.{switched, switched_to}
+use Rattle.resv_facts.specs.declared.repair.Over.{Over}
+use Rattle.resv_facts.specs.declared.repair.Repair.{Repair}
 use Rattle.resv_facts.specs.declared.resv_fact.ResvFact.{ResvFact}
 use Rattle.forwarding_table.specs.declared.action.Action.TheVariants.{PushHead}
 use Rattle.router_events.specs.declared.events.Made.{Made}
@@ -29,19 +32,22 @@ use Rattle.abstract_paths.specs.Places.{is_up}
 use Rattle.abstract_paths.specs.Soundness.{IsStanding}
 use Rattle.abstract_paths.specs.Tears.{leaves_by}
 use Rattle.abstract_router.specs.Arrivals.{outcome}
+use Rattle.abstract_router.specs.Detours.{detours_of, over_at}
 use Rattle.abstract_router.specs.Outcomes.{Outcome}
+use Rattle.abstract_router.specs.Repairing.{repair_stands, repaired, repairs_left}
 use Rattle.abstract_router.specs.Soundness.{IsSound}
 use Rattle.abstract_router.specs.States.{State, is_reserved}
-use Rattle.abstract_router.specs.Steps.{AreSettled, Step, given_up, is_ready, settled, stands, switched_where, taken_over, with_moments}
+use Rattle.abstract_router.specs.Steps.{AreSettled, Step, given_up, is_ready, resvs_left, settled, stands, switched_where, taken_over, with_moments}
 use Rattle.abstract_router.specs.Tables.{look_tunnel}
+use Rattle.router_soundness.proofs.Running.{sound_step}
 use Rattle.router_soundness.proofs.TakingOver.{standing_taken}
 use Rattle.router_laws.proofs.GivenUp.{path_left}
-use Rattle.router_laws.proofs.Pushing.{entry_is}
+use Rattle.router_laws.proofs.Pushing.{entry_is, entry_repaired}
 use Rattle.router_laws.proofs.Settled.{taken_over-same}
 use Rattle.router_laws.proofs.TunnelEvents.{IsReserving, IsSameTunnel, Moves, event_moves}
 
--- the tunnel that is found of a number once tunnels have gone over
-found_switched : (test : ℕ × Tunnel → Bool) (number : ℕ) (tunnels : List (ℕ × Tunnel)) → find nat_cmp number (map (switched_where test) tunnels) ≡ option_map (λ tunnel. (switched_where test (number, tunnel)).1) (find nat_cmp number tunnels)
+-- The tunnel that is found of a number once tunnels have gone over.
+pub found_switched : (test : ℕ × Tunnel → Bool) (number : ℕ) (tunnels : List (ℕ × Tunnel)) → find nat_cmp number (map (switched_where test) tunnels) ≡ option_map (λ tunnel. (switched_where test (number, tunnel)).1) (find nat_cmp number tunnels)
 found_switched test number [] = refl
 found_switched test number (tunnel ∷ tunnels) =
     let rest = found_switched test number tunnels in
@@ -67,7 +73,7 @@ found_left test key (row ∷ rows) passes =
     by false is own = refl
 
 -- and where none passes, nothing is found of it
-found_none : (test : Key × ResvFact → Bool) (key : Key) (rows : List (Key × ResvFact)) → ((row : Key × ResvFact) → key ≡ row.0 → test row ≡ false) → find key_cmp key (filter test rows) ≡ None
+found_none : {X : Type 0} (test : Key × X → Bool) (key : Key) (rows : List (Key × X)) → ((row : Key × X) → key ≡ row.0 → test row ≡ false) → find key_cmp key (filter test rows) ≡ None
 found_none test key [] fails = refl
 found_none test key (row ∷ rows) fails =
     let rest = found_none test key rows fails in
@@ -80,8 +86,8 @@ found_none test key (row ∷ rows) fails =
     by true is own rest = absurd (let e = own (key_exact key row.0 (ties _ is)) in cc)
     by false is own rest = rest
 
--- the current LSP of a tunnel that is ready is given up
-ready_given_up : (r : Router) (ready : ℕ × Tunnel → Bool) (number : ℕ) (old : Tunnel) (tunnels : List (ℕ × Tunnel)) → find nat_cmp number tunnels ≡ Some old → ready (number, old) ≡ true → is_one_of (map (current_key r) (filter ready tunnels)) (current_key r (number, old)) ≡ true
+-- The current LSP of a tunnel that is ready is given up.
+pub ready_given_up : (r : Router) (ready : ℕ × Tunnel → Bool) (number : ℕ) (old : Tunnel) (tunnels : List (ℕ × Tunnel)) → find nat_cmp number tunnels ≡ Some old → ready (number, old) ≡ true → is_one_of (map (current_key r) (filter ready tunnels)) (current_key r (number, old)) ≡ true
 ready_given_up r ready number old [] found goes = absurd (let e = found in cc)
 ready_given_up r ready number old (tunnel ∷ tunnels) found goes =
     elim (eq_by_cmp nat_cmp number tunnel.0) as (λ b. eq_by_cmp nat_cmp number tunnel.0 ≡ b → cond b (Some tunnel.1) (find nat_cmp number tunnels) ≡ Some old → is_one_of (map (current_key r) (filter ready (tunnel ∷ tunnels))) (current_key r (number, old)) ≡ true) [
@@ -126,6 +132,11 @@ module _ (r : Router) (s : State) (are : AreTunnels r s.facts.tunnels) (number :
           let own : tunnel.1 ≡ old = same_Some tunnel.1 old (sym its ∙ ap (λ (k : Key). find nat_cmp k.session.tunnel s.facts.tunnels) same ∙ found) in
           new_id (sym (ap (λ (k : Key). k.sender.lsp) same) ∙ ap (λ (t : Tunnel). t.current.id) own)
 
+-- nothing stands whose path went
+none_stands : (b : Bool) → (b && false) ≡ false
+none_stands true = refl
+none_stands false = refl
+
 -- The tunnel went over to its new LSP, which is reserved, and the one that carried its traffic went.
 record WentOver (r : Router) (number : ℕ) (old new : Tunnel) (after : State) : Type 0 where
   switched : new ≡ switched old
@@ -135,6 +146,7 @@ record WentOver (r : Router) (number : ℕ) (old new : Tunnel) (after : State) :
   reserved : find key_cmp (current_key r (number, new)) after.resvs ≡ Some resv
   no_path : find key_cmp (current_key r (number, old)) after.facts.paths ≡ None
   no_resv : find key_cmp (current_key r (number, old)) after.resvs ≡ None
+  no_repair : find key_cmp (current_key r (number, old)) after.repairs ≡ None
 
 module _ (r : Router) (before after : State) (made : Made) (is : IsSound r before) (rests : AreSettled r before) (x : Step r before made after) where
   abbrev o : Outcome
@@ -152,6 +164,7 @@ module _ (r : Router) (before after : State) (made : Made) (is : IsSound r befor
 
   -- Tunnels stand in the order of their numbers after a step.
   pub tunnels_in_order : T (is_sorted nat_cmp after.facts.tunnels)
+  unfolding repaired repairs_left
   tunnels_in_order = by_silence o.is_silent x.changed
     where
       Ordered : State → Type 0
@@ -180,7 +193,7 @@ module _ (r : Router) (before after : State) (made : Made) (is : IsSound r befor
 
       -- the tunnels as they are then
       tunnel_then : (switched_where (is_ready r mid) (number, old)).1 ≡ new
-      unfolding taken_over
+      unfolding taken_over repaired repairs_left
       tunnel_then =
           same_Some (switched_where (is_ready r mid) (number, old)).1 new
           (sym (found_switched (is_ready r mid) number mid.facts.tunnels ∙ ap (option_map (λ t. (switched_where (is_ready r mid) (number, t)).1)) known)
@@ -188,7 +201,7 @@ module _ (r : Router) (before after : State) (made : Made) (is : IsSound r befor
 
       -- the reservation of the new LSP stands
       resv_then : (lsp : TunnelLsp) (resv : ResvFact) → old.pending ≡ Some lsp → find key_cmp (head_key r number old.endpoint lsp.id) mid.resvs ≡ Some resv → find key_cmp (head_key r number old.endpoint lsp.id) after.resvs ≡ Some resv
-      unfolding taken_over
+      unfolding taken_over repaired repairs_left
       resv_then lsp resv pending reserved =
           ap (λ (s : State). find key_cmp key s.resvs) came
           ∙ found_left (stands (taken_over r mid).facts) key mid.resvs
@@ -214,6 +227,7 @@ module _ (r : Router) (before after : State) (made : Made) (is : IsSound r befor
           ∙ ap (λ b. cond (not b) (find key_cmp key mid.facts.paths) None) (ready_given_up r (is_ready r mid) number old mid.facts.tunnels known ready)
 
       resv_gone : is_ready r mid (number, old) ≡ true → find key_cmp (current_key r (number, old)) after.resvs ≡ None
+      unfolding repaired repairs_left
       resv_gone ready =
           let facts : Facts = (taken_over r mid).facts in
           ap (λ (s : State). find key_cmp (current_key r (number, old)) s.resvs) came
@@ -221,12 +235,20 @@ module _ (r : Router) (before after : State) (made : Made) (is : IsSound r befor
           ap (λ k. is_up facts.up row.1.link && option_map_or (leaves_by row.1.link) (find key_cmp k facts.paths) false) (sym own)
           ∙ ap (λ o. is_up facts.up row.1.link && option_map_or (leaves_by row.1.link) o false) (path_gone ready)
           ∙ none_stands (is_up facts.up row.1.link))
-        where
-          none_stands : (b : Bool) → (b && false) ≡ false
-          none_stands true = refl
-          none_stands false = refl
+
+      repair_gone : is_ready r mid (number, old) ≡ true → find key_cmp (current_key r (number, old)) after.repairs ≡ None
+      unfolding repaired repairs_left
+      repair_gone ready =
+          let s = resvs_left (repaired r (taken_over r mid)) in
+          let is_over = λ (repair : Repair). is_some (over_at (detours_of r s) repair.bypass) in
+          ap (λ (s : State). find key_cmp (current_key r (number, old)) s.repairs) came
+          ∙ found_none (repair_stands r s) (current_key r (number, old)) s.repairs (λ row own.
+          ap (λ k. is_over row.1 && option_map_or (leaves_by row.1.resv.link) (find key_cmp k s.facts.paths) false) (sym own)
+          ∙ ap (λ o. is_over row.1 && option_map_or (leaves_by row.1.resv.link) o false) (path_gone ready)
+          ∙ none_stands (is_over row.1))
 
       over : SameOrOver
+      unfolding repaired repairs_left
       over = by_ready (is_ready r mid (number, old)) refl tunnel_then
         where
           by_resv : (lsp : TunnelLsp) → is_ready r mid (number, old) ≡ true → old.pending ≡ Some lsp → switched old ≡ new → (resv : Option ResvFact) → find key_cmp (head_key r number old.endpoint lsp.id) mid.resvs ≡ resv → is_some resv ≡ true → SameOrOver
@@ -242,6 +264,7 @@ module _ (r : Router) (before after : State) (made : Made) (is : IsSound r befor
                 reserved = ap (λ (t : Tunnel). find key_cmp (current_key r (number, t)) after.resvs) (sym by_lsp) ∙ resv_then lsp resv pending reserved;
                 no_path = ap (λ (s : State). find key_cmp (current_key r (number, old)) s.facts.paths) came ∙ path_gone ready;
                 no_resv = resv_gone ready;
+                no_repair = repair_gone ready;
               })
 
           by_pending : is_ready r mid (number, old) ≡ true → (pending : Option TunnelLsp) → old.pending ≡ pending → switched old ≡ new → option_map_or (is_reserved mid) (option_map (λ (l : TunnelLsp). head_key r number old.endpoint l.id) pending) false ≡ true → SameOrOver
@@ -253,6 +276,7 @@ module _ (r : Router) (before after : State) (made : Made) (is : IsSound r befor
           by_ready true ready goes = by_pending ready old.pending refl goes ready
 
     same_or_over : SameOrOver
+    unfolding repaired repairs_left
     same_or_over = by_silence o.is_silent x.changed
       where
         by_rests : after ≡ with_moments r before o (settled r made.labels mid) → AreSettled r mid ⊎ IsReserving before mid → SameOrOver
@@ -271,15 +295,20 @@ module _ (r : Router) (before after : State) (made : Made) (is : IsSound r befor
       where
         by : SameOrOver → (new ≡ switched old) × (old.pending ≡ Some new.current) × ((resv : ResvFact) × (find key_cmp (current_key r (number, new)) after.resvs ≡ Some resv) × (look_tunnel r after number ≡ Some (PushHead None resv.label resv.link)))
         by (inl same) = absurd (other (ap (λ (l : TunnelLsp). l.id) same.current))
-        by (inr over) = (over.switched, over.pending, (over.resv, over.reserved, entry_is r after number new over.resv tunnels_in_order found over.reserved))
+        by (inr over) = (over.switched, over.pending, (over.resv, over.reserved, entry_is r after number new tunnels_in_order found over.resv over.reserved))
 
-    -- The LSP that carried the traffic until then goes, with its reservation.
-    pub goes_from : new.current.id ≢ old.current.id → (find key_cmp (current_key r (number, old)) after.facts.paths ≡ None) × (find key_cmp (current_key r (number, old)) after.resvs ≡ None)
+    -- The LSP that carried the traffic until then goes, with its reservation or its repair.
+    abbrev IsGone : Type 0
+    IsGone =
+        (find key_cmp (current_key r (number, old)) after.facts.paths ≡ None) × (find key_cmp (current_key r (number, old)) after.resvs ≡ None)
+        × (find key_cmp (current_key r (number, old)) after.repairs ≡ None)
+
+    pub goes_from : new.current.id ≢ old.current.id → IsGone
     goes_from other = by same_or_over
       where
-        by : SameOrOver → (find key_cmp (current_key r (number, old)) after.facts.paths ≡ None) × (find key_cmp (current_key r (number, old)) after.resvs ≡ None)
+        by : SameOrOver → IsGone
         by (inl same) = absurd (other (ap (λ (l : TunnelLsp). l.id) same.current))
-        by (inr over) = (over.no_path, over.no_resv)
+        by (inr over) = (over.no_path, over.no_resv, over.no_repair)
 
     -- Where it has the same ID, it is the same.
     pub stays_current : new.current.id ≡ old.current.id → (new.current ≡ old.current) × (current_key r (number, new) ≡ current_key r (number, old))
@@ -291,4 +320,9 @@ module _ (r : Router) (before after : State) (made : Made) (is : IsSound r befor
 
     -- so its traffic leaves under the label that is reserved for it
     pub stays_entry : (resv : ResvFact) → new.current.id ≡ old.current.id → find key_cmp (current_key r (number, old)) after.resvs ≡ Some resv → look_tunnel r after number ≡ Some (PushHead None resv.label resv.link)
-    stays_entry resv own reserved = entry_is r after number new resv tunnels_in_order found (ap (λ k. find key_cmp k after.resvs) (stays_current own).1 ∙ reserved)
+    stays_entry resv own reserved = entry_is r after number new tunnels_in_order found resv (ap (λ k. find key_cmp k after.resvs) (stays_current own).1 ∙ reserved)
+
+    -- and where it is repaired, under that of its bypass's end, under that of the bypass
+    pub stays_repaired : IsRouter r → (repair : Repair) → new.current.id ≡ old.current.id → find key_cmp (current_key r (number, old)) after.repairs ≡ Some repair
+        → (over : Over) × (over_at (detours_of r after) repair.bypass ≡ Some over) × (look_tunnel r after number ≡ Some (PushHead (Some repair.resv.label) over.label over.link))
+    stays_repaired router repair own repairs = entry_repaired r after (sound_step r before made after router is x) number new repair found (ap (λ k. find key_cmp k after.repairs) (stays_current own).1 ∙ repairs)

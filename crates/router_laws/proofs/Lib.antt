@@ -1,7 +1,11 @@
+pub mod Arriving
 pub mod Commanded
+pub mod Detouring
 pub mod GivenUp
 pub mod GoingOver
+pub mod KeptBypasses
 pub mod Led
+pub mod NoneRepaired
 pub mod OwnLsps
 pub mod Pushing
 pub mod Repeating

@@ -1,6 +1,7 @@
 -- Messages for the LSPs of tunnels that begin here.
-use Rattle.std.specs.Prelude.{◌≡◌, ◌&&◌, ◌==◌, ℕ, not, Bool, true, false, cond, if◌then◌else◌, List, [], ◌∷◌, filter_map, length, Option, Some, None, IfSome, is_none}
+use Rattle.std.specs.Prelude.{◌≡◌, ◌&&◌, ◌++◌, ◌==◌, ℕ, not, Bool, true, false, cond, if◌then◌else◌, List, [], ◌∷◌, filter_map, length, Option, Some, None, IfSome, is_none, is_some}
 use Rattle.std.specs.FinMap.Entries.{find}
+use Rattle.std.specs.List.{AllByRecursion, flat_map}
 use Rattle.std.specs.Option.{option_map_or}
 use Rattle.std.specs.Ordering.{nat_cmp}
 use Rattle.std.specs.declared.net.ipv4_addr.Ipv4Addr.{Ipv4Addr}
@@ -11,10 +12,11 @@ use Rattle.rsvp_contents.specs.declared.messages.Content.TheVariants as contents
 use Rattle.rsvp_contents.specs.declared.messages.Content.{Content}
 use Rattle.rsvp_contents.specs.declared.messages.Path.{Path}
 use Rattle.rsvp_contents.specs.declared.messages.PathErr.{PathErr}
+use Rattle.sorted_rows.specs.Rows.{keys_of}
 use Rattle.sorted_rows.specs.RowsLaws.{find-put_same}
 use Rattle.rsvp_routes.specs.declared.step.Step.{Step}
 use Rattle.lsr_facts.specs.Lifetimes.{begins_here}
-use Rattle.lsr_facts.specs.Orders.{is_one_of, key_cmp}
+use Rattle.lsr_facts.specs.Orders.{is_one_of, item_cmp, key_cmp}
 use Rattle.lsr_facts.specs.Routers.{HasLink}
 use Rattle.lsr_facts.specs.Tunnels.{heads_of, is_head}
 use Rattle.lsr_facts.specs.declared.facts.Facts.{Facts}
@@ -27,6 +29,7 @@ use Rattle.lsr_facts.specs.declared.refusal.Refusal.TheVariants.{LinkDown, NoMat
 use Rattle.lsr_facts.specs.declared.reply.Reply.TheVariants as replies
 use Rattle.lsr_facts.specs.declared.router.Router.{Router}
 use Rattle.lsr_facts.specs.declared.tunnel.Tunnel.{Tunnel}
+use Rattle.resv_facts.specs.Upstreams.{upstream_cmp}
 use Rattle.router_events.specs.Arrivals.{hop_arrive}
 use Rattle.router_events.specs.declared.events.Made.{Made}
 use Rattle.abstract_paths.proofs.Alongside.{with_noted-same}
@@ -36,26 +39,31 @@ use Rattle.abstract_paths.proofs.PathTable.{path_known}
 use Rattle.abstract_paths.specs.Changes.{with_tunnel}
 use Rattle.abstract_paths.specs.Heads.{noted, with_noted}
 use Rattle.abstract_paths.specs.Outcomes as paths
+use Rattle.abstract_paths.specs.Outputs.{between, errors_out, send_for, tear_for}
 use Rattle.abstract_paths.specs.Outcomes.{lsp, told_to, told_upstream}
 use Rattle.abstract_paths.specs.Paths.{failed, goes_on, key_of, path_arrival}
-use Rattle.abstract_paths.specs.Places.{is_up}
+use Rattle.abstract_paths.specs.Places.{is_up, place_of}
 use Rattle.abstract_paths.specs.Soundness.{IsCountAs, IsHeadOf, IsPath, IsStanding, IsWay, IsWayAs}
+use Rattle.abstract_paths.specs.Stamps.{stamps}
 use Rattle.abstract_paths.specs.Tears.{leaves_by, noted_of, path_err_arrival, path_err_passed_on}
 use Rattle.abstract_router.specs.Arrivals.{arrival, is_done, labelled_path_arrival, message_arrival}
+use Rattle.abstract_router.specs.Detours.{detours_of, over_at}
 use Rattle.abstract_router.specs.Errors.{no_label}
 use Rattle.abstract_router.specs.Labels.{has_free_label}
 use Rattle.abstract_router.specs.Lsps.{lsps_of}
 use Rattle.abstract_router.specs.Outcomes.{of_paths, refused, replied}
 use Rattle.abstract_router.specs.Outputs.{item_stamps, outputs_of, upstream_stamps}
+use Rattle.abstract_router.specs.Repairing.{told_repaired}
 use Rattle.abstract_router.specs.Soundness.{IsSound}
 use Rattle.abstract_router.specs.States.{State, with_facts}
-use Rattle.abstract_router.specs.Steps.{AreSettled, known_after, sent_in}
+use Rattle.abstract_router.specs.Steps.{AreSettled, known_after, sent_in, settled, taken_over}
 use Rattle.abstract_router.specs.Steps as steps
-use Rattle.abstract_router.specs.Upstreams.{upstream_of}
-use Rattle.abstract_router.specs.Wanted.{items_of}
+use Rattle.abstract_router.specs.Upstreams.{upstream_of, upstream_rows}
+use Rattle.abstract_router.specs.Wanted.{item_rows, items_of}
 use Rattle.router_laws.specs.Words.{comes}
+use Rattle.router_laws.proofs.Detouring.{detours-put}
 use Rattle.router_laws.proofs.Led.{answered, led, sends}
-use Rattle.router_laws.proofs.Still.{known-same, refused-still, sends-nothing, still_step}
+use Rattle.router_laws.proofs.Still.{known-same, refused-still, sent-none, still_step}
 use Rattle.router_laws.proofs.TunnelEvents.{noted_rests}
 
 -- a message that comes over a link that is up does what it does
@@ -93,28 +101,54 @@ own_path_refused r before after made link p there up head x is =
 -- ---- PathErrs
 
 -- An event that changes tunnels and no more, and reserves nothing, sends nothing.
-module _ (r : Router) (s : State) (is : IsSound r s) (tunnels : List (ℕ × Tunnel)) (standing : IsStanding r (record s.facts { tunnels = tunnels })) (rests : AreSettled r (with_facts (record s.facts { tunnels = tunnels }) s)) where
+module _ (r : Router) (s : State) (is : IsSound r s) (tunnels : List (ℕ × Tunnel)) (standing : IsStanding r (record s.facts { tunnels = tunnels })) (rests : AreSettled r (with_facts (record s.facts { tunnels = tunnels }) s))
+    (same_detours : detours_of r (with_facts (record s.facts { tunnels = tunnels }) s) ≡ detours_of r s) where
   abbrev changed : State
   changed = with_facts (record s.facts { tunnels = tunnels }) s
 
+  -- the same is wanted, since bypasses run over what they ran over
+  items_same : items_of r changed ≡ items_of r s
+  unfolding items_of lsps_of
+  items_same = ap (λ detours. item_rows (record { place = place_of r s.facts; detours = detours }) (lsps_of s)) same_detours
+
+  upstream_same : upstream_of r changed ≡ upstream_of r s
+  unfolding upstream_of lsps_of
+  upstream_same = ap (λ detours. flat_map (upstream_rows (record { place = place_of r s.facts; detours = detours })) (lsps_of s)) same_detours
+
   sound_changed : IsSound r changed
-  unfolding items_of upstream_of lsps_of
   sound_changed = record {
     paths = standing;
     held = record { in_order = is.held.in_order; each = is.held.each; one_style = is.held.one_style; within = is.held.within };
     standing = is.standing;
+    repaired = record { in_order = is.repaired.in_order; each = is.repaired.each; apart = is.repaired.apart };
+    repairs_standing = subst (λ detours. AllByRecursion (λ repair. (is_some (over_at detours repair.1.bypass) && option_map_or (leaves_by repair.1.resv.link) (find key_cmp repair.0 s.facts.paths) false) ≡ true) s.repairs) (sym same_detours) is.repairs_standing;
     labels = record { of_lsps = is.labels.of_lsps; from_first = is.labels.from_first; to_last = is.labels.to_last; apart = is.labels.apart };
-    sent = is.sent;
-    sent_upstream = is.sent_upstream;
+    sent = is.sent ∙ ap keys_of (sym items_same);
+    sent_upstream = is.sent_upstream ∙ ap keys_of (sym upstream_same);
   }
 
   known_changed : (chosen : List (Key × ℕ)) → known_after r s chosen (replied replies.Done [] changed) ≡ changed
-  unfolding item_stamps upstream_stamps items_of upstream_of lsps_of
-  known_changed chosen = known-same r changed sound_changed rests replies.Done [] chosen
+  unfolding item_stamps upstream_stamps
+  known_changed chosen =
+      let t = settled r chosen changed in
+      (λ i. record t {
+        facts = record t.facts { sent = stamps item_cmp [] (sym items_same i) s.facts.sent t.facts.moment (items_of r t) };
+        sent_upstream = stamps upstream_cmp [] (sym upstream_same i) s.sent_upstream t.facts.moment (upstream_of r t);
+      })
+      ∙ known-same r changed sound_changed rests replies.Done [] chosen
 
   sends_changed : sent_in r s (replied replies.Done [] changed) changed ≡ []
-  unfolding outputs_of items_of upstream_of lsps_of
-  sends_changed = sends-nothing r changed sound_changed rests
+  unfolding outputs_of
+  sends_changed =
+      let up = s.facts.up in
+      let items = items_of r changed in
+      let upstream = upstream_of r changed in
+      (λ i. errors_out up (told_repaired r (taken_over r changed))
+      ++ between item_cmp (tear_for up) (sym items_same i) items
+      ++ between upstream_cmp (tear_for up) (sym upstream_same i) upstream
+      ++ between item_cmp (send_for item_cmp []) items (sym items_same i)
+      ++ between upstream_cmp (send_for upstream_cmp []) upstream (sym upstream_same i))
+      ∙ sent-none r changed sound_changed rests replies.Done
 
 module _ (r : Router) (s : State) (e : PathErr) (fact : PathFact) (is : IsSound r s) (rests : AreSettled r s) (known : find key_cmp (lsp e.session e.sender) s.facts.paths ≡ Some fact) (head : is_head r s.facts.tunnels (lsp e.session e.sender) ≡ true) where
   abbrev key : Key
@@ -164,13 +198,20 @@ module _ (r : Router) (s : State) (e : PathErr) (fact : PathFact) (is : IsSound 
   noting_same : noting ≡ with_facts (record s.facts { tunnels = noting.facts.tunnels }) s
   noting_same = ap (λ facts. with_facts facts s) (with_noted-same e.error number s.facts)
 
+  -- each bypass runs over what it ran over
+  detours_noting : detours_of r (with_facts (record s.facts { tunnels = noting.facts.tunnels }) s) ≡ detours_of r s
+  detours_noting =
+      let t = tunnel_there.0 in
+      ap (λ o. detours_of r (with_facts (record s.facts { tunnels = (option_map_or (λ u. with_tunnel number (noted e.error u) s.facts) o s.facts).tunnels }) s)) tunnel_there.1
+      ∙ detours-put r s number t (noted e.error t) tunnel_there.1 (record { current = refl; endpoint = refl })
+
   noting_still : (chosen : List (Key × ℕ)) → (known_after r s chosen (replied replies.Done [] noting) ≡ noting) × (sent_in r s (replied replies.Done [] noting) noting ≡ [])
   noting_still chosen =
       let tunnels = noting.facts.tunnels in
       let standing = subst (IsStanding r) (with_noted-same e.error number s.facts) (with_noted-stands r s.facts e.error number is.paths) in
       let waits = subst (AreSettled r) noting_same (noted_rests r s rests e.error number) in
       subst (λ (t : State). (known_after r s chosen (replied replies.Done [] t) ≡ t) × (sent_in r s (replied replies.Done [] t) t ≡ [])) (sym noting_same)
-      (known_changed r s is tunnels standing waits chosen, sends_changed r s is tunnels standing waits)
+      (known_changed r s is tunnels standing waits detours_noting chosen, sends_changed r s is tunnels standing waits detours_noting)
 
   noting_is : (link : ℕ) → leaves_by link fact ≡ true → of_paths s (path_err_arrival s.facts link e) ≡ replied replies.Done [] noting
   unfolding path_err_arrival

@@ -1,11 +1,11 @@
 -- A Resv that asks for just what stands changes nothing, and nothing is sent for it.
-use Rattle.std.specs.Prelude.{◌≡◌, ◌&&◌, ◌||◌, ◌++◌, ◌==◌, ℕ, ◌≤◌, not, Bool, true, false, cond, if◌then◌else◌, IsOk, List, [], ◌∷◌, fold, find as find_first, Option, Some, None, is_none, IfSome, Result, Ok, Err}
+use Rattle.std.specs.Prelude.{◌≡◌, ◌&&◌, ◌||◌, ◌++◌, ◌==◌, ℕ, ◌≤◌, not, Bool, true, false, cond, if◌then◌else◌, IsOk, List, [], ◌∷◌, fold, find as find_first, Option, Some, None, is_none, is_some, IfSome, Result, Ok, Err}
 use Rattle.std.specs.FinMap.Entries.{find, put}
 use Rattle.std.specs.List.{All, AllByRecursion, list_any}
 use Rattle.std.specs.Option.{option_map_or}
 use Rattle.std.specs.Ordering.{eq_by_cmp, is_eq}
 use Rattle.std.proofs.Common.{refl, sym, ap, subst, ◌∙◌, arith}
-use Rattle.std.proofs.lemmas.Bool.{and_parts, cond_both, eqb-true, le-leb}
+use Rattle.std.proofs.lemmas.Bool.{and_parts, cond_both, eqb-true, false_from_ne_true, le-leb}
 use Rattle.std.proofs.lemmas.Cmp.{tied_itself}
 use Rattle.std.proofs.lemmas.List.Elements.{recursion_from_All}
 use Rattle.rsvp_contents.specs.declared.messages.Content.TheVariants as contents
@@ -38,13 +38,14 @@ use Rattle.abstract_paths.specs.Places.{is_up}
 use Rattle.abstract_paths.specs.Tears.{leaves_by}
 use Rattle.abstract_router.specs.ClaimsLaws.{claims-put}
 use Rattle.router_soundness.proofs.Claiming.{setup_most}
+use Rattle.router_soundness.proofs.Entries.{reserved_or_repaired}
 use Rattle.abstract_router.specs.Arrivals.{arrival}
 use Rattle.abstract_router.specs.Errors.{no_bandwidth, no_path, no_sender, style_conflict, unacceptable_label, unknown_style}
 use Rattle.abstract_router.specs.Outcomes.{refused, replied}
 use Rattle.abstract_router.specs.Preempting.{all_told_preempted, attr_at, claims_of, fits, giving_way, limit_of, request_of}
 use Rattle.abstract_router.specs.Reserving.{Failed, Granted, PassedOver, Progress, Verdict, all_descriptors, carried_on, conflicts, is_same_style, key_in, next_descriptor, resv_arrival, resv_by, resv_failed, resv_replied, verdict_by_rate, verdict_of, verdict_on_path}
 use Rattle.abstract_router.specs.Soundness.{IsResv, IsSound}
-use Rattle.abstract_router.specs.States.{State, with_resv, without_resvs}
+use Rattle.abstract_router.specs.States.{State, is_repaired, with_resv, without_resvs}
 use Rattle.abstract_router.specs.Steps.{AreSettled, Step, stands}
 use Rattle.router_laws.proofs.Still.{IsStill, done-still, refused-still, still_step}
 
@@ -88,6 +89,10 @@ module _ (r : Router) (s : State) (is : IsSound r s) (key : Key) (fact : ResvFac
   stood =
       and_parts (is_up s.facts.up fact.link) (option_map_or (leaves_by fact.link) (find key_cmp key s.facts.paths) false)
       (subst (λ o. IfSome o (λ v. stands s.facts (key, v) ≡ true)) found (find-all_row key_cmp key_exact (λ v. stands s.facts v ≡ true) key s.resvs is.standing))
+
+  -- so the LSP isn't repaired
+  unrepaired : is_repaired s key ≡ false
+  unrepaired = false_from_ne_true (is_repaired s key) (λ repaired. absurd (let e = sym (reserved_or_repaired r s key is repaired) ∙ ap is_some found in cc))
 
   -- no other is of another style
   agrees : find_first (conflicts fact.link fact.style key) s.resvs ≡ None
@@ -134,7 +139,8 @@ module _ (r : Router) (s : State) (is : IsSound r s) (key : Key) (fact : ResvFac
   on_path path leaves =
       let rated = verdict_by_rate r s key fact (flowspec_rate fact.flowspec) in
       let told = λ (other : Key × ResvFact). Failed (style_conflict other.1.style) in
-      ap (λ b. if not b then PassedOver else option_map_or told (find_first (conflicts fact.link fact.style key) s.resvs) rated) leaves
+      ap (λ b. if not b || is_repaired s key then PassedOver else option_map_or told (find_first (conflicts fact.link fact.style key) s.resvs) rated) leaves
+      ∙ ap (λ b. if b then PassedOver else option_map_or told (find_first (conflicts fact.link fact.style key) s.resvs) rated) unrepaired
       ∙ ap (λ o. option_map_or told o rated) agrees
       ∙ by_rate (flowspec_rate fact.flowspec) own.has_rate
 

@@ -49,6 +49,7 @@ use Rattle.abstract_router.specs.Arrivals.{arrival, arrival_by, is_done, labelle
 use Rattle.abstract_router.specs.Errors.{no_label}
 use Rattle.abstract_router.specs.Labels.{has_free_label}
 use Rattle.abstract_router.specs.Outcomes.{Outcome, of_paths, refused, replied}
+use Rattle.abstract_router.specs.Repairing.{repaired, repairs_left}
 use Rattle.abstract_router.specs.Soundness.{IsSound}
 use Rattle.abstract_router.specs.States.{State}
 use Rattle.abstract_router.specs.Steps.{AreSettled, Step, known_after, taken_over}
@@ -230,7 +231,7 @@ module _ (r : Router) (before after : State) (made : Made) (link : ℕ) (p : Pat
   made_path = path_by before.facts.moment known link p meets.way
 
   path_found : find key_cmp (key_of p) after.facts.paths ≡ Some made_path
-  unfolding takes known made_path
+  unfolding takes known made_path repaired repairs_left
   path_found =
       ap (λ (s : State). find key_cmp (key_of p) s.facts.paths) came
       ∙ path_left r takes.after (key_of p) (not_given_up r takes.after sound.paths.tunnels (key_of p) meets.accepted.elsewhere)
@@ -238,11 +239,11 @@ module _ (r : Router) (before after : State) (made : Made) (link : ℕ) (p : Pat
 
   -- the moment is the same, and the same links are up
   moment_after : after.facts.moment ≡ before.facts.moment
-  unfolding takes taken_over
+  unfolding takes taken_over repaired repairs_left
   moment_after = ap (λ (s : State). s.facts.moment) came
 
   up_after : after.facts.up ≡ before.facts.up
-  unfolding takes taken_over
+  unfolding takes taken_over repaired repairs_left
   up_after = ap (λ (s : State). s.facts.up) came
 
   -- and the LSP is still no head

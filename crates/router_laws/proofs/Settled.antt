@@ -17,13 +17,13 @@ use Rattle.lsr_facts.specs.declared.router.Router.{Router}
 use Rattle.lsr_facts.specs.declared.tunnel.Tunnel.{Tunnel}
 use Rattle.lsr_facts.specs.declared.tunnel.TunnelLsp.{TunnelLsp}
 use Rattle.make_before_break.specs.Changes.{cancelled, switched, switched_to}
-use Rattle.resv_facts.specs.declared.resv_fact.ResvFact.{ResvFact}
 use Rattle.router_events.specs.declared.events.Event.{Event}
 use Rattle.router_events.specs.declared.events.Event.TheVariants as events
 use Rattle.router_events.specs.declared.events.Made.{Made}
 use Rattle.router_soundness.proofs.Silence.{silent_keeps}
 use Rattle.abstract_router.specs.Arrivals.{lost, outcome}
 use Rattle.abstract_router.specs.Outcomes.{Outcome}
+use Rattle.abstract_router.specs.Repairing.{repaired, repairs_left}
 use Rattle.abstract_router.specs.States.{State, is_reserved, with_facts}
 use Rattle.abstract_router.specs.Steps.{AreSettled, Run, Step, given_up, is_ready, known_after, opening, settled, stands, switched_where, taken_over, with_moments}
 
@@ -51,15 +51,15 @@ module _ (r : Router) (s : State) where
       ∙ filter-all_pass (λ path. true) s.facts.paths (all-always (λ path. true ≡ true) (λ path. refl) s.facts.paths) in
       λ i. with_facts (record s.facts { tunnels = stay i; paths = left i }) s
 
--- what isn't found among reservations isn't found among some of them
-pub none_of_fewer : (test : Key × ResvFact → Bool) (key : Key) (resvs : List (Key × ResvFact)) → is_some (find key_cmp key resvs) ≡ false → is_some (find key_cmp key (filter test resvs)) ≡ false
+-- what isn't found among rows isn't found among some of them
+pub none_of_fewer : {X : Type 0} (test : Key × X → Bool) (key : Key) (rows : List (Key × X)) → is_some (find key_cmp key rows) ≡ false → is_some (find key_cmp key (filter test rows)) ≡ false
 none_of_fewer test key [] none = refl
-none_of_fewer test key (resv ∷ resvs) none =
-    elim (eq_by_cmp key_cmp key resv.0) as (λ b. eq_by_cmp key_cmp key resv.0 ≡ b → is_some (cond b (Some resv.1) (find key_cmp key resvs)) ≡ false → is_some (find key_cmp key (cond (test resv) (resv ∷ filter test resvs) (filter test resvs))) ≡ false) [
+none_of_fewer test key (row ∷ rows) none =
+    elim (eq_by_cmp key_cmp key row.0) as (λ b. eq_by_cmp key_cmp key row.0 ≡ b → is_some (cond b (Some row.1) (find key_cmp key rows)) ≡ false → is_some (find key_cmp key (cond (test row) (row ∷ filter test rows) (filter test rows))) ≡ false) [
       | true ↦ λ tie some. absurd (let e = some in cc)
-      | false ↦ λ apart other. elim (test resv) as (λ b. is_some (find key_cmp key (cond b (resv ∷ filter test resvs) (filter test resvs))) ≡ false) [
-        | true ↦ ap (λ b. is_some (cond b (Some resv.1) (find key_cmp key (filter test resvs)))) apart ∙ none_of_fewer test key resvs other
-        | false ↦ none_of_fewer test key resvs other
+      | false ↦ λ apart other. elim (test row) as (λ b. is_some (find key_cmp key (cond b (row ∷ filter test rows) (filter test rows))) ≡ false) [
+        | true ↦ ap (λ b. is_some (cond b (Some row.1) (find key_cmp key (filter test rows)))) apart ∙ none_of_fewer test key rows other
+        | false ↦ none_of_fewer test key rows other
       ]
     ] refl none
 
@@ -79,8 +79,8 @@ switched_waits r s number t = by t.pending t refl
     by None u none = ap (λ o. option_map_or (is_reserved s) (option_map (λ (l : TunnelLsp). head_key r number u.endpoint l.id) o) false) none
     by (Some lsp) u some = refl
 
--- a router runs that is awake for another event than its start
-runs_for : (cold : Bool) (event : Event) → (event ≡ events.Start → ⊥) → (cold ≡ true → event ≡ events.Start) → cold ≡ false
+-- A router runs that is awake for another event than its start.
+pub runs_for : (cold : Bool) (event : Event) → (event ≡ events.Start → ⊥) → (cold ≡ true → event ≡ events.Start) → cold ≡ false
 runs_for true event other wakes = absurd (other (wakes refl))
 runs_for false event other wakes = refl
 
@@ -91,7 +91,7 @@ module _ (r : Router) where
 
   -- What follows from an event's own change leaves no tunnel whose new LSP is reserved.
   settled-settles : (chosen : List (Key × ℕ)) (s : State) → AreSettled r (settled r chosen s)
-  unfolding taken_over
+  unfolding taken_over repaired repairs_left
   settled-settles chosen s =
       let after = settled r chosen s in
       all-map (λ tunnel. is_ready r after tunnel ≡ false) (switched_where (is_ready r s)) s.facts.tunnels

@@ -1,9 +1,10 @@
--- A moment takes no reservation that was refreshed in time.
-use Rattle.std.specs.Prelude.{◌≡◌, ◌≢◌, ℕ, ◌&&◌, Bool, true, false, T, List, filter, Some, IfSome}
+-- A moment takes no reservation that was refreshed in time, and no repair whose bypass is up.
+use Rattle.std.specs.Prelude.{◌≡◌, ◌≢◌, ℕ, ◌&&◌, Bool, true, false, T, List, filter, Some, IfSome, is_some}
 use Rattle.std.specs.Bool.{then_some}
 use Rattle.std.specs.FinMap.Entries.{find, is_sorted}
 use Rattle.std.specs.Option.{option_and_then, option_map, option_map_or}
 use Rattle.std.proofs.Common.{refl, sym, ap, subst, ◌∙◌}
+use Rattle.std.proofs.lemmas.Bool.{and_parts}
 use Rattle.rsvp_contents.specs.declared.messages.Resv.{Resv}
 use Rattle.rsvp_flows.specs.declared.descriptors.FlowDescriptor.{FlowDescriptor}
 use Rattle.sorted_rows.specs.RowsLaws.{find-all_row, find-filter, is_sorted-filter}
@@ -15,7 +16,9 @@ use Rattle.lsr_facts.specs.declared.key.Key.{Key}
 use Rattle.lsr_facts.specs.declared.path_fact.PathFact.{PathFact}
 use Rattle.lsr_facts.specs.declared.reply.Reply.TheVariants as replies
 use Rattle.lsr_facts.specs.declared.router.Router.{Router}
-use Rattle.resv_facts.specs.Reservations.{expire, lives_past}
+use Rattle.resv_facts.specs.Reservations.{expire, expire_repairs, lives_past}
+use Rattle.resv_facts.specs.declared.repair.Over.{Over}
+use Rattle.resv_facts.specs.declared.repair.Repair.{Repair}
 use Rattle.resv_facts.specs.declared.resv_fact.ResvFact.{ResvFact}
 use Rattle.router_events.specs.declared.events.Event.TheVariants as events
 use Rattle.router_events.specs.declared.events.Made.{Made}
@@ -23,12 +26,15 @@ use Rattle.abstract_paths.specs.Places.{is_up}
 use Rattle.abstract_paths.specs.Tears.{leaves_by}
 use Rattle.abstract_paths.proofs.Alongside.{signalled-same, signalled-stay}
 use Rattle.abstract_paths.specs.Heads.{signalled}
+use Rattle.abstract_router.specs.Detours.{detours_of, over_at}
+use Rattle.abstract_router.specs.Repairing.{repair_stands, repaired, repairs_left}
 use Rattle.abstract_router.specs.Reserving.{Failed, Granted, PassedOver, Progress, Verdict, carried_on}
 use Rattle.abstract_router.specs.Soundness.{IsSound}
 use Rattle.abstract_router.specs.States.{State}
-use Rattle.abstract_router.specs.Steps.{AreSettled, Step, left_standing, stands}
+use Rattle.abstract_router.specs.Steps.{AreSettled, Step, labelled, left_standing, resvs_left, stands, with_moments}
+use Rattle.router_laws.proofs.NoneRepaired.{over-up, repaired-same}
 use Rattle.router_laws.proofs.Settled.{taken_over-same}
-use Rattle.router_laws.proofs.Ticks.{after_tick, find-expire, lived, ticked, ticked-settled}
+use Rattle.router_laws.proofs.Ticks.{after_tick, find-expire, lived, ticked, ticked-settled, up_ticked}
 
 -- what is found and passes a test is found among those that pass
 find-kept : {X : Type 0} (test : Key × X → Bool) (q : Key) (x : X) (es : List (Key × X)) → T (is_sorted key_cmp es) → find key_cmp q es ≡ Some x → test (q, x) ≡ true → find key_cmp q (filter test es) ≡ Some x
@@ -37,8 +43,7 @@ find-kept test q x es h found passes =
     ∙ ap (option_and_then (λ v. then_some (test (q, v)) v)) found
     ∙ ap (λ b. then_some b x) passes
 
-module _ (r : Router) (before : State) (n : ℕ) (key : Key) (resv : ResvFact) (path : PathFact) (is : IsSound r before)
-    (found : find key_cmp key before.resvs ≡ Some resv) (refreshed : lives_past n resv ≡ true)
+module _ (r : Router) (before : State) (n : ℕ) (key : Key) (path : PathFact) (is : IsSound r before)
     (known : find key_cmp key before.facts.paths ≡ Some path) (alive : lifetimes.lives_on n (key, path) ≡ true) where
   -- the path is there after the moment
   path_lives : find key_cmp key (lifetimes.expire n before.facts.paths) ≡ Some (lifetimes.living n path)
@@ -55,30 +60,54 @@ module _ (r : Router) (before : State) (n : ℕ) (key : Key) (resv : ResvFact) (
   unfolding lived
   up_stays = ap (λ (s : Facts). s.up) (signalled-same r (lived before.facts n))
 
-  -- and the reservation stands on it
-  stood : (is_up before.facts.up resv.link && option_map_or (leaves_by resv.link) (Some path) false) ≡ true
-  stood =
-      subst (λ o. (is_up before.facts.up resv.link && option_map_or (leaves_by resv.link) o false) ≡ true) known
-      (subst (λ o. IfSome o (λ v. stands before.facts (key, v) ≡ true)) found (find-all_row key_cmp key_exact (λ v. stands before.facts v ≡ true) key before.resvs is.standing))
+  -- which leaves by the link that it left by
+  leaves_still : (link : ℕ) → option_map_or (leaves_by link) (find key_cmp key (signalled r (lived before.facts n)).paths) false ≡ option_map_or (leaves_by link) (find key_cmp key before.facts.paths) false
+  unfolding leaves_by
+  leaves_still link = ap (λ p. option_map_or (leaves_by link) p false) path_stays ∙ ap (λ p. option_map_or (leaves_by link) p false) (sym known)
 
-  -- so it is left
-  left : find key_cmp key (left_standing (ticked r before n).after).resvs ≡ Some resv
-  unfolding leaves_by ticked expire
-  left =
+  -- A reservation stands on it still, so it is left.
+  resv_left : (resv : ResvFact) → find key_cmp key before.resvs ≡ Some resv → lives_past n resv ≡ true → find key_cmp key (left_standing r (ticked r before n).after).resvs ≡ Some resv
+  unfolding ticked expire repairs_left
+  resv_left resv found refreshed =
       let facts = signalled r (lived before.facts n) in
       find-kept (stands facts) key resv (filter (λ v. lives_past n v.1) before.resvs) (is_sorted-filter key_cmp (λ v. lives_past n v.1) before.resvs is.held.in_order)
       (find-kept (λ v. lives_past n v.1) key resv before.resvs is.held.in_order found refreshed)
-      (ap (λ u. is_up u resv.link && option_map_or (leaves_by resv.link) (find key_cmp key facts.paths) false) up_stays
-      ∙ ap (λ p. is_up before.facts.up resv.link && option_map_or (leaves_by resv.link) p false) path_stays
-      ∙ stood)
+      ((λ i. is_up (up_stays i) resv.link && leaves_still resv.link i)
+      ∙ subst (λ o. IfSome o (λ v. stands before.facts (key, v) ≡ true)) found (find-all_row key_cmp key_exact (λ v. stands before.facts v ≡ true) key before.resvs is.standing))
+
+  -- So is a repair, where its bypass is up.
+  repair_left : (repair : Repair) (over : Over) → find key_cmp key before.repairs ≡ Some repair → lives_past n repair.resv ≡ true → over_at (detours_of r (left_standing r (ticked r before n).after)) repair.bypass ≡ Some over
+      → find key_cmp key (left_standing r (ticked r before n).after).repairs ≡ Some repair
+  unfolding ticked expire_repairs repairs_left detours_of
+  repair_left repair over found refreshed up =
+      let s = resvs_left (ticked r before n).after in
+      let stood = subst (λ o. IfSome o (λ v. repair_stands r before (key, v) ≡ true)) found (find-all_row key_cmp key_exact (λ v. repair_stands r before v ≡ true) key before.repairs is.repairs_standing) in
+      find-kept (repair_stands r s) key repair (filter (λ v. lives_past n v.1.resv) before.repairs) (is_sorted-filter key_cmp (λ v. lives_past n v.1.resv) before.repairs is.repaired.in_order)
+      (find-kept (λ v. lives_past n v.1.resv) key repair before.repairs is.repaired.in_order found refreshed)
+      ((λ i. is_some (up i) && leaves_still repair.resv.link i)
+      ∙ (and_parts (is_some (over_at (detours_of r before) repair.bypass)) (option_map_or (leaves_by repair.resv.link) (find key_cmp key before.facts.paths) false) stood).1)
+
+-- what is known after a moment, but for labels and for when messages were sent
+after_moment : (r : Router) (before after : State) (made : Made) (n : ℕ) → IsSound r before → AreSettled r before → Step r before made after → made.event ≡ events.Tick n → made.reply ≡ replies.Done
+    → after ≡ with_moments r before (ticked r before n) (labelled made.labels (left_standing r (ticked r before n).after))
+after_moment r before after made n is rests step event done =
+    let s = (ticked r before n).after in
+    let rest : State → State = λ t. with_moments r before (ticked r before n) (labelled made.labels (left_standing r t)) in
+    after_tick r before after made n step event done ∙ ap (λ t. rest (repaired r t)) (taken_over-same r s (ticked-settled r before n rests)) ∙ ap rest (repaired-same r s (up_ticked r before n (over-up r before is)))
 
 -- A moment takes no reservation that was refreshed in time, and whose path lives on.
 pub refreshed_stays : (r : Router) (before after : State) (made : Made) (n : ℕ) (key : Key) (resv : ResvFact) (path : PathFact) → IsSound r before → AreSettled r before → Step r before made after → made.event ≡ events.Tick n → made.reply ≡ replies.Done
     → find key_cmp key before.resvs ≡ Some resv → lives_past n resv ≡ true → find key_cmp key before.facts.paths ≡ Some path → lifetimes.lives_on n (key, path) ≡ true → find key_cmp key after.resvs ≡ Some resv
 refreshed_stays r before after made n key resv path is rests step event done found refreshed known alive =
-    ap (λ (s : State). find key_cmp key s.resvs) (after_tick r before after made n step event done)
-    ∙ ap (λ (s : State). find key_cmp key (left_standing s).resvs) (taken_over-same r (ticked r before n).after (ticked-settled r before n rests))
-    ∙ left r before n key resv path is found refreshed known alive
+    ap (λ (s : State). find key_cmp key s.resvs) (after_moment r before after made n is rests step event done) ∙ resv_left r before n key path is known alive resv found refreshed
+
+-- Nor does it take such a repair, where the bypass is up after it.
+pub refreshed_repair_stays : (r : Router) (before after : State) (made : Made) (n : ℕ) (key : Key) (repair : Repair) (path : PathFact) (over : Over) → IsSound r before → AreSettled r before → Step r before made after → made.event ≡ events.Tick n → made.reply ≡ replies.Done
+    → find key_cmp key before.repairs ≡ Some repair → lives_past n repair.resv ≡ true → find key_cmp key before.facts.paths ≡ Some path → lifetimes.lives_on n (key, path) ≡ true → over_at (detours_of r after) repair.bypass ≡ Some over → find key_cmp key after.repairs ≡ Some repair
+unfolding detours_of
+refreshed_repair_stays r before after made n key repair path over is rests step event done found refreshed known alive up =
+    let came = after_moment r before after made n is rests step event done in
+    ap (λ (s : State). find key_cmp key s.repairs) came ∙ repair_left r before n key path is known alive repair over found refreshed (ap (λ (s : State). over_at (detours_of r s) repair.bypass) (sym came) ∙ up)
 
 -- A descriptor that isn't granted leaves the state.
 pub refused_carries_nothing : (r : Router) (link : ℕ) (v : Resv) (d : FlowDescriptor) (fact : ResvFact) (progress : Progress) (verdict : Verdict) → verdict ≢ Granted → (carried_on r link v d fact progress verdict).state ≡ progress.state

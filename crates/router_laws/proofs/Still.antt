@@ -7,7 +7,7 @@ use Rattle.std.specs.Cmp.{IsTotalOrder}
 use Rattle.std.specs.declared.cmp.Ordering.{Ordering}
 use Rattle.std.specs.declared.cmp.Ordering.TheVariants.{Equal}
 use Rattle.std.proofs.Common.{refl, sym, ap, subst, ◌∙◌}
-use Rattle.sorted_rows.specs.ListLaws.{all-weaker, filter-all_pass}
+use Rattle.sorted_rows.specs.ListLaws.{all-weaker}
 use Rattle.sorted_rows.specs.Rows.{keys_of}
 use Rattle.sorted_rows.specs.RowsLaws.{all_found, is_sorted-both, is_sorted-filter}
 use Rattle.lsr_facts.specs.Lifetimes.{begins_here}
@@ -31,20 +31,17 @@ use Rattle.abstract_router.specs.Arrivals.{outcome}
 use Rattle.abstract_router.specs.Labels.{labels_after}
 use Rattle.abstract_router.specs.Outcomes.{Outcome, replied}
 use Rattle.abstract_router.specs.Outputs.{item_stamps, outputs_of, upstream_stamps}
+use Rattle.abstract_router.specs.Repairing.{repaired, told_repaired}
 use Rattle.abstract_router.specs.Soundness.{IsSound}
 use Rattle.abstract_router.specs.States.{State}
-use Rattle.abstract_router.specs.Steps.{AreSettled, Step, known_after, labelled, left_standing, sent_in, settled, stands, taken_over, told_repaired, with_moments}
+use Rattle.abstract_router.specs.Steps.{AreSettled, Step, known_after, labelled, left_standing, sent_in, settled, taken_over, with_moments}
 use Rattle.abstract_router.specs.UpstreamLaws.{is_sorted-upstream_sound}
 use Rattle.abstract_router.specs.Upstreams.{upstream_of}
 use Rattle.abstract_router.specs.Wanted.{items_of}
 use Rattle.abstract_router.specs.WantedLaws.{is_sorted-items}
 use Rattle.router_laws.proofs.Led.{answered, led, sends}
+use Rattle.router_laws.proofs.NoneRepaired.{filter_map-none, left-same, over-up, repaired-same, told-none}
 use Rattle.router_laws.proofs.Settled.{taken_over-same}
-
--- where g gives nothing of each, it gives nothing
-filter_map-none : {A B : Type 0} (g : A → Option B) (xs : List A) → AllByRecursion (λ x. g x ≡ None) xs → filter_map g xs ≡ []
-filter_map-none g [] h = refl
-filter_map-none g (x ∷ xs) h = ap (λ o. cons_option o (filter_map g xs)) h.0 ∙ filter_map-none g xs h.1
 
 -- between rows and themselves nothing comes of what is quiet
 between-itself : {K C O : Type 0} (cmp : K → K → Ordering) (total : IsTotalOrder cmp) (f : Option C → K × C → Option O) (rows : List (K × C)) → T (is_sorted cmp rows) → ((k : K) (c : C) → f (Some c) (k, c) ≡ None) → between cmp f rows rows ≡ []
@@ -73,10 +70,7 @@ refused-still r s o silent same chosen =
     (ap (λ b. if b then o.after else with_moments r s o (settled r chosen o.after)) silent ∙ same, ap (λ b. if b then [] else outputs_of r s (o.errors ++ told_repaired r (taken_over r o.after)) o.due o.upstream_due s) silent)
 
 module _ (r : Router) (s : State) (is : IsSound r s) (rests : AreSettled r s) where
-  -- all reservations stand, and each label is held still
-  resvs-stand : filter (stands s.facts) s.resvs ≡ s.resvs
-  resvs-stand = filter-all_pass (stands s.facts) s.resvs is.standing
-
+  -- each label is held still
   labels-held : (chosen : List (Key × ℕ)) → labels_after s.labels chosen s.facts.paths ≡ s.labels
   unfolding labels_after
   labels-held chosen =
@@ -94,7 +88,11 @@ module _ (r : Router) (s : State) (is : IsSound r s) (rests : AreSettled r s) wh
       held (row ∷ rows) h = λ i. cons_option (option_map (λ label. (row.0, label)) (option_or (h.0 i) (find key_cmp row.0 chosen))) (held rows h.1 i)
 
   settled-same : (chosen : List (Key × ℕ)) → settled r chosen s ≡ s
-  settled-same chosen = ap (λ (t : State). labelled chosen (left_standing t)) (taken_over-same r s rests) ∙ (λ i. record s { resvs = resvs-stand i; labels = labels-held chosen i })
+  settled-same chosen =
+      ap (λ (t : State). labelled chosen (left_standing r (repaired r t))) (taken_over-same r s rests)
+      ∙ ap (λ (t : State). labelled chosen (left_standing r t)) (repaired-same r s (over-up r s is))
+      ∙ ap (labelled chosen) (left-same r s is)
+      ∙ (λ i. record s { labels = labels-held chosen i })
 
   -- all moments stay
   items_in_order : T (is_sorted item_cmp (items_of r s))
@@ -127,8 +125,15 @@ module _ (r : Router) (s : State) (is : IsSound r s) (rests : AreSettled r s) wh
       ++ sends-none item_cmp item_total items items_in_order i
       ++ sends-none upstream_cmp upstream_total upstream upstream_in_order i
 
+  -- of an outcome that meets no error of itself: none is told of a repair either
+  pub sent-none : (reply : Reply) → sent_in r s (replied reply [] s) s ≡ []
+  sent-none reply =
+      ap (λ (t : State). outputs_of r s (told_repaired r t) [] [] s) (taken_over-same r s rests)
+      ∙ ap (λ told. outputs_of r s told [] [] s) (told-none r s (over-up r s is))
+      ∙ sends-nothing
+
   pub done-still : IsStill r s (replied replies.Done [] s)
-  done-still chosen = (known-same replies.Done [] chosen, sends-nothing)
+  done-still chosen = (known-same replies.Done [] chosen, sent-none replies.Done)
 
 -- A step whose event leaves all as it was.
 pub still_step : (r : Router) (before after : State) (made : Made) (event : Event) (o : Outcome) → Step r before made after → made.event ≡ event → outcome r before event ≡ o → IsStill r before o → (made.reply ≡ o.reply) × (made.outputs ≡ []) × (after ≡ before)

@@ -32,34 +32,44 @@ use Rattle.lsr_facts.specs.declared.tunnel.Tunnel.{Tunnel}
 use Rattle.resv_facts.specs.Reservations as reservations
 use Rattle.resv_facts.specs.UpstreamOrder.{upstream_exact, upstream_total}
 use Rattle.resv_facts.specs.Upstreams.{upstream_cmp}
+use Rattle.resv_facts.specs.declared.repair.Repair.{Repair}
+use Rattle.resv_facts.specs.declared.repair.Selected.{Selected}
+use Rattle.resv_facts.specs.declared.resv_fact.ResvFact.{ResvFact}
 use Rattle.resv_facts.specs.declared.upstream.Upstream.{Upstream}
 use Rattle.router_events.specs.declared.events.Event.TheVariants as events
 use Rattle.router_events.specs.declared.events.Made.{Made}
 use Rattle.router_events.specs.declared.events.Output.{Output}
 use Rattle.abstract_paths.specs.Outcomes as paths
-use Rattle.abstract_paths.specs.Outputs.{between, is_same_frame, rests, send_for, tear_for}
+use Rattle.abstract_paths.specs.Outputs.{between, errors_out, is_same_frame, rests, send_for, tear_for}
+use Rattle.abstract_paths.specs.Places.{is_up}
 use Rattle.abstract_paths.specs.Soundness.{IsCountAs, IsHeadOf, IsPath}
 use Rattle.abstract_paths.specs.StampLaws.{find-stamps, is_due-due_items, ties}
 use Rattle.abstract_paths.specs.Stamps.{stamp, stamps}
 use Rattle.abstract_paths.specs.Heads.{signalled}
+use Rattle.abstract_paths.specs.Tears.{leaves_by}
 use Rattle.abstract_paths.specs.Time.{tick}
 use Rattle.abstract_paths.proofs.Alongside.{signalled-all, signalled-other, signalled-same}
 use Rattle.abstract_paths.proofs.Heads.{head_known}
 use Rattle.abstract_paths.proofs.PathTable.{path_known}
 use Rattle.abstract_router.specs.Arrivals.{for_reservations, moment_comes}
-use Rattle.abstract_router.specs.Lsps.{lsps_of}
+use Rattle.abstract_router.specs.Detours.{detours_of}
+use Rattle.abstract_router.specs.Lsps.{around_of, lsps_of}
 use Rattle.abstract_router.specs.Outcomes.{Outcome, of_paths}
 use Rattle.abstract_router.specs.Outputs.{item_stamps, outputs_of, upstream_stamps}
+use Rattle.abstract_router.specs.Protecting.{repair_with, selected}
+use Rattle.abstract_router.specs.Repairing.{new_repairs, repair_of, repair_on, repair_stands, repaired, repairs_left, told_repaired}
 use Rattle.abstract_router.specs.Soundness.{IsSound}
 use Rattle.abstract_router.specs.States.{State}
-use Rattle.abstract_router.specs.Steps.{AreSettled, Step, given_up, is_ready, settled, stands, taken_over, with_moments}
+use Rattle.abstract_router.specs.Steps.{AreSettled, Step, given_up, is_ready, resvs_left, settled, stands, taken_over, with_moments}
 use Rattle.abstract_router.specs.UpstreamLaws.{is_sorted-upstream_sound}
 use Rattle.abstract_router.specs.Upstreams.{upstream_of}
 use Rattle.abstract_router.specs.Wanted.{items_of}
 use Rattle.abstract_router.specs.WantedLaws.{is_sorted-items}
+use Rattle.router_soundness.proofs.Repairing.{all-filter_map_within, all-put_in}
 use Rattle.router_laws.specs.Words.{IsUnexpired}
 use Rattle.router_laws.proofs.GivenUp.{not_given_up, path_left}
 use Rattle.router_laws.proofs.Led.{answered, led, sends}
+use Rattle.router_laws.proofs.NoneRepaired.{AreOverUp}
 use Rattle.router_laws.proofs.Settled.{none_of_fewer, still_waits}
 
 -- what has not expired at a moment
@@ -73,7 +83,7 @@ ticked r s n = record {
   errors = [];
   due = due_items r.refresh_ms s.facts.sent n;
   upstream_due = due_items r.refresh_ms s.sent_upstream n;
-  after = record s { facts = signalled r (lived s.facts n); resvs = reservations.expire n s.resvs };
+  after = record s { facts = signalled r (lived s.facts n); resvs = reservations.expire n s.resvs; repairs = reservations.expire_repairs n s.repairs };
   is_silent = false;
 }
 
@@ -130,7 +140,7 @@ module _ (r : Router) (before after : State) (made : Made) (n : ℕ) (x : Step r
   unfolding ticked
   after_tick = led r before after made (events.Tick n) (ticked r before n) x is does
 
-  sends_then : made.outputs ≡ outputs_of r before [] (due_items r.refresh_ms before.facts.sent n) (due_items r.refresh_ms before.sent_upstream n) after
+  sends_then : made.outputs ≡ outputs_of r before (told_repaired r (taken_over r (ticked r before n).after)) (due_items r.refresh_ms before.facts.sent n) (due_items r.refresh_ms before.sent_upstream n) after
   unfolding ticked
   sends_then = sends r before after made (events.Tick n) (ticked r before n) x is does
 
@@ -140,7 +150,7 @@ module _ (r : Router) (before after : State) (made : Made) (n : ℕ) (x : Step r
   moment_signalled = ap (λ (s : Facts). s.moment) (signalled-same r (lived before.facts n))
 
   moment_then : after.facts.moment ≡ n
-  unfolding ticked taken_over
+  unfolding ticked taken_over repaired repairs_left
   moment_then = ap (λ (s : State). s.facts.moment) after_tick ∙ moment_signalled
 
   -- the tunnels are the same when they have been tried
@@ -150,7 +160,7 @@ module _ (r : Router) (before after : State) (made : Made) (n : ℕ) (x : Step r
 
   -- so each path is there that was there then and isn't given up
   path_then : (key : Key) → AreTunnels r before.facts.tunnels → is_head r before.facts.tunnels key ≡ false → find key_cmp key after.facts.paths ≡ find key_cmp key (signalled r (lived before.facts n)).paths
-  unfolding ticked
+  unfolding ticked repaired repairs_left
   path_then key are other =
       let s = (ticked r before n).after in
       ap (λ (s : State). find key_cmp key s.facts.paths) after_tick
@@ -158,7 +168,7 @@ module _ (r : Router) (before after : State) (made : Made) (n : ℕ) (x : Step r
 
   -- Nothing stands that has expired.
   pub none_expired : (after.facts.moment ≡ n) × AllByRecursion (IsUnexpired n) after.facts.paths
-  unfolding ticked taken_over expire lived
+  unfolding ticked taken_over expire lived repaired repairs_left
   none_expired =
       let left = filter (lives_on n) before.facts.paths in
       let s = (ticked r before n).after in (
@@ -172,12 +182,41 @@ module _ (r : Router) (before after : State) (made : Made) (n : ℕ) (x : Step r
 
   -- no reservation either
   pub no_resv_expired : AllByRecursion (λ resv. n < resv.1.expiry) after.resvs
-  unfolding ticked reservations.expire taken_over
+  unfolding ticked reservations.expire taken_over repaired repairs_left
   no_resv_expired =
       let then_facts : Facts = (taken_over r (ticked r before n).after).facts in
       subst (λ (s : State). AllByRecursion (λ resv. n < resv.1.expiry) s.resvs) (sym after_tick)
       (all-filter (λ resv. n < resv.1.expiry) (stands then_facts) (filter (λ resv. reservations.lives_past n resv.1) before.resvs)
       (all-filter_passes (λ resv. n < resv.1.expiry) (λ resv. reservations.lives_past n resv.1) (λ resv lives. ltb-true n resv.1.expiry lives) before.resvs))
+
+  -- what is repaired in its step was reserved, and lives past it
+  new_lives : (s : State) (resv : Key × ResvFact) → n < resv.1.expiry → IfSome (option_map {U = Key × Repair} (λ repair. (resv.0, repair)) (repair_of r s resv)) (λ repair. n < repair.1.resv.expiry)
+  new_lives s resv lives = by (find key_cmp resv.0 s.facts.paths)
+    where
+      Lives : Option Repair → Type 0
+      Lives o = IfSome (option_map {U = Key × Repair} (λ repair. (resv.0, repair)) o) (λ repair. n < repair.1.resv.expiry)
+
+      chosen : (o : Option Selected) → Lives (option_map (repair_with resv.1) o)
+      chosen None = tt
+      chosen (Some choice) = lives
+
+      by : (path : Option PathFact) → Lives (option_and_then (repair_on r s resv.0 resv.1) path)
+      by None = tt
+      by (Some path) = cond_both (leaves_by resv.1.link path && not (is_up s.facts.up resv.1.link)) _ _ Lives (λ lost. chosen (selected (around_of r s) resv.0 path resv.1)) (λ other. tt)
+
+  -- and no repair
+  pub no_repair_expired : AllByRecursion (λ repair. n < repair.1.resv.expiry) after.repairs
+  unfolding ticked reservations.expire reservations.expire_repairs taken_over repaired repairs_left new_repairs
+  no_repair_expired =
+      let s = taken_over r (ticked r before n).after in
+      let Lives : Key × Repair → Type 0 = λ repair. n < repair.1.resv.expiry in
+      let again = λ (resv : Key × ResvFact). option_map {U = Key × Repair} (λ repair. (resv.0, repair)) (repair_of r s resv) in
+      subst (λ (t : State). AllByRecursion Lives t.repairs) (sym after_tick)
+      (all-filter Lives (repair_stands r (resvs_left (repaired r s))) (repaired r s).repairs
+      (all-put_in Lives (new_repairs r s) s.repairs
+      (all-filter_map_within Lives again s.resvs
+      (all-filter_passes (λ resv. IfSome (again resv) Lives) (λ resv. reservations.lives_past n resv.1) (λ resv lives. new_lives s resv (ltb-true n resv.1.expiry lives)) before.resvs))
+      (all-filter_passes Lives (λ repair. reservations.lives_past n repair.1.resv) (λ repair lives. ltb-true n repair.1.resv.expiry lives) before.repairs)))
 
 -- After a moment no tunnel's new LSP is reserved that was none before.
 pub ticked-settled : (r : Router) (before : State) (n : ℕ) → AreSettled r before → AreSettled r (ticked r before n).after
@@ -188,6 +227,13 @@ ticked-settled r before n rests =
     (all-weaker (λ tunnel. is_ready r before tunnel ≡ false) (λ tunnel. is_ready r after tunnel ≡ false)
     (λ tunnel waits. still_waits r before after tunnel.0 tunnel.1 (λ key none. none_of_fewer (λ resv. reservations.lives_past n resv.1) key before.resvs none) waits)
     before.facts.tunnels rests)
+
+-- Where each reservation was over a link that is up, it is so after a moment.
+pub up_ticked : (r : Router) (before : State) (n : ℕ) → AreOverUp before → AreOverUp (ticked r before n).after
+unfolding ticked lived reservations.expire
+up_ticked r before n up =
+    subst (λ links. AllByRecursion (λ resv. is_up links resv.1.link ≡ true) (filter (λ resv. reservations.lives_past n resv.1) before.resvs)) (sym (ap (λ (s : Facts). s.up) (signalled-same r (lived before.facts n))))
+    (all-filter (λ resv. is_up before.facts.up resv.1.link ≡ true) (λ resv. reservations.lives_past n resv.1) before.resvs up)
 
 -- what is known of an LSP when a moment has come
 pub find-expire : (n : ℕ) (key : Key) (paths : List (Key × PathFact)) → T (is_sorted key_cmp paths) → find key_cmp key (expire n paths) ≡ option_map (living n) (option_and_then (λ fact. then_some (lives_on n (key, fact)) fact) (find key_cmp key paths))
@@ -312,24 +358,25 @@ module _ (r : Router) (before after : State) (made : Made) (n at : ℕ) (sound :
 
   -- its moment
   moment_unstamped : unstamped.facts.moment ≡ n
-  unfolding unstamped ticked taken_over
+  unfolding unstamped ticked taken_over repaired repairs_left
   moment_unstamped = moment_signalled r before after made n x is is_done
 
   -- A Path that is due is sent.
   pub due_path : (item : Item) (output : Output) → find item_cmp item (items_of r after) ≡ Some output → find item_cmp item before.facts.sent ≡ Some at → at + r.refresh_ms ≤ n → Contains made.outputs output × (find item_cmp item after.facts.sent ≡ Some n)
-  unfolding outputs_of item_stamps items_of lsps_of ticked unstamped taken_over
+  unfolding outputs_of item_stamps items_of lsps_of detours_of ticked unstamped taken_over repaired repairs_left
   due_path item output wanted sent waited =
       let came = after_tick r before after made n x is is_done in
       let in_order = subst T (sym (is_sorted-both item_cmp before.facts.sent (items_of r before) sound.sent)) (is_sorted-items r before sound.paths.paths.in_order) in
       let due = due_items r.refresh_ms before.facts.sent n in
       let upstream_due = due_items r.refresh_ms before.sent_upstream n in
       let out = goes_out item_cmp item_total item_exact r.refresh_ms n at (items_of r before) (items_of r after) before.facts.sent item output in_order wanted sent waited in
+      let errors = errors_out after.facts.up (told_repaired r (taken_over r (ticked r before n).after)) in
       let tears = between item_cmp (tear_for after.facts.up) (items_of r before) (items_of r after) in
       let resv_tears = between upstream_cmp (tear_for after.facts.up) (upstream_of r before) (upstream_of r after) in
       let sends = between item_cmp (send_for item_cmp due) (items_of r after) (items_of r before) in
       let resv_sends = between upstream_cmp (send_for upstream_cmp upstream_due) (upstream_of r after) (upstream_of r before) in (
         subst (λ outputs. Contains outputs output) (sym (sends_then r before after made n x is is_done))
-            (Contains-append_left (tears ++ resv_tears ++ sends) resv_sends output (Contains-append_right (tears ++ resv_tears) sends output out)),
+            (Contains-append_left (errors ++ tears ++ resv_tears ++ sends) resv_sends output (Contains-append_right (errors ++ tears ++ resv_tears) sends output out)),
         ap (λ (s : State). find item_cmp item s.facts.sent) came
             ∙ ap (λ (m : ℕ). find item_cmp item (stamps item_cmp due (items_of r before) before.facts.sent m (items_of r unstamped))) moment_unstamped
             ∙ moment_is item_cmp item_total item_exact r.refresh_ms n at (items_of r before) (items_of r unstamped) before.facts.sent item output in_order
@@ -338,19 +385,20 @@ module _ (r : Router) (before after : State) (made : Made) (n at : ℕ) (sound :
 
   -- So is a Resv.
   pub due_resv : (upstream : Upstream) (output : Output) → find upstream_cmp upstream (upstream_of r after) ≡ Some output → find upstream_cmp upstream before.sent_upstream ≡ Some at → at + r.refresh_ms ≤ n → Contains made.outputs output × (find upstream_cmp upstream after.sent_upstream ≡ Some n)
-  unfolding outputs_of upstream_stamps upstream_of lsps_of ticked unstamped taken_over
+  unfolding outputs_of upstream_stamps upstream_of lsps_of detours_of ticked unstamped taken_over repaired repairs_left
   due_resv upstream output wanted sent waited =
       let came = after_tick r before after made n x is is_done in
       let in_order = subst T (sym (is_sorted-both upstream_cmp before.sent_upstream (upstream_of r before) sound.sent_upstream)) (is_sorted-upstream_sound r before before.facts.moment sound.paths.paths) in
       let due = due_items r.refresh_ms before.facts.sent n in
       let upstream_due = due_items r.refresh_ms before.sent_upstream n in
       let out = goes_out upstream_cmp upstream_total upstream_exact r.refresh_ms n at (upstream_of r before) (upstream_of r after) before.sent_upstream upstream output in_order wanted sent waited in
+      let errors = errors_out after.facts.up (told_repaired r (taken_over r (ticked r before n).after)) in
       let tears = between item_cmp (tear_for after.facts.up) (items_of r before) (items_of r after) in
       let resv_tears = between upstream_cmp (tear_for after.facts.up) (upstream_of r before) (upstream_of r after) in
       let sends = between item_cmp (send_for item_cmp due) (items_of r after) (items_of r before) in
       let resv_sends = between upstream_cmp (send_for upstream_cmp upstream_due) (upstream_of r after) (upstream_of r before) in (
         subst (λ outputs. Contains outputs output) (sym (sends_then r before after made n x is is_done))
-            (Contains-append_right (tears ++ resv_tears ++ sends) resv_sends output out),
+            (Contains-append_right (errors ++ tears ++ resv_tears ++ sends) resv_sends output out),
         ap (λ (s : State). find upstream_cmp upstream s.sent_upstream) came
             ∙ ap (λ (m : ℕ). find upstream_cmp upstream (stamps upstream_cmp upstream_due (upstream_of r before) before.sent_upstream m (upstream_of r unstamped))) moment_unstamped
             ∙ moment_is upstream_cmp upstream_total upstream_exact r.refresh_ms n at (upstream_of r before) (upstream_of r unstamped) before.sent_upstream upstream output in_order

@@ -1,13 +1,12 @@
 -- The LSPs that a message touches, and that its step leaves all others as they were.
-use Rattle.std.specs.Prelude.{◌≡◌, ◌&&◌, ◌||◌, ◌==◌, ℕ, not, nat_le, Bool, true, false, if◌then◌else◌, T, List, [], ◌∷◌, filter, filter_map, fold, length, map, Option, Some, None, is_none, is_some, IfSome, Result, Ok, Err}
+use Rattle.std.specs.Prelude.{◌≡◌, ◌&&◌, ◌||◌, ◌==◌, ℕ, not, Bool, true, false, if◌then◌else◌, T, List, [], ◌∷◌, filter, filter_map, fold, map, Option, Some, None, is_none, is_some, IfSome}
 use Rattle.std.specs.Bool.{then_some}
 use Rattle.std.specs.FinMap.Entries.{find, find-where_key, is_sorted, is_sorted-put, is_sorted-where_key, put}
-use Rattle.std.specs.List.{cons_option, list_any}
+use Rattle.std.specs.List.{AllByRecursion, cons_option, list_any}
 use Rattle.std.specs.Option.{option_and_then, option_map, option_map_or, option_or}
 use Rattle.std.specs.Ordering.{is_eq}
-use Rattle.std.specs.declared.net.ipv4_addr.Ipv4Addr.{Ipv4Addr}
 use Rattle.std.proofs.Common.{refl, sym, ap, subst, ◌∙◌}
-use Rattle.std.proofs.lemmas.Bool.{cond_both}
+use Rattle.std.proofs.lemmas.Bool.{and_parts, cond_both, not-false}
 use Rattle.std.proofs.lemmas.Cmp.{eq_by_cmp_equiv}
 use Rattle.std.proofs.lemmas.List.Folds.{list_any-append}
 use Rattle.rsvp_contents.specs.declared.message.Reading.TheVariants as readings
@@ -22,24 +21,21 @@ use Rattle.rsvp_contents.specs.declared.messages.ResvErr.{ResvErr}
 use Rattle.rsvp_contents.specs.declared.messages.ResvTear.{ResvTear}
 use Rattle.rsvp_flows.specs.declared.descriptors.FlowDescriptor.{FlowDescriptor}
 use Rattle.rsvp_objects.specs.declared.values.Template.{Template}
-use Rattle.rsvp_traffic.specs.TokenBuckets.{token_rate}
+use Rattle.sorted_rows.specs.ListLaws.{all-filter}
 use Rattle.sorted_rows.specs.Rows.{keys_of}
-use Rattle.sorted_rows.specs.RowsLaws.{find-all_row, find-filter, find-put_other, find-removed_other, is_some-find_both, is_sorted-filter}
-use Rattle.lsr_facts.specs.Errors.{system_error}
+use Rattle.sorted_rows.specs.RowsLaws.{all-put, find-all_row, find-filter, find-put_other, find-removed_other, is_some-find_both, is_sorted-filter}
 use Rattle.lsr_facts.specs.Lifetimes.{begins_here}
 use Rattle.lsr_facts.specs.OrderLaws.{key_exact, key_total}
 use Rattle.lsr_facts.specs.Orders.{key_cmp}
 use Rattle.lsr_facts.specs.Routers.{link_at}
-use Rattle.lsr_facts.specs.Tunnels.{is_head}
-use Rattle.lsr_facts.specs.declared.choice.Choice.{Choice}
 use Rattle.lsr_facts.specs.declared.errors.RsvpError.{RsvpError}
 use Rattle.lsr_facts.specs.declared.facts.Facts.{Facts}
 use Rattle.lsr_facts.specs.declared.key.Key.{Key}
-use Rattle.lsr_facts.specs.declared.path_fact.Origin.{Origin}
 use Rattle.lsr_facts.specs.declared.path_fact.PathFact.{PathFact}
 use Rattle.lsr_facts.specs.declared.refusal.Refusal.TheVariants.{LinkDown, NoMatch, UnknownLink}
 use Rattle.lsr_facts.specs.declared.router.Router.{Router}
 use Rattle.resv_facts.specs.Reservations.{style_of}
+use Rattle.resv_facts.specs.declared.repair.Repair.{Repair}
 use Rattle.resv_facts.specs.declared.resv_fact.ResvFact.{ResvFact}
 use Rattle.resv_facts.specs.declared.resv_fact.ResvStyle.{ResvStyle}
 use Rattle.router_events.specs.declared.ways.ArrivalWay.{ArrivalWay}
@@ -48,29 +44,36 @@ use Rattle.router_events.specs.declared.ways.Arrive.{Arrive}
 use Rattle.router_events.specs.declared.events.Event.TheVariants as events
 use Rattle.router_events.specs.declared.events.Made.{Made}
 use Rattle.router_events.specs.declared.events.Output.{Output}
-use Rattle.abstract_paths.proofs.Alongside.{noted_of-same}
+use Rattle.abstract_paths.proofs.Alongside.{with_noted-same}
+use Rattle.abstract_paths.specs.Changes.{without_path}
 use Rattle.abstract_paths.specs.Outcomes as paths
 use Rattle.abstract_paths.specs.Outcomes.{lsp}
-use Rattle.abstract_paths.specs.Paths.{failed, has_loop, key_of, path_arrival, path_by, path_on_its_way, taken, way_for}
-use Rattle.abstract_paths.specs.Places.{is_up, place_of}
+use Rattle.abstract_paths.specs.Paths.{key_of, path_arrival}
+use Rattle.abstract_paths.specs.Places.{is_up}
 use Rattle.abstract_paths.specs.StampLaws.{none-is}
-use Rattle.abstract_paths.specs.Tears.{left_with, noted_of, origins_without, path_err_passed_on, path_err_arrival, path_tear_arrival, torn}
-use Rattle.abstract_paths.specs.Tears as tears
+use Rattle.abstract_paths.specs.Tears.{path_err_arrival, path_tear_arrival}
 use Rattle.abstract_paths.specs.Tears.{leaves_by}
 use Rattle.abstract_paths.specs.TouchedLaws.{find-made}
 use Rattle.abstract_router.specs.Arrivals.{arrival_by, arrival, is_done, labelled_path_arrival, message_arrival, reading_arrival}
+use Rattle.abstract_router.specs.Detours.{detours_of, over_at}
 use Rattle.abstract_router.specs.Errors.{unknown_style}
 use Rattle.abstract_router.specs.Labels.{has_free_label, labels_after}
 use Rattle.abstract_router.specs.Outcomes.{Outcome, of_paths, refused}
 use Rattle.abstract_router.specs.Preempting.{giving_way}
 use Rattle.abstract_router.specs.Reserving.{Failed, Granted, PassedOver, Progress, Verdict, all_descriptors, carried_on, key_in, next_descriptor, resv_arrival, resv_by, resv_failed, resv_replied, unknown_resv, verdict_of}
+use Rattle.abstract_router.specs.Repairing.{repair_stands, repairs_left}
 use Rattle.abstract_router.specs.Soundness.{IsSound}
 use Rattle.abstract_router.specs.States.{State, is_one_of}
-use Rattle.abstract_router.specs.Steps.{Step, given_up, known_after, settled, stands, taken_over, with_moments}
+use Rattle.abstract_router.specs.Steps.{Step, given_up, known_after, labelled, left_standing, resvs_left, settled, stands, taken_over, with_moments}
 use Rattle.abstract_router.specs.Tearing.{err_onward, is_resv_torn_by, resv_err_passed_on, resv_err_arrival, resv_tear_arrival}
+use Rattle.router_soundness.proofs.Silence.{silent_keeps}
+use Rattle.router_laws.specs.Words.{where_up}
 use Rattle.router_laws.specs.TouchedBy.{touched_by, touched_by_descriptors, touched_by_message, touched_by_reading, touched_by_resv, touched_by_verdict}
+use Rattle.router_laws.proofs.Arriving.{err_leaves, path_leaves, tear_leaves}
 use Rattle.router_laws.proofs.GivenUp.{path_left}
 use Rattle.router_laws.proofs.Led.{led}
+use Rattle.router_laws.proofs.NoneRepaired.{AreOverUp, over-up, repaired-same}
+use Rattle.router_laws.proofs.Settled.{runs_for}
 
 -- neither of two tests passes
 pub neither : (a b : Bool) → (a || b) ≡ false → (a ≡ false) × (b ≡ false)
@@ -81,23 +84,27 @@ neither false b h = (refl, h)
 pub apart-back : (k q : Key) → is_eq (key_cmp k q) ≡ false → is_eq (key_cmp q k) ≡ false
 apart-back k q apart = (eq_by_cmp_equiv key_total).symm q k ∙ apart
 
--- What an event does of itself: the same links are up, no label changes, and the LSPs that aren't touched have the path
--- and the reservation that they had.
+-- What an event does of itself: the same links are up, no label changes, each reservation is over a link that is up, and
+-- the LSPs that aren't touched have the path, the reservation and the repair that they had.
 pub record Keeps (touched : Key → Bool) (before after : State) : Type 0 where
   pub up : after.facts.up ≡ before.facts.up
   pub labels : after.labels ≡ before.labels
   pub paths_in_order : T (is_sorted key_cmp after.facts.paths)
   pub resvs_in_order : T (is_sorted key_cmp after.resvs)
+  pub repairs_in_order : T (is_sorted key_cmp after.repairs)
+  pub over_up : AreOverUp after
   pub paths : (key : Key) → touched key ≡ false → find key_cmp key after.facts.paths ≡ find key_cmp key before.facts.paths
   pub resvs : (key : Key) → touched key ≡ false → find key_cmp key after.resvs ≡ find key_cmp key before.resvs
+  pub repairs : (key : Key) → touched key ≡ false → find key_cmp key after.repairs ≡ find key_cmp key before.repairs
 
--- What is left of LSPs that aren't touched: each has the path, the reservation and the label that it had, and the same
--- links are up.
-pub record IsLeft (touched : Key → Bool) (before after : State) : Type 0 where
+-- What is left of LSPs that aren't touched: each has the path, the reservation and the label that it had, and the repair
+-- where its bypass is up; and the same links are up.
+pub record IsLeft (r : Router) (touched : Key → Bool) (before after : State) : Type 0 where
   pub up : after.facts.up ≡ before.facts.up
   pub paths : (key : Key) → touched key ≡ false → find key_cmp key after.facts.paths ≡ find key_cmp key before.facts.paths
   pub resvs : (key : Key) → touched key ≡ false → find key_cmp key after.resvs ≡ find key_cmp key before.resvs
   pub labels : (key : Key) → touched key ≡ false → find key_cmp key after.labels ≡ find key_cmp key before.labels
+  pub repairs : (key : Key) → touched key ≡ false → find key_cmp key after.repairs ≡ option_and_then (where_up r after) (find key_cmp key before.repairs)
 
 -- and what one does of itself to paths
 record KeepsPaths (touched : Key → Bool) (before after : Facts) : Type 0 where
@@ -117,56 +124,27 @@ module _ (touched : Key → Bool) (s : Facts) (sorted : T (is_sorted key_cmp s.p
       paths = λ key other. find-put_other key_cmp key_total key own fact s.paths (apart-back own key (apart key other));
     }
 
-    path-left : (fact : PathFact) (origins : List (Ipv4Addr × Origin)) → KeepsPaths touched s (left_with own fact origins s)
-    path-left fact [] = record {
+    path-gone : KeepsPaths touched s (without_path own s)
+    path-gone = record {
       up = refl;
       in_order = is_sorted-filter key_cmp (λ path. not (is_eq (key_cmp own path.0))) s.paths sorted;
       paths = λ key other. find-removed_other key_cmp key_total key own s.paths (apart key other);
     }
-    path-left fact (o ∷ os) = path-put (record fact { origins = o ∷ os })
 
   path-keeps : (r : Router) (link : ℕ) (p : Path) → ((key : Key) → touched key ≡ false → is_eq (key_cmp (key_of p) key) ≡ false) → KeepsPaths touched s (path_arrival r s link p).after
-  unfolding path_arrival path_on_its_way
-  path-keeps r link p apart =
-      cond_both (is_head r s.tunnels (key_of p)) _ _ After (λ head. paths-stay)
-      (λ elsewhere. cond_both (not (p.label_request.l3pid == 0x0800)) _ _ After (λ a. paths-stay)
-      (λ a. cond_both (is_none (token_rate 1 p.tspec)) _ _ After (λ b. paths-stay)
-      (λ b. cond_both (has_loop r p.recorded) _ _ After (λ c. paths-stay)
-      (λ c. on_way (way_for (place_of r s) (find key_cmp (key_of p) s.paths) p)))))
-    where
-      After : paths.PathOutcome → Type 0
-      After o = KeepsPaths touched s o.after
-
-      on_way : (way : Result Choice RsvpError) → After (path_on_its_way r s (find key_cmp (key_of p) s.paths) link p way)
-      on_way (Err e) = paths-stay
-      on_way (Ok way) =
-          cond_both (is_none (find key_cmp (key_of p) s.paths) && nat_le 1024 (length s.paths)) (failed r s link p system_error) (taken r s (find key_cmp (key_of p) s.paths) link p way) After
-          (λ full. paths-stay) (λ room. path-put (key_of p) apart (path_by s.moment (find key_cmp (key_of p) s.paths) link p way))
+  path-keeps r link p apart = path_leaves s (KeepsPaths touched s) paths-stay r link p (path-put (key_of p) apart)
 
   tear-keeps : (link : ℕ) (t : PathTear) → ((key : Key) → touched key ≡ false → is_eq (key_cmp (lsp t.session t.sender) key) ≡ false) → KeepsPaths touched s (path_tear_arrival s link t).after
-  unfolding path_tear_arrival
-  tear-keeps link t apart = by (find key_cmp (lsp t.session t.sender) s.paths)
-    where
-      by : (known : Option PathFact) → KeepsPaths touched s (torn s link t known).after
-      by None = paths-stay
-      by (Some fact) = cond_both (tears.is_torn_by link t fact) _ _ (λ (o : paths.PathOutcome). KeepsPaths touched s o.after) (λ a. path-left (lsp t.session t.sender) apart fact (origins_without t.sender.sender fact)) (λ a. paths-stay)
+  tear-keeps link t apart = tear_leaves s (KeepsPaths touched s) paths-stay link t (path-put (lsp t.session t.sender) apart) (path-gone (lsp t.session t.sender) apart)
 
   err-keeps : (link : ℕ) (e : PathErr) → KeepsPaths touched s (path_err_arrival s link e).after
-  unfolding path_err_arrival
-  err-keeps link e = by (find key_cmp (lsp e.session e.sender) s.paths)
-    where
-      noted : (fact : PathFact) → KeepsPaths touched s (noted_of e fact s)
-      noted fact =
-          let same = noted_of-same e fact s in
-          record {
-            up = ap (λ (x : Facts). x.up) same;
-            in_order = subst (λ (x : Facts). T (is_sorted key_cmp x.paths)) (sym same) sorted;
-            paths = λ key apart. ap (λ (x : Facts). find key_cmp key x.paths) same;
-          }
-
-      by : (known : Option PathFact) → KeepsPaths touched s (path_err_passed_on s link e known).after
-      by None = paths-stay
-      by (Some fact) = cond_both (leaves_by link fact) _ _ (λ (o : paths.PathOutcome). KeepsPaths touched s o.after) (λ a. noted fact) (λ a. paths-stay)
+  err-keeps link e =
+      let same = with_noted-same e.error e.session.tunnel s in
+      err_leaves s (KeepsPaths touched s) paths-stay link e (record {
+        up = ap (λ (x : Facts). x.up) same;
+        in_order = subst (λ (x : Facts). T (is_sorted key_cmp x.paths)) (sym same) sorted;
+        paths = λ key apart. ap (λ (x : Facts). find key_cmp key x.paths) same;
+      })
 
 -- no LSP that isn't touched is one of these
 abbrev AreTouched : (Key → Bool) → List Key → Type 0
@@ -174,17 +152,37 @@ AreTouched touched keys = (key : Key) → touched key ≡ false → is_one_of ke
 
 module _ (r : Router) (touched : Key → Bool) (s : State) (is : IsSound r s) where
   stays : Keeps touched s s
-  stays = record { up = refl; labels = refl; paths_in_order = is.paths.paths.in_order; resvs_in_order = is.held.in_order; paths = λ key apart. refl; resvs = λ key apart. refl }
+  stays = record {
+    up = refl;
+    labels = refl;
+    paths_in_order = is.paths.paths.in_order;
+    resvs_in_order = is.held.in_order;
+    repairs_in_order = is.repaired.in_order;
+    over_up = over-up r s is;
+    paths = λ key apart. refl;
+    resvs = λ key apart. refl;
+    repairs = λ key apart. refl;
+  }
 
   of_paths-keeps : (o : paths.PathOutcome) → KeepsPaths touched s.facts o.after → Keeps touched s (of_paths s o).after
-  of_paths-keeps o keeps = record { up = keeps.up; labels = refl; paths_in_order = keeps.in_order; resvs_in_order = is.held.in_order; paths = keeps.paths; resvs = λ key apart. refl }
+  of_paths-keeps o keeps = record {
+    up = keeps.up;
+    labels = refl;
+    paths_in_order = keeps.in_order;
+    resvs_in_order = is.held.in_order;
+    repairs_in_order = is.repaired.in_order;
+    over_up = subst (λ up. AllByRecursion (λ resv. is_up up resv.1.link ≡ true) s.resvs) (sym keeps.up) (over-up r s is);
+    paths = keeps.paths;
+    resvs = λ key apart. refl;
+    repairs = λ key apart. refl;
+  }
 
   -- one descriptor
-  verdict-keeps : (link : ℕ) (v : Resv) (d : FlowDescriptor) (fact : ResvFact) (progress : Progress) (verdict : Verdict) → AreTouched touched (touched_by_verdict r progress.state (key_in v d) fact verdict) → Keeps touched s progress.state
+  verdict-keeps : (link : ℕ) (v : Resv) (d : FlowDescriptor) (fact : ResvFact) (progress : Progress) (verdict : Verdict) → is_up s.facts.up fact.link ≡ true → AreTouched touched (touched_by_verdict r progress.state (key_in v d) fact verdict) → Keeps touched s progress.state
       → Keeps touched s (carried_on r link v d fact progress verdict).state
-  verdict-keeps link v d fact progress (Failed e) among keeps = keeps
-  verdict-keeps link v d fact progress PassedOver among keeps = keeps
-  verdict-keeps link v d fact progress Granted among keeps =
+  verdict-keeps link v d fact progress (Failed e) up among keeps = keeps
+  verdict-keeps link v d fact progress PassedOver up among keeps = keeps
+  verdict-keeps link v d fact progress Granted up among keeps =
       let own = key_in v d in
       let gone = giving_way r progress.state own fact in
       let left : Key → Bool = λ k. not (is_one_of gone k) in
@@ -193,6 +191,9 @@ module _ (r : Router) (touched : Key → Bool) (s : State) (is : IsSound r s) wh
         labels = keeps.labels;
         paths_in_order = keeps.paths_in_order;
         resvs_in_order = is_sorted-put key_cmp key_total own fact (filter (λ resv. left resv.0) progress.state.resvs) (is_sorted-where_key key_cmp left progress.state.resvs keeps.resvs_in_order);
+        repairs_in_order = keeps.repairs_in_order;
+        over_up = all-put key_cmp (λ resv. is_up progress.state.facts.up resv.link ≡ true) own fact (ap (λ links. is_up links fact.link) keeps.up ∙ up) (filter (λ resv. left resv.0) progress.state.resvs)
+            (all-filter (λ resv. is_up progress.state.facts.up resv.1.link ≡ true) (λ resv. left resv.0) progress.state.resvs keeps.over_up);
         paths = keeps.paths;
         resvs = λ key apart.
             let other = neither (is_eq (key_cmp own key)) (is_one_of gone key) (among key apart) in
@@ -200,22 +201,23 @@ module _ (r : Router) (touched : Key → Bool) (s : State) (is : IsSound r s) wh
             ∙ find-where_key key_cmp left key (λ x tie. ap left (sym (key_exact key x tie))) progress.state.resvs
             ∙ ap (λ b. if not b then find key_cmp key progress.state.resvs else None) other.1
             ∙ keeps.resvs key apart;
+        repairs = keeps.repairs;
       }
 
   -- and all of them
-  descriptors-keep : (link : ℕ) (style : ResvStyle) (v : Resv) (ds : List FlowDescriptor) (progress : Progress) → AreTouched touched (touched_by_descriptors r link style v progress ds) → Keeps touched s progress.state
+  descriptors-keep : (link : ℕ) (style : ResvStyle) (v : Resv) (ds : List FlowDescriptor) (progress : Progress) → is_up s.facts.up link ≡ true → AreTouched touched (touched_by_descriptors r link style v progress ds) → Keeps touched s progress.state
       → Keeps touched s (fold (next_descriptor r link style v) progress ds).state
-  descriptors-keep link style v [] progress among keeps = keeps
-  descriptors-keep link style v (d ∷ ds) progress among keeps =
+  descriptors-keep link style v [] progress up among keeps = keeps
+  descriptors-keep link style v (d ∷ ds) progress up among keeps =
       let fact = resv_by progress.state.facts.moment link style v d in
       let verdict = verdict_of r progress.state (key_in v d) fact in
       let next = next_descriptor r link style v progress d in
       let each = λ (key : Key) (apart : touched key ≡ false). neither _ _ (sym (list_any-append (λ k. is_eq (key_cmp k key)) (touched_by_verdict r progress.state (key_in v d) fact verdict) (touched_by_descriptors r link style v next ds)) ∙ among key apart) in
-      descriptors-keep link style v ds next (λ key apart. (each key apart).1) (verdict-keeps link v d fact progress verdict (λ key apart. (each key apart).0) keeps)
+      descriptors-keep link style v ds next up (λ key apart. (each key apart).1) (verdict-keeps link v d fact progress verdict up (λ key apart. (each key apart).0) keeps)
 
-  resv-keeps : (link : ℕ) (v : Resv) → AreTouched touched (touched_by_resv r s link v) → Keeps touched s (resv_arrival r s link v).after
+  resv-keeps : (link : ℕ) (v : Resv) → is_up s.facts.up link ≡ true → AreTouched touched (touched_by_resv r s link v) → Keeps touched s (resv_arrival r s link v).after
   unfolding resv_arrival
-  resv-keeps link v = by_style (style_of v.style)
+  resv-keeps link v up = by_style (style_of v.style)
     where
       by_first : (progress : Progress) → Keeps touched s progress.state → (first : Option RsvpError) → Keeps touched s (resv_replied s progress first).after
       by_first progress keeps (Some e) = keeps
@@ -227,7 +229,7 @@ module _ (r : Router) (touched : Key → Bool) (s : State) (is : IsSound r s) wh
       by_style None among = stays
       by_style (Some style) among =
           let progress = all_descriptors r s link style v in
-          by_first progress (descriptors-keep link style v v.descriptors (record { state = s; errors = []; first = None; has_granted = false }) among stays) progress.first
+          by_first progress (descriptors-keep link style v v.descriptors (record { state = s; errors = []; first = None; has_granted = false }) up among stays) progress.first
 
   resv_tear-keeps : (link : ℕ) (t : ResvTear) → AreTouched touched (map (lsp t.session) t.filters) → Keeps touched s (resv_tear_arrival s link t).after
   unfolding resv_tear_arrival
@@ -238,10 +240,13 @@ module _ (r : Router) (touched : Key → Bool) (s : State) (is : IsSound r s) wh
         labels = refl;
         paths_in_order = is.paths.paths.in_order;
         resvs_in_order = is_sorted-filter key_cmp left s.resvs is.held.in_order;
+        repairs_in_order = is.repaired.in_order;
+        over_up = all-filter (λ resv. is_up s.facts.up resv.1.link ≡ true) left s.resvs (over-up r s is);
         paths = λ key apart. refl;
         resvs = λ key apart.
             find-filter key_cmp key_total left key (λ k v tied. ap (λ q. left (q, v)) (sym (key_exact key k tied))) s.resvs is.held.in_order
             ∙ kept key (find key_cmp key s.resvs) (named key t.filters ∙ among key apart);
+        repairs = λ key apart. refl;
       })
       (λ none. stays)
     where
@@ -278,34 +283,34 @@ module _ (r : Router) (touched : Key → Bool) (s : State) (is : IsSound r s) wh
       cond_both (is_done (path_arrival r s.facts link p).reply && is_none (find key_cmp (key_of p) s.facts.paths) && not (has_free_label r s.labels)) _ _ (λ (o : Outcome). Keeps touched s o.after) (λ full. stays)
       (λ room. of_paths-keeps (path_arrival r s.facts link p) (path-keeps touched s.facts is.paths.paths.in_order r link p (one (key_of p) among)))
 
-  message-keeps : (link : ℕ) (content : Content) → AreTouched touched (touched_by_message r s link content) → Keeps touched s (message_arrival r s link content).after
-  message-keeps link (contents.Path p) among = labelled_path-keeps link p among
-  message-keeps link (contents.Resv v) among = resv-keeps link v among
-  message-keeps link (contents.PathErr e) among = of_paths-keeps (path_err_arrival s.facts link e) (err-keeps touched s.facts is.paths.paths.in_order link e)
-  message-keeps link (contents.ResvErr e) among = resv_err-keeps link e
-  message-keeps link (contents.PathTear t) among = of_paths-keeps (path_tear_arrival s.facts link t) (tear-keeps touched s.facts is.paths.paths.in_order link t (one (lsp t.session t.sender) among))
-  message-keeps link (contents.ResvTear t) among = resv_tear-keeps link t among
+  message-keeps : (link : ℕ) (content : Content) → is_up s.facts.up link ≡ true → AreTouched touched (touched_by_message r s link content) → Keeps touched s (message_arrival r s link content).after
+  message-keeps link (contents.Path p) up among = labelled_path-keeps link p among
+  message-keeps link (contents.Resv v) up among = resv-keeps link v up among
+  message-keeps link (contents.PathErr e) up among = of_paths-keeps (path_err_arrival s.facts link e) (err-keeps touched s.facts is.paths.paths.in_order link e)
+  message-keeps link (contents.ResvErr e) up among = resv_err-keeps link e
+  message-keeps link (contents.PathTear t) up among = of_paths-keeps (path_tear_arrival s.facts link t) (tear-keeps touched s.facts is.paths.paths.in_order link t (one (lsp t.session t.sender) among))
+  message-keeps link (contents.ResvTear t) up among = resv_tear-keeps link t among
 
-  reading-keeps : (link : ℕ) (reading : Reading) → AreTouched touched (touched_by_reading r s link reading) → Keeps touched s (reading_arrival r s link reading).after
+  reading-keeps : (link : ℕ) (reading : Reading) → is_up s.facts.up link ≡ true → AreTouched touched (touched_by_reading r s link reading) → Keeps touched s (reading_arrival r s link reading).after
   unfolding unknown_resv
-  reading-keeps link (readings.Whole content) among = message-keeps link content among
-  reading-keeps link (readings.Unknown (contents.Path p) class ctype) among = stays
-  reading-keeps link (readings.Unknown (contents.Resv v) class ctype) among = stays
-  reading-keeps link (readings.Unknown (contents.PathErr e) class ctype) among = message-keeps link (contents.PathErr e) among
-  reading-keeps link (readings.Unknown (contents.ResvErr e) class ctype) among = message-keeps link (contents.ResvErr e) among
-  reading-keeps link (readings.Unknown (contents.PathTear t) class ctype) among = message-keeps link (contents.PathTear t) among
-  reading-keeps link (readings.Unknown (contents.ResvTear t) class ctype) among = message-keeps link (contents.ResvTear t) among
+  reading-keeps link (readings.Whole content) up among = message-keeps link content up among
+  reading-keeps link (readings.Unknown (contents.Path p) class ctype) up among = stays
+  reading-keeps link (readings.Unknown (contents.Resv v) class ctype) up among = stays
+  reading-keeps link (readings.Unknown (contents.PathErr e) class ctype) up among = message-keeps link (contents.PathErr e) up among
+  reading-keeps link (readings.Unknown (contents.ResvErr e) class ctype) up among = message-keeps link (contents.ResvErr e) up among
+  reading-keeps link (readings.Unknown (contents.PathTear t) class ctype) up among = message-keeps link (contents.PathTear t) up among
+  reading-keeps link (readings.Unknown (contents.ResvTear t) class ctype) up among = message-keeps link (contents.ResvTear t) up among
 
-  way-keeps : (way : ArrivalWay) (link : ℕ) (reading : Reading) → AreTouched touched (touched_by_reading r s link reading) → Keeps touched s (arrival_by r s way link reading).after
-  way-keeps ways.Hop link reading among = reading-keeps link reading among
-  way-keeps ways.Stack link reading among = stays
-  way-keeps ways.Routed link reading among = stays
+  way-keeps : (way : ArrivalWay) (link : ℕ) (reading : Reading) → is_up s.facts.up link ≡ true → AreTouched touched (touched_by_reading r s link reading) → Keeps touched s (arrival_by r s way link reading).after
+  way-keeps ways.Hop link reading up among = reading-keeps link reading up among
+  way-keeps ways.Stack link reading up among = stays
+  way-keeps ways.Routed link reading up among = stays
 
   arrival-keeps : (a : Arrive) → AreTouched touched (touched_by_reading r s a.link a.reading) → Keeps touched s (arrival r s a).after
   unfolding arrival
   arrival-keeps a among =
       cond_both (is_none (link_at r a.link)) (refused s UnknownLink) _ (λ (o : Outcome). Keeps touched s o.after) (λ none. stays)
-      (λ there. cond_both (not (is_up s.facts.up a.link)) (refused s LinkDown) _ (λ (o : Outcome). Keeps touched s o.after) (λ down. stays) (λ up. way-keeps a.way a.link a.reading among))
+      (λ there. cond_both (not (is_up s.facts.up a.link)) (refused s LinkDown) _ (λ (o : Outcome). Keeps touched s o.after) (λ down. stays) (λ up. way-keeps a.way a.link a.reading (not-false _ up) among))
 
   -- What follows from it leaves those LSPs as they were.
   module _ (after : State) (keeps : Keeps touched s after) (key : Key) (apart : touched key ≡ false) where
@@ -322,6 +327,26 @@ module _ (r : Router) (touched : Key → Bool) (s : State) (is : IsSound r s) wh
         stood : (o : Option ResvFact) → IfSome o (λ v. stands s.facts (key, v) ≡ true) → option_and_then (λ v. then_some (stands after.facts (key, v)) v) o ≡ o
         stood None h = refl
         stood (Some v) h = ap (λ b. then_some b v) (alike v ∙ h)
+
+    -- they are repaired as they were, where the bypass is up
+    repair-stays : find key_cmp key (left_standing r after).repairs ≡ option_and_then (where_up r (left_standing r after)) (find key_cmp key s.repairs)
+    unfolding repairs_left detours_of
+    repair-stays =
+        let left = resvs_left after in
+        find-filter key_cmp key_total (repair_stands r left) key (λ k v tied. ap (λ q. repair_stands r left (q, v)) (sym (key_exact key k tied))) after.repairs keeps.repairs_in_order
+        ∙ ap (option_and_then (λ v. then_some (repair_stands r left (key, v)) v)) (keeps.repairs key apart)
+        ∙ stood (find key_cmp key s.repairs) (find-all_row key_cmp key_exact (λ repair. repair_stands r s repair ≡ true) key s.repairs is.repairs_standing)
+      where
+        by_bypass : (b c : Bool) (repair : Repair) → c ≡ true → then_some (b && c) repair ≡ then_some b repair
+        by_bypass true c repair on = ap (λ d. then_some d repair) on
+        by_bypass false c repair on = refl
+
+        stood : (o : Option Repair) → IfSome o (λ v. repair_stands r s (key, v) ≡ true) → option_and_then (λ v. then_some (repair_stands r (resvs_left after) (key, v)) v) o ≡ option_and_then (where_up r (resvs_left after)) o
+        stood None h = refl
+        stood (Some v) h =
+            let on = and_parts (is_some (over_at (detours_of r s) v.bypass)) (option_map_or (leaves_by v.resv.link) (find key_cmp key s.facts.paths) false) h in
+            by_bypass (is_some (over_at (detours_of r (resvs_left after)) v.bypass)) (option_map_or (leaves_by v.resv.link) (find key_cmp key after.facts.paths) false) v
+            (ap (λ o. option_map_or (leaves_by v.resv.link) o false) (keeps.paths key apart) ∙ on.1)
 
     -- the paths that a label is for
     abbrev ours : Key × PathFact → Bool
@@ -360,29 +385,60 @@ module _ (r : Router) (touched : Key → Bool) (s : State) (is : IsSound r s) wh
     labels = keeps.labels;
     paths_in_order = is_sorted-where_key key_cmp (λ k. not (is_one_of (given_up r after) k)) after.facts.paths keeps.paths_in_order;
     resvs_in_order = keeps.resvs_in_order;
+    repairs_in_order = keeps.repairs_in_order;
+    over_up = keeps.over_up;
     paths = λ key apart. path_left r after key (among key apart) ∙ keeps.paths key apart;
     resvs = keeps.resvs;
+    repairs = keeps.repairs;
   }
 
+  -- What a sound state knows is left by itself: each bypass is up that an LSP runs over.
+  left-itself : IsLeft r touched s s
+  left-itself = record {
+    up = refl;
+    paths = λ key apart. refl;
+    resvs = λ key apart. refl;
+    labels = λ key apart. refl;
+    repairs = λ key apart. sym (all_up key (find key_cmp key s.repairs) (find-all_row key_cmp key_exact (λ repair. repair_stands r s repair ≡ true) key s.repairs is.repairs_standing));
+  }
+    where
+      all_up : (key : Key) (o : Option Repair) → IfSome o (λ v. repair_stands r s (key, v) ≡ true) → option_and_then (where_up r s) o ≡ o
+      all_up key None h = refl
+      all_up key (Some v) h = ap (λ b. then_some b v) (and_parts (is_some (over_at (detours_of r s) v.bypass)) (option_map_or (leaves_by v.resv.link) (find key_cmp key s.facts.paths) false) h).0
+
   -- So a step does.
-  pub step-keeps : (o : Outcome) (chosen : List (Key × ℕ)) → AreTouched touched (given_up r o.after) → Keeps touched s o.after → IsLeft touched s (known_after r s chosen o)
-  step-keeps o chosen among keeps = by o.is_silent
+  pub step-keeps : (o : Outcome) (chosen : List (Key × ℕ)) → (o.is_silent ≡ true → o.after ≡ s) → AreTouched touched (given_up r o.after) → Keeps touched s o.after → IsLeft r touched s (known_after r s chosen o)
+  unfolding repairs_left detours_of
+  step-keeps o chosen same among keeps = by o.is_silent same
     where
       over : Keeps touched s (taken_over r o.after)
       over = over-keeps o.after among keeps
 
-      by : (silent : Bool) → IsLeft touched s (if silent then o.after else with_moments r s o (settled r chosen o.after))
-      by true = record { up = keeps.up; paths = keeps.paths; resvs = keeps.resvs; labels = λ key apart. ap (find key_cmp key) keeps.labels }
-      by false = record { up = over.up; paths = over.paths; resvs = resv-stays (taken_over r o.after) over; labels = λ key apart. label-stays (taken_over r o.after) over key apart chosen }
+      by : (silent : Bool) → (silent ≡ true → o.after ≡ s) → IsLeft r touched s (if silent then o.after else with_moments r s o (settled r chosen o.after))
+      by true same = subst (IsLeft r touched s) (sym (same refl)) left-itself
+      by false same =
+          subst (λ (t : State). IsLeft r touched s (with_moments r s o (labelled chosen (left_standing r t)))) (sym (repaired-same r (taken_over r o.after) over.over_up))
+          (record {
+            up = over.up;
+            paths = over.paths;
+            resvs = resv-stays (taken_over r o.after) over;
+            labels = λ key apart. label-stays (taken_over r o.after) over key apart chosen;
+            repairs = repair-stays (taken_over r o.after) over;
+          })
 
--- In a step of a message the LSPs that it doesn't touch have the path, the reservation and the label that they had, and
--- the same links are up.
+-- a message that is silent changes nothing
+silent_message : (r : Router) (s : State) (a : Arrive) → (s.facts.cold ≡ true → events.Arrive a ≡ events.Start) → (arrival r s a).is_silent ≡ true → (arrival r s a).after ≡ s
+silent_message r s a awake = silent_keeps r s (events.Arrive a) (runs_for s.facts.cold (events.Arrive a) (λ e. cc) awake) (λ e. cc)
+
+-- In a step of a message the LSPs that it doesn't touch have the path, the reservation and the label that they had, and the
+-- repair where its bypass is up; and the same links are up.
 pub left-message : (r : Router) (before after : State) (made : Made) (arrived : Arrive) → IsSound r before → Step r before made after → made.event ≡ events.Arrive arrived
-    → IsLeft (is_one_of (touched_by r before arrived)) before after
+    → IsLeft r (is_one_of (touched_by r before arrived)) before after
 left-message r before after made arrived is step event =
     let touched = is_one_of (touched_by r before arrived) in
     let o = arrival r before arrived in
     let own = touched_by_reading r before arrived.link arrived.reading in
     let each = λ (key : Key) (apart : touched key ≡ false). neither _ _ (sym (list_any-append (λ k. is_eq (key_cmp k key)) own (given_up r o.after)) ∙ apart) in
-    subst (IsLeft touched before) (sym (led r before after made (events.Arrive arrived) o step event refl))
-    (step-keeps r touched before is o made.labels (λ key apart. (each key apart).1) (arrival-keeps r touched before is arrived (λ key apart. (each key apart).0)))
+    let same = silent_message r before arrived (λ cold. sym event ∙ step.awake cold) in
+    subst (IsLeft r touched before) (sym (led r before after made (events.Arrive arrived) o step event refl))
+    (step-keeps r touched before is o made.labels same (λ key apart. (each key apart).1) (arrival-keeps r touched before is arrived (λ key apart. (each key apart).0)))

@@ -1,11 +1,10 @@
 -- What events do of themselves to tunnels: each that is known before and after has the same current LSP, and only a Resv
 -- reserves an LSP that is to take another's place.
-use Rattle.std.specs.Prelude.{◌≡◌, ◌⊎◌, ◌+◌, IfSome, ◌^◌, ◌&&◌, ◌||◌, ◌==◌, ℕ, not, nat_le, nat_lt, Bool, true, false, cond, if◌then◌else◌, T, List, [], ◌∷◌, filter, filter_map, fold, length, Option, Some, None, is_none, is_some, option_map, option_to_list, Result, Ok, Err, find as find_first}
+use Rattle.std.specs.Prelude.{◌≡◌, ◌⊎◌, ◌+◌, IfSome, ◌^◌, ◌&&◌, ◌||◌, ℕ, not, nat_le, nat_lt, Bool, true, false, cond, if◌then◌else◌, T, List, [], ◌∷◌, filter, filter_map, fold, length, Option, Some, None, is_none, is_some, option_map, option_to_list, find as find_first}
 use Rattle.std.specs.FinMap.Entries.{find, find-where_key, is_sorted, is_sorted-put, is_sorted-where_key, put, where_key}
 use Rattle.std.specs.List.{AllByRecursion, list_any}
 use Rattle.std.specs.Option.{option_map_or}
 use Rattle.std.specs.Ordering.{is_eq, nat_cmp}
-use Rattle.std.specs.declared.net.ipv4_addr.Ipv4Addr.{Ipv4Addr}
 use Rattle.std.proofs.Common.{refl, sym, ap, subst, ◌∙◌, inl, inr}
 use Rattle.std.proofs.lemmas.Bool.{cases_eq, cond_both, not-false}
 use Rattle.std.proofs.lemmas.Cmp.{nat_cmp_total}
@@ -23,23 +22,18 @@ use Rattle.rsvp_contents.specs.declared.messages.ResvErr.{ResvErr}
 use Rattle.rsvp_contents.specs.declared.messages.ResvTear.{ResvTear}
 use Rattle.rsvp_flows.specs.declared.descriptors.FlowDescriptor.{FlowDescriptor}
 use Rattle.rsvp_objects.specs.declared.values.ErrorSpec.{ErrorSpec}
-use Rattle.rsvp_traffic.specs.TokenBuckets.{token_rate}
 use Rattle.sorted_rows.specs.ListLaws.{all-always, all-filter, all-map, all-weaker}
 use Rattle.sorted_rows.specs.RowsLaws.{all-put_row, find-all_row, find-map, find-put_apart, find-put_same, find-removed_apart, find-removed_same, is_sorted-both}
-use Rattle.lsr_facts.specs.Errors.{system_error}
-use Rattle.lsr_facts.specs.Lifetimes.{begins_here}
 use Rattle.lsr_facts.specs.OrderLaws.{key_exact}
 use Rattle.lsr_facts.specs.Orders.{is_one_of, key_cmp}
 use Rattle.lsr_facts.specs.Routers.{link_at}
-use Rattle.lsr_facts.specs.Tunnels.{head_key, is_head}
-use Rattle.lsr_facts.specs.declared.choice.Choice.{Choice}
+use Rattle.lsr_facts.specs.Tunnels.{head_key}
 use Rattle.lsr_facts.specs.declared.errors.RsvpError.{RsvpError}
 use Rattle.lsr_facts.specs.declared.facts.Facts.{Facts}
 use Rattle.lsr_facts.specs.declared.key.Key.{Key}
-use Rattle.lsr_facts.specs.declared.path_fact.Origin.{Origin}
 use Rattle.lsr_facts.specs.declared.path_fact.PathFact.{PathFact}
 use Rattle.lsr_facts.specs.declared.refusal.Refusal.{Refusal}
-use Rattle.lsr_facts.specs.declared.refusal.Refusal.TheVariants.{BadRoute, Full, LinkDown, NoMatch, TunnelExists, UnknownLink}
+use Rattle.lsr_facts.specs.declared.refusal.Refusal.TheVariants.{BadRoute, Full, InUse, LinkDown, NoMatch, TunnelExists, UnknownLink}
 use Rattle.lsr_facts.specs.declared.router.Router.{Router}
 use Rattle.lsr_facts.specs.declared.tunnel.Tunnel.{Tunnel}
 use Rattle.lsr_facts.specs.declared.tunnel.TunnelLsp.{TunnelLsp}
@@ -65,16 +59,15 @@ use Rattle.abstract_paths.specs.Heads.{is_full, noted, with_head, with_noted}
 use Rattle.abstract_paths.specs.Links.{link_change}
 use Rattle.abstract_paths.specs.Outcomes as paths
 use Rattle.abstract_paths.specs.Outcomes.{lsp}
-use Rattle.abstract_paths.specs.Paths.{failed, has_loop, key_of, path_arrival, path_on_its_way, taken, way_for}
+use Rattle.abstract_paths.specs.Paths.{failed, key_of, path_arrival}
 use Rattle.abstract_paths.specs.Places.{is_up, place_of}
 use Rattle.abstract_paths.specs.Relays.{relay, relayed_by}
 use Rattle.abstract_paths.specs.Restarts.{all_cancelled, started}
 use Rattle.abstract_paths.specs.Routing.{route_to}
 use Rattle.abstract_paths.specs.RowLaws.{keys-map}
-use Rattle.abstract_paths.specs.Tears as tears
-use Rattle.abstract_paths.specs.Tears.{leaves_by, left_with, origins_without, path_err_arrival, path_err_passed_on, path_tear_arrival, torn}
+use Rattle.abstract_paths.specs.Tears.{leaves_by, path_err_arrival, path_tear_arrival}
 use Rattle.abstract_paths.specs.Time.{tick}
-use Rattle.abstract_router.specs.Arrivals.{arrival, arrival_by, command_comes, for_reservations, is_done, labelled_path_arrival, lost, message_arrival, moment_comes, outcome, reading_arrival}
+use Rattle.abstract_router.specs.Arrivals.{arrival, arrival_by, command_comes, commanded_by, for_reservations, is_done, labelled_path_arrival, lost, message_arrival, moment_comes, outcome, reading_arrival, takes_used_bypass}
 use Rattle.abstract_router.specs.Errors.{no_label, no_sender, unknown_style}
 use Rattle.abstract_router.specs.Labels.{has_free_label}
 use Rattle.abstract_router.specs.Outcomes.{Outcome, of_paths, refused}
@@ -82,16 +75,34 @@ use Rattle.abstract_router.specs.Preempting.{giving_way}
 use Rattle.abstract_router.specs.Reserving.{Failed, Granted, PassedOver, Progress, Verdict, all_descriptors, carried_on, key_in, next_descriptor, resv_arrival, resv_by, resv_failed, resv_replied, unknown_resv, verdict_of, verdict_on_path}
 use Rattle.resv_facts.specs.Claims.{is_same_session}
 use Rattle.abstract_router.specs.Soundness.{IsSound}
-use Rattle.abstract_router.specs.States.{State, is_reserved, with_facts, without_resvs}
+use Rattle.abstract_router.specs.States.{State, is_repaired, is_reserved, with_facts, without_held}
 use Rattle.abstract_router.specs.Steps.{AreSettled, is_ready, stands}
 use Rattle.abstract_router.specs.Tearing.{err_onward, is_resv_torn_by, resv_err_arrival, resv_err_passed_on, resv_tear_arrival}
+use Rattle.router_laws.proofs.Arriving.{err_leaves, path_leaves, tear_leaves}
 use Rattle.router_laws.proofs.Settled.{none_of_fewer, still_waits}
 use Rattle.router_laws.proofs.Ticks.{lived, ticked, ticked-settled}
+use Rattle.router_laws.proofs.Touching.{neither}
 
 -- The tunnel carries its traffic by the same LSP, to the same end.
 pub record IsSameTunnel (old new : Tunnel) : Type 0 where
   pub current : new.current ≡ old.current
   pub endpoint : new.endpoint ≡ old.endpoint
+
+-- A tunnel is known that does so in the place of this one.
+abbrev pub IsTunnelThen : ℕ → Tunnel → List (ℕ × Tunnel) → Type 0
+IsTunnelThen number old tunnels = (new : Tunnel) × (find nat_cmp number tunnels ≡ Some new) × IsSameTunnel old new
+
+module _ (tunnels : List (ℕ × Tunnel)) (number other : ℕ) (old : Tunnel) where
+  -- So it is where a tunnel is put that does so, if it has the number.
+  pub then_put : (t : Tunnel) → find nat_cmp number tunnels ≡ Some old → (other ≡ number → IsSameTunnel old t) → IsTunnelThen number old (put nat_cmp other t tunnels)
+  then_put t was same = elim (cases_eq other number) as (λ c. IsTunnelThen number old (put nat_cmp other t tunnels)) [
+    | inl own ↦ (t, ap (λ n. find nat_cmp n (put nat_cmp other t tunnels)) (sym own) ∙ find-put_same nat_cmp nat_cmp_total other t tunnels, same own)
+    | inr apart ↦ (old, find-put_apart nat_cmp nat_cmp_total exact_unsigned number other t tunnels (λ e. apart (sym e)) ∙ was, record { current = refl; endpoint = refl })
+  ]
+
+  -- And so it is where it has the current LSP of the tunnel that had its number.
+  pub then_known : (known t : Tunnel) → find nat_cmp number tunnels ≡ Some old → find nat_cmp other tunnels ≡ Some known → IsSameTunnel known t → IsTunnelThen number old (put nat_cmp other t tunnels)
+  then_known known t was its same = then_put t was (λ own. subst (λ u. IsSameTunnel u t) (same_Some known old (sym its ∙ ap (λ n. find nat_cmp n tunnels) own ∙ was)) same)
 
 -- So does each that is known before and after.
 abbrev pub KeepTunnels : List (ℕ × Tunnel) → List (ℕ × Tunnel) → Type 0
@@ -186,22 +197,7 @@ module _ (r : Router) (s : State) (rests : AreSettled r s) where
 
   -- a Path
   path_tunnels : (link : ℕ) (p : Path) → (path_arrival r s.facts link p).after.tunnels ≡ s.facts.tunnels
-  unfolding path_arrival path_on_its_way
-  path_tunnels link p =
-      cond_both (is_head r s.facts.tunnels (key_of p)) _ _ After (λ head. refl)
-      (λ elsewhere. cond_both (not (p.label_request.l3pid == 0x0800)) _ _ After (λ a. refl)
-      (λ a. cond_both (is_none (token_rate 1 p.tspec)) _ _ After (λ b. refl)
-      (λ b. cond_both (has_loop r p.recorded) _ _ After (λ c. refl)
-      (λ c. on_way (way_for (place_of r s.facts) (find key_cmp (key_of p) s.facts.paths) p)))))
-    where
-      After : paths.PathOutcome → Type 0
-      After o = o.after.tunnels ≡ s.facts.tunnels
-
-      on_way : (way : Result Choice RsvpError) → After (path_on_its_way r s.facts (find key_cmp (key_of p) s.facts.paths) link p way)
-      on_way (Err e) = refl
-      on_way (Ok way) =
-          cond_both (is_none (find key_cmp (key_of p) s.facts.paths) && nat_le 1024 (length s.facts.paths)) (failed r s.facts link p system_error) (taken r s.facts (find key_cmp (key_of p) s.facts.paths) link p way) After
-          (λ full. refl) (λ room. refl)
+  path_tunnels link p = path_leaves s.facts (λ facts. facts.tunnels ≡ s.facts.tunnels) refl r link p (λ fact. refl)
 
   path_moves : (link : ℕ) (p : Path) → Moves r s (labelled_path_arrival r s link p).after
   unfolding labelled_path_arrival
@@ -210,18 +206,8 @@ module _ (r : Router) (s : State) (rests : AreSettled r s) where
       (λ full. moves_paths (failed r s.facts link p no_label) refl) (λ room. moves_paths (path_arrival r s.facts link p) (path_tunnels link p))
 
   -- a PathTear
-  left_tunnels : (key : Key) (fact : PathFact) (origins : List (Ipv4Addr × Origin)) → (left_with key fact origins s.facts).tunnels ≡ s.facts.tunnels
-  left_tunnels key fact [] = refl
-  left_tunnels key fact (o ∷ os) = refl
-
   tear_moves : (link : ℕ) (t : PathTear) → Moves r s (of_paths s (path_tear_arrival s.facts link t)).after
-  unfolding path_tear_arrival
-  tear_moves link t = moves_paths (path_tear_arrival s.facts link t) (by (find key_cmp (lsp t.session t.sender) s.facts.paths))
-    where
-      by : (known : Option PathFact) → (torn s.facts link t known).after.tunnels ≡ s.facts.tunnels
-      by None = refl
-      by (Some fact) =
-          cond_both (tears.is_torn_by link t fact) _ _ (λ (o : paths.PathOutcome). o.after.tunnels ≡ s.facts.tunnels) (λ a. left_tunnels (lsp t.session t.sender) fact (origins_without t.sender.sender fact)) (λ a. refl)
+  tear_moves link t = moves_paths (path_tear_arrival s.facts link t) (tear_leaves s.facts (λ facts. facts.tunnels ≡ s.facts.tunnels) refl link t (λ fact. refl) refl)
 
   -- the new LSP of a tunnel that is known isn't reserved
   waits_known : (number : ℕ) (t : Tunnel) → find nat_cmp number s.facts.tunnels ≡ Some t → is_ready r s (number, t) ≡ false
@@ -245,15 +231,7 @@ module _ (r : Router) (s : State) (rests : AreSettled r s) where
 
   -- a PathErr
   err_moves : (link : ℕ) (e : PathErr) → Moves r s (of_paths s (path_err_arrival s.facts link e)).after
-  unfolding path_err_arrival
-  err_moves link e = by (find key_cmp (lsp e.session e.sender) s.facts.paths)
-    where
-      by : (known : Option PathFact) → Moves r s (of_paths s (path_err_passed_on s.facts link e known)).after
-      by None = moves_none
-      by (Some fact) =
-          cond_both (leaves_by link fact) _ _ (λ (o : paths.PathOutcome). Moves r s (of_paths s o).after)
-          (λ leaves. cond_both (begins_here fact.role) (with_noted e.error e.session.tunnel s.facts) s.facts (λ facts. Moves r s (with_facts facts s)) (λ begins. noted_moves e.error e.session.tunnel) (λ elsewhere. moves_none))
-          (λ other. moves_none)
+  err_moves link e = err_leaves s.facts (λ facts. Moves r s (with_facts facts s)) moves_none link e (noted_moves e.error e.session.tunnel)
 
   -- a ResvTear
   resv_tear_moves : (link : ℕ) (t : ResvTear) → Moves r s (resv_tear_arrival s link t).after
@@ -311,54 +289,59 @@ module _ (r : Router) (s : State) (rests : AreSettled r s) where
   -- ---- commands
 
   -- what is left of reservations without those of some LSPs
-  fewer_without : (keys : List Key) (facts : Facts) → NoMore s (without_resvs keys (with_facts facts s))
+  fewer_without : (keys : List Key) (facts : Facts) → NoMore s (without_held keys (with_facts facts s))
   fewer_without keys facts key none = none_of_fewer (λ resv. not (is_one_of keys resv.0)) key s.resvs none
 
   -- None of the LSP that is left out.
-  pub none_without : (key : Key) (facts : Facts) → is_reserved (without_resvs (key ∷ []) (with_facts facts s)) key ≡ false
+  pub none_without : (key : Key) (facts : Facts) → is_reserved (without_held (key ∷ []) (with_facts facts s)) key ≡ false
   none_without key facts =
       let left : Key → Bool = λ k. not (is_one_of (key ∷ []) k) in
       ap is_some (find-where_key key_cmp left key (λ x tie. ap left (sym (key_exact key x tie))) s.resvs ∙ ap (λ b. cond (not b) (find key_cmp key s.resvs) None) (is_one_of-first key []))
+
+  pub unrepaired_without : (key : Key) (facts : Facts) → is_repaired (without_held (key ∷ []) (with_facts facts s)) key ≡ false
+  unrepaired_without key facts =
+      let left : Key → Bool = λ k. not (is_one_of (key ∷ []) k) in
+      ap is_some (find-where_key key_cmp left key (λ x tie. ap left (sym (key_exact key x tie))) s.repairs ∙ ap (λ b. cond (not b) (find key_cmp key s.repairs) None) (is_one_of-first key []))
 
   -- a tunnel's new LSP is signalled, and the tunnel put
   signalled_tunnels : (number : ℕ) (t u : Tunnel) (l : TunnelLsp) → (with_tunnel number t (with_head r (number, u) l s.facts)).tunnels ≡ put nat_cmp number t s.facts.tunnels
   signalled_tunnels number t u l = ap (λ (x : Facts). put nat_cmp number t x.tunnels) (with_head-same r (number, u) l s.facts)
 
   -- what is known after a command that isn't refused
-  abbrev pub commanded_by : Command → State
-  commanded_by c = without_resvs (option_to_list (begun_by r s.facts c)) (with_facts (commanded r s.facts c) s)
+  abbrev pub left_by : Command → State
+  left_by c = without_held (option_to_list (begun_by r s.facts c)) (with_facts (commanded r s.facts c) s)
 
-  commanded_moves : (c : Command) → refusal_of r s.facts c ≡ None → Moves r s (commanded_by c)
+  commanded_moves : (c : Command) → refusal_of r s.facts c ≡ None → Moves r s (left_by c)
   commanded_moves (AddTunnel t) none =
-      let after = commanded_by (AddTunnel t) in
+      let after = left_by (AddTunnel t) in
       moves_put after t.number (tunnel_by t) (signalled_tunnels t.number (tunnel_by t) (tunnel_by t) (tunnel_by t).current) (fewer_without (option_to_list (begun_by r s.facts (AddTunnel t))) (commanded r s.facts (AddTunnel t))) refl
       (λ old was. absurd (let e = sym (number_free r s.facts t none) ∙ was in cc))
   commanded_moves (ChangeTunnel c) none = by (find nat_cmp c.number s.facts.tunnels) refl
     where
       by : (known : Option Tunnel) → find nat_cmp c.number s.facts.tunnels ≡ known
-          → Moves r s (without_resvs (option_to_list (option_map (λ (t : Tunnel). head_key r c.number t.endpoint (t.last + 1)) known)) (with_facts (option_map_or (λ t. with_change r c.number (begun c.route c.tspec t) s.facts) known s.facts) s))
+          → Moves r s (without_held (option_to_list (option_map (λ (t : Tunnel). head_key r c.number t.endpoint (t.last + 1)) known)) (with_facts (option_map_or (λ t. with_change r c.number (begun c.route c.tspec t) s.facts) known s.facts) s))
       by None found = moves_same _ refl (fewer_without [] s.facts)
       by (Some t) found =
           let new = begun c.route c.tspec t in
           let facts = with_change r c.number new s.facts in
           let key = head_key r c.number t.endpoint (t.last + 1) in
-          moves_put (without_resvs (key ∷ []) (with_facts facts s)) c.number new (signalled_tunnels c.number new new (record { id = t.last + 1; route = c.route; tspec = c.tspec })) (fewer_without (key ∷ []) facts) (none_without key facts)
+          moves_put (without_held (key ∷ []) (with_facts facts s)) c.number new (signalled_tunnels c.number new new (record { id = t.last + 1; route = c.route; tspec = c.tspec })) (fewer_without (key ∷ []) facts) (none_without key facts)
           (λ old was. let own : t ≡ old = same_Some t old (sym found ∙ was) in record { current = ap (λ (u : Tunnel). u.current) own; endpoint = ap (λ (u : Tunnel). u.endpoint) own })
   commanded_moves (CancelChange number) none = by (find nat_cmp number s.facts.tunnels) refl
     where
-      by : (known : Option Tunnel) → find nat_cmp number s.facts.tunnels ≡ known → Moves r s (without_resvs [] (with_facts (option_map_or (λ t. with_cancelled r number t s.facts) known s.facts) s))
+      by : (known : Option Tunnel) → find nat_cmp number s.facts.tunnels ≡ known → Moves r s (without_held [] (with_facts (option_map_or (λ t. with_cancelled r number t s.facts) known s.facts) s))
       by None found = moves_same _ refl (fewer_without [] s.facts)
       by (Some t) found =
           let facts = with_cancelled r number t s.facts in
-          moves_put (without_resvs [] (with_facts facts s)) number (cancelled t) refl (fewer_without [] facts) refl
+          moves_put (without_held [] (with_facts facts s)) number (cancelled t) refl (fewer_without [] facts) refl
           (λ old was. let own : t ≡ old = same_Some t old (sym found ∙ was) in record { current = ap (λ (u : Tunnel). u.current) own; endpoint = ap (λ (u : Tunnel). u.endpoint) own })
   commanded_moves (DropTunnel number) none = by (find nat_cmp number s.facts.tunnels)
     where
-      by : (known : Option Tunnel) → Moves r s (without_resvs [] (with_facts (option_map_or (λ t. with_dropped r number t s.facts) known s.facts) s))
+      by : (known : Option Tunnel) → Moves r s (without_held [] (with_facts (option_map_or (λ t. with_dropped r number t s.facts) known s.facts) s))
       by None = moves_same _ refl (fewer_without [] s.facts)
       by (Some t) =
           let facts = with_dropped r number t s.facts in
-          let after = without_resvs [] (with_facts facts s) in
+          let after = without_held [] (with_facts facts s) in
           record {
             in_order = is_sorted-where_key nat_cmp (λ k. not (is_eq (nat_cmp number k))) s.facts.tunnels;
             keeps = keep_removed number s.facts.tunnels;
@@ -371,19 +354,19 @@ module _ (r : Router) (s : State) (rests : AreSettled r s) where
   commanded_moves (DropRoute prefix) none = moves_same _ refl (fewer_without [] (commanded r s.facts (DropRoute prefix)))
 
   -- No LSP that is to take another's place is reserved then.
-  pub commanded_rests : (c : Command) → refusal_of r s.facts c ≡ None → AreSettled r (commanded_by c)
-  commanded_rests c none = settles_moved (commanded_by c) (fewer_without (option_to_list (begun_by r s.facts c)) (commanded r s.facts c)) (commanded_moves c none).rests
+  pub commanded_rests : (c : Command) → refusal_of r s.facts c ≡ None → AreSettled r (left_by c)
+  commanded_rests c none = settles_moved (left_by c) (fewer_without (option_to_list (begun_by r s.facts c)) (commanded r s.facts c)) (commanded_moves c none).rests
 
   command_moves : (c : Command) → Moves r s (command_comes r s c).after
   unfolding command_comes command
   command_moves c = by (refusal_of r s.facts c) refl
     where
       after_by : paths.PathOutcome → State
-      after_by o = (if o.is_silent then of_paths s o else record (of_paths s o) { after = without_resvs (option_to_list (begun_by r s.facts c)) (with_facts o.after s) }).after
+      after_by o = (if o.is_silent then of_paths s o else commanded_by r s c (of_paths s o)).after
 
       by : (refusal : Option Refusal) → refusal_of r s.facts c ≡ refusal → Moves r s (after_by (option_map_or (paths.refused s.facts) refusal (paths.done [] (commanded r s.facts c))))
       by (Some refusal) is = moves_none
-      by None is = commanded_moves c is
+      by None is = cond_both (takes_used_bypass s c) (refused s InUse) _ (λ (o : Outcome). Moves r s o.after) (λ used. moves_none) (λ other. commanded_moves c is)
 
 -- ---- a Resv
 
@@ -402,8 +385,8 @@ module _ (r : Router) (s : State) (link : ℕ) (style : ResvStyle) (v : Resv) (u
       by_path None is = λ e. absurd (let h = e in cc)
       by_path (Some path) is =
           subst (λ o. verdict_on_path r state key fact path ≡ Granted → option_map_or (leaves_by link) o false ≡ true) is
-          (cond_both (not (leaves_by fact.link path)) PassedOver _ (λ verdict. verdict ≡ Granted → leaves_by link path ≡ true) (λ other. λ e. absurd (let h = e in cc))
-          (λ leaves. λ e. subst (λ l. leaves_by l path ≡ true) on (not-false _ leaves)))
+          (cond_both (not (leaves_by fact.link path) || is_repaired state key) PassedOver _ (λ verdict. verdict ≡ Granted → leaves_by link path ≡ true) (λ other. λ e. absurd (let h = e in cc))
+          (λ leaves. λ e. subst (λ l. leaves_by l path ≡ true) on (not-false _ (neither (not (leaves_by fact.link path)) (is_repaired state key) leaves).0)))
 
   reserving_granted : (d : FlowDescriptor) (fact : ResvFact) (progress : Progress) (verdict : Verdict) → fact.link ≡ link → IsReserving s progress.state → verdict_of r progress.state (key_in v d) fact ≡ verdict
       → IsReserving s (carried_on r link v d fact progress verdict).state

@@ -71,7 +71,7 @@ way_kept n fact p same = ap (λ b. cond b (Ok (way_of fact)) (next_hop n p.route
 
 -- A restart.
 pub restart_rest : (r : Router) (before after : State) (made : Made) → Step r before made after → made.event ≡ events.Restart
-    → (made.reply ≡ replies.Done) × (made.outputs ≡ []) × (after ≡ record { facts = record before.facts { cold = true; tunnels = all_cancelled before.facts.tunnels; paths = []; sent = [] }; resvs = []; labels = []; sent_upstream = [] })
+    → (made.reply ≡ replies.Done) × (made.outputs ≡ []) × (after ≡ record { facts = record before.facts { cold = true; tunnels = all_cancelled before.facts.tunnels; paths = []; sent = [] }; resvs = []; repairs = []; labels = []; sent_upstream = [] })
 restart_rest r before after made x is =
     let o = lost before in
     (answered r before after made events.Restart o x is refl, sends r before after made events.Restart o x is refl, led r before after made events.Restart o x is refl)

@@ -17,6 +17,7 @@ ghost use Rattle.lsr_facts.specs.declared.refusal.Refusal.TheVariants.{BadMoment
 ghost use Rattle.lsr_facts.specs.declared.reply.Reply.TheVariants as replies;
 ghost use Rattle.lsr_facts.specs.declared.router.Router.{Router};
 ghost use Rattle.resv_facts.specs.Upstreams.{upstream_cmp};
+ghost use Rattle.resv_facts.specs.declared.repair.Repair.{Repair};
 ghost use Rattle.resv_facts.specs.declared.resv_fact.ResvFact.{ResvFact};
 ghost use Rattle.resv_facts.specs.declared.upstream.Upstream.{Upstream};
 ghost use Rattle.router_events.specs.declared.events.Event.TheVariants as events;
@@ -59,7 +60,8 @@ pub fn moments_come_in_order()
 {}
 
 /// A moment that is done is the router's from then on, and nothing stands that has expired: the expiry of each
-/// origin and of each reservation is above it, and a path goes whose origins have all expired, unless it begins here.
+/// origin, of each reservation and of each repair is above it, and a path goes whose origins have all expired, unless it
+/// begins here.
 pub fn nothing_expired_stands()
     ensures none { (r : Router) (before after : State) (made : Made) (n : ℕ) →
         Step r before made after → made.event ≡ events.Tick n → made.reply ≡ replies.Done →
@@ -67,6 +69,9 @@ pub fn nothing_expired_stands()
     ensures resvs { (r : Router) (before after : State) (made : Made) (n : ℕ) →
         Step r before made after → made.event ≡ events.Tick n → made.reply ≡ replies.Done →
         AllByRecursion (λ (resv : Key × ResvFact). n < resv.1.expiry) after.resvs }
+    ensures repairs { (r : Router) (before after : State) (made : Made) (n : ℕ) →
+        Step r before made after → made.event ≡ events.Tick n → made.reply ≡ replies.Done →
+        AllByRecursion (λ (repair : Key × Repair). n < repair.1.resv.expiry) after.repairs }
     ensures gone { (r : Router) (before after : State) (made : Made) (n : ℕ)
         (key : Key) (fact : PathFact) →
         IsSound r before →

@@ -1,22 +1,31 @@
 //! What becomes of reservations, step by step. Each law is the contract of a function that does nothing.
 
 ghost use Rattle.std.specs.FinMap.Entries.{find, is_sorted};
+ghost use Rattle.std.specs.Option.{option_and_then};
+ghost use Rattle.std.specs.Ordering.{nat_cmp};
 ghost use Rattle.std.specs.Prelude.{◌≡◌, ◌≢◌, ◌≤◌, ℕ, All, [], Some, T, false, length, true};
 ghost use Rattle.rsvp_contents.specs.declared.messages.Content.TheVariants as contents;
 ghost use Rattle.rsvp_contents.specs.declared.messages.Resv.{Resv};
 ghost use Rattle.rsvp_flows.specs.declared.descriptors.FlowDescriptor.{FlowDescriptor};
 ghost use Rattle.lsr_facts.specs.Lifetimes.{lives_on};
 ghost use Rattle.lsr_facts.specs.Orders.{key_cmp};
+ghost use Rattle.lsr_facts.specs.Tunnels.{current_key};
+ghost use Rattle.lsr_facts.specs.declared.bypass.Bypass.{Bypass};
 ghost use Rattle.lsr_facts.specs.declared.path_fact.PathFact.{PathFact};
 ghost use Rattle.resv_facts.specs.Reservations.{lives_past, style_of};
 ghost use Rattle.resv_facts.specs.Upstreams.{upstream_cmp};
+ghost use Rattle.resv_facts.specs.declared.repair.Over.{Over};
+ghost use Rattle.resv_facts.specs.declared.repair.Repair.{Repair};
 ghost use Rattle.resv_facts.specs.declared.resv_fact.ResvFact.{ResvFact};
 ghost use Rattle.resv_facts.specs.declared.resv_fact.ResvStyle.{ResvStyle};
 ghost use Rattle.router_laws.specs.TouchedBy.{touched_by};
+ghost use Rattle.router_laws.specs.Words.{where_up};
+ghost use Rattle.abstract_router.specs.Detours.{detours_of, over_at};
 ghost use Rattle.abstract_router.specs.Reserving.{Granted, Progress, Verdict, carried_on, key_in, resv_by};
 ghost use Rattle.lsr_facts.specs.declared.key.Key.{Key};
 ghost use Rattle.lsr_facts.specs.declared.reply.Reply.TheVariants as replies;
 ghost use Rattle.lsr_facts.specs.declared.router.Router.{Router};
+ghost use Rattle.lsr_facts.specs.declared.tunnel.Tunnel.{Tunnel};
 ghost use Rattle.router_events.specs.Arrivals.{comes};
 ghost use Rattle.router_events.specs.declared.ways.Arrive.{Arrive};
 ghost use Rattle.router_events.specs.declared.events.Event.TheVariants as events;
@@ -27,14 +36,22 @@ ghost use Rattle.abstract_router.specs.Steps.{AreSettled, Step};
 ghost use Rattle.abstract_router.specs.Upstreams.{upstream_of};
 
 /// A moment takes no reservation that was refreshed in time: where its expiry is above the moment, and its path lives
-/// on, it stands as it was.
+/// on, it stands as it was. Nor does it take such a repair, where the bypass is up after it.
 pub fn refreshed_reservations_stay()
-    ensures { (r : Router) (before after : State) (made : Made) (n : ℕ) (key : Key) (resv : ResvFact) (path : PathFact) →
+    ensures resvs { (r : Router) (before after : State) (made : Made) (n : ℕ) (key : Key) (resv : ResvFact) (path : PathFact) →
         IsSound r before → AreSettled r before →
         Step r before made after → made.event ≡ events.Tick n → made.reply ≡ replies.Done →
         find key_cmp key before.resvs ≡ Some resv → lives_past n resv ≡ true →
         find key_cmp key before.facts.paths ≡ Some path → lives_on n (key, path) ≡ true →
         find key_cmp key after.resvs ≡ Some resv }
+    ensures repairs { (r : Router) (before after : State) (made : Made) (n : ℕ) (key : Key) (repair : Repair) (path : PathFact)
+        (over : Over) →
+        IsSound r before → AreSettled r before →
+        Step r before made after → made.event ≡ events.Tick n → made.reply ≡ replies.Done →
+        find key_cmp key before.repairs ≡ Some repair → lives_past n repair.resv ≡ true →
+        find key_cmp key before.facts.paths ≡ Some path → lives_on n (key, path) ≡ true →
+        over_at (detours_of r after) repair.bypass ≡ Some over →
+        find key_cmp key after.repairs ≡ Some repair }
 {}
 
 /// A descriptor that is in error, or passed over, changes nothing that is known: an old reservation of its LSP stays as
@@ -45,19 +62,28 @@ pub fn refused_descriptors_change_nothing()
 {}
 
 /// In a step of a message every LSP but those that the message touches has the path, the reservation and the label that
-/// it had; and the same links are up. A Path or a PathTear touches its own LSP; a Resv those of the descriptors that
-/// are granted, those that give way to them, and those that tunnels give up whose new LSPs it reserves; a ResvTear those
-/// of its filters; a PathErr or a ResvErr none.
+/// it had, and is repaired as it was where its bypass is up still. The same links are up, and a bypass runs over what it
+/// ran over, unless the message touches the current LSP of its tunnel. A Path or a PathTear touches its own LSP; a Resv
+/// those of the descriptors that are granted, those that give way to them, and those that tunnels give up whose new LSPs it
+/// reserves; a ResvTear those of its filters; a PathErr or a ResvErr none.
 pub fn a_message_touches_its_own_lsps()
     ensures others { (r : Router) (before after : State) (made : Made) (arrived : Arrive) (key : Key) →
         IsSound r before → Step r before made after → made.event ≡ events.Arrive arrived →
         is_one_of (touched_by r before arrived) key ≡ false →
         (find key_cmp key after.facts.paths ≡ find key_cmp key before.facts.paths)
         × (find key_cmp key after.resvs ≡ find key_cmp key before.resvs)
-        × (find key_cmp key after.labels ≡ find key_cmp key before.labels) }
+        × (find key_cmp key after.labels ≡ find key_cmp key before.labels)
+        × (find key_cmp key after.repairs ≡ option_and_then (where_up r after) (find key_cmp key before.repairs)) }
     ensures links { (r : Router) (before after : State) (made : Made) (arrived : Arrive) →
         IsSound r before → Step r before made after → made.event ≡ events.Arrive arrived →
         after.facts.up ≡ before.facts.up }
+    ensures bypasses { (r : Router) (before after : State) (made : Made) (arrived : Arrive)
+        (number : ℕ) (bypass : Bypass) (tunnel : Tunnel) →
+        IsSound r before → Step r before made after → made.event ≡ events.Arrive arrived →
+        find nat_cmp number before.facts.bypasses ≡ Some bypass →
+        find nat_cmp bypass.tunnel before.facts.tunnels ≡ Some tunnel →
+        is_one_of (touched_by r before arrived) (current_key r (bypass.tunnel, tunnel)) ≡ false →
+        over_at (detours_of r after) number ≡ over_at (detours_of r before) number }
 {}
 
 /// A Resv that asks for just what is reserved changes nothing, and nothing is sent for it: so one that comes once more

@@ -51,9 +51,9 @@ pub fn same_routes_keep_their_way()
         is_same_route fact.given p.route ≡ true → way_for n (Some fact) p ≡ Ok (way_of fact) }
 {}
 
-/// A restart takes what messages set up, paths, reservations and labels, and leaves the router cold; links, static
-/// routes, bypasses and the moment stay, and so do tunnels, but their changes are given up. No message goes out for it, no tear
-/// either.
+/// A restart takes what messages set up, paths, reservations, repairs and labels, and leaves the router cold; links,
+/// static routes, bypasses and the moment stay, and so do tunnels, but their changes are given up. No message goes out for
+/// it, no tear either.
 pub fn restarts_lose_what_messages_set_up()
     ensures { (r : Router) (before after : State) (made : Made) →
         Step r before made after → made.event ≡ events.Restart →
@@ -66,6 +66,7 @@ pub fn restarts_lose_what_messages_set_up()
             sent = [];
           };
           resvs = [];
+          repairs = [];
           labels = [];
           sent_upstream = [];
         }) }
@@ -86,9 +87,10 @@ pub fn relays_change_nothing()
         Step r before made after → made.event ≡ events.Relay message → after ≡ before }
 {}
 
-/// What is wanted of an LSP comes of what is known of it, and of what all LSPs share: where the same links are up and
-/// the same static routes stand before and after, each LSP that isn't touched has the same Paths and Resvs wanted of
-/// it. An LSP that isn't touched has the path, the label and the reservation that it had, but for when they expire.
+/// What is wanted of an LSP comes of what is known of it, and of what all LSPs share: where the same links are up, the
+/// same static routes stand, and bypasses run over what they ran over, before and after, each LSP that isn't touched has
+/// the same Paths and Resvs wanted of it. An LSP that isn't touched has the path, the label, the reservation and the repair
+/// that it had, but for when they expire.
 pub fn what_is_wanted_comes_of_its_lsps()
     ensures paths { (r : Router) (touched : Key → Bool) (before after : State) →
         T (is_sorted key_cmp before.facts.paths) → T (is_sorted key_cmp after.facts.paths) →

@@ -9,7 +9,7 @@ ghost use Rattle.rsvp_contents.specs.declared.messages.Path.{Path};
 ghost use Rattle.rsvp_contents.specs.declared.messages.PathErr.{PathErr};
 ghost use Rattle.rsvp_routes.specs.declared.prefix.Prefix.{Prefix};
 ghost use Rattle.lsr_facts.specs.Orders.{key_cmp};
-ghost use Rattle.lsr_facts.specs.Routers.{HasLink};
+ghost use Rattle.lsr_facts.specs.Routers.{HasLink, IsRouter};
 ghost use Rattle.lsr_facts.specs.Tunnels.{current_key, is_head};
 ghost use Rattle.lsr_facts.specs.declared.bypass.Bypass.{Bypass};
 ghost use Rattle.lsr_facts.specs.declared.path_fact.PathFact.{PathFact};
@@ -17,6 +17,8 @@ ghost use Rattle.lsr_facts.specs.declared.refusal.Refusal.TheVariants.{NoMatch};
 ghost use Rattle.lsr_facts.specs.declared.reply.Reply.TheVariants as replies;
 ghost use Rattle.lsr_facts.specs.declared.router.Router.{Router};
 ghost use Rattle.lsr_facts.specs.declared.tunnel.Tunnel.{Tunnel};
+ghost use Rattle.resv_facts.specs.declared.repair.Over.{Over};
+ghost use Rattle.resv_facts.specs.declared.repair.Repair.{Repair};
 ghost use Rattle.resv_facts.specs.declared.resv_fact.ResvFact.{ResvFact};
 ghost use Rattle.forwarding_table.specs.declared.action.Action.TheVariants.{PushHead};
 ghost use Rattle.make_before_break.specs.Changes.{switched};
@@ -29,6 +31,7 @@ ghost use Rattle.abstract_paths.specs.Outcomes.{lsp};
 ghost use Rattle.abstract_paths.specs.Paths.{key_of};
 ghost use Rattle.abstract_paths.specs.Places.{is_up};
 ghost use Rattle.abstract_paths.specs.Tears.{leaves_by};
+ghost use Rattle.abstract_router.specs.Detours.{detours_of, over_at};
 ghost use Rattle.abstract_router.specs.Soundness.{IsSound};
 ghost use Rattle.abstract_router.specs.States.{State, with_facts};
 ghost use Rattle.abstract_router.specs.Steps.{AreSettled, Run, Step, opening};
@@ -48,19 +51,27 @@ pub fn no_reserved_lsp_waits()
 {}
 
 /// The traffic of a tunnel leaves under the label that the next hop of its current LSP reserved, by the link of that
-/// reservation; where that LSP isn't reserved, or there is no such tunnel, there is no entry. A change of the tunnel
-/// takes no entry away (make-before-break: RFC 3209, 2.5). The tunnel goes over to its new LSP in the very step in
-/// which that LSP is reserved: then the entry is that of the new LSP, and the old one goes with its reservation. Until
-/// then the current LSP stays, and its entry with its reservation: a change that begins or is given up touches neither
-/// its path nor its reservation nor its entry, and no more does any other command but the one that drops the tunnel.
+/// reservation. Where that LSP is repaired, it leaves under the label of the bypass's end, under that of the bypass, by the
+/// link that the bypass runs over (RFC 4090, 3.2). Where that LSP is neither, or there is no such tunnel, there is no
+/// entry. A change of the tunnel takes no entry away (make-before-break: RFC 3209, 2.5). The tunnel goes over to its new LSP
+/// in the very step in which that LSP is reserved: then the entry is that of the new LSP, and the old one goes with its
+/// reservation or its repair. Until then the current LSP stays, and its entry with its reservation or its repair: a change
+/// that begins or is given up touches neither its path nor its reservation nor its repair nor its entry, and no more does
+/// any other command but the one that drops the tunnel.
 pub fn tunnels_keep_their_entry()
     ensures entry { (r : Router) (s : State) (number : ℕ) (tunnel : Tunnel) (resv : ResvFact) →
         T (is_sorted nat_cmp s.facts.tunnels) → find nat_cmp number s.facts.tunnels ≡ Some tunnel →
         find key_cmp (current_key r (number, tunnel)) s.resvs ≡ Some resv →
         look_tunnel r s number ≡ Some (PushHead None resv.label resv.link) }
-    ensures unreserved { (r : Router) (s : State) (number : ℕ) (tunnel : Tunnel) →
+    ensures repaired { (r : Router) (s : State) (number : ℕ) (tunnel : Tunnel) (repair : Repair) →
+        IsSound r s → find nat_cmp number s.facts.tunnels ≡ Some tunnel →
+        find key_cmp (current_key r (number, tunnel)) s.repairs ≡ Some repair →
+        (over : Over) × (over_at (detours_of r s) repair.bypass ≡ Some over)
+        × (look_tunnel r s number ≡ Some (PushHead (Some repair.resv.label) over.label over.link)) }
+    ensures neither { (r : Router) (s : State) (number : ℕ) (tunnel : Tunnel) →
         T (is_sorted nat_cmp s.facts.tunnels) → find nat_cmp number s.facts.tunnels ≡ Some tunnel →
         find key_cmp (current_key r (number, tunnel)) s.resvs ≡ None →
+        find key_cmp (current_key r (number, tunnel)) s.repairs ≡ None →
         look_tunnel r s number ≡ None }
     ensures unknown { (r : Router) (s : State) (number : ℕ) →
         T (is_sorted nat_cmp s.facts.tunnels) → find nat_cmp number s.facts.tunnels ≡ None →
@@ -77,7 +88,8 @@ pub fn tunnels_keep_their_entry()
         find nat_cmp number before.facts.tunnels ≡ Some old → find nat_cmp number after.facts.tunnels ≡ Some new →
         new.current.id ≢ old.current.id →
         (find key_cmp (current_key r (number, old)) after.facts.paths ≡ None)
-        × (find key_cmp (current_key r (number, old)) after.resvs ≡ None) }
+        × (find key_cmp (current_key r (number, old)) after.resvs ≡ None)
+        × (find key_cmp (current_key r (number, old)) after.repairs ≡ None) }
     ensures kept { (r : Router) (before after : State) (made : Made) (number : ℕ) (old new : Tunnel) →
         IsSound r before → AreSettled r before → Step r before made after →
         find nat_cmp number before.facts.tunnels ≡ Some old → find nat_cmp number after.facts.tunnels ≡ Some new →
@@ -89,6 +101,13 @@ pub fn tunnels_keep_their_entry()
         find nat_cmp number before.facts.tunnels ≡ Some old → find nat_cmp number after.facts.tunnels ≡ Some new →
         new.current.id ≡ old.current.id → find key_cmp (current_key r (number, old)) after.resvs ≡ Some resv →
         look_tunnel r after number ≡ Some (PushHead None resv.label resv.link) }
+    ensures kept_repaired { (r : Router) (before after : State) (made : Made) (number : ℕ)
+        (old new : Tunnel) (repair : Repair) →
+        IsRouter r → IsSound r before → AreSettled r before → Step r before made after →
+        find nat_cmp number before.facts.tunnels ≡ Some old → find nat_cmp number after.facts.tunnels ≡ Some new →
+        new.current.id ≡ old.current.id → find key_cmp (current_key r (number, old)) after.repairs ≡ Some repair →
+        (over : Over) × (over_at (detours_of r after) repair.bypass ≡ Some over)
+        × (look_tunnel r after number ≡ Some (PushHead (Some repair.resv.label) over.label over.link)) }
     ensures change { (r : Router) (before after : State) (made : Made) (command : Command)
         (number : ℕ) (tunnel : Tunnel) →
         IsSound r before → AreSettled r before → Step r before made after → made.event ≡ events.Command command →
@@ -96,7 +115,9 @@ pub fn tunnels_keep_their_entry()
         (find key_cmp (current_key r (number, tunnel)) after.facts.paths
         ≡ find key_cmp (current_key r (number, tunnel)) before.facts.paths)
         × (find key_cmp (current_key r (number, tunnel)) after.resvs
-        ≡ find key_cmp (current_key r (number, tunnel)) before.resvs) }
+        ≡ find key_cmp (current_key r (number, tunnel)) before.resvs)
+        × (find key_cmp (current_key r (number, tunnel)) after.repairs
+        ≡ find key_cmp (current_key r (number, tunnel)) before.repairs) }
     ensures change_entry { (r : Router) (before after : State) (made : Made) (command : Command) (number : ℕ) →
         IsSound r before → AreSettled r before → Step r before made after → made.event ≡ events.Command command →
         command ≢ DropTunnel number →

@@ -28,6 +28,7 @@ no_router = record {
   state = record {
     facts = record { cold = true; moment = 0; up = []; routes = []; tunnels = []; bypasses = []; paths = []; sent = [] };
     resvs = [];
+    repairs = [];
     labels = [];
     sent_upstream = [];
   };
@@ -73,7 +74,7 @@ IsServedFor r before (Err refusal) after answer = (answer ≡ Err refusal) × (a
 -- of that.
 abbrev pub IsDatagramServed : Router → State → ℕ → List ℕ → State → Result Served Refusal → Type 0
 IsDatagramServed r before link bytes after answer =
-    (datagram : Result Datagram Refusal) × IsDatagram r (forwarded before) link bytes datagram × IsServedFor r before datagram after answer
+    (datagram : Result Datagram Refusal) × IsDatagram r (forwarded r before) link bytes datagram × IsServedFor r before datagram after answer
 
 -- What comes of an event that is copied first: memory may run out for the copy of a message, or of a command with a route.
 abbrev pub IsCopyServed : Router → State → Event → State → Result Served Refusal → Type 0

@@ -16,7 +16,7 @@ pub(crate) struct Labels<'a> {
 }
 
 impl<'a> Forwards for Labels<'a> {
-    ghost forwarded = { λ labels. forwarded labels.tables.now.state };
+    ghost forwarded = { λ labels. forwarded labels.tables.now.router labels.tables.now.state };
 
     fn forward(&self, stack: &Stack) -> Forwarding {
         self.tables.forward(stack)

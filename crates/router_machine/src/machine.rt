@@ -3,6 +3,7 @@
 ghost use Rattle.std.specs.Prelude.{◌≡◌, IfOk, OnErr, false};
 ghost use Rattle.lsr_facts.specs.Routers.{IsRouter};
 ghost use Rattle.resv_facts.specs.Claims.{reserved_of};
+ghost use Rattle.abstract_router.specs.Detours.{detours_of, over_at};
 ghost use Rattle.abstract_router.specs.Preempting.{claims_of};
 ghost use Rattle.abstract_router.specs.Soundness.{IsSound};
 ghost use Rattle.abstract_router.specs.Steps.{Run, opening};
@@ -19,7 +20,7 @@ use datagrams::{Datagram, read_datagram};
 use forwarding_table::Action;
 use lsr_config::Config;
 use lsr_facts::{Refusal, Reply, Router};
-use resv_facts::State;
+use resv_facts::{Over, State};
 use router_core::{Cold, Running, Tables};
 use router_events::{Event, Made, Outputs};
 use sorted_rows::Table;
@@ -163,7 +164,7 @@ impl Machine {
 
     /// What a datagram is that came over a link, by what the router knows.
     fn read(&self, alloc: Global, link: u16, bytes: &[u8]) -> Result<Datagram, Refusal>
-        ensures { IsDatagram self.now.router (forwarded self.now.state) link bytes.now result }
+        ensures { IsDatagram self.now.router (forwarded self.now.router self.now.state) link bytes.now result }
     {
         let tables = self.tables();
         read_datagram(alloc, tables.router(), &Labels { tables }, link, bytes)
@@ -281,7 +282,7 @@ impl Machine {
     /// All labels under which frames may come, in their order, and what is done with them: a copy. A cold router has none.
     /// The only error is out of memory.
     pub fn actions(&self, alloc: Global) -> Result<Table<u32, Action>, AllocError>
-        ensures { IfOk result (IsTableOf self.now.state) }
+        ensures { IfOk result (IsTableOf self.now.router self.now.state) }
     {
         self.tables().actions(alloc)
     }
@@ -292,6 +293,13 @@ impl Machine {
         ensures { result ≡ look_tunnel self.now.router self.now.state number }
     {
         self.tables().look_tunnel(number)
+    }
+
+    /// What the bypass of this number runs over, or `None` where there is none or it isn't up (RFC 4090, 3.2).
+    pub fn over_at(&self, number: u16) -> Option<Over>
+        ensures { result ≡ over_at (detours_of self.now.router self.now.state) number }
+    {
+        self.tables().over_at(number)
     }
 
     /// How much of a link is reserved at this priority, 0 (best) to 7, or a better one, in bytes per second.
@@ -306,6 +314,7 @@ impl Machine {
         ensures router { result.now.router ≡ self.now.router }
         ensures facts { result.now.state.facts ≡ record self.now.state.facts { cold = false } }
         ensures resvs { result.now.state.resvs ≡ self.now.state.resvs }
+        ensures repairs { result.now.state.repairs ≡ self.now.state.repairs }
         ensures labels { result.now.state.labels ≡ self.now.state.labels }
         ensures upstream { result.now.state.sent_upstream ≡ self.now.state.sent_upstream }
     {

@@ -40,11 +40,12 @@ use Rattle.lsr_facts.specs.declared.path_fact.Origin.{Origin}
 use Rattle.lsr_facts.specs.declared.path_fact.PathFact.{PathFact}
 use Rattle.std.specs.declared.net.ipv4_addr.Ipv4Addr.{Ipv4Addr}
 use Rattle.lsr_facts.specs.declared.refusal.Refusal.{Refusal}
-use Rattle.lsr_facts.specs.declared.refusal.Refusal.TheVariants.{LinkDown, NoMatch, UnknownLink}
+use Rattle.lsr_facts.specs.declared.refusal.Refusal.TheVariants.{InUse, LinkDown, NoMatch, UnknownLink}
 use Rattle.lsr_facts.specs.declared.router.Router.{Router}
 use Rattle.lsr_facts.specs.declared.tunnel.Tunnel.{Tunnel}
 use Rattle.lsr_facts.specs.declared.tunnel.TunnelLsp.{TunnelLsp}
-use Rattle.resv_facts.specs.Reservations.{expire, lives_past, style_of}
+use Rattle.resv_facts.specs.Reservations.{expire, expire_repairs, lives_past, style_of}
+use Rattle.resv_facts.specs.declared.repair.Repair.{Repair}
 use Rattle.resv_facts.specs.declared.resv_fact.ResvFact.{ResvFact}
 use Rattle.resv_facts.specs.declared.resv_fact.ResvStyle.{ResvStyle}
 use Rattle.router_events.specs.declared.commands.Command.{Command}
@@ -81,20 +82,22 @@ use Rattle.abstract_paths.specs.Time.{tick}
 use Rattle.rsvp_traffic.specs.TokenBuckets.{token_rate}
 use Rattle.router_soundness.proofs.Choosing.{each_has}
 use Rattle.router_soundness.proofs.Granting.{IsGranted, granted_means, held_granted}
-use Rattle.router_soundness.proofs.Holding.{held_where, held_with_facts}
+use Rattle.router_soundness.proofs.Holding.{held_where, held_with_facts, held_with_repairs}
+use Rattle.router_soundness.proofs.Repairing.{repaired_resvs_where, repaired_where, repaired_with_facts, repaired_with_resv}
 use Rattle.router_soundness.proofs.Settling.{Leaves, LeavesBy}
 use Rattle.router_soundness.specs.Drafted.{IsDrafted}
-use Rattle.abstract_router.specs.Arrivals.{arrival, arrival_by, command_comes, for_reservations, is_done, labelled_path_arrival, lost, message_arrival, moment_comes, outcome, reading_arrival}
+use Rattle.abstract_router.specs.Arrivals.{arrival, arrival_by, command_comes, commanded_by, for_reservations, is_done, labelled_path_arrival, lost, message_arrival, moment_comes, outcome, reading_arrival, takes_used_bypass}
 use Rattle.abstract_router.specs.Choosing.{CanLabel, HasLabel, HasLabelOrIsNew}
+use Rattle.abstract_router.specs.Detours.{detours_of}
 use Rattle.abstract_router.specs.Errors.{unknown_style}
 use Rattle.abstract_router.specs.Labels.{has_free_label}
-use Rattle.abstract_router.specs.Preempting.{claims_of}
+use Rattle.abstract_router.specs.Preempting.{claims_of, giving_way}
 use Rattle.abstract_router.specs.Upstreams.{upstream_of}
 use Rattle.resv_facts.specs.Claims.{rate_of_all, reserved_of}
 use Rattle.abstract_router.specs.Outcomes.{Outcome, of_paths, refused}
 use Rattle.abstract_router.specs.Reserving.{Progress, Verdict, Failed, PassedOver, Granted, all_descriptors, carried_on, key_in, next_descriptor, resv_arrival, resv_by, resv_failed, resv_replied, unknown_resv, verdict_of}
-use Rattle.abstract_router.specs.Soundness.{AreHeld, IsResv, IsSound}
-use Rattle.abstract_router.specs.States.{State, is_one_of, with_facts, with_resvs_where, without_resvs}
+use Rattle.abstract_router.specs.Soundness.{AreHeld, AreRepaired, IsResv, IsSound}
+use Rattle.abstract_router.specs.States.{State, is_one_of, with_facts, with_repairs_where, with_resvs_where, without_held, without_resvs}
 use Rattle.abstract_router.specs.Tearing.{is_resv_torn_by, resv_err_passed_on, err_onward, resv_err_arrival, resv_tear_arrival}
 
 -- A path event keeps what reservations look at, and leaves paths that can be labelled: a silent one keeps all, any other
@@ -182,6 +185,7 @@ of_paths-leaves r s o is leaves keeps = by o.is_silent leaves keeps
     by false stands same = record {
       paths = stands;
       held = held_with_facts r s o.after is.held (subst (λ m. AllByRecursion (IsResv m) s.resvs) (sym same.0) is.held.each);
+      repaired = repaired_with_facts s o.after is.repaired (subst (λ m. AllByRecursion (λ repair. IsResv m (repair.0, repair.1.resv)) s.repairs) (sym same.0) is.repaired.each);
       labels = refl;
       choice = same.1;
     }
@@ -189,6 +193,7 @@ of_paths-leaves r s o is leaves keeps = by o.is_silent leaves keeps
 -- What some descriptors of a Resv lead to is as it should be, and touches reservations alone.
 record IsCarried (r : Router) (s : State) (after : State) : Type 0 where
   held : AreHeld r after
+  repaired : AreRepaired after
   facts : after.facts ≡ s.facts
   labels : after.labels ≡ s.labels
 
@@ -231,7 +236,13 @@ module _ (r : Router) (s : State) (link : ℕ) (style : ResvStyle) (v : Resv) (f
   carried progress d short is Granted by =
       let fact = resv_by progress.state.facts.moment link style v d in
       let may = granted_means r progress.state (key_in v d) fact by in
-      record { held = held_granted r progress.state (key_in v d) fact is.held may (is_resv progress.state d short may); facts = is.facts; labels = is.labels }
+      let gone = giving_way r progress.state (key_in v d) fact in
+      record {
+        held = held_granted r progress.state (key_in v d) fact is.held may (is_resv progress.state d short may);
+        repaired = repaired_with_resv (without_resvs gone progress.state) (key_in v d) fact may.unrepaired (repaired_resvs_where progress.state (λ resv. not (is_one_of gone resv.0)) is.held.in_order is.repaired);
+        facts = is.facts;
+        labels = is.labels;
+      }
 
   all_carried : (ds : List FlowDescriptor) (progress : Progress) → IsTrue (have_short_records ds) → IsCarried r s progress.state → IsCarried r s (fold (next_descriptor r link style v) progress ds).state
   all_carried [] progress short is = is
@@ -244,12 +255,13 @@ drafted : (r : Router) (s after : State) → IsSound r s → IsCarried r s after
 drafted r s after is carried = record {
   paths = subst (IsStanding r) (sym carried.facts) is.paths;
   held = carried.held;
+  repaired = carried.repaired;
   labels = carried.labels;
   choice = inl (subst (λ facts. AllByRecursion (HasLabel s.labels) facts.paths) (sym carried.facts) (labelled r s is));
 }
 
 unchanged : (r : Router) (s : State) → IsSound r s → IsDrafted r s s
-unchanged r s is = record { paths = is.paths; held = is.held; labels = refl; choice = inl (labelled r s is) }
+unchanged r s is = record { paths = is.paths; held = is.held; repaired = is.repaired; labels = refl; choice = inl (labelled r s is) }
 
 -- a Resv
 resv-leaves : (r : Router) (s : State) (link : ℕ) (v : Resv) → IsSound r s → Fits v → Leaves r s (resv_arrival r s link v)
@@ -264,14 +276,20 @@ resv-leaves r s link v is fit = by_style (style_of v.style)
     by_style None = unchanged r s is
     by_style (Some style) =
         let progress = all_descriptors r s link style v in
-        by_first progress (all_carried r s link style v fit v.descriptors (record { state = s; errors = []; first = None; has_granted = false }) fit.records (record { held = is.held; facts = refl; labels = refl })) progress.first
+        by_first progress (all_carried r s link style v fit v.descriptors (record { state = s; errors = []; first = None; has_granted = false }) fit.records (record { held = is.held; repaired = is.repaired; facts = refl; labels = refl })) progress.first
 
 -- a ResvTear
 resv_tear-leaves : (r : Router) (s : State) (link : ℕ) (t : ResvTear) → IsSound r s → Leaves r s (resv_tear_arrival s link t)
 unfolding resv_tear_arrival
 resv_tear-leaves r s link t is =
     cond_both (list_any (is_resv_torn_by link t) s.resvs) _ (refused s NoMatch) (Leaves r s)
-    (λ some. record { paths = is.paths; held = held_where r s (λ resv. not (is_resv_torn_by link t resv)) is.held; labels = refl; choice = inl (labelled r s is) })
+    (λ some. record {
+      paths = is.paths;
+      held = held_where r s (λ resv. not (is_resv_torn_by link t resv)) is.held;
+      repaired = repaired_resvs_where s (λ resv. not (is_resv_torn_by link t resv)) is.held.in_order is.repaired;
+      labels = refl;
+      choice = inl (labelled r s is);
+    })
     (λ none. is)
 
 -- a ResvErr
@@ -373,20 +391,42 @@ runs_for : (cold : Bool) (event : Event) → (event ≡ events.Start → ⊥) �
 runs_for true event other wakes = absurd (other (wakes refl))
 runs_for false event other wakes = refl
 
+-- a reservation is as it should be at a later moment that it outlives
+still_resv : (m n : ℕ) (resv : Key × ResvFact) → IsResv m resv → lives_past n resv.1 ≡ true → IsResv n resv
+still_resv m n resv was lives = record { has_rate = was.has_rate; label = was.label; live = omega (arith, ltb-true n resv.1.expiry lives); recorded = was.recorded; passing = was.passing; passed_on = was.passed_on; adspec_last = was.adspec_last }
+
+module _ (r : Router) (s : State) (n : ℕ) (is : IsSound r s) where
+  -- the reservations that outlive a moment
+  living_resvs : AllByRecursion (IsResv n) (filter (λ (resv : Key × ResvFact). lives_past n resv.1) s.resvs)
+  living_resvs =
+      all-both (IsResv s.facts.moment) (λ resv. lives_past n resv.1 ≡ true) (IsResv n) (still_resv s.facts.moment n) (filter (λ resv. lives_past n resv.1) s.resvs)
+      (all-filter (IsResv s.facts.moment) (λ resv. lives_past n resv.1) s.resvs is.held.each) (all-filter_passes (λ resv. lives_past n resv.1 ≡ true) (λ resv. lives_past n resv.1) (λ resv passes. passes) s.resvs)
+
+  -- and the repairs that do
+  living_repairs : AllByRecursion (λ repair. IsResv n (repair.0, repair.1.resv)) (filter (λ (repair : Key × Repair). lives_past n repair.1.resv) s.repairs)
+  living_repairs =
+      all-both (λ (repair : Key × Repair). IsResv s.facts.moment (repair.0, repair.1.resv)) (λ repair. lives_past n repair.1.resv ≡ true) (λ repair. IsResv n (repair.0, repair.1.resv))
+      (λ repair was lives. still_resv s.facts.moment n (repair.0, repair.1.resv) was lives) (filter (λ (repair : Key × Repair). lives_past n repair.1.resv) s.repairs)
+      (all-filter (λ (repair : Key × Repair). IsResv s.facts.moment (repair.0, repair.1.resv)) (λ repair. lives_past n repair.1.resv) s.repairs is.repaired.each)
+      (all-filter_passes (λ (repair : Key × Repair). lives_past n repair.1.resv ≡ true) (λ repair. lives_past n repair.1.resv) (λ repair passes. passes) s.repairs)
+
 -- a moment that comes
 tick-leaves : (r : Router) (s : State) (n : ℕ) → IsSound r s → LeavesStanding r (tick r s.facts n) → Leaves r s (moment_comes r s n)
-unfolding moment_comes tick expire lifetimes.expire
+unfolding moment_comes tick expire expire_repairs lifetimes.expire
 tick-leaves r s n is =
     cond_both (nat_lt (2 ^ 62) n) _ _ (λ o. LeavesStanding r o → Leaves r s (for_reservations r s n (of_paths s o))) (λ above. λ leaves. is)
     (λ most. cond_both (nat_lt n s.facts.moment) _ _ (λ o. LeavesStanding r o → Leaves r s (for_reservations r s n (of_paths s o))) (λ below. λ leaves. is)
     (λ later. λ leaves.
     let living = record s.facts { moment = n; paths = lifetimes.expire n s.facts.paths } in
+    let moment = sym (ap (λ (x : Facts). x.moment) (signalled-same r living)) in
+    let resvs = with_resvs_where (λ resv. lives_past n resv.1) s in
     record {
       paths = leaves;
-      held = held_with_facts r (with_resvs_where (λ resv. lives_past n resv.1) s) (signalled r living) (held_where r s (λ resv. lives_past n resv.1) is.held)
-          (subst (λ (m : ℕ). AllByRecursion (IsResv m) (filter (λ (resv : Key × ResvFact). lives_past n resv.1) s.resvs)) (sym (ap (λ (x : Facts). x.moment) (signalled-same r living)))
-          (all-both (IsResv s.facts.moment) (λ resv. lives_past n resv.1 ≡ true) (IsResv n) (λ resv was lives. record { has_rate = was.has_rate; label = was.label; live = omega (arith, ltb-true n resv.1.expiry lives); recorded = was.recorded; passing = was.passing; passed_on = was.passed_on; adspec_last = was.adspec_last }) (filter (λ resv. lives_past n resv.1) s.resvs)
-          (all-filter (IsResv s.facts.moment) (λ resv. lives_past n resv.1) s.resvs is.held.each) (all-filter_passes (λ resv. lives_past n resv.1 ≡ true) (λ resv. lives_past n resv.1) (λ resv passes. passes) s.resvs)));
+      held = held_with_repairs r (with_facts (signalled r living) resvs) (filter (λ repair. lives_past n repair.1.resv) s.repairs)
+          (held_with_facts r resvs (signalled r living) (held_where r s (λ resv. lives_past n resv.1) is.held) (subst (λ (m : ℕ). AllByRecursion (IsResv m) resvs.resvs) moment (living_resvs r s n is)));
+      repaired = repaired_with_facts (with_repairs_where (λ repair. lives_past n repair.1.resv) resvs) (signalled r living)
+          (repaired_where resvs (λ repair. lives_past n repair.1.resv) (repaired_resvs_where s (λ resv. lives_past n resv.1) is.held.in_order is.repaired))
+          (subst (λ (m : ℕ). AllByRecursion (λ repair. IsResv m (repair.0, repair.1.resv)) (filter (λ (repair : Key × Repair). lives_past n repair.1.resv) s.repairs)) moment (living_repairs r s n is));
       labels = refl;
       choice = inl (signalled-all r (HasLabel s.labels) (head_has s.labels) living
           (all-map (HasLabel s.labels) (lifetimes.with_living n) (filter (lifetimes.lives_on n) s.facts.paths) (all-filter (HasLabel s.labels) (lifetimes.lives_on n) s.facts.paths (labelled r s is))));
@@ -409,19 +449,27 @@ unfolding command_comes command
 command-leaves r s c is = by (refusal_of r s.facts c)
   where
     done_by : paths.PathOutcome → Outcome
-    done_by o = if o.is_silent then of_paths s o else record (of_paths s o) { after = without_resvs (option_to_list (begun_by r s.facts c)) (with_facts o.after s) }
+    done_by o = if o.is_silent then of_paths s o else commanded_by r s c (of_paths s o)
 
-    by : (refusal : Option Refusal) → LeavesStanding r (option_map_or (paths.refused s.facts) refusal (paths.done [] (commanded r s.facts c))) → Leaves r s (done_by (option_map_or (paths.refused s.facts) refusal (paths.done [] (commanded r s.facts c))))
-    by (Some refusal) leaves = is
-    by None leaves =
-        let after = commanded r s.facts c in
+    -- it drops no bypass that is used
+    left : IsStanding r (commanded r s.facts c) → IsDrafted r s (without_held (option_to_list (begun_by r s.facts c)) (with_facts (commanded r s.facts c) s))
+    left leaves =
+        let after = with_facts (commanded r s.facts c) s in
+        let keys = option_to_list (begun_by r s.facts c) in
+        let moment = sym (commanded-time r s.facts c).moment in
+        let held = held_with_facts r s after.facts is.held (subst (λ (m : ℕ). AllByRecursion (IsResv m) s.resvs) moment is.held.each) in
+        let repaired = repaired_with_facts s after.facts is.repaired (subst (λ (m : ℕ). AllByRecursion (λ repair. IsResv m (repair.0, repair.1.resv)) s.repairs) moment is.repaired.each) in
         record {
           paths = leaves;
-          held = held_where r (with_facts after s) (λ resv. not (is_one_of (option_to_list (begun_by r s.facts c)) resv.0))
-              (held_with_facts r s after is.held (subst (λ (m : ℕ). AllByRecursion (IsResv m) s.resvs) (sym (commanded-time r s.facts c).moment) is.held.each));
+          held = held_with_repairs r (without_resvs keys after) (filter (λ repair. not (is_one_of keys repair.0)) s.repairs) (held_where r after (λ resv. not (is_one_of keys resv.0)) held);
+          repaired = repaired_where (without_resvs keys after) (λ repair. not (is_one_of keys repair.0)) (repaired_resvs_where after (λ resv. not (is_one_of keys resv.0)) is.held.in_order repaired);
           labels = refl;
           choice = inl (commanded-all r (HasLabel s.labels) (head_has s.labels) s.facts c (labelled r s is));
         }
+
+    by : (refusal : Option Refusal) → LeavesStanding r (option_map_or (paths.refused s.facts) refusal (paths.done [] (commanded r s.facts c))) → Leaves r s (done_by (option_map_or (paths.refused s.facts) refusal (paths.done [] (commanded r s.facts c))))
+    by (Some refusal) leaves = is
+    by None leaves = cond_both (takes_used_bypass s c) (refused s InUse) _ (Leaves r s) (λ used. is) (λ other. left leaves)
 
 -- What is lost by a restart leaves nothing but links, static routes and the moment.
 lost-sound : (r : Router) (s : State) → IsSound r s → IsSound r (lost s).after
@@ -430,6 +478,8 @@ lost-sound r s is = record {
   paths = sound_restarted r s.facts is.paths;
   held = record { in_order = tt; each = tt; one_style = λ a b x y at_a at_b. absurd (let e = at_a in cc); within = λ link priority most. omega arith };
   standing = tt;
+  repaired = record { in_order = tt; each = tt; apart = tt };
+  repairs_standing = tt;
   labels = record { of_lsps = refl; from_first = tt; to_last = tt; apart = tt };
   sent = refl;
   sent_upstream = refl;
@@ -437,11 +487,13 @@ lost-sound r s is = record {
 
 -- A start leaves all else as it was.
 started-sound : (r : Router) (s : State) → IsSound r s → IsSound r (of_paths s (started s.facts)).after
-unfolding items_of upstream_of lsps_of
+unfolding items_of upstream_of lsps_of detours_of
 started-sound r s is = record {
   paths = sound_started r s.facts is.paths;
   held = record { in_order = is.held.in_order; each = is.held.each; one_style = is.held.one_style; within = is.held.within };
   standing = is.standing;
+  repaired = record { in_order = is.repaired.in_order; each = is.repaired.each; apart = is.repaired.apart };
+  repairs_standing = is.repairs_standing;
   labels = record { of_lsps = is.labels.of_lsps; from_first = is.labels.from_first; to_last = is.labels.to_last; apart = is.labels.apart };
   sent = is.sent;
   sent_upstream = is.sent_upstream;

@@ -1,11 +1,11 @@
 -- A reservation that is granted leaves the table of reservations as it should be.
-use Rattle.std.specs.Prelude.{◌≡◌, ℕ, ◌≤◌, ◌==◌, ◌&&◌, Bool, true, false, cond, not, List, [], ◌∷◌, Option, Some, None, Result, Ok, Err, IsOk, find as find_first}
+use Rattle.std.specs.Prelude.{◌≡◌, ℕ, ◌≤◌, ◌==◌, ◌&&◌, ◌||◌, Bool, true, false, cond, not, List, [], ◌∷◌, Option, Some, None, Result, Ok, Err, IsOk, find as find_first}
 use Rattle.std.specs.FinMap.Entries.{find, find-put, is_sorted-put, put}
 use Rattle.std.specs.List.{list_any}
 use Rattle.std.specs.Option.{option_map_or}
 use Rattle.std.specs.Ordering.{eq_by_cmp, is_eq}
 use Rattle.std.proofs.Common.{refl, sym, ap, subst, ◌∙◌, arith}
-use Rattle.std.proofs.lemmas.Bool.{cond_both, eqb-true, not-false}
+use Rattle.std.proofs.lemmas.Bool.{cond_both, eqb-true, not-false, or_parts}
 use Rattle.std.proofs.lemmas.Cmp.{tied_itself}
 use Rattle.rsvp_traffic.specs.Traffic.{flowspec_rate}
 use Rattle.rsvp_traffic.specs.declared.fault.TrafficFault.{TrafficFault}
@@ -32,12 +32,13 @@ use Rattle.router_soundness.proofs.Holding.{found-all, held_where}
 use Rattle.abstract_router.specs.Preempting.{attr_at, claims_of, fits, giving_way, limit_of, request_of}
 use Rattle.abstract_router.specs.Reserving.{Verdict, Failed, Granted, conflicts, is_same_style, verdict_by_rate, verdict_of, verdict_on_path}
 use Rattle.abstract_router.specs.Soundness.{AreHeld, IsResv}
-use Rattle.abstract_router.specs.States.{State, is_one_of, with_resv, without_resvs}
+use Rattle.abstract_router.specs.States.{State, is_one_of, is_repaired, with_resv, without_resvs}
 
 -- What a descriptor has been tested for that is granted.
 pub record IsGranted (r : Router) (s : State) (key : Key) (fact : ResvFact) : Type 0 where
   pub rate : IsOk (flowspec_rate fact.flowspec)
   pub label : is_label fact.label ≡ true
+  pub unrepaired : is_repaired s key ≡ false
   pub agrees : find_first (conflicts fact.link fact.style key) s.resvs ≡ None
   pub fits : fits r s key fact ≡ true
 
@@ -46,25 +47,25 @@ module _ (r : Router) (s : State) (key : Key) (fact : ResvFact) where
   abbrev Means : Verdict → Type 0
   Means verdict = verdict ≡ Granted → IsGranted r s key fact
 
-  means_by_rate : (rate : Result ℕ TrafficFault) → flowspec_rate fact.flowspec ≡ rate → find_first (conflicts fact.link fact.style key) s.resvs ≡ None → Means (verdict_by_rate r s key fact rate)
-  means_by_rate (Err fault) is agrees = λ e. absurd (let h = e in cc)
-  means_by_rate (Ok rate) is agrees =
+  means_by_rate : (rate : Result ℕ TrafficFault) → flowspec_rate fact.flowspec ≡ rate → is_repaired s key ≡ false → find_first (conflicts fact.link fact.style key) s.resvs ≡ None → Means (verdict_by_rate r s key fact rate)
+  means_by_rate (Err fault) is whole agrees = λ e. absurd (let h = e in cc)
+  means_by_rate (Ok rate) is whole agrees =
       cond_both (not (is_label fact.label)) _ _ Means (λ bad. λ e. absurd (let h = e in cc))
       (λ label.
       cond_both (has_loop r fact.recorded) _ _ Means (λ loops. λ e. absurd (let h = e in cc))
       (λ straight.
       cond_both (not (fits r s key fact)) _ _ Means (λ full. λ e. absurd (let h = e in cc))
-      (λ room. λ e. record { rate = subst IsOk (sym is) refl; label = not-false _ label; agrees = agrees; fits = not-false _ room })))
+      (λ room. λ e. record { rate = subst IsOk (sym is) refl; label = not-false _ label; unrepaired = whole; agrees = agrees; fits = not-false _ room })))
 
   means_on_path : (path : PathFact) → Means (verdict_on_path r s key fact path)
   means_on_path path =
-      cond_both (not (leaves_by fact.link path)) _ _ Means (λ other. λ e. absurd (let h = e in cc))
-      (λ leaves. by_conflict (find_first (conflicts fact.link fact.style key) s.resvs) refl)
+      cond_both (not (leaves_by fact.link path) || is_repaired s key) _ _ Means (λ other. λ e. absurd (let h = e in cc))
+      (λ leaves. by_conflict (or_parts (not (leaves_by fact.link path)) (is_repaired s key) leaves).1 (find_first (conflicts fact.link fact.style key) s.resvs) refl)
     where
-      by_conflict : (o : Option (Key × ResvFact)) → find_first (conflicts fact.link fact.style key) s.resvs ≡ o
+      by_conflict : is_repaired s key ≡ false → (o : Option (Key × ResvFact)) → find_first (conflicts fact.link fact.style key) s.resvs ≡ o
           → Means (option_map_or (λ other. Failed (style_conflict other.1.style)) o (verdict_by_rate r s key fact (flowspec_rate fact.flowspec)))
-      by_conflict None none = means_by_rate (flowspec_rate fact.flowspec) refl none
-      by_conflict (Some other) some = λ e. absurd (let h = e in cc)
+      by_conflict whole None none = means_by_rate (flowspec_rate fact.flowspec) refl whole none
+      by_conflict whole (Some other) some = λ e. absurd (let h = e in cc)
 
   pub granted_means : verdict_of r s key fact ≡ Granted → IsGranted r s key fact
   unfolding verdict_of

@@ -14,6 +14,7 @@ use Rattle.lsr_facts.specs.declared.key.Key.{Key}
 use Rattle.lsr_facts.specs.declared.router.Router.{Router}
 use Rattle.resv_facts.specs.AdmissionLaws.{reserved_of-better-le, reserved_of-but_holding, reserved_of-where_key-le}
 use Rattle.resv_facts.specs.Claims.{reserved_of}
+use Rattle.resv_facts.specs.declared.repair.Repair.{Repair}
 use Rattle.resv_facts.specs.declared.resv_fact.ResvFact.{ResvFact}
 use Rattle.abstract_router.specs.ClaimsLaws.{sorted-claims}
 use Rattle.router_soundness.proofs.Claiming.{claims-filter, claims-other_paths, claims_most}
@@ -47,6 +48,10 @@ held_where r s test held = record {
     fewer link priority within =
         let less = reserved_of-where_key-le link priority (λ k. is_some (find key_cmp k (filter test s.resvs))) (claims_of s.facts.paths s.resvs) (sorted-claims s.facts.paths s.resvs held.in_order) in
         subst (λ claims. reserved_of link priority claims ≤ limit_of r link) (sym (claims-filter s.facts.paths test s.resvs held.in_order)) (omega (arith, less, within))
+
+-- Whatever is known of repairs.
+pub held_with_repairs : (r : Router) (s : State) (repairs : List (Key × Repair)) → AreHeld r s → AreHeld r (record s { repairs = repairs })
+held_with_repairs r s repairs held = record { in_order = held.in_order; each = held.each; one_style = held.one_style; within = held.within }
 
 -- Other things are known of links, time and paths, and no reservation has expired by that.
 pub held_with_facts : (r : Router) (s : State) (facts : Facts) → AreHeld r s → AllByRecursion (IsResv facts.moment) s.resvs → AreHeld r (with_facts facts s)

@@ -5,8 +5,11 @@ pub mod Entries
 pub mod Granting
 pub mod Holding
 pub mod Labelling
+pub mod Repairing
 pub mod Running
+pub mod Selecting
 pub mod Settling
 pub mod Silence
+pub mod Standing
 pub mod Stepping
 pub mod TakingOver

@@ -30,6 +30,8 @@ sound_opening r routes tunnels bypasses router are begin protect = record {
   paths = opening_stands r routes tunnels bypasses are begin protect;
   held = record { in_order = tt; each = tt; one_style = λ a b x y at_a at_b. absurd (let e = at_a in cc); within = λ link priority most. omega arith };
   standing = tt;
+  repaired = record { in_order = tt; each = tt; apart = tt };
+  repairs_standing = tt;
   labels = record { of_lsps = refl; from_first = tt; to_last = tt; apart = tt };
   sent = refl;
   sent_upstream = refl;

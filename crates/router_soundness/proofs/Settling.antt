@@ -11,7 +11,10 @@ use Rattle.abstract_paths.specs.StampLaws.{keys-stamps}
 use Rattle.resv_facts.specs.Upstreams.{upstream_cmp}
 use Rattle.router_soundness.proofs.Holding.{held_where, held_with_facts}
 use Rattle.router_soundness.proofs.Labelling.{labelled_after}
+use Rattle.router_soundness.proofs.Repairing.{repaired_left, repaired_with_facts}
 use Rattle.router_soundness.proofs.TakingOver.{labelled_taken, standing_taken}
+use Rattle.abstract_router.specs.Detours.{detours_of}
+use Rattle.abstract_router.specs.Repairing.{repair_stands, repaired, repairs_left}
 use Rattle.abstract_router.specs.Upstreams.{upstream_of}
 use Rattle.abstract_router.specs.Labels.{IsLabelling}
 use Rattle.abstract_router.specs.Outcomes.{Outcome}
@@ -23,7 +26,7 @@ use Rattle.abstract_paths.specs.Soundness.{IsStanding}
 use Rattle.lsr_facts.specs.Orders.{item_cmp, key_cmp}
 use Rattle.abstract_router.specs.Soundness.{AreLabelled, IsSound}
 use Rattle.abstract_router.specs.States.{State}
-use Rattle.abstract_router.specs.Steps.{settled, stands, taken_over, with_moments, known_after, MayChoose, MayChooseBy}
+use Rattle.abstract_router.specs.Steps.{resvs_left, settled, stands, taken_over, with_moments, known_after, MayChoose, MayChooseBy}
 
 -- an outcome leaves the state sound, or such that what follows makes it so
 abbrev pub LeavesBy : Router → State → Bool → State → Type 0
@@ -35,11 +38,11 @@ Leaves r before o = LeavesBy r before o.is_silent o.after
 
 -- exactly the Paths and the Resvs that are wanted have a moment
 stamped_items : (r : Router) (before : State) (o : Outcome) (s : State) → keys_of (item_stamps r before o.due s) ≡ keys_of (items_of r (with_moments r before o s))
-unfolding item_stamps items_of lsps_of
+unfolding item_stamps items_of lsps_of detours_of
 stamped_items r before o s = keys-stamps item_cmp o.due (items_of r before) before.facts.sent s.facts.moment (items_of r s)
 
 stamped_upstream : (r : Router) (before : State) (o : Outcome) (s : State) → keys_of (upstream_stamps r before o.upstream_due s) ≡ keys_of (upstream_of r (with_moments r before o s))
-unfolding upstream_stamps upstream_of lsps_of
+unfolding upstream_stamps upstream_of lsps_of detours_of
 stamped_upstream r before o s = keys-stamps upstream_cmp o.upstream_due (upstream_of r before) before.sent_upstream s.facts.moment (upstream_of r s)
 
 -- The labels that may be chosen are the same once tunnels have gone over to their new LSPs: those have none.
@@ -49,16 +52,20 @@ labelling_taken r labels s chosen is may = record { of_new = may.of_new ∙ ap (
 -- The state is sound once all that follows has been done.
 pub sound_settled : (r : Router) (before : State) (o : Outcome) (chosen : List (Key × ℕ)) → AreLabelled r before → IsDrafted r before o.after → IsLabelling r before.labels o.after.facts.paths chosen
     → IsSound r (with_moments r before o (settled r chosen o.after))
-unfolding taken_over
+unfolding taken_over repaired repairs_left detours_of
 sound_settled r before o chosen were drafted may =
     let s = taken_over r o.after in
     let paths = standing_taken r o.after drafted.paths in
-    let standing = held_where r s (stands s.facts) (held_with_facts r o.after s.facts drafted.held drafted.held.each) in
+    let held = held_with_facts r o.after s.facts drafted.held drafted.held.each in
+    let standing = held_where r s (stands s.facts) held in
+    let repairs = repaired_left r s held (repaired_with_facts o.after s.facts drafted.repaired drafted.repaired.each) in
     let labels = labelled_after r before s chosen were drafted.labels paths.paths.in_order (labelling_taken r before.labels o.after chosen drafted.paths may) in
     record {
       paths = sound_sent r s.facts (item_stamps r before o.due (settled r chosen o.after)) paths;
       held = record { in_order = standing.in_order; each = standing.each; one_style = standing.one_style; within = standing.within };
       standing = all-filter_passes (λ resv. stands s.facts resv ≡ true) (stands s.facts) (λ resv passes. passes) o.after.resvs;
+      repaired = record { in_order = repairs.in_order; each = repairs.each; apart = repairs.apart };
+      repairs_standing = all-filter_passes (λ repair. repair_stands r (resvs_left (repaired r s)) repair ≡ true) (repair_stands r (resvs_left (repaired r s))) (λ repair passes. passes) (repaired r s).repairs;
       labels = record { of_lsps = labels.of_lsps; from_first = labels.from_first; to_last = labels.to_last; apart = labels.apart };
       sent = stamped_items r before o (settled r chosen o.after);
       sent_upstream = stamped_upstream r before o (settled r chosen o.after);

@@ -1,13 +1,13 @@
 -- An event that is silent changes nothing, but for a restart, and a start of a router that is cold.
 use Rattle.router_soundness.proofs.Drafting.{PutsBy, puts_path}
-use Rattle.abstract_router.specs.Arrivals.{arrival, arrival_by, command_comes, for_reservations, is_done, labelled_path_arrival, message_arrival, moment_comes, outcome, reading_arrival}
+use Rattle.abstract_router.specs.Arrivals.{arrival, arrival_by, command_comes, commanded_by, for_reservations, is_done, labelled_path_arrival, message_arrival, moment_comes, outcome, reading_arrival, takes_used_bypass}
 use Rattle.abstract_router.specs.Errors.{unknown_style}
 use Rattle.abstract_router.specs.Labels.{has_free_label}
 use Rattle.abstract_router.specs.Outcomes.{Outcome, of_paths, refused}
 use Rattle.abstract_router.specs.Reserving.{Progress, all_descriptors, resv_arrival, resv_failed, resv_replied, unknown_resv}
-use Rattle.abstract_router.specs.States.{State, with_facts, without_resvs}
+use Rattle.abstract_router.specs.States.{State, with_facts}
 use Rattle.abstract_router.specs.Tearing.{err_onward, is_resv_torn_by, resv_err_passed_on, resv_err_arrival, resv_tear_arrival}
-use Rattle.abstract_paths.specs.Commands.{begun_by, command, commanded, refusal_of}
+use Rattle.abstract_paths.specs.Commands.{command, commanded, refusal_of}
 use Rattle.abstract_paths.specs.Links.{link_change}
 use Rattle.abstract_paths.specs.Outcomes as path_outcomes
 use Rattle.abstract_paths.specs.Outcomes.{lsp}
@@ -23,7 +23,7 @@ use Rattle.lsr_facts.specs.declared.errors.RsvpError.{RsvpError}
 use Rattle.lsr_facts.specs.declared.facts.Facts.{Facts}
 use Rattle.lsr_facts.specs.declared.path_fact.PathFact.{PathFact}
 use Rattle.lsr_facts.specs.declared.refusal.Refusal.{Refusal}
-use Rattle.lsr_facts.specs.declared.refusal.Refusal.TheVariants.{LinkDown, NoMatch, UnknownLink}
+use Rattle.lsr_facts.specs.declared.refusal.Refusal.TheVariants.{InUse, LinkDown, NoMatch, UnknownLink}
 use Rattle.lsr_facts.specs.declared.router.Router.{Router}
 use Rattle.resv_facts.specs.Reservations.{style_of}
 use Rattle.resv_facts.specs.declared.resv_fact.ResvStyle.{ResvStyle}
@@ -50,7 +50,7 @@ use Rattle.std.proofs.lemmas.Bool.{cond_both}
 use Rattle.std.specs.FinMap.Entries.{find}
 use Rattle.std.specs.List.{list_any}
 use Rattle.std.specs.Option.{option_map_or}
-use Rattle.std.specs.Prelude.{ℕ, Bool, List, None, Option, Some, [], false, filter_map, is_none, option_to_list, if◌then◌else◌, nat_lt, not, true, ◌&&◌, ◌^◌, ◌∷◌, ◌≡◌, ◌≢◌}
+use Rattle.std.specs.Prelude.{ℕ, Bool, List, None, Option, Some, [], false, filter_map, is_none, if◌then◌else◌, nat_lt, not, true, ◌&&◌, ◌^◌, ◌∷◌, ◌≡◌, ◌≢◌}
 
 -- an outcome that is silent leaves the state as it was
 abbrev pub KeepsSilently : State → Outcome → Type 0
@@ -172,9 +172,9 @@ module _ (r : Router) (s : State) where
   command_comes-keeps : (c : Command) → KeepsSilently s (command_comes r s c)
   unfolding command_comes
   command_comes-keeps c =
-      elim (command r s.facts c).is_silent as (λ b. (command r s.facts c).is_silent ≡ b → KeepsSilently s (if b then o else record o { after = without_resvs (option_to_list (begun_by r s.facts c)) o.after })) [
+      elim (command r s.facts c).is_silent as (λ b. (command r s.facts c).is_silent ≡ b → KeepsSilently s (if b then o else commanded_by r s c o)) [
         | true ↦ λ silent. of_paths-keeps (command r s.facts c) (command-keeps r s.facts c)
-        | false ↦ λ heard silent. absurd (let e = sym heard ∙ silent in cc)
+        | false ↦ λ heard. cond_both (takes_used_bypass s c) (refused s InUse) _ (KeepsSilently s) (λ used silent. refl) (λ other silent. absurd (let e = sym heard ∙ silent in cc))
       ] refl
     where
       o : Outcome

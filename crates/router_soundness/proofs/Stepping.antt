@@ -20,10 +20,10 @@ use Rattle.lsr_facts.specs.Routers.{IsRouter, link_at}
 use Rattle.lsr_facts.specs.declared.key.Key.{Key}
 use Rattle.lsr_facts.specs.declared.errors.RsvpError.{RsvpError}
 use Rattle.lsr_facts.specs.declared.refusal.Refusal.{Refusal}
-use Rattle.lsr_facts.specs.declared.refusal.Refusal.TheVariants.{LinkDown, NoMatch, UnknownLink}
+use Rattle.lsr_facts.specs.declared.refusal.Refusal.TheVariants.{InUse, LinkDown, NoMatch, UnknownLink}
 use Rattle.lsr_facts.specs.declared.reply.Reply.TheVariants as replies
 use Rattle.lsr_facts.specs.declared.router.Router.{Router}
-use Rattle.resv_facts.specs.Reservations.{expire, style_of}
+use Rattle.resv_facts.specs.Reservations.{expire, expire_repairs, style_of}
 use Rattle.resv_facts.specs.declared.resv_fact.ResvStyle.{ResvStyle}
 use Rattle.router_events.specs.declared.commands.Command.{Command}
 use Rattle.router_events.specs.declared.ways.ArrivalWay.{ArrivalWay}
@@ -47,12 +47,12 @@ use Rattle.router_soundness.proofs.Choosing.{labels_to_choose}
 use Rattle.router_soundness.proofs.Drafting.{outcome-leaves}
 use Rattle.router_soundness.proofs.Settling.{Leaves, LeavesBy}
 use Rattle.abstract_router.specs.Soundness.{IsSound}
-use Rattle.abstract_router.specs.Arrivals.{arrival, arrival_by, command_comes, for_reservations, is_done, labelled_path_arrival, message_arrival, moment_comes, outcome, reading_arrival, unmerged}
+use Rattle.abstract_router.specs.Arrivals.{arrival, arrival_by, command_comes, commanded_by, for_reservations, is_done, labelled_path_arrival, message_arrival, moment_comes, outcome, reading_arrival, takes_used_bypass, unmerged}
 use Rattle.abstract_router.specs.Errors.{unknown_style}
 use Rattle.abstract_router.specs.Labels.{has_free_label}
 use Rattle.abstract_router.specs.Outcomes.{Outcome, of_paths, refused}
 use Rattle.abstract_router.specs.Reserving.{Progress, all_descriptors, resv_arrival, resv_failed, resv_replied, unknown_resv}
-use Rattle.abstract_router.specs.States.{State, with_facts, without_resvs}
+use Rattle.abstract_router.specs.States.{State, with_facts, without_held}
 use Rattle.abstract_router.specs.Steps.{MayChoose, MayChooseBy, Step, known_after, sent_in, settled, with_moments}
 use Rattle.abstract_router.specs.Tearing.{err_onward, is_resv_torn_by, resv_err_passed_on, resv_err_arrival, resv_tear_arrival}
 
@@ -145,7 +145,7 @@ module _ (r : Router) (s : State) where
       ] refl
     where
       comes : Outcome
-      comes = record o { after = record o.after { resvs = expire n s.resvs }; upstream_due = due_items r.refresh_ms s.sent_upstream n }
+      comes = record o { after = record o.after { resvs = expire n s.resvs; repairs = expire_repairs n s.repairs }; upstream_due = due_items r.refresh_ms s.sent_upstream n }
 
   tick-refuses : (n : ℕ) → RefusesSilently s (moment_comes r s n)
   unfolding moment_comes
@@ -154,16 +154,19 @@ module _ (r : Router) (s : State) where
   command-refuses : (c : Command) → RefusesSilently s (command_comes r s c)
   unfolding command_comes
   command-refuses c refusal =
-      elim (command r s.facts c).is_silent as (λ b. (command r s.facts c).is_silent ≡ b → (if b then o else comes).reply ≡ replies.Refused refusal → ((if b then o else comes).is_silent ≡ true) × ((if b then o else comes).after ≡ s)) [
+      elim (command r s.facts c).is_silent as (λ b. (command r s.facts c).is_silent ≡ b → IsSilent (if b then o else commanded_by r s c o)) [
         | true ↦ λ silent is. of_paths-refuses (command r s.facts c) (paths.command-refuses r s.facts c) refusal is
-        | false ↦ λ heard is. absurd (let h = (paths.command-refuses r s.facts c refusal is).0 in cc)
+        | false ↦ λ heard. cond_both (takes_used_bypass s c) (refused s InUse) comes IsSilent (λ used. refuses InUse refusal) (λ other is. absurd (let h = (paths.command-refuses r s.facts c refusal is).0 in cc))
       ] refl
     where
       o : Outcome
       o = of_paths s (command r s.facts c)
 
       comes : Outcome
-      comes = record o { after = without_resvs (option_to_list (begun_by r s.facts c)) o.after }
+      comes = record o { after = without_held (option_to_list (begun_by r s.facts c)) o.after }
+
+      IsSilent : Outcome → Type 0
+      IsSilent x = x.reply ≡ replies.Refused refusal → (x.is_silent ≡ true) × (x.after ≡ s)
 
   outcome-refuses : (event : Event) → RefusesSilently s (outcome r s event)
   outcome-refuses (events.Arrive a) = arrival-refuses a

@@ -3,13 +3,14 @@ use Rattle.std.specs.Prelude.{◌≡◌}
 use Rattle.lsr_facts.specs.declared.router.Router.{Router}
 use Rattle.abstract_paths.specs.Soundness.{IsStanding}
 use Rattle.abstract_router.specs.Choosing.{CanLabel}
-use Rattle.abstract_router.specs.Soundness.{AreHeld}
+use Rattle.abstract_router.specs.Soundness.{AreHeld, AreRepaired}
 use Rattle.abstract_router.specs.States.{State}
 
--- What an event leaves that isn't silent: paths as they should be, reservations within the limits, the labels of before,
--- and a free one for a path that is new. What follows from it does the rest.
+-- What an event leaves that isn't silent: paths as they should be, reservations within the limits, no repair of a
+-- reserved LSP, the labels of before, and a free one for a path that is new. What follows from it does the rest.
 pub record IsDrafted (r : Router) (before : State) (s : State) : Type 0 where
   pub paths : IsStanding r s.facts
   pub held : AreHeld r s
+  pub repaired : AreRepaired s
   pub labels : s.labels ≡ before.labels
   pub choice : CanLabel r before.labels s.facts.paths

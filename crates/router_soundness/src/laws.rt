@@ -1,11 +1,16 @@
 //! What holds of each step of the abstract router, and of its label table.
 
-ghost use Rattle.std.specs.Prelude.{◌≡◌, ℕ, List, [], Some, false, true};
+ghost use Rattle.std.specs.Prelude.{◌≡◌, ℕ, List, [], Option, Some, false, true};
+ghost use Rattle.std.specs.FinMap.Entries.{find};
+ghost use Rattle.lsr_facts.specs.Orders.{key_cmp};
 ghost use Rattle.lsr_facts.specs.Routers.{IsRouter};
 ghost use Rattle.lsr_facts.specs.declared.key.Key.{Key};
+ghost use Rattle.lsr_facts.specs.declared.path_fact.PathFact.{PathFact};
 ghost use Rattle.lsr_facts.specs.declared.refusal.Refusal.{Refusal};
 ghost use Rattle.lsr_facts.specs.declared.reply.Reply.TheVariants as replies;
 ghost use Rattle.lsr_facts.specs.declared.router.Router.{Router};
+ghost use Rattle.resv_facts.specs.declared.repair.Over.{Over};
+ghost use Rattle.resv_facts.specs.declared.repair.Repair.{Repair};
 ghost use Rattle.forwarding_table.specs.declared.action.Action.{Action};
 ghost use Rattle.forwarding_table.specs.declared.action.Action.TheVariants as actions;
 ghost use Rattle.router_events.specs.declared.events.Event.{Event};
@@ -13,9 +18,11 @@ ghost use Rattle.router_events.specs.declared.events.Event.TheVariants as events
 ghost use Rattle.router_events.specs.declared.events.Made.{Made};
 ghost use Rattle.abstract_paths.specs.Places.{is_up};
 ghost use Rattle.abstract_paths.specs.Relays.{exceeds_hop_limit};
+ghost use Rattle.abstract_paths.specs.Tears.{leaves_by};
 ghost use Rattle.abstract_router.specs.Arrivals.{outcome};
+ghost use Rattle.abstract_router.specs.Detours.{detours_of, over_at};
 ghost use Rattle.abstract_router.specs.Soundness.{IsSound};
-ghost use Rattle.abstract_router.specs.States.{State};
+ghost use Rattle.abstract_router.specs.States.{State, is_repaired, is_reserved};
 ghost use Rattle.abstract_router.specs.Steps.{IsEvent, MayChoose, Step};
 ghost use Rattle.abstract_router.specs.Tables.{IsEntry, IsTunnelEntry, look, look_tunnel};
 
@@ -53,20 +60,42 @@ pub fn refusals_are_silent()
 {}
 
 /// Each entry of the label table stands on a path that is known: on one that ends here, or on a live reservation
-/// whose link is up.
+/// whose link is up, or on a repair whose bypass is up, over a link that is up.
 pub fn entries_stand_on_live_state()
     ensures { (r : Router) (s : State) (label : ℕ) (action : Action) →
-        IsSound r s → look s label ≡ Some action → IsEntry s label action }
+        IsSound r s → look r s label ≡ Some action → IsEntry r s label action }
 {}
 
-/// Each entry of the table of tunnels stands on a live reservation of the tunnel's current LSP, whose link is up.
+/// Each entry of the table of tunnels stands on the tunnel's current LSP: on its live reservation, whose link is up, or
+/// on its repair, whose bypass is up, over a link that is up.
 pub fn tunnel_entries_stand_on_live_state()
     ensures { (r : Router) (s : State) (number : ℕ) (action : Action) →
         IsSound r s → look_tunnel r s number ≡ Some action → IsTunnelEntry r s number action }
 {}
 
-/// A frame whose label is swapped leaves over a link that is up.
+/// A frame leaves over a link that is up: one whose label is swapped, one that goes on through a bypass, and one that a
+/// tunnel's head sends.
 pub fn frames_leave_over_links_that_are_up()
-    ensures { (r : Router) (s : State) (label out link : ℕ) → IsSound r s →
-        look s label ≡ Some (actions.Swap out link) → is_up s.facts.up link ≡ true }
+    ensures swapped { (r : Router) (s : State) (label out link : ℕ) → IsSound r s →
+        look r s label ≡ Some (actions.Swap out link) → is_up s.facts.up link ≡ true }
+    ensures bypassed { (r : Router) (s : State) (label inner outer link : ℕ) → IsSound r s →
+        look r s label ≡ Some (actions.SwapPush inner outer link) → is_up s.facts.up link ≡ true }
+    ensures of_heads { (r : Router) (s : State) (number : ℕ) (inner : Option ℕ) (label link : ℕ) → IsSound r s →
+        look_tunnel r s number ≡ Some (actions.PushHead inner label link) → is_up s.facts.up link ≡ true }
+{}
+
+/// No LSP is both reserved and repaired: it goes on over its own link, or over a bypass (RFC 4090, 6.4).
+pub fn no_lsp_is_both_reserved_and_repaired()
+    ensures { (r : Router) (s : State) (key : Key) →
+        IsSound r s → is_repaired s key ≡ true → is_reserved s key ≡ false }
+{}
+
+/// Each repair stands on a bypass that is up, over a link that is up, and its LSP leaves by the link that the bypass
+/// protects.
+pub fn repairs_stand_on_bypasses_that_are_up()
+    ensures { (r : Router) (s : State) (key : Key) (repair : Repair) →
+        IsSound r s → find key_cmp key s.repairs ≡ Some repair →
+        (path : PathFact) × (over : Over) × (find key_cmp key s.facts.paths ≡ Some path)
+        × (leaves_by repair.resv.link path ≡ true)
+        × (over_at (detours_of r s) repair.bypass ≡ Some over) × (is_up s.facts.up over.link ≡ true) }
 {}

@@ -1,5 +1,5 @@
 //! What an event does of itself to what a label switching router knows, whoever keeps it: each decision of a step,
-//! once, as a draft that holds the answer, the errors, and the edits of paths and of reservations.
+//! once, as a draft that holds the answer, the errors, and the edits of what is known.
 #![tactic(auto)]
 
 mod arrivals;

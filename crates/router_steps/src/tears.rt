@@ -14,7 +14,7 @@ use message_rules::lsp;
 use router_events::Outputs;
 use rsvp_contents::ResvTear;
 use sorted_rows::Table;
-use state_views::{Draft, Edits, StateView, refused, without_resvs};
+use state_views::{Draft, Edits, StateView, refused, without_rows};
 use std::alloc::{AllocError, Global};
 
 /// Whether the LSP is reserved on a link.
@@ -73,7 +73,7 @@ pub(crate) fn resv_tear_arrival<V: StateView>(
         due: None,
         is_silent: false,
         edits: Edits {
-            resvs: without_resvs(Table::new(alloc), torn.as_slice())?,
+            resvs: without_rows(Table::new(alloc), torn.as_slice())?,
             ..Edits::none(alloc)
         },
     })

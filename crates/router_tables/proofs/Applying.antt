@@ -28,10 +28,11 @@ paths_made c t = record t {
   paths = in_rows.edited key_cmp c.paths t.paths;
 }
 
--- then reservations and labels
+-- then reservations, repairs and labels
 abbrev pub held_made : Change → Rows → Rows
 held_made c t = record t {
   bandwidth = with_edits c.bandwidth t.bandwidth;
+  repairs = in_rows.edited key_cmp c.repairs t.repairs;
   labels = record t.labels { labels = in_rows.edited key_cmp c.labels t.labels.labels };
 }
 

@@ -22,6 +22,8 @@ sound_emptied r s runs is =
       paths = record { moment = empty.moment; links = empty.links; routes = empty.routes; tunnels = empty.tunnels; bypasses = empty.bypasses; paths = empty.paths; heads = tt; cold = λ cold. refl };
       held = record { in_order = tt; each = tt; one_style = λ a b x y at_a at_b. absurd (let e = at_a in cc); within = λ link priority most. omega arith };
       standing = tt;
+      repaired = record { in_order = tt; each = tt; apart = tt };
+      repairs_standing = tt;
       labels = record { of_lsps = refl; from_first = tt; to_last = tt; apart = tt };
       sent = refl;
       sent_upstream = refl;

@@ -1,54 +1,95 @@
 -- There is room in the tables for all that a sound router knows.
-use Rattle.std.specs.Prelude.{◌≡◌, ◌≤◌, ◌&&◌, ℕ, suc, Bool, true, false, T, List, [], ◌∷◌, filter_map, length, Option, Some, None, IfSome}
+use Rattle.std.specs.Prelude.{◌≡◌, ◌+◌, ◌≤◌, ◌&&◌, ◌⊎◌, ℕ, Bool, true, false, if◌then◌else◌, T, List, [], ◌∷◌, filter_map, length, Option, Some, None, IfSome, is_none, is_some}
 use Rattle.std.specs.FinMap.Entries.{find, is_sorted, same_entries}
+use Rattle.std.specs.List.{cons_option}
 use Rattle.std.specs.Option.{option_and_then, option_map, option_map_or}
-use Rattle.std.proofs.Common.{refl, ap, arith, ◌∙◌}
-use Rattle.std.proofs.lemmas.List.{length-map}
+use Rattle.std.proofs.Common.{refl, ap, arith, ◌∙◌, inl, inr}
+use Rattle.std.proofs.lemmas.List.{length-append, length-map}
 use Rattle.sorted_rows.specs.RowsLaws.{find-all_row}
 use Rattle.lsr_facts.specs.OrderLaws.{key_exact, key_total}
 use Rattle.lsr_facts.specs.Orders.{key_cmp}
 use Rattle.lsr_facts.specs.declared.key.Item.{Item}
+use Rattle.lsr_facts.specs.declared.key.Item.TheVariants.{Backup}
 use Rattle.lsr_facts.specs.declared.key.Key.{Key}
 use Rattle.lsr_facts.specs.declared.path_fact.PathFact.{PathFact}
 use Rattle.lsr_facts.specs.declared.router.Router.{Router}
+use Rattle.resv_facts.specs.declared.repair.Repair.{Repair}
 use Rattle.resv_facts.specs.declared.resv_fact.ResvFact.{ResvFact}
 use Rattle.resv_facts.specs.declared.upstream.Upstream.{Upstream}
 use Rattle.abstract_paths.specs.TouchedLaws.{find-made, is_sorted-made}
+use Rattle.abstract_paths.specs.Paths.{goes_on}
 use Rattle.abstract_paths.specs.Places.{is_up}
 use Rattle.abstract_paths.specs.Tears.{leaves_by}
-use Rattle.abstract_router.specs.Lsps.{Lsp, around_of, lsp_of, lsps_of}
-use Rattle.abstract_router.specs.Wanted.{downstream_row, items_of}
+use Rattle.abstract_router.specs.Detours.{detours_of, over_at}
+use Rattle.abstract_router.specs.Lsps.{Around, Lsp, around_of, lsp_of, lsps_of}
+use Rattle.abstract_router.specs.Repairing.{repair_stands}
+use Rattle.abstract_router.specs.Wanted.{backup_row, downstream_row, items_of}
 use Rattle.abstract_router.specs.Soundness.{IsSound}
 use Rattle.abstract_router.specs.States.{State}
 use Rattle.abstract_router.specs.Steps.{stands}
+use Rattle.abstract_router.specs.Through.{backup_of}
 use Rattle.abstract_router.specs.UpstreamLaws.{upstream-few}
 use Rattle.abstract_router.specs.Upstreams.{upstream_of}
 use Rattle.abstract_router.specs.LabelLaws.{length-labelled}
-use Rattle.label_table.specs.RowLaws.{length_asked}
+use Rattle.label_table.specs.RowLaws.{length_asked, length_cons}
 
--- what the rows of paths say of reservations
-abbrev resv_rows : State → List (Key × ResvFact)
-resv_rows s = filter_map (λ path. option_map (λ resv. (path.0, resv)) (find key_cmp path.0 s.resvs)) s.facts.paths
+module _ {X : Type 0} (paths : List (Key × PathFact)) (sorted : T (is_sorted key_cmp paths)) (rows : List (Key × X)) (in_order : T (is_sorted key_cmp rows)) where
+  -- what rows have for the LSPs of paths
+  abbrev of_paths : List (Key × X)
+  of_paths = filter_map (λ (path : Key × PathFact). option_map (λ x. (path.0, x)) (find key_cmp path.0 rows)) paths
 
--- where each reservation stands, they are all that there are
-resvs_of_paths : (r : Router) (s : State) → IsSound r s → resv_rows s ≡ s.resvs
-resvs_of_paths r s is =
-    same_entries key_cmp key_total key_exact (resv_rows s) s.resvs
-    (is_sorted-made key_cmp key_total key_exact (λ (path : Key × PathFact). find key_cmp path.0 s.resvs) s.facts.paths in_order)
-    is.held.in_order
-    (λ q. find-made key_cmp key_total key_exact (λ (path : Key × PathFact). find key_cmp path.0 s.resvs) q s.facts.paths in_order ∙ by q (find key_cmp q s.facts.paths) (find key_cmp q s.resvs) (find-all_row key_cmp key_exact (λ resv. stands s.facts resv ≡ true) q s.resvs is.standing))
+  -- what is found of an LSP whose path is known, where there is nothing of others
+  found : (path : Option PathFact) (row : Option X) → IfSome row (λ x. is_some path ≡ true) → option_and_then (λ (p : PathFact). row) path ≡ row
+  found (Some path) row known = refl
+  found None None known = refl
+  found None (Some x) known = absurd (let e = known in cc)
+
+  -- Where each row is of an LSP whose path is known, there are no more of them than paths.
+  few_rows : ((key : Key) → IfSome (find key_cmp key rows) (λ x. is_some (find key_cmp key paths) ≡ true)) → length rows ≤ length paths
+  few_rows known =
+      let all =
+      same_entries key_cmp key_total key_exact of_paths rows
+      (is_sorted-made key_cmp key_total key_exact (λ (path : Key × PathFact). find key_cmp path.0 rows) paths sorted)
+      in_order
+      (λ key. find-made key_cmp key_total key_exact (λ (path : Key × PathFact). find key_cmp path.0 rows) key paths sorted ∙ found (find key_cmp key paths) (find key_cmp key rows) (known key)) in
+      omega (arith, ap length all, length_asked (λ (path : Key × PathFact). option_map {U = Key × X} (λ x. (path.0, x)) (find key_cmp path.0 rows)) paths)
+
+-- a path that a test passes is known
+known_by : (test : PathFact → Bool) (first : Bool) (path : Option PathFact) → (first && option_map_or test path false) ≡ true → is_some path ≡ true
+known_by test first (Some path) passes = refl
+known_by test true None passes = absurd (let e = passes in cc)
+known_by test false None passes = absurd (let e = passes in cc)
+
+-- so it is wherever something is
+all_known : {X : Type 0} (test : X → PathFact → Bool) (first : X → Bool) (path : Option PathFact) (row : Option X) → IfSome row (λ x. (first x && option_map_or (test x) path false) ≡ true) → IfSome row (λ x. is_some path ≡ true)
+all_known test first path None passes = tt
+all_known test first path (Some x) passes = known_by (test x) (first x) path passes
+
+-- of two of which one gives nothing, no more is given than is asked
+length_either : {A B : Type 0} (f g : A → Option B) → ((x : A) → (f x ≡ None) ⊎ (g x ≡ None)) → (xs : List A) → length (filter_map f xs) + length (filter_map g xs) ≤ length xs
+length_either f g either [] = omega arith
+length_either f g either (x ∷ xs) =
+    let rest = length_either f g either xs in
+    elim (either x) [
+      | inl none ↦ let same = ap (λ o. length (cons_option o (filter_map f xs))) none in omega (arith, rest, same, length_cons (g x) (filter_map g xs))
+      | inr none ↦ let same = ap (λ o. length (cons_option o (filter_map g xs))) none in omega (arith, rest, same, length_cons (f x) (filter_map f xs))
+    ]
+
+-- nothing comes where a test fails, and a repaired LSP fails one
+unless : {A : Type 0} (test : Bool) (o : Option A) → test ≡ false → (if test then o else None) ≡ None
+unless test o fails = ap (λ b. if b then o else None) fails
+
+not_repaired : (goes up : Bool) → (goes && false && up) ≡ false
+not_repaired true up = refl
+not_repaired false up = refl
+
+-- So an LSP wants one Path at most: at its next hop, or through its bypass where it is repaired.
+one_wanted : (a : Around) (lsp : Key × Lsp) → (downstream_row a lsp ≡ None) ⊎ (backup_row a lsp ≡ None)
+one_wanted a lsp = by lsp.1.repair refl
   where
-    in_order : T (is_sorted key_cmp s.facts.paths)
-    in_order = is.paths.paths.in_order
-
-    nowhere : (up : Bool) → (up && false) ≡ true → ⊥
-    nowhere true e = absurd (let f = e in cc)
-    nowhere false e = absurd (let f = e in cc)
-
-    by : (q : Key) (path : Option PathFact) (resv : Option ResvFact) → IfSome resv (λ v. (is_up s.facts.up v.link && option_map_or (leaves_by v.link) path false) ≡ true) → option_and_then (λ (p : PathFact). resv) path ≡ resv
-    by q (Some path) resv stood = refl
-    by q None None stood = refl
-    by q None (Some resv) stood = absurd (nowhere (is_up s.facts.up resv.link) stood)
+    by : (o : Option Repair) → lsp.1.repair ≡ o → (downstream_row a lsp ≡ None) ⊎ (backup_row a lsp ≡ None)
+    by None none = inr (ap (option_and_then (λ (repair : Repair). option_map (λ output. (Backup lsp.0 repair.bypass, output)) (backup_of a lsp.0 lsp.1.path repair))) none)
+    by (Some repair) some = inl (unless _ _ (ap (λ o. goes_on lsp.1.path.role && is_none o && is_up a.place.up lsp.1.path.out_link) some ∙ not_repaired (goes_on lsp.1.path.role) (is_up a.place.up lsp.1.path.out_link)))
 
 module _ (r : Router) (s : State) (is : IsSound r s) where
   pub few_paths : length s.facts.paths ≤ 1024
@@ -59,8 +100,15 @@ module _ (r : Router) (s : State) (is : IsSound r s) where
 
   pub few_resvs : length s.resvs ≤ 1024
   few_resvs =
-      let all = ap length (resvs_of_paths r s is) in
-      omega (arith, all, length_asked (λ (path : Key × PathFact). option_map {U = Key × ResvFact} (λ resv. (path.0, resv)) (find key_cmp path.0 s.resvs)) s.facts.paths, few_paths)
+      let standing = λ (key : Key). find-all_row key_cmp key_exact (λ resv. stands s.facts resv ≡ true) key s.resvs is.standing in
+      let known = λ (key : Key). all_known (λ (resv : ResvFact). leaves_by resv.link) (λ resv. is_up s.facts.up resv.link) (find key_cmp key s.facts.paths) (find key_cmp key s.resvs) (standing key) in
+      omega (arith, few_rows s.facts.paths is.paths.paths.in_order s.resvs is.held.in_order known, few_paths)
+
+  pub few_repairs : length s.repairs ≤ 1024
+  few_repairs =
+      let standing = λ (key : Key). find-all_row key_cmp key_exact (λ repair. repair_stands r s repair ≡ true) key s.repairs is.repairs_standing in
+      let known = λ (key : Key). all_known (λ (repair : Repair). leaves_by repair.resv.link) (λ repair. is_some (over_at (detours_of r s) repair.bypass)) (find key_cmp key s.facts.paths) (find key_cmp key s.repairs) (standing key) in
+      omega (arith, few_rows s.facts.paths is.paths.paths.in_order s.repairs is.repaired.in_order known, few_paths)
 
   pub few_labels : length s.labels ≤ 1024
   few_labels = omega (arith, length-labelled r s is.labels, few_paths)
@@ -71,7 +119,8 @@ module _ (r : Router) (s : State) (is : IsSound r s) where
       let as_many = length-map s.facts.sent (λ (row : Item × ℕ). row.0) in
       let wanted = length-map (items_of r s) (λ row. row.0) in
       let lsps = length-map {B = Key × Lsp} s.facts.paths (λ row. (row.0, lsp_of s row.0 row.1)) in
-      omega (arith, as_many, wanted, lsps, ap length is.sent, length_asked (downstream_row (around_of r s)) (lsps_of s), few_paths)
+      let both = length-append (filter_map (downstream_row (around_of r s)) (lsps_of s)) (filter_map (backup_row (around_of r s)) (lsps_of s)) in
+      omega (arith, as_many, wanted, lsps, both, ap length is.sent, length_either (downstream_row (around_of r s)) (backup_row (around_of r s)) (one_wanted (around_of r s)) (lsps_of s), few_paths)
 
   pub few_upstream : length s.sent_upstream ≤ 1024
   few_upstream =

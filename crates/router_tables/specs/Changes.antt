@@ -27,6 +27,7 @@ changed c s = record {
     sent = rows.edited item_cmp c.moments s.facts.sent;
   };
   resvs = rows.edited key_cmp (resv_edits c.bandwidth) s.resvs;
+  repairs = rows.edited key_cmp c.repairs s.repairs;
   labels = rows.edited key_cmp c.labels s.labels;
   sent_upstream = rows.edited upstream_cmp c.upstream s.sent_upstream;
 }
@@ -38,5 +39,5 @@ pub record IsChange (r : Router) (s : State) (c : Change) : Type 0 where
   pub sound : IsSound r (changed c s)
   pub edits : AreEdits c.bandwidth
   pub claims : rows.edited key_cmp (claim_edits c.bandwidth) (claims_of s.facts.paths s.resvs) ≡ claims_of (changed c s).facts.paths (changed c s).resvs
-  pub table : AreTableEdits s (changed c s) c.table
+  pub table : AreTableEdits r s (changed c s) c.table
   pub tunnel_table : AreTunnelEdits r s (changed c s) c.tunnel_table

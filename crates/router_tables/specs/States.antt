@@ -1,6 +1,6 @@
 -- What a router is and knows, and the rows that say so.
-use Rattle.std.specs.Prelude.{◌≡◌, false, []}
-use Rattle.lsr_config.specs.Configs.{Setup}
+use Rattle.std.specs.Prelude.{◌≡◌, false, [], map}
+use Rattle.lsr_config.specs.Configs.{IsConfig, Setup}
 use Rattle.lsr_facts.specs.Routers.{IsRouter}
 use Rattle.lsr_facts.specs.declared.facts.Facts.{Facts}
 use Rattle.lsr_facts.specs.declared.router.Router.{Router}
@@ -33,7 +33,7 @@ facts_of t = record {
 
 -- and all that they say
 abbrev pub state_of : Rows → State
-state_of t = record { facts = facts_of t; resvs = t.bandwidth.resvs; labels = t.labels.labels; sent_upstream = t.upstream.sent }
+state_of t = record { facts = facts_of t; resvs = t.bandwidth.resvs; repairs = t.repairs; labels = t.labels.labels; sent_upstream = t.upstream.sent }
 
 abbrev pub router_state_of : Rows → RouterState
 router_state_of t = record { router = t.router; state = state_of t }
@@ -47,7 +47,7 @@ pub record AreTables (t : Rows) : Type 0 where
   pub upstream_period : t.upstream.refresh_ms ≡ t.router.refresh_ms
   pub claims : t.bandwidth.claims ≡ claims_of t.paths t.bandwidth.resvs
   pub range : t.labels.range ≡ t.router.labels
-  pub table : IsTableOf (state_of t) t.table.labels
+  pub table : IsTableOf t.router (state_of t) t.table.labels
   pub tunnel_table : t.table.tunnels ≡ tunnel_table_of t.router (state_of t)
 
 -- the router of a configuration as it is opened
@@ -60,6 +60,25 @@ abbrev pub emptied : State → State
 emptied s = record {
   facts = record s.facts { tunnels = all_cancelled s.facts.tunnels; paths = []; sent = [] };
   resvs = [];
+  repairs = [];
   labels = [];
   sent_upstream = [];
 }
+
+-- The rows of a router of a configuration as it is opened: nothing is known of LSPs, and all that there may ever be has room.
+pub record AreOpened (c : Setup) (t : Rows) : Type 0 where
+  pub config : IsConfig c
+  pub router : t.router ≡ c.router
+  pub moment : t.moment ≡ 0
+  pub up : t.up ≡ map (λ l. (l.0, l.1.up)) c.router.links
+  pub routes : t.routes ≡ c.routes
+  pub tunnels : t.tunnels ≡ c.tunnels
+  pub bypasses : t.bypasses ≡ c.bypasses
+  pub paths : t.paths ≡ []
+  pub timers : t.timers ≡ record { refresh_ms = c.router.refresh_ms; sent = [] }
+  pub resvs : t.bandwidth.resvs ≡ []
+  pub claims : t.bandwidth.claims ≡ []
+  pub repairs : t.repairs ≡ []
+  pub labels : t.labels ≡ record { range = c.router.labels; labels = [] }
+  pub upstream : t.upstream ≡ record { refresh_ms = c.router.refresh_ms; sent = [] }
+  pub table : t.table ≡ record { labels = []; tunnels = [] }

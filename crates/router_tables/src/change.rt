@@ -2,7 +2,7 @@
 
 use forwarding_table::Action;
 use lsr_facts::{Bypass, Item, Key, PathFact, Tunnel};
-use resv_facts::{ResvFact, Upstream};
+use resv_facts::{Repair, ResvFact, Upstream};
 use rsvp_routes::Prefix;
 use sorted_rows::Table;
 
@@ -26,6 +26,8 @@ pub struct Change {
     pub paths: Table<Key, Option<PathFact>>,
     /// Of LSPs the reservation that each has from now on, and the priority at which it is kept.
     pub bandwidth: BandwidthEdits,
+    /// Of LSPs the repair that each has from now on.
+    pub repairs: Table<Key, Option<Repair>>,
     /// Of LSPs the label that each has from now on.
     pub labels: Table<Key, Option<u32>>,
     /// When Paths were sent last that are kept alive at a neighbour, in milliseconds.

@@ -3,6 +3,7 @@
 ghost use Rattle.std.specs.Prelude.{◌≡◌, IfOk};
 ghost use Rattle.router_tables.specs.States.{state_of};
 
+use crate::repairs::repairs_copied;
 use crate::rows::Rows;
 use crate::tunnels::tunnels_copied;
 use lsr_facts::Facts;
@@ -26,6 +27,7 @@ pub(crate) fn export(alloc: Global, rows: &Rows) -> Result<State, AllocError>
             sent: rows.timers.copied(alloc)?,
         },
         resvs: rows.bandwidth.resvs_copied(alloc)?,
+        repairs: repairs_copied(alloc, &rows.repairs)?,
         labels: rows.labels.copied(alloc)?,
         sent_upstream: rows.upstream.copied(alloc)?,
     })

@@ -4,6 +4,7 @@
 
 mod change;
 mod export;
+mod repairs;
 mod rows;
 mod tables;
 mod tunnels;

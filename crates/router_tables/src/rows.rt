@@ -13,6 +13,7 @@ ghost use Rattle.router_tables.specs.Changes.{IsChange, changed};
 ghost use Rattle.router_tables.specs.States.{AreTables, emptied, state_of};
 
 use crate::change::{BandwidthEdits, Change};
+use crate::repairs::Repairs;
 use crate::tunnels::{Tunnels, cancel_all};
 use admission::Admission;
 use forwarding_table::{Action, ForwardingTable};
@@ -22,7 +23,7 @@ use lsr_facts::limits::MAX_LSPS;
 use lsr_facts::{Bypass, Item, Key, PathFact, Router, Tunnel};
 use path_state::PathState;
 use refresh_timers::RefreshTimers;
-use resv_facts::Upstream;
+use resv_facts::{Repair, Upstream};
 use rsvp_routes::Prefix;
 use sorted_rows::{Table, make_edits};
 
@@ -47,6 +48,8 @@ pub(crate) struct Rows {
     pub(crate) timers: RefreshTimers<Item, MAX_LSPS>,
     /// The reservations, and what they claim.
     pub(crate) bandwidth: Admission,
+    /// The repairs.
+    pub(crate) repairs: Repairs,
     /// The labels that LSPs hold, and those that are free.
     pub(crate) labels: LabelBindings,
     /// When each Resv was sent last that is kept alive at a neighbour.
@@ -101,18 +104,26 @@ fn edit_paths(
     rows.paths.edit(paths);
 }
 
-/// Makes edits of reservations and labels.
-fn edit_held(rows: &mut Rows, bandwidth: BandwidthEdits, labels: Table<Key, Option<u32>>)
+/// Makes edits of reservations, repairs and labels.
+fn edit_held(
+    rows: &mut Rows,
+    bandwidth: BandwidthEdits,
+    repairs: Table<Key, Option<Repair>>,
+    labels: Table<Key, Option<u32>>,
+)
     requires room { length (in_rows.edited key_cmp (resv_edits bandwidth) rows.old.bandwidth.resvs) ≤ 1024 }
     requires edits { AreEdits bandwidth }
+    requires repairs { length (in_rows.edited key_cmp repairs rows.old.repairs) ≤ 1024 }
     requires few { length (in_rows.edited key_cmp labels rows.old.labels.labels) ≤ 1024 }
     requires held { AreHeldOf rows.old.labels.range (in_rows.edited key_cmp labels rows.old.labels.labels) }
     ensures rows { rows.new ≡ record rows.old {
       bandwidth = with_edits bandwidth rows.old.bandwidth;
+      repairs = in_rows.edited key_cmp repairs rows.old.repairs;
       labels = record rows.old.labels { labels = in_rows.edited key_cmp labels rows.old.labels.labels };
     } }
 {
     rows.bandwidth.edit(bandwidth);
+    make_edits(&mut rows.repairs, repairs);
     rows.labels.edit(labels);
 }
 
@@ -172,6 +183,7 @@ pub(crate) fn apply(rows: &mut Rows, change: Change)
         bypasses,
         paths,
         bandwidth,
+        repairs,
         labels,
         moments,
         upstream,
@@ -183,7 +195,7 @@ pub(crate) fn apply(rows: &mut Rows, change: Change)
     rows.table.rows_are_in_order();
     edit_place(rows, moment, up, routes, bypasses);
     edit_paths(rows, tunnels, paths);
-    edit_held(rows, bandwidth, labels);
+    edit_held(rows, bandwidth, repairs, labels);
     edit_moments(rows, moments, upstream);
     edit_actions(rows, table, tunnel_table);
 }
@@ -199,6 +211,7 @@ pub(crate) fn forget(rows: &mut Rows)
     rows.paths.clear();
     rows.timers.clear_all();
     rows.bandwidth.clear();
+    rows.repairs.clear();
     rows.labels.clear();
     rows.upstream.clear_all();
     rows.table.clear();

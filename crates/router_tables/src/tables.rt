@@ -1,28 +1,35 @@
 //! The tables of a router.
 
-ghost use Rattle.std.specs.Prelude.{◌≡◌, IfOk, map, false};
+ghost use Rattle.std.specs.FinMap.Entries.{is_sorted};
+ghost use Rattle.std.specs.Ordering.{nat_cmp};
+ghost use Rattle.std.specs.Prelude.{◌≡◌, [], IfOk, T, map, false};
 ghost use Rattle.lsr_facts.specs.Routers.{IsRouter};
 ghost use Rattle.resv_facts.specs.Claims.{reserved_of};
+ghost use Rattle.abstract_router.specs.Detours.{detours_of, over_at};
 ghost use Rattle.abstract_router.specs.Preempting.{claims_of};
 ghost use Rattle.abstract_router.specs.Soundness.{IsSound};
 ghost use Rattle.abstract_router.specs.Tables.{forwarded, look, look_tunnel};
 ghost use Rattle.label_table.specs.Rows.{IsTableOf};
 ghost use Rattle.router_tables.specs.Changes.{IsChange, changed};
-ghost use Rattle.router_tables.specs.States.{emptied, opened};
+ghost use Rattle.router_tables.specs.States.{AreOpened, emptied, opened};
 
 use crate::change::Change;
 use crate::export::export;
+use crate::repairs::Repairs;
 use crate::rows::{Rows, apply, forget};
-use crate::tunnels::with_room;
+use crate::tunnels::{Tunnels, with_room};
 use admission::Admission;
+use facility_backup::over_at;
 use forwarding_table::{Action, Forwarding, ForwardingTable};
 use label_space::LabelBindings;
 use label_stacks::Stack;
 use lsr_config::Config;
-use lsr_facts::{Link, Router};
+use lsr_facts::limits::MAX_LSPS;
+use lsr_facts::{Bypass, Item, Link, Router};
 use path_state::PathState;
 use refresh_timers::RefreshTimers;
-use resv_facts::State;
+use resv_facts::{Over, State, Upstream};
+use rsvp_routes::Prefix;
 use sorted_rows::Table;
 use std::alloc::{AllocError, Global};
 use std::marker::Model;
@@ -61,6 +68,125 @@ fn limits_of(alloc: Global, links: &[(u16, Link)]) -> Result<Vec<(u16, u64)>, Al
         .collect(alloc)
 }
 
+/// Tables of LSPs, with the memory of all that there may ever be.
+#[derive(Debug, Drop)]
+struct LspTables {
+    /// Their paths.
+    paths: PathState,
+    /// Their repairs.
+    repairs: Repairs,
+    /// What is done with their labels, and with the traffic of tunnels.
+    table: ForwardingTable,
+}
+
+/// The tables of LSPs of a router that knows none. The only error is out of memory.
+fn lsp_tables(alloc: Global) -> Result<LspTables, AllocError>
+    ensures { IfOk result (λ t. t ≡ record { paths = []; repairs = []; table = record { labels = []; tunnels = [] } }) }
+{
+    Ok(LspTables {
+        paths: PathState::new(alloc)?,
+        repairs: Repairs::new(alloc)?,
+        table: ForwardingTable::new(alloc)?,
+    })
+}
+
+/// What is known of links, and what is reserved on them.
+#[derive(Debug, Drop)]
+struct LinkTables {
+    /// Of each link whether it is up.
+    up: Table<u16, bool>,
+    /// The reservations, and what they claim.
+    bandwidth: Admission,
+}
+
+/// The tables of links of a router that is opened: nothing is reserved. The only error is out of memory.
+fn link_tables(alloc: Global, router: &Router) -> Result<LinkTables, AllocError>
+    requires { T (is_sorted nat_cmp router.now.links) }
+    ensures up { IfOk result (λ t. t.up ≡ map (λ l. (l.0, l.1.up)) router.now.links) }
+    ensures resvs { IfOk result (λ t. t.bandwidth.resvs ≡ []) }
+    ensures claims { IfOk result (λ t. t.bandwidth.claims ≡ []) }
+{
+    let up = links_up(alloc, router.links.as_slice())?;
+    let limits = limits_of(alloc, router.links.as_slice())?;
+    Ok(LinkTables {
+        up: Table::from_rows(up),
+        bandwidth: Admission::new(alloc, Table::from_rows(limits))?,
+    })
+}
+
+/// What is kept of labels, and of when messages were sent.
+#[derive(Debug, Drop)]
+struct KeptTables {
+    /// When each Path was sent last that is kept alive.
+    timers: RefreshTimers<Item, MAX_LSPS>,
+    /// And each Resv.
+    upstream: RefreshTimers<Upstream, MAX_LSPS>,
+    /// The labels.
+    labels: LabelBindings,
+}
+
+/// Such tables of a router that is opened: no label is held, and nothing was sent. The only error is out of memory.
+fn kept_tables(alloc: Global, router: &Router) -> Result<KeptTables, AllocError>
+    requires { IsRouter router.now }
+    ensures timers { IfOk result (λ t. t.timers ≡ record { refresh_ms = router.now.refresh_ms; sent = [] }) }
+    ensures upstream { IfOk result (λ t. t.upstream ≡ record { refresh_ms = router.now.refresh_ms; sent = [] }) }
+    ensures labels { IfOk result (λ t. t.labels ≡ record { range = router.now.labels; labels = [] }) }
+{
+    Ok(KeptTables {
+        timers: RefreshTimers::new(alloc, router.refresh_ms)?,
+        upstream: RefreshTimers::new(alloc, router.refresh_ms)?,
+        labels: LabelBindings::new(alloc, router.labels)?,
+    })
+}
+
+/// The rows of a router of which nothing is known but its configuration.
+fn rows_of(config: Opened, links: LinkTables, kept: KeptTables, lsps: LspTables) -> Rows
+    ensures { result ≡ record {
+      router = config.router;
+      moment = 0;
+      up = links.up;
+      routes = config.routes;
+      tunnels = config.tunnels;
+      bypasses = config.bypasses;
+      paths = lsps.paths;
+      timers = kept.timers;
+      bandwidth = links.bandwidth;
+      repairs = lsps.repairs;
+      labels = kept.labels;
+      upstream = kept.upstream;
+      table = lsps.table;
+    } }
+{
+    Rows {
+        router: config.router,
+        moment: 0,
+        up: links.up,
+        routes: config.routes,
+        tunnels: config.tunnels,
+        bypasses: config.bypasses,
+        paths: lsps.paths,
+        timers: kept.timers,
+        bandwidth: links.bandwidth,
+        repairs: lsps.repairs,
+        labels: kept.labels,
+        upstream: kept.upstream,
+        table: lsps.table,
+    }
+}
+
+/// What a configuration gives, with room for all tunnels that there may ever be.
+#[derive(Debug, Drop)]
+struct Opened {
+    /// The router.
+    router: Router,
+    /// The static routes.
+    routes: Table<Prefix, u16>,
+    /// The tunnels.
+    tunnels: Tunnels,
+    /// The bypasses.
+    bypasses: Table<u16, Bypass>,
+}
+
 impl Tables {
     /// The tables of the router of a configuration as it is opened: it knows no path. It reserves the memory of all
     /// that it may ever know, but for static routes and bypasses, which a change replaces whole; the only error is that
@@ -68,29 +194,24 @@ impl Tables {
     pub fn new(alloc: Global, config: Config) -> Result<Tables, AllocError>
         ensures { IfOk result (λ tables. tables ≡ opened config) }
     {
-        let up = links_up(alloc, config.router.links.as_slice())?;
-        let limits = limits_of(alloc, config.router.links.as_slice())?;
-        let timers = RefreshTimers::new(alloc, config.router.refresh_ms)?;
-        let upstream = RefreshTimers::new(alloc, config.router.refresh_ms)?;
-        let labels = LabelBindings::new(alloc, config.router.labels)?;
-        let bandwidth = Admission::new(alloc, Table::from_rows(limits))?;
-        let table = ForwardingTable::new(alloc)?;
-        let tunnels = with_room(alloc, config.tunnels)?;
+        let links = link_tables(alloc, &config.router)?;
+        let kept = kept_tables(alloc, &config.router)?;
+        let lsps = lsp_tables(alloc)?;
+        let Config {
+            router,
+            routes,
+            tunnels,
+            bypasses,
+        } = config;
+        let tunnels = with_room(alloc, tunnels)?;
+        let opened = Opened {
+            router,
+            routes,
+            tunnels,
+            bypasses,
+        };
         Ok(Tables {
-            rows: Rows {
-                router: config.router,
-                moment: 0,
-                up: Table::from_rows(up),
-                routes: config.routes,
-                tunnels,
-                bypasses: config.bypasses,
-                paths: PathState::new(alloc)?,
-                timers,
-                bandwidth,
-                labels,
-                upstream,
-                table,
-            },
+            rows: rows_of(opened, links, kept, lsps),
         })
     }
 
@@ -102,8 +223,8 @@ impl Tables {
         apply(&mut self.rows, change);
     }
 
-    /// What messages set up goes: paths, reservations, labels, and when messages were sent; and changes of tunnels that
-    /// aren't over are given up. Takes no memory.
+    /// What messages set up goes: paths, reservations, repairs, labels, and when messages were sent; and changes of
+    /// tunnels that aren't over are given up. Takes no memory.
     pub fn forget(&mut self)
         ensures { self.new ≡ record self.old { state = emptied self.old.state } }
     {
@@ -119,7 +240,7 @@ impl Tables {
 
     /// What is done with a frame that comes under this label, or `None` where nothing is.
     pub fn look(&self, label: u32) -> Option<Action>
-        ensures { result ≡ look self.now.state label }
+        ensures { result ≡ look self.now.router self.now.state label }
     {
         self.rows.table.look(label)
     }
@@ -132,9 +253,16 @@ impl Tables {
         self.rows.table.look_tunnel(number)
     }
 
+    /// What the bypass of this number runs over, or `None` where there is none or it isn't up (RFC 4090, 3.2).
+    pub fn over_at(&self, number: u16) -> Option<Over>
+        ensures { result ≡ over_at (detours_of self.now.router self.now.state) number }
+    {
+        over_at(self, number)
+    }
+
     /// What becomes of a frame with this stack of labels (RFC 3031, 3.10).
     pub fn forward(&self, stack: &Stack) -> Forwarding
-        ensures { result ≡ forwarded self.now.state stack.now }
+        ensures { result ≡ forwarded self.now.router self.now.state stack.now }
     {
         self.rows.table.forward(stack)
     }
@@ -142,7 +270,7 @@ impl Tables {
     /// All labels under which frames may come, in their order, and what is done with them: a copy. The only error is out
     /// of memory.
     pub fn actions(&self, alloc: Global) -> Result<Table<u32, Action>, AllocError>
-        ensures { IfOk result (IsTableOf self.now.state) }
+        ensures { IfOk result (IsTableOf self.now.router self.now.state) }
     {
         self.rows.table.labels_copied(alloc)
     }

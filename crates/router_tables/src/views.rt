@@ -3,10 +3,11 @@
 ghost use Rattle.std.specs.Prelude.{◌≡◌};
 ghost use Rattle.abstract_router.specs.Preempting.{limit_of};
 
+use crate::repairs::expiring;
 use crate::tables::Tables;
 use explicit_routes::link_at;
 use lsr_facts::{Bypass, Item, Key, Node, PathFact, Tunnel};
-use resv_facts::{Claim, Request, ResvFact, ResvStyle, Upstream};
+use resv_facts::{Claim, Repair, Request, ResvFact, ResvStyle, Upstream};
 use rsvp_objects::Session;
 use sorted_rows::Table;
 use state_views::{StateView, WholeState};
@@ -49,6 +50,10 @@ impl StateView for Tables {
         self.rows.bandwidth.get(key)
     }
 
+    fn repair(&self, key: &Key) -> Option<&Repair> {
+        self.rows.repairs.get(key)
+    }
+
     fn label(&self, key: &Key) -> Option<u32> {
         self.rows.labels.get(key)
     }
@@ -88,6 +93,14 @@ impl WholeState for Tables {
         self.rows.bandwidth.row(place)
     }
 
+    fn repair_count(&self) -> usize {
+        self.rows.repairs.len()
+    }
+
+    fn repair_at(&self, place: usize) -> Option<&(Key, Repair)> {
+        self.rows.repairs.row(place)
+    }
+
     fn sent_at(&self, item: &Item) -> Option<u64> {
         self.rows.timers.sent_at(item)
     }
@@ -110,6 +123,10 @@ impl WholeState for Tables {
 
     fn expiring_resvs(&self, alloc: Global, moment: u64) -> Result<Vec<Key>, AllocError> {
         self.rows.bandwidth.expiring(alloc, moment)
+    }
+
+    fn expiring_repairs(&self, alloc: Global, moment: u64) -> Result<Vec<Key>, AllocError> {
+        expiring(alloc, &self.rows.repairs, moment)
     }
 
     fn knows_session(&self, session: &Session) -> bool {

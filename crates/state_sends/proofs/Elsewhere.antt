@@ -1,14 +1,14 @@
 -- The LSPs that a step touches are all that what it sends comes of.
-use Rattle.std.specs.Prelude.{◌≡◌, ◌||◌, ◌<◌, ℕ, ◌+◌, not, Bool, true, false, cond, T, List, [], ◌∷◌, filter, length, Option, Some, None, is_some}
+use Rattle.std.specs.Prelude.{◌≡◌, ◌||◌, ◌<◌, ◌⊎◌, ℕ, ◌+◌, not, Bool, true, false, cond, T, List, [], ◌∷◌, filter, length, Option, Some, None}
 use Rattle.std.specs.Cmp.{IsTotalOrder}
 use Rattle.std.specs.FinMap.Entries.{find, is_sorted, where_key}
 use Rattle.std.specs.List.{AllByRecursion}
 use Rattle.std.specs.List.Sorted.{IsSorted}
-use Rattle.std.specs.Option.{option_map, unwrap_or}
+use Rattle.std.specs.Option.{option_map}
 use Rattle.std.specs.Ordering.{eq_by_cmp, is_eq, is_lt}
 use Rattle.std.specs.declared.cmp.Ordering.{Ordering}
 use Rattle.std.specs.declared.cmp.Ordering.TheVariants.{Equal}
-use Rattle.std.proofs.Common.{refl, sym, ap, subst, ◌∙◌, get_or, arith}
+use Rattle.std.proofs.Common.{refl, sym, ap, subst, ◌∙◌, get_or, inl, inr, arith}
 use Rattle.std.proofs.lemmas.Cmp.{tied_itself}
 use Rattle.std.proofs.lemmas.List.{get_or-map, length-map}
 use Rattle.sorted_rows.proofs.Places.{sorted_by}
@@ -25,16 +25,15 @@ use Rattle.resv_facts.specs.UpstreamOrder.{upstream_total}
 use Rattle.resv_facts.specs.Upstreams.{upstream_cmp}
 use Rattle.router_events.specs.declared.events.Output.{Output}
 use Rattle.abstract_paths.specs.Outputs.{is_due}
-use Rattle.abstract_paths.specs.StampLaws.{none-is, ties}
+use Rattle.abstract_paths.specs.StampLaws.{ties}
 use Rattle.abstract_paths.specs.Touched.{is_among}
 use Rattle.abstract_router.specs.LspLaws.{find-lsps, is_sorted-lsps, lsps-elsewhere}
 use Rattle.abstract_router.specs.Lsps.{Around, Lsp, around_of, lsp_at, lsp_of, lsps_of}
 use Rattle.abstract_router.specs.States.{State}
-use Rattle.state_views.specs.EditLaws.{neither}
 use Rattle.state_views.specs.Drafts.{due_by, upstream_due_by}
 use Rattle.state_views.specs.Edits.{edited}
 use Rattle.state_views.specs.declared.edits.Edits.{Edits}
-use Rattle.state_sends.specs.Touching.{AreAllTouched, edits_place, is_lsp_of}
+use Rattle.state_sends.specs.Touching.{AreAllLsps, AreAllTouched, is_lsp_of}
 
 -- true isn't false
 true_apart : true ≡ false → ⊥
@@ -71,9 +70,9 @@ none_left touched s h gone =
 module _ {I : Type 0} (cmp : I → I → Ordering) (of : I → Key) (rows : Around → List (Key × Lsp) → List (I × Output)) (none : (a : Around) → rows a [] ≡ [])
     (parts : (r : Router) (s : State) (touched : Key → Bool) → where_key cmp (λ item. touched (of item)) (rows (around_of r s) (lsps_of s)) ≡ rows (around_of r s) (where_key key_cmp touched (lsps_of s))) where
   -- Of LSPs that aren't touched the same is wanted before and after.
-  pub same_wanted : (r : Router) (s : State) (e : Edits) (lsps : List (Key × Unit {0})) → AreAllTouched s e lsps → T (is_sorted key_cmp s.facts.paths)
+  pub same_wanted : (r : Router) (s : State) (e : Edits) (lsps : List (Key × Unit {0})) → AreAllTouched r s e lsps → T (is_sorted key_cmp s.facts.paths)
       → where_key cmp (λ item. not (is_among key_cmp lsps (of item))) (rows (around_of r s) (lsps_of s)) ≡ where_key cmp (λ item. not (is_among key_cmp lsps (of item))) (rows (around_of r (edited e s)) (lsps_of (edited e s)))
-  same_wanted r s e lsps are h = by (edits_place e) refl
+  same_wanted r s e lsps are h = by are.around
     where
       touched : Key → Bool
       touched key = is_among key_cmp lsps key
@@ -84,17 +83,15 @@ module _ {I : Type 0} (cmp : I → I → Ordering) (of : I → Key) (rows : Arou
       left : (t : State) → T (is_sorted key_cmp t.facts.paths) → ((key : Key) → touched key ≡ false → lsp_at t key ≡ None) → where_key cmp (λ item. not (touched (of item))) (rows (around_of r t) (lsps_of t)) ≡ []
       left t sorted gone = parts r t (λ key. not (touched key)) ∙ ap (rows (around_of r t)) (none_left touched t sorted gone) ∙ none (around_of r t)
 
-      by : (b : Bool) → edits_place e ≡ b
+      by : (around_of r s ≡ around_of r (edited e s)) ⊎ AreAllLsps s lsps
           → where_key cmp (λ item. not (touched (of item))) (rows (around_of r s) (lsps_of s)) ≡ where_key cmp (λ item. not (touched (of item))) (rows (around_of r (edited e s)) (lsps_of (edited e s)))
-      by true is =
-          let gone : (key : Key) → touched key ≡ false → lsp_at s key ≡ None = λ key apart. ap (λ o. option_map (lsp_of s key) o) (are.placed is key apart) in
-          left s h gone ∙ sym (left (edited e s) after (λ key apart. sym (are.same key apart) ∙ gone key apart))
-      by false is =
-          let apart = neither (is_some e.up) (is_some e.routes) is in
-          let around : around_of r s ≡ around_of r (edited e s) = λ i. record { place = record { router = r; up = unwrap_or (sym (none-is e.up apart.0) i) s.facts.up; routes = unwrap_or (sym (none-is e.routes apart.1) i) s.facts.routes } } in
+      by (inl around) =
           parts r s (λ key. not (touched key))
           ∙ (λ i. rows (around i) (lsps-elsewhere r touched s (edited e s) h after (record { around = around; lsps = are.same }) i))
           ∙ sym (parts r (edited e s) (λ key. not (touched key)))
+      by (inr known) =
+          let gone : (key : Key) → touched key ≡ false → lsp_at s key ≡ None = λ key apart. ap (λ o. option_map (lsp_of s key) o) (known key apart) in
+          left s h gone ∙ sym (left (edited e s) after (λ key apart. sym (are.same key apart) ∙ gone key apart))
 
 -- keys of rows in order are in order
 sorted_keys : {K X : Type 0} (cmp : K → K → Ordering) → IsTotalOrder cmp → (es : List (K × X)) → T (is_sorted cmp es) → IsSorted cmp (keys_of es)

@@ -38,7 +38,7 @@ module _ {I : Type 0} (cmp : I → I → Ordering) (total : IsTotalOrder cmp) (e
   pub sorted_some : (t : State) → ArePaths r t.facts.moment t.facts.paths → T (is_sorted cmp (some_rows t))
   sorted_some t are = subst (λ ws. T (is_sorted cmp ws)) (parts r t (is_among key_cmp lsps)) (is_sorted-where_key cmp (λ item. is_among key_cmp lsps (of item)) (all_rows t) (in_order r t are))
 
-  module _ (are : AreAllTouched s e lsps) (before : ArePaths r s.facts.moment s.facts.paths) (after : ArePaths r (edited e s).facts.moment (edited e s).facts.paths)
+  module _ (are : AreAllTouched r s e lsps) (before : ArePaths r s.facts.moment s.facts.paths) (after : ArePaths r (edited e s).facts.moment (edited e s).facts.paths)
       (due : List I) (apart : (key : Key) → is_among key_cmp lsps key ≡ false → is_lsp_of of due key ≡ false) where
     rest : (item : I) → is_among key_cmp lsps (of item) ≡ false → is_due cmp due item ≡ false
     rest item away = not_due cmp exact of due item (apart (of item) away)

@@ -1,10 +1,9 @@
 -- What LSPs want, of what they share: Paths and Resvs alike.
-use Rattle.std.specs.Prelude.{◌≡◌, Bool, T, List, [], filter_map}
+use Rattle.std.specs.Prelude.{◌≡◌, Bool, T, List, []}
 use Rattle.std.specs.FinMap.Entries.{is_sorted, where_key}
 use Rattle.std.specs.List.{flat_map}
 use Rattle.std.proofs.Common.{refl}
 use Rattle.lsr_facts.specs.Orders.{item_cmp, key_cmp}
-use Rattle.lsr_facts.specs.declared.key.Item.{Item}
 use Rattle.lsr_facts.specs.declared.key.Key.{Key}
 use Rattle.lsr_facts.specs.declared.router.Router.{Router}
 use Rattle.resv_facts.specs.Upstreams.{upstream_cmp}
@@ -16,14 +15,10 @@ use Rattle.abstract_router.specs.Lsps.{Around, Lsp, around_of, lsps_of}
 use Rattle.abstract_router.specs.States.{State}
 use Rattle.abstract_router.specs.UpstreamLaws.{is_sorted-upstream_sound, upstream-at_keys}
 use Rattle.abstract_router.specs.Upstreams.{upstream_at, upstream_of, upstream_rows}
-use Rattle.abstract_router.specs.Wanted.{downstream_row, items_at, items_of}
+use Rattle.abstract_router.specs.Wanted.{item_rows, items_at, items_of}
 use Rattle.abstract_router.specs.WantedLaws.{is_sorted-items, items-at_keys}
 
--- the Paths that LSPs want
-abbrev pub item_rows : Around → List (Key × Lsp) → List (Item × Output)
-item_rows a lsps = filter_map (downstream_row a) lsps
-
--- and the Resvs
+-- the Resvs that LSPs want
 abbrev pub resv_rows : Around → List (Key × Lsp) → List (Upstream × Output)
 resv_rows a lsps = flat_map (upstream_rows a) lsps
 

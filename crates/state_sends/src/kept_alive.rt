@@ -1,4 +1,4 @@
-//! What is kept alive at neighbours, as Paths and Resvs are: each for one LSP.
+//! What is kept alive at neighbours and at the ends of bypasses, as Paths and Resvs are: each for one LSP.
 
 ghost use Rattle.std.specs.FinMap.Entries.{is_sorted, where_key};
 ghost use Rattle.std.specs.List.{AllByRecursion};
@@ -24,7 +24,7 @@ use state_views::{Output, StateView};
 use std::alloc::{AllocError, Global};
 use wanted_messages::{items_at_keys, upstream_at_keys};
 
-/// What is kept alive at a neighbour for one LSP.
+/// What is kept alive at a neighbour, or at the end of a bypass, for one LSP.
 pub(crate) trait KeptAlive: Ord + Copy + Drop {
     // its LSP
     ghost of: { Self → Key };
@@ -44,7 +44,7 @@ pub(crate) trait KeptAlive: Ord + Copy + Drop {
         ensures { result ≡ of self.now };
 
     /// All that these LSPs want, in the order of items. The paths are those of a router, and each reservation is as it
-    /// should be. The only error is out of memory.
+    /// should be, also one that a repair keeps. The only error is out of memory.
     fn wanted_of<V: StateView>(
         alloc: Global,
         view: &V,
@@ -52,6 +52,8 @@ pub(crate) trait KeptAlive: Ord + Copy + Drop {
     ) -> Result<Vec<(Self, Output)>, AllocError>
         requires paths { ArePaths (V.router view.now) (V.state view.now).facts.moment (V.state view.now).facts.paths }
         requires resvs { AllByRecursion (IsResv (V.state view.now).facts.moment) (V.state view.now).resvs }
+        requires repairs { AllByRecursion (λ repair. IsResv (V.state view.now).facts.moment (repair.0, repair.1.resv))
+            (V.state view.now).repairs }
         ensures rows { IfOk result (λ wanted. wanted.items ≡ rows (around_of (V.router view.now) (V.state view.now))
             (where_key key_cmp (is_among key_cmp lsps.now) (lsps_of (V.state view.now)))) };
 
@@ -78,7 +80,8 @@ impl KeptAlive for Item {
     ghost use Rattle.lsr_facts.specs.OrderLaws.{item_exact, item_total};
     ghost use Rattle.lsr_facts.specs.Orders.{item_cmp};
     ghost use Rattle.abstract_paths.specs.Touched.{key_of_item};
-    ghost use Rattle.state_sends.specs.KeptAlive.{item_parts, items_in_order, item_rows, no_item_rows};
+    ghost use Rattle.abstract_router.specs.Wanted.{item_rows};
+    ghost use Rattle.state_sends.specs.KeptAlive.{item_parts, items_in_order, no_item_rows};
 
     ghost of = { key_of_item };
 

@@ -90,7 +90,7 @@ fn sends_at<I: KeptAlive, V: StateView>(
     touched: &Lsps,
     due: &[I],
 ) -> Result<Sends<I>, AllocError>
-    requires touched { AreAllTouched (V.state view.now) edits.now touched.now }
+    requires touched { AreAllTouched (V.router view.now) (V.state view.now) edits.now touched.now }
     requires lsps { (key : Key) → is_among key_cmp touched.now key ≡ false → is_lsp_of I.of due.now key ≡ false }
     requires due { IsSorted I.order due.now }
     requires before { IsSound (V.router view.now) (V.state view.now) }
@@ -100,6 +100,9 @@ fn sends_at<I: KeptAlive, V: StateView>(
     requires resvs { AllByRecursion
         (IsResv (edited edits.now (V.state view.now)).facts.moment)
         (edited edits.now (V.state view.now)).resvs }
+    requires repairs { AllByRecursion
+        (λ repair. IsResv (edited edits.now (V.state view.now)).facts.moment (repair.0, repair.1.resv))
+        (edited edits.now (V.state view.now)).repairs }
     ensures tears { IfOk result (λ sends. sends.tears
         ≡ between I.order (tear_for (edited edits.now (V.state view.now)).facts.up)
         (I.rows (around_of (V.router view.now) (V.state view.now)) (lsps_of (V.state view.now)))
@@ -161,6 +164,9 @@ pub fn sends_of<V: WholeState>(
     requires resvs { AllByRecursion
         (IsResv (edited edits.now (V.state view.now)).facts.moment)
         (edited edits.now (V.state view.now)).resvs }
+    requires repairs { AllByRecursion
+        (λ repair. IsResv (edited edits.now (V.state view.now)).facts.moment (repair.0, repair.1.resv))
+        (edited edits.now (V.state view.now)).repairs }
     ensures outputs { IfOk result (λ sends. sends.outputs
         ≡ outputs_of (V.router view.now) (V.state view.now) errors
         (due_by due (V.router view.now) (V.state view.now))

@@ -1,5 +1,5 @@
 //! The LSPs that a step touches: those that aren't the same after its edits, those of which a message is due, and all where
-//! other links are up from now on, or other routes are there.
+//! other links are up from now on, or other routes or bypasses are there.
 
 ghost use Rattle.std.specs.Prelude.{◌≡◌, ◌||◌, IfOk, false, true};
 ghost use Rattle.lsr_facts.specs.Orders.{key_cmp};
@@ -8,10 +8,11 @@ ghost use Rattle.abstract_paths.specs.Touched.{is_among, key_of_item};
 ghost use Rattle.abstract_router.specs.Lsps.{lsp_at};
 ghost use Rattle.abstract_router.specs.Touched.{LeavesOtherLsps};
 ghost use Rattle.state_views.specs.Edits.{edited, is_edited};
-ghost use Rattle.state_sends.specs.Touching.{AreAllTouched, edits_place, is_lsp_of};
+ghost use Rattle.state_sends.specs.Touching.{AreAllTouched, is_lsp_of};
 
 use crate::kept_alive::KeptAlive;
 use crate::same::is_same_lsp;
+use facility_backup::is_same_around;
 use lsr_facts::{Item, Key};
 use resv_facts::Upstream;
 use sorted_rows::{Table, TryCopy};
@@ -39,7 +40,8 @@ fn edited_lsps(alloc: Global, edits: &Edits) -> Result<Lsps, AllocError>
 {
     let paths = with_keys(Table::new(alloc), edits.paths.as_slice())?;
     let resvs = with_keys(paths, edits.resvs.as_slice())?;
-    with_keys(resvs, edits.labels.as_slice())
+    let repairs = with_keys(resvs, edits.repairs.as_slice())?;
+    with_keys(repairs, edits.labels.as_slice())
 }
 
 /// Those of these LSPs of which not the same is known after edits, in the order of their keys.
@@ -100,15 +102,8 @@ pub(crate) fn changed_lsps<V: StateView>(
     changed_among(alloc, view, edits, edited.as_slice())
 }
 
-/// Whether edits change what all LSPs share: which links are up, or which static routes there are.
-fn edits_place(edits: &Edits) -> bool
-    ensures { result ≡ edits_place edits.now }
-{
-    edits.up.is_some() || edits.routes.is_some()
-}
-
-/// All LSPs that a step touches: those of which not the same is known after its edits, and those of these items, which
-/// are due. The only error is out of memory.
+/// All LSPs that a step touches: those of which not the same is known after its edits, those of these items, which are due,
+/// and all that are known, where its edits may change what all LSPs share. The only error is out of memory.
 pub(crate) fn touched_by<V: WholeState>(
     alloc: Global,
     view: &V,
@@ -119,7 +114,7 @@ pub(crate) fn touched_by<V: WholeState>(
 ) -> Result<Lsps, AllocError>
     requires changed { LeavesOtherLsps (is_among key_cmp changed.now)
         (V.state view.now) (edited edits.now (V.state view.now)) }
-    ensures all { IfOk result (AreAllTouched (V.state view.now) edits.now) }
+    ensures all { IfOk result (AreAllTouched (V.router view.now) (V.state view.now) edits.now) }
     ensures due { IfOk result (λ all. (key : Key) → is_among key_cmp all key ≡ false
         → is_lsp_of key_of_item due.now key ≡ false) }
     ensures upstream_due { IfOk result (λ all. (key : Key) → is_among key_cmp all key ≡ false
@@ -127,7 +122,7 @@ pub(crate) fn touched_by<V: WholeState>(
 {
     let refreshed = with_lsps_of(changed.try_copy(alloc)?, due)?;
     let touched = with_lsps_of(refreshed, upstream_due)?;
-    if edits_place(edits) {
+    if !is_same_around(view, edits) {
         return with_known(view, touched);
     }
     Ok(touched)

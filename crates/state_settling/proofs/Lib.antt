@@ -1,4 +1,4 @@
+pub mod Asking
 pub mod Editing
 pub mod Moving
 pub mod Places
-pub mod Readying

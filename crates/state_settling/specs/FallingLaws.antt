@@ -1,5 +1,5 @@
--- By these edits exactly those reservations go that stand no more.
-use Rattle.std.specs.Prelude.{◌≡◌, ◌++◌, ◌&&◌, ◌||◌, not, Bool, true, false, cond, if◌then◌else◌, T, List, [], ◌∷◌, filter_map, Option, Some, None, IfSome, is_some}
+-- By these edits exactly those reservations and those repairs go that stand no more.
+use Rattle.std.specs.Prelude.{◌≡◌, ◌++◌, ◌&&◌, ◌||◌, not, Bool, true, false, cond, if◌then◌else◌, T, List, [], ◌∷◌, filter, filter_map, Option, Some, None, IfSome, is_some}
 use Rattle.std.specs.Cmp.{both_ways}
 use Rattle.std.specs.FinMap.Entries.{find, is_sorted}
 use Rattle.std.specs.List.{AllByRecursion, cons_option}
@@ -15,16 +15,18 @@ use Rattle.sorted_rows.specs.Edits as rows
 use Rattle.lsr_facts.specs.OrderLaws.{key_exact, key_total}
 use Rattle.lsr_facts.specs.Orders.{key_cmp}
 use Rattle.lsr_facts.specs.declared.key.Key.{Key}
-use Rattle.lsr_facts.specs.declared.path_fact.PathFact.{PathFact}
-use Rattle.resv_facts.specs.declared.resv_fact.ResvFact.{ResvFact}
+use Rattle.lsr_facts.specs.declared.router.Router.{Router}
 use Rattle.abstract_paths.specs.Places.{is_up}
 use Rattle.abstract_paths.specs.Tears.{leaves_by}
+use Rattle.abstract_router.specs.Detours.{over_at}
+use Rattle.abstract_router.specs.Lsps.{around_of}
+use Rattle.abstract_router.specs.Repairing.{repair_stands, repairs_left}
 use Rattle.abstract_router.specs.States.{State, is_one_of}
-use Rattle.abstract_router.specs.Steps.{left_standing, stands}
-use Rattle.state_views.specs.EditLaws.{resvs_without}
-use Rattle.state_views.specs.Edits.{edited, without_resvs}
+use Rattle.abstract_router.specs.Steps.{resvs_left, stands}
+use Rattle.state_views.specs.EditLaws.{rows_without}
+use Rattle.state_views.specs.Edits.{edited, without_rows}
 use Rattle.state_views.specs.declared.edits.Edits.{Edits}
-use Rattle.state_settling.specs.Falling.{fallen_key, has_fallen}
+use Rattle.state_settling.specs.Falling.{failing_key, fails_at, fallen_key, has_fallen, has_lapsed, lapsed_key}
 
 -- keys tie one way round as they do the other
 tie-turned : (a b : Key) → is_eq (key_cmp a b) ≡ is_eq (key_cmp b a)
@@ -83,59 +85,96 @@ not_not : (b : Bool) → not (not b) ≡ b
 not_not true = refl
 not_not false = refl
 
--- Where these are the LSPs whose reservations stand no more after edits, those are left that stand.
-pub standing_left : (s : State) (e : Edits) (gone : List Key) → T (is_sorted key_cmp s.resvs) → ((q : Key) → is_one_of gone q ≡ has_fallen (edited e s) q)
-    → edited (record e { resvs = without_resvs e.resvs gone }) s ≡ left_standing (edited e s)
-standing_left s e gone sorted exactly =
-    λ i. record (edited e s) { resvs = (resvs_without e.resvs gone s.resvs sorted ∙ filter_agree_within (λ resv. not (is_one_of gone resv.0)) test after alike) i }
-  where
-    after : List (Key × ResvFact)
-    after = (edited e s).resvs
-
-    test : Key × ResvFact → Bool
-    test = stands (edited e s).facts
-
-    alike : AllByRecursion (λ (resv : Key × ResvFact). not (is_one_of gone resv.0) ≡ test resv) after
-    alike =
-        all-weaker (λ (resv : Key × ResvFact). find key_cmp resv.0 after ≡ Some resv.1) (λ resv. not (is_one_of gone resv.0) ≡ test resv)
-        (λ resv found. ap not (exactly resv.0 ∙ ap (λ o. option_map_or (λ fact. not (test (resv.0, fact))) o false) found) ∙ not_not (test resv))
-        after (all_found key_cmp key_total after (is_sorted-edited key_cmp key_total e.resvs s.resvs sorted))
-
 -- what there is after edits was edited, or there before
 known-over : {X : Type 0} (p : X → Bool) (edit : Option (Option X)) (was : Option X) → option_map_or p (rows.over edit was) false ≡ true → (is_some edit || is_some was) ≡ true
 known-over p (Some now) was h = refl
 known-over p None None h = h
 known-over p None (Some x) h = refl
 
--- What falls among all that were reserved before, and among the edits, is all that falls.
-pub fallen_of_all : (s : State) (e : Edits) (keys : List Key) → keys ≡ filter_map (λ row. fallen_key (edited e s) row.0) e.resvs ++ filter_map (λ resv. fallen_key (edited e s) resv.0) s.resvs
-    → (q : Key) → is_one_of keys q ≡ has_fallen (edited e s) q
-fallen_of_all s e keys are q =
-    ap (λ ks. is_one_of ks q) are
-    ∙ among-both (has_fallen (edited e s)) q e.resvs s.resvs (λ h.
-    known-over (λ resv. not (stands (edited e s).facts (q, resv))) (find key_cmp q e.resvs) (find key_cmp q s.resvs)
-    (ap (λ o. option_map_or (λ resv. not (stands (edited e s).facts (q, resv))) o false) (sym (find-edited key_cmp key_total q e.resvs s.resvs)) ∙ h))
+module _ {X : Type 0} (test : Key × X → Bool) (es : List (Key × Option X)) (before : List (Key × X)) where
+  -- the rows after edits
+  abbrev after : List (Key × X)
+  after = rows.edited key_cmp es before
 
--- Where no link changed and all stood, what falls is among the edits.
+  -- Where these are the LSPs whose rows fail the test, those rows are left that pass it.
+  pub rows_left : (gone : List Key) → T (is_sorted key_cmp before) → ((q : Key) → is_one_of gone q ≡ fails_at test after q) → rows.edited key_cmp (without_rows es gone) before ≡ filter test after
+  rows_left gone sorted exactly =
+      rows_without es gone before sorted
+      ∙ filter_agree_within (λ row. not (is_one_of gone row.0)) test after
+      (all-weaker (λ (row : Key × X). find key_cmp row.0 after ≡ Some row.1) (λ row. not (is_one_of gone row.0) ≡ test row)
+      (λ row found. ap not (exactly row.0 ∙ ap (λ o. option_map_or (λ x. not (test (row.0, x))) o false) found) ∙ not_not (test row))
+      after (all_found key_cmp key_total after (is_sorted-edited key_cmp key_total es before sorted)))
+
+  -- What fails among all rows before, and among the edits, is all that fails.
+  pub failing_of_all : (keys : List Key) → keys ≡ filter_map (λ row. failing_key test after row.0) es ++ filter_map (λ row. failing_key test after row.0) before
+      → (q : Key) → is_one_of keys q ≡ fails_at test after q
+  failing_of_all keys are q =
+      ap (λ ks. is_one_of ks q) are
+      ∙ among-both (fails_at test after) q es before (λ h.
+      known-over (λ x. not (test (q, x))) (find key_cmp q es) (find key_cmp q before)
+      (ap (λ o. option_map_or (λ x. not (test (q, x))) o false) (sym (find-edited key_cmp key_total q es before)) ∙ h))
+
+  -- Where the rows before pass the test, but maybe those of other edits, what fails is among these and among the edits.
+  pub failing_of_edits : {E : Type 0} (others : List (Key × E)) (keys : List Key) → ((q : Key) → find key_cmp q others ≡ None → IfSome (find key_cmp q before) (λ x. test (q, x) ≡ true))
+      → keys ≡ filter_map (λ row. failing_key test after row.0) es ++ filter_map (λ row. failing_key test after row.0) others
+      → (q : Key) → is_one_of keys q ≡ fails_at test after q
+  failing_of_edits {E} others keys passes are q =
+      ap (λ ks. is_one_of ks q) are ∙ among-both (fails_at test after) q es others (λ fails. by (find key_cmp q es) (find key_cmp q others) refl refl fails)
+    where
+      passed : (o : Option X) → IfSome o (λ x. test (q, x) ≡ true) → option_map_or (λ x. not (test (q, x))) o false ≡ true → false ≡ true
+      passed None so h = h
+      passed (Some x) so h = ap not (sym so) ∙ h
+
+      by : (edit : Option (Option X)) (other : Option E) → find key_cmp q es ≡ edit → find key_cmp q others ≡ other → fails_at test after q ≡ true → (is_some edit || is_some other) ≡ true
+      by (Some now) other is_edit is_other fails = refl
+      by None (Some e) is_edit is_other fails = refl
+      by None None is_edit is_other fails =
+          passed (find key_cmp q before) (passes q is_other)
+          (ap (λ o. option_map_or (λ x. not (test (q, x))) o false) (sym (find-edited key_cmp key_total q es before ∙ ap (λ edit. rows.over edit (find key_cmp q before)) is_edit)) ∙ fails)
+
+-- what a fact leads to of what there may be
+some-weaker : {X : Type 0} (P Q : X → Type 0) → ((x : X) → P x → Q x) → (o : Option X) → IfSome o P → IfSome o Q
+some-weaker P Q step None p = tt
+some-weaker P Q step (Some x) p = step x p
+
+-- a path that isn't edited is as it was
+same_path : (s : State) (e : Edits) (q : Key) → find key_cmp q e.paths ≡ None → find key_cmp q (edited e s).facts.paths ≡ find key_cmp q s.facts.paths
+same_path s e q none = find-edited key_cmp key_total q e.paths s.facts.paths ∙ ap (λ edit. rows.over edit (find key_cmp q s.facts.paths)) none
+
+-- Where these are the LSPs whose reservations stand no more after edits, those are left that stand.
+pub standing_left : (s : State) (e : Edits) (gone : List Key) → T (is_sorted key_cmp s.resvs) → ((q : Key) → is_one_of gone q ≡ has_fallen (edited e s) q)
+    → edited (record e { resvs = without_rows e.resvs gone }) s ≡ resvs_left (edited e s)
+standing_left s e gone sorted exactly =
+    λ i. record (edited e s) { resvs = rows_left (stands (edited e s).facts) e.resvs s.resvs gone sorted exactly i }
+
+-- Where no link changed and all stood, the reservations that fall are among the edits.
 pub fallen_of_edits : (s : State) (e : Edits) (keys : List Key) → AllByRecursion (λ resv. stands s.facts resv ≡ true) s.resvs → e.up ≡ None
     → keys ≡ filter_map (λ row. fallen_key (edited e s) row.0) e.resvs ++ filter_map (λ row. fallen_key (edited e s) row.0) e.paths
     → (q : Key) → is_one_of keys q ≡ has_fallen (edited e s) q
-fallen_of_edits s e keys stood same are q =
-    ap (λ ks. is_one_of ks q) are ∙ among-both (has_fallen (edited e s)) q e.resvs e.paths (λ fallen. by (find key_cmp q e.resvs) (find key_cmp q e.paths) refl refl fallen)
-  where
-    stays : (resv : ResvFact) → find key_cmp q e.paths ≡ None → stands s.facts (q, resv) ≡ true → stands (edited e s).facts (q, resv) ≡ true
-    stays resv none so =
-        (λ i. is_up (ap (λ up. unwrap_or up s.facts.up) same i) resv.link
-        && option_map_or (leaves_by resv.link) ((find-edited key_cmp key_total q e.paths s.facts.paths ∙ ap (λ edit. rows.over edit (find key_cmp q s.facts.paths)) none) i) false)
-        ∙ so
+fallen_of_edits s e keys stood same =
+    failing_of_edits (stands (edited e s).facts) e.resvs s.resvs e.paths keys (λ q none.
+    some-weaker (λ resv. stands s.facts (q, resv) ≡ true) (λ resv. stands (edited e s).facts (q, resv) ≡ true) (λ resv so.
+    (λ i. is_up (ap (λ up. unwrap_or up s.facts.up) same i) resv.link && option_map_or (leaves_by resv.link) (same_path s e q none i) false) ∙ so)
+    (find key_cmp q s.resvs) (find-all_row key_cmp key_exact (λ resv. stands s.facts resv ≡ true) q s.resvs stood))
 
-    stayed : (o : Option ResvFact) → IfSome o (λ resv. stands s.facts (q, resv) ≡ true) → find key_cmp q e.paths ≡ None → option_map_or (λ resv. not (stands (edited e s).facts (q, resv))) o false ≡ true → false ≡ true
-    stayed None so none h = h
-    stayed (Some resv) so none h = ap not (sym (stays resv none so)) ∙ h
+-- Where these are the LSPs whose repairs stand no more after edits, those are left that stand.
+pub repairs_standing_left : (r : Router) (s : State) (e : Edits) (gone : List Key) → T (is_sorted key_cmp s.repairs) → ((q : Key) → is_one_of gone q ≡ has_lapsed r (edited e s) q)
+    → edited (record e { repairs = without_rows e.repairs gone }) s ≡ repairs_left r (edited e s)
+unfolding repairs_left
+repairs_standing_left r s e gone sorted exactly =
+    λ i. record (edited e s) { repairs = rows_left (repair_stands r (edited e s)) e.repairs s.repairs gone sorted exactly i }
 
-    by : (resv : Option (Option ResvFact)) (path : Option (Option PathFact)) → find key_cmp q e.resvs ≡ resv → find key_cmp q e.paths ≡ path → has_fallen (edited e s) q ≡ true → (is_some resv || is_some path) ≡ true
-    by (Some resv) path is_resv is_path fallen = refl
-    by None (Some path) is_resv is_path fallen = refl
-    by None None is_resv is_path fallen =
-        stayed (find key_cmp q s.resvs) (find-all_row key_cmp key_exact (λ resv. stands s.facts resv ≡ true) q s.resvs stood) is_path
-        (ap (λ o. option_map_or (λ resv. not (stands (edited e s).facts (q, resv))) o false) (sym (find-edited key_cmp key_total q e.resvs s.resvs ∙ ap (λ edit. rows.over edit (find key_cmp q s.resvs)) is_resv)) ∙ fallen)
+-- Where all bypasses are as they were and all repairs stood, those that lapse are among the edits.
+pub lapsed_of_edits : (r : Router) (s : State) (e : Edits) (keys : List Key) → AllByRecursion (λ repair. repair_stands r s repair ≡ true) s.repairs → around_of r s ≡ around_of r (edited e s)
+    → keys ≡ filter_map (λ row. lapsed_key r (edited e s) row.0) e.repairs ++ filter_map (λ row. lapsed_key r (edited e s) row.0) e.paths
+    → (q : Key) → is_one_of keys q ≡ has_lapsed r (edited e s) q
+lapsed_of_edits r s e keys stood same =
+    failing_of_edits (repair_stands r (edited e s)) e.repairs s.repairs e.paths keys (λ q none.
+    some-weaker (λ repair. repair_stands r s (q, repair) ≡ true) (λ repair. repair_stands r (edited e s) (q, repair) ≡ true) (λ repair so.
+    (λ i. is_some (over_at (sym same i).detours repair.bypass) && option_map_or (leaves_by repair.resv.link) (same_path s e q none i) false) ∙ so)
+    (find key_cmp q s.repairs) (find-all_row key_cmp key_exact (λ repair. repair_stands r s repair ≡ true) q s.repairs stood))
+
+-- Labels stay as they are.
+pub labels-repairs_left : (r : Router) (s : State) → (repairs_left r s).labels ≡ s.labels
+unfolding repairs_left
+labels-repairs_left r s = refl

@@ -3,5 +3,7 @@ pub mod FallingLaws
 pub mod Keeping
 pub mod Relabelling
 pub mod RelabellingLaws
+pub mod Repairs
+pub mod RepairsLaws
 pub mod Switching
 pub mod SwitchingLaws

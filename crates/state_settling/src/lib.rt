@@ -4,6 +4,7 @@
 
 mod claims;
 mod labels;
+mod lapsing;
 mod repair;
 mod settling;
 mod standing;

@@ -1,32 +1,240 @@
-//! The repair of what a lost link takes away.
+//! The repair of what a lost link takes away (RFC 4090, 6.4 and 6.5).
 
-ghost use Rattle.std.specs.Prelude.{◌≡◌, IfOk};
-ghost use Rattle.abstract_router.specs.Steps.{repaired, told_repaired};
+ghost use Rattle.std.specs.FinMap.Entries.{find, is_sorted, put};
+ghost use Rattle.std.specs.List.{AllByRecursion, flat_map};
+ghost use Rattle.std.specs.Option.{option_and_then, option_map, option_map_or, option_or};
+ghost use Rattle.std.specs.Prelude.{◌≡◌, Some, true, IfOk, T, map};
+ghost use Rattle.lsr_facts.specs.Orders.{key_cmp};
+ghost use Rattle.lsr_facts.specs.declared.key.Key.{Key};
+ghost use Rattle.abstract_paths.specs.MessageLaws.{LeavesRoom};
+ghost use Rattle.abstract_paths.specs.Outcomes.{found_here, told_upstream};
+ghost use Rattle.abstract_router.specs.Errors.{locally_repaired};
+ghost use Rattle.abstract_router.specs.Protecting.{repair_with};
+ghost use Rattle.abstract_router.specs.Repairing.{new_repairs, put_repair, repair_of, repaired, told_of, told_repaired};
+ghost use Rattle.abstract_router.specs.Steps.{stands};
 ghost use Rattle.state_views.specs.Edits.{edited};
+ghost use Rattle.state_views.specs.Joining.{joined_rows};
+ghost use Rattle.state_settling.specs.Repairs.{repair_at};
 
-use state_views::{Edits, Outputs, WholeState};
+use facility_backup::{Held, repair, select};
+use lsr_facts::{Key, PathFact, Router};
+use message_rules::{LOCALLY_REPAIRED, found_here, is_up, leaves_by};
+use path_steps::told_upstream;
+use resv_facts::{Repair, ResvFact, Selected};
+use sorted_rows::{Table, TryCopy};
+use state_views::{Changed, Edits, Outputs, StateView, WholeState, node_of};
 use std::alloc::{AllocError, Global};
 
-/// Edits, and then what a lost link takes away is repaired. Nothing is repaired yet.
-pub(crate) fn repaired<V: WholeState>(
-    _alloc: Global,
-    _view: &V,
-    edits: Edits,
-) -> Result<Edits, AllocError>
-    ensures { IfOk result (λ e. edited e (V.state _view.now)
-        ≡ repaired (V.router _view.now) (edited edits (V.state _view.now))) }
+/// The bypass over which an LSP is repaired that has this reservation: the one that is selected, where its path leaves by
+/// the link of the reservation, which is down.
+fn choice_of<A: StateView>(after: &A, key: &Key, resv: &ResvFact) -> Option<Selected>
+    ensures { option_map (repair_with resv.now) result ≡ repair_of (A.router after.now) (A.state after.now) (key.now, resv.now) }
 {
-    Ok(edits)
+    let path = after.path(key)?;
+    if !leaves_by(resv.link, path) || is_up(node_of(after).up, resv.link) {
+        return None;
+    }
+    select(after, key, path, resv)
 }
 
-/// The errors that repair tells after these edits, to the origins of what it repairs: none, as nothing is repaired yet.
-pub(crate) fn told_repaired<V: WholeState>(
+/// The repair of an LSP, if there is to be one. Takes no memory where there is none; the only error is out of memory.
+fn repair_at<A: StateView>(
     alloc: Global,
-    _view: &V,
-    _edits: &Edits,
-) -> Result<Outputs, AllocError>
-    ensures { IfOk result (λ told. told
-        ≡ told_repaired (V.router _view.now) (edited _edits.now (V.state _view.now))) }
+    after: &A,
+    key: &Key,
+) -> Result<Option<Repair>, AllocError>
+    ensures { IfOk result (λ found. found ≡ repair_at (A.router after.now) (A.state after.now) key.now) }
 {
-    Ok(Outputs::new(alloc))
+    let Some(resv) = after.resv(key) else {
+        return Ok(None);
+    };
+    let Some(choice) = choice_of(after, key, resv) else {
+        return Ok(None);
+    };
+    let held = Held {
+        key: *key,
+        resv: resv.try_copy(alloc)?,
+    };
+    Ok(Some(repair(held, choice).repair))
+}
+
+/// Repairs, and then that of this LSP, if there is to be one. The only error is out of memory.
+fn with_repair<A: StateView>(
+    alloc: Global,
+    repairs: Table<Key, Repair>,
+    after: &A,
+    key: Key,
+) -> Result<Table<Key, Repair>, AllocError>
+    ensures { IfOk result (λ all. all ≡ option_map_or (λ repair. put key_cmp key repair repairs)
+        (repair_at (A.router after.now) (A.state after.now) key) repairs) }
+{
+    let mut all = repairs;
+    if let Some(repair) = repair_at(alloc, after, &key)? {
+        all.set(key, repair)?;
+    }
+    Ok(all)
+}
+
+/// Repairs, and then those of the LSPs of these rows. The only error is out of memory.
+fn with_repairs<A: StateView, E>(
+    alloc: Global,
+    repairs: Table<Key, Repair>,
+    after: &A,
+    rows: &[(Key, E)],
+) -> Result<Table<Key, Repair>, AllocError>
+    ensures { IfOk result (λ all. (key : Key) → find key_cmp key all
+        ≡ option_or (option_and_then (λ row. repair_at (A.router after.now) (A.state after.now) key) (find key_cmp key rows.now))
+        (find key_cmp key repairs)) }
+{
+    let mut all = repairs;
+    for row in rows {
+        all = with_repair(alloc, all, after, row.0)?;
+    }
+    Ok(all)
+}
+
+/// Repairs, and then those of all LSPs that had a reservation before. The only error is out of memory.
+fn with_all_repairs<V: WholeState, A: StateView>(
+    alloc: Global,
+    repairs: Table<Key, Repair>,
+    before: &V,
+    after: &A,
+) -> Result<Table<Key, Repair>, AllocError>
+    ensures { IfOk result (λ all. (key : Key) → find key_cmp key all
+        ≡ option_or (option_and_then (λ row. repair_at (A.router after.now) (A.state after.now) key) (find key_cmp key (V.state before.now).resvs))
+        (find key_cmp key repairs)) }
+{
+    let mut all = repairs;
+    for place in 0..before.resv_count() {
+        if let Some(row) = before.resv_at(place) {
+            all = with_repair(alloc, all, after, row.0)?;
+        }
+    }
+    Ok(all)
+}
+
+/// All repairs that there are to be after edits. It asks that all reservations that there were before stood. It goes over
+/// all of them only where links changed; else over the edits. The only error is out of memory.
+fn known_repairs<V: WholeState>(
+    alloc: Global,
+    view: &V,
+    edits: &Edits,
+) -> Result<Table<Key, Repair>, AllocError>
+    requires { AllByRecursion (λ resv. stands (V.state view.now).facts resv ≡ true) (V.state view.now).resvs }
+    ensures { IfOk result (λ all. (key : Key) → find key_cmp key all
+        ≡ repair_at (V.router view.now) (edited edits.now (V.state view.now)) key) }
+{
+    let after = Changed { under: view, edits };
+    let known = with_repairs(alloc, Table::new(alloc), &after, edits.resvs.as_slice())?;
+    match edits.up {
+        Some(_) => with_all_repairs(alloc, known, view, &after),
+        None => Ok(known),
+    }
+}
+
+/// And in the order of their keys. The only error is out of memory.
+fn new_repairs<V: WholeState>(
+    alloc: Global,
+    view: &V,
+    edits: &Edits,
+) -> Result<Vec<(Key, Repair)>, AllocError>
+    requires order { T (is_sorted key_cmp (V.state view.now).resvs) }
+    requires stood { AllByRecursion (λ resv. stands (V.state view.now).facts resv ≡ true) (V.state view.now).resvs }
+    ensures { IfOk result (λ repairs. repairs.items
+        ≡ new_repairs (V.router view.now) (edited edits.now (V.state view.now))) }
+{
+    Ok(known_repairs(alloc, view, edits)?.into_rows())
+}
+
+/// The errors that tell the origins of a path that its LSP runs over a bypass (RFC 4090, 6.5). It asks for a Tspec that
+/// leaves room for the rest of the message.
+fn told_on(
+    alloc: Global,
+    router: &Router,
+    key: &Key,
+    path: &PathFact,
+) -> Result<Outputs, AllocError>
+    requires { LeavesRoom (Some path.now.tspec) }
+    ensures { IfOk result (λ told. told
+        ≡ told_upstream key.now path.now (Some path.now.tspec) (found_here router.now locally_repaired)) }
+{
+    let error = found_here(router, LOCALLY_REPAIRED);
+    told_upstream(alloc, key, path, &Some(path.tspec.clone()?), error)
+}
+
+/// The errors that a repair tells.
+fn told_of<A: StateView>(
+    alloc: Global,
+    after: &A,
+    repair: &(Key, Repair),
+) -> Result<Outputs, AllocError>
+    requires { AllByRecursion (λ path. LeavesRoom (Some path.1.tspec)) (A.state after.now).facts.paths }
+    ensures { IfOk result (λ told. told ≡ told_of (A.router after.now) (A.state after.now) repair.now) }
+{
+    match after.path(&repair.0) {
+        Some(path) => told_on(alloc, node_of(after).router, &repair.0, path),
+        None => Ok(Outputs::new(alloc)),
+    }
+}
+
+/// And those that all of these tell, in their order.
+fn told_of_all<A: StateView>(
+    alloc: Global,
+    after: &A,
+    repairs: &[(Key, Repair)],
+) -> Result<Outputs, AllocError>
+    requires { AllByRecursion (λ path. LeavesRoom (Some path.1.tspec)) (A.state after.now).facts.paths }
+    ensures { IfOk result (λ told. told ≡ flat_map (told_of (A.router after.now) (A.state after.now)) repairs.now) }
+{
+    let mut told = Vec::new(alloc);
+    for repair in repairs {
+        let mut more = told_of(alloc, after, repair)?.into_vec();
+        told.append(&mut more)?;
+    }
+    Ok(Outputs::from_vec(told))
+}
+
+/// Edits of repairs, and then LSPs have these. The only error is out of memory.
+#[tactic(auto, using(crate::specs::RepairsLaws::put_last))]
+fn with_put(
+    edits: Table<Key, Option<Repair>>,
+    mut repairs: Vec<(Key, Repair)>,
+) -> Result<Table<Key, Option<Repair>>, AllocError>
+    ensures { IfOk result (λ all. all ≡ joined_rows key_cmp edits (map put_repair repairs.items)) }
+{
+    let mut all = edits;
+    while let Some((key, repair)) = repairs.pop() {
+        all.set(key, Some(repair))?;
+    }
+    Ok(all)
+}
+
+/// Edits, and then what a lost link takes away is repaired; and the errors that this tells, in the order of the LSPs (RFC
+/// 4090, 6.4 and 6.5). It asks that all reservations stood before the edits, and that each path after them leaves room for an
+/// error that names it. The only error is out of memory.
+pub(crate) fn repaired<V: WholeState>(
+    alloc: Global,
+    view: &V,
+    edits: Edits,
+) -> Result<(Edits, Outputs), AllocError>
+    requires order { T (is_sorted key_cmp (V.state view.now).resvs) }
+    requires stood { AllByRecursion (λ resv. stands (V.state view.now).facts resv ≡ true) (V.state view.now).resvs }
+    requires repairs { T (is_sorted key_cmp (V.state view.now).repairs) }
+    requires room { AllByRecursion (λ path. LeavesRoom (Some path.1.tspec)) (edited edits (V.state view.now)).facts.paths }
+    ensures after { IfOk result (λ x. edited x.0 (V.state view.now)
+        ≡ repaired (V.router view.now) (edited edits (V.state view.now))) }
+    ensures told { IfOk result (λ x. x.1
+        ≡ told_repaired (V.router view.now) (edited edits (V.state view.now))) }
+{
+    let repairs = new_repairs(alloc, view, &edits)?;
+    let after = Changed {
+        under: view,
+        edits: &edits,
+    };
+    let told = told_of_all(alloc, &after, &repairs)?;
+    let edits = Edits {
+        repairs: with_put(edits.repairs, repairs)?,
+        ..edits
+    };
+    Ok((edits, told))
 }

@@ -1,15 +1,18 @@
 //! All that follows from an event's own change.
 
 ghost use Rattle.std.specs.Prelude.{◌≡◌, IfOk};
+ghost use Rattle.abstract_paths.specs.Soundness.{ArePaths};
 ghost use Rattle.abstract_router.specs.Choosing.{CanLabel};
 ghost use Rattle.abstract_router.specs.Labels.{IsLabelling};
+ghost use Rattle.abstract_router.specs.Repairing.{told_repaired};
 ghost use Rattle.abstract_router.specs.Soundness.{IsSound};
-ghost use Rattle.abstract_router.specs.Steps.{settled, taken_over, told_repaired};
+ghost use Rattle.abstract_router.specs.Steps.{settled, taken_over};
 ghost use Rattle.state_views.specs.Edits.{edited};
 
 use crate::labels::{chosen_labels, labelled};
-use crate::repair::{repaired, told_repaired};
-use crate::standing::left_standing;
+use crate::lapsing::repairs_left;
+use crate::repair::repaired;
+use crate::standing::resvs_left;
 use crate::takeover::taken_over;
 use lsr_facts::Key;
 use sorted_rows::Table;
@@ -28,11 +31,14 @@ pub struct Settled {
 }
 
 /// What follows from an event's own change, in this order: tunnels go over to new LSPs; what a lost link takes away is
-/// repaired; reservations go that stand no more; an LSP that is new gets a label, and the labels of those that went are
-/// free. It asks for a sound state, and for edits that leave the labels as they are, by which no more than one LSP is new
-/// that needs a label, and for which a label is free then: so those of each event are. The only error is out of memory.
+/// repaired; reservations go that stand no more, and then repairs; an LSP that is new gets a label, and the labels of those
+/// that went are free. It asks for a sound state, and for edits that leave the paths as they should be and the labels as they
+/// are, by which no more than one LSP is new that needs a label, and for which a label is free then: so those of each event
+/// are. The only error is out of memory.
 pub fn settle<V: WholeState>(alloc: Global, view: &V, edits: Edits) -> Result<Settled, AllocError>
     requires sound { IsSound (V.router view.now) (V.state view.now) }
+    requires paths { ArePaths (V.router view.now) (edited edits (V.state view.now)).facts.moment
+        (edited edits (V.state view.now)).facts.paths }
     requires labels { (edited edits (V.state view.now)).labels ≡ (V.state view.now).labels }
     requires choice { CanLabel (V.router view.now) (V.state view.now).labels
         (edited edits (V.state view.now)).facts.paths }
@@ -45,9 +51,9 @@ pub fn settle<V: WholeState>(alloc: Global, view: &V, edits: Edits) -> Result<Se
 {
     let chosen = chosen_labels(alloc, view, edits.paths.as_slice())?;
     let edits = taken_over(alloc, view, edits)?;
-    let told = told_repaired(alloc, view, &edits)?;
-    let edits = repaired(alloc, view, edits)?;
-    let edits = left_standing(alloc, view, edits)?;
+    let (edits, told) = repaired(alloc, view, edits)?;
+    let edits = resvs_left(alloc, view, edits)?;
+    let edits = repairs_left(alloc, view, edits)?;
     let edits = labelled(alloc, view, &chosen, edits)?;
     Ok(Settled {
         edits,

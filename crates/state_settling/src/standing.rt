@@ -7,14 +7,14 @@ ghost use Rattle.std.specs.Prelude.{◌≡◌, ◌++◌, true, IfOk, T, filter_m
 ghost use Rattle.lsr_facts.specs.Orders.{key_cmp};
 ghost use Rattle.lsr_facts.specs.declared.key.Key.{Key};
 ghost use Rattle.abstract_router.specs.States.{is_one_of};
-ghost use Rattle.abstract_router.specs.Steps.{left_standing, stands};
+ghost use Rattle.abstract_router.specs.Steps.{resvs_left, stands};
 ghost use Rattle.state_views.specs.Edits.{edited};
 ghost use Rattle.state_settling.specs.Falling.{fallen_key, has_fallen};
 
 use lsr_facts::Key;
 use message_rules::{is_up, leaves_by};
 use resv_facts::ResvFact;
-use state_views::{Changed, Edits, StateView, WholeState, node_of, without_resvs};
+use state_views::{Changed, Edits, StateView, WholeState, node_of, without_rows};
 use std::alloc::{AllocError, Global};
 
 /// Whether a reservation stands on its path: on the link that this leaves by, which is up.
@@ -104,18 +104,18 @@ fn fallen<V: WholeState>(alloc: Global, view: &V, edits: &Edits) -> Result<Vec<K
 /// Edits, and then those reservations go that stand no more. It asks that all there were before the edits stood. The only
 /// error is out of memory.
 #[tactic(auto, using(crate::specs::FallingLaws::standing_left))]
-pub(crate) fn left_standing<V: WholeState>(
+pub(crate) fn resvs_left<V: WholeState>(
     alloc: Global,
     view: &V,
     edits: Edits,
 ) -> Result<Edits, AllocError>
     requires order { T (is_sorted key_cmp (V.state view.now).resvs) }
     requires stood { AllByRecursion (λ resv. stands (V.state view.now).facts resv ≡ true) (V.state view.now).resvs }
-    ensures { IfOk result (λ e. edited e (V.state view.now) ≡ left_standing (edited edits (V.state view.now))) }
+    ensures { IfOk result (λ e. edited e (V.state view.now) ≡ resvs_left (edited edits (V.state view.now))) }
 {
     let gone = fallen(alloc, view, &edits)?;
     Ok(Edits {
-        resvs: without_resvs(edits.resvs, &gone)?,
+        resvs: without_rows(edits.resvs, &gone)?,
         ..edits
     })
 }

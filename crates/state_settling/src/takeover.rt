@@ -5,52 +5,25 @@ ghost use Rattle.std.specs.Option.{option_and_then, option_copied, option_or};
 ghost use Rattle.std.specs.Ordering.{nat_cmp};
 ghost use Rattle.std.specs.Prelude.{◌≡◌, ℕ, IfOk, T, filter};
 ghost use Rattle.lsr_facts.specs.Orders.{key_cmp};
-ghost use Rattle.lsr_facts.specs.Tunnels.{current_key, head_key};
 ghost use Rattle.abstract_router.specs.Steps.{is_ready, taken_over};
 ghost use Rattle.state_views.specs.Edits.{edited};
 ghost use Rattle.state_settling.specs.Switching.{ready_at, with_all_switched, with_switched};
 
-use lsr_facts::{Key, Router, Tunnel};
+use lsr_facts::{Router, Tunnel};
 use make_before_break::switch;
-use rsvp_objects::{Session, Template};
+use message_rules::{current_key, pending_key};
 use sorted_rows::{Table, TryCopy};
 use state_views::{Changed, Edits, StateView, WholeState, node_of};
 use std::alloc::{AllocError, Global};
-use std::net::Ipv4Addr;
-
-/// The LSP of a tunnel that has this ID: the router's id is extended tunnel ID and sender.
-fn head_key(router: &Router, number: u16, endpoint: Ipv4Addr, id: u16) -> Key
-    ensures { result ≡ head_key router.now number endpoint id }
-{
-    Key {
-        session: Session {
-            endpoint,
-            tunnel: number,
-            extended: router.id,
-        },
-        sender: Template {
-            sender: router.id,
-            lsp: id,
-        },
-    }
-}
-
-/// The LSP that carries the traffic of a tunnel.
-fn current_key(router: &Router, number: u16, tunnel: &Tunnel) -> Key
-    ensures { result ≡ current_key router.now (number, tunnel.now) }
-{
-    head_key(router, number, tunnel.endpoint, tunnel.current.id)
-}
 
 /// Whether the LSP that is to take the place of the tunnel's current one is reserved.
 fn is_ready<A: StateView>(after: &A, number: u16, tunnel: &Tunnel) -> bool
     ensures { result ≡ is_ready (A.router after.now) (A.state after.now) (number, tunnel.now) }
 {
-    let Some(lsp) = &tunnel.pending else {
-        return false;
-    };
-    let key = head_key(node_of(after).router, number, tunnel.endpoint, lsp.id);
-    after.resv(&key).is_some()
+    match pending_key(node_of(after).router, number, tunnel) {
+        Some(key) => after.resv(&key).is_some(),
+        None => false,
+    }
 }
 
 /// The tunnel of a number, where its new LSP is reserved.

@@ -16,14 +16,15 @@ use Rattle.lsr_facts.specs.Timeless.{timeless_path}
 use Rattle.lsr_facts.specs.declared.key.Key.{Key}
 use Rattle.lsr_facts.specs.declared.path_fact.PathFact.{PathFact}
 use Rattle.lsr_facts.specs.declared.tunnel.Tunnel.{Tunnel}
-use Rattle.resv_facts.specs.Reservations.{timeless_resv}
+use Rattle.resv_facts.specs.Reservations.{timeless_repair, timeless_resv}
+use Rattle.resv_facts.specs.declared.repair.Repair.{Repair}
 use Rattle.resv_facts.specs.declared.resv_fact.ResvFact.{ResvFact}
 use Rattle.abstract_paths.specs.StampLaws.{none-is}
 use Rattle.abstract_paths.specs.Touched.{is_among}
 use Rattle.abstract_router.specs.Labels.{labelled_keys}
 use Rattle.abstract_router.specs.Lsps.{Lsp, lsp_at}
 use Rattle.abstract_router.specs.States.{State, is_one_of}
-use Rattle.state_views.specs.Edits.{edited, is_edited, without_resvs}
+use Rattle.state_views.specs.Edits.{edited, is_edited, without_rows}
 use Rattle.state_views.specs.declared.edits.Edits.{Edits}
 
 pub tunnel_edited : (number : ℕ) (edits : List (ℕ × Option Tunnel)) (tunnels : List (ℕ × Tunnel)) → find nat_cmp number (rows.edited nat_cmp edits tunnels) ≡ rows.over (find nat_cmp number edits) (find nat_cmp number tunnels)
@@ -34,6 +35,9 @@ path_edited key edits paths = find-edited key_cmp key_total key edits paths
 
 pub resv_edited : (key : Key) (edits : List (Key × Option ResvFact)) (resvs : List (Key × ResvFact)) → find key_cmp key (rows.edited key_cmp edits resvs) ≡ rows.over (find key_cmp key edits) (find key_cmp key resvs)
 resv_edited key edits resvs = find-edited key_cmp key_total key edits resvs
+
+pub repair_edited : (key : Key) (edits : List (Key × Option Repair)) (repairs : List (Key × Repair)) → find key_cmp key (rows.edited key_cmp edits repairs) ≡ rows.over (find key_cmp key edits) (find key_cmp key repairs)
+repair_edited key edits repairs = find-edited key_cmp key_total key edits repairs
 
 pub label_edited : (key : Key) (edits : List (Key × Option ℕ)) (labels : List (Key × ℕ)) → find key_cmp key (rows.edited key_cmp edits labels) ≡ rows.over (find key_cmp key edits) (find key_cmp key labels)
 label_edited key edits labels = find-edited key_cmp key_total key edits labels
@@ -61,29 +65,34 @@ without_more {X} key gone (row ∷ rows) =
       | false ↦ ap (λ l. cond (not (is_one_of gone row.0)) (row ∷ l) l) rest
     ]
 
--- After edits by which some LSPs lose their reservations, these are those of the others.
-pub resvs_without : (edits : List (Key × Option ResvFact)) (gone : List Key) (resvs : List (Key × ResvFact)) → T (is_sorted key_cmp resvs) → rows.edited key_cmp (without_resvs edits gone) resvs ≡ filter (λ resv. not (is_one_of gone resv.0)) (rows.edited key_cmp edits resvs)
-resvs_without edits [] resvs h = sym (without_none (rows.edited key_cmp edits resvs))
-resvs_without edits (key ∷ gone) resvs h =
-    resvs_without (put key_cmp key None edits) gone resvs h
-    ∙ ap (filter (λ resv. not (is_one_of gone resv.0))) (edited-put key_cmp key_total key_exact key None edits resvs h)
-    ∙ without_more key gone (rows.edited key_cmp edits resvs)
+-- After edits by which some LSPs lose what they have, that of the others is left.
+pub rows_without : {X : Type 0} (edits : List (Key × Option X)) (gone : List Key) (before : List (Key × X)) → T (is_sorted key_cmp before)
+    → rows.edited key_cmp (without_rows edits gone) before ≡ filter (λ row. not (is_one_of gone row.0)) (rows.edited key_cmp edits before)
+rows_without edits [] before h = sym (without_none (rows.edited key_cmp edits before))
+rows_without edits (key ∷ gone) before h =
+    rows_without (put key_cmp key None edits) gone before h
+    ∙ ap (filter (λ row. not (is_one_of gone row.0))) (edited-put key_cmp key_total key_exact key None edits before h)
+    ∙ without_more key gone (rows.edited key_cmp edits before)
 
 -- neither of two tests passes
 pub neither : (a b : Bool) → (a || b) ≡ false → (a ≡ false) × (b ≡ false)
 neither true b e = absurd (let f = e in cc)
 neither false b e = (refl, e)
 
--- The same is known of an LSP where path, label and reservation are the same, but for when they expire.
+-- The same is known of an LSP where path, label, reservation and repair are the same, but for when they expire.
 pub same_lsp : (s t : State) (key : Key) → find key_cmp key s.labels ≡ find key_cmp key t.labels
     → option_map timeless_resv (find key_cmp key s.resvs) ≡ option_map timeless_resv (find key_cmp key t.resvs)
+    → option_map timeless_repair (find key_cmp key s.repairs) ≡ option_map timeless_repair (find key_cmp key t.repairs)
     → option_map timeless_path (find key_cmp key s.facts.paths) ≡ option_map timeless_path (find key_cmp key t.facts.paths)
     → lsp_at s key ≡ lsp_at t key
-same_lsp s t key label resv path = of_path s (find key_cmp key s.facts.paths) ∙ (λ i. option_map (λ (p : PathFact). record { path = p; label = label i; resv = resv i }) (path i)) ∙ sym (of_path t (find key_cmp key t.facts.paths))
+same_lsp s t key label resv repair path =
+    of_path s (find key_cmp key s.facts.paths)
+    ∙ (λ i. option_map (λ (p : PathFact). record { path = p; label = label i; resv = resv i; repair = repair i }) (path i))
+    ∙ sym (of_path t (find key_cmp key t.facts.paths))
   where
     of_path : (x : State) (o : Option PathFact)
-        → option_map {U = Lsp} (λ p. record { path = timeless_path p; label = find key_cmp key x.labels; resv = option_map timeless_resv (find key_cmp key x.resvs) }) o
-        ≡ option_map {U = Lsp} (λ p. record { path = p; label = find key_cmp key x.labels; resv = option_map timeless_resv (find key_cmp key x.resvs) }) (option_map timeless_path o)
+        → option_map {U = Lsp} (λ p. record { path = timeless_path p; label = find key_cmp key x.labels; resv = option_map timeless_resv (find key_cmp key x.resvs); repair = option_map timeless_repair (find key_cmp key x.repairs) }) o
+        ≡ option_map {U = Lsp} (λ p. record { path = p; label = find key_cmp key x.labels; resv = option_map timeless_resv (find key_cmp key x.resvs); repair = option_map timeless_repair (find key_cmp key x.repairs) }) (option_map timeless_path o)
     of_path x None = refl
     of_path x (Some p) = refl
 
@@ -95,7 +104,9 @@ as_before key edits before none =
 -- So it is where the LSP has no edit.
 pub same_unedited : (s : State) (e : Edits) (key : Key) → is_edited e key ≡ false → lsp_at s key ≡ lsp_at (edited e s) key
 same_unedited s e key none =
-    let labels = neither (is_among key_cmp e.labels key) (is_among key_cmp e.resvs key || is_among key_cmp e.paths key) none in
-    let resvs = neither (is_among key_cmp e.resvs key) (is_among key_cmp e.paths key) labels.1 in
+    let labels = neither (is_among key_cmp e.labels key) (is_among key_cmp e.repairs key || (is_among key_cmp e.resvs key || is_among key_cmp e.paths key)) none in
+    let repairs = neither (is_among key_cmp e.repairs key) (is_among key_cmp e.resvs key || is_among key_cmp e.paths key) labels.1 in
+    let resvs = neither (is_among key_cmp e.resvs key) (is_among key_cmp e.paths key) repairs.1 in
     same_lsp s (edited e s) key (as_before key e.labels s.labels labels.0)
-    (ap (option_map timeless_resv) (as_before key e.resvs s.resvs resvs.0)) (ap (option_map timeless_path) (as_before key e.paths s.facts.paths resvs.1))
+    (ap (option_map timeless_resv) (as_before key e.resvs s.resvs resvs.0)) (ap (option_map timeless_repair) (as_before key e.repairs s.repairs repairs.0))
+    (ap (option_map timeless_path) (as_before key e.paths s.facts.paths resvs.1))

@@ -6,14 +6,13 @@ use Rattle.std.specs.Ordering.{nat_cmp}
 use Rattle.sorted_rows.specs.Edits as rows
 use Rattle.lsr_facts.specs.Orders.{key_cmp}
 use Rattle.lsr_facts.specs.declared.key.Key.{Key}
-use Rattle.resv_facts.specs.declared.resv_fact.ResvFact.{ResvFact}
 use Rattle.abstract_paths.specs.Touched.{is_among}
 use Rattle.abstract_router.specs.States.{State}
 use Rattle.state_views.specs.declared.edits.Edits.{Edits}
 
 -- nothing changes
 abbrev pub unedited : Edits
-unedited = record { moment = None; up = None; routes = None; tunnels = []; bypasses = None; paths = []; resvs = []; labels = [] }
+unedited = record { moment = None; up = None; routes = None; tunnels = []; bypasses = None; paths = []; resvs = []; repairs = []; labels = [] }
 
 -- what is known after edits; the moments at which messages were sent are no part of them
 abbrev pub edited : Edits → State → State
@@ -27,6 +26,7 @@ edited e s = record s {
     paths = rows.edited key_cmp e.paths s.facts.paths;
   };
   resvs = rows.edited key_cmp e.resvs s.resvs;
+  repairs = rows.edited key_cmp e.repairs s.repairs;
   labels = rows.edited key_cmp e.labels s.labels;
 }
 
@@ -35,13 +35,14 @@ pub record AreInOrder (s : State) : Type 0 where
   pub tunnels : T (is_sorted nat_cmp s.facts.tunnels)
   pub paths : T (is_sorted key_cmp s.facts.paths)
   pub resvs : T (is_sorted key_cmp s.resvs)
+  pub repairs : T (is_sorted key_cmp s.repairs)
   pub labels : T (is_sorted key_cmp s.labels)
 
--- edits of reservations, and then these LSPs have none
-abbrev pub without_resvs : List (Key × Option ResvFact) → List Key → List (Key × Option ResvFact)
-without_resvs edits [] = edits
-without_resvs edits (key ∷ gone) = without_resvs (put key_cmp key None edits) gone
+-- edits of what LSPs have, and then these LSPs have none
+abbrev pub without_rows : {X : Type 0} → List (Key × Option X) → List Key → List (Key × Option X)
+without_rows edits [] = edits
+without_rows edits (key ∷ gone) = without_rows (put key_cmp key None edits) gone
 
--- the LSP's label, reservation or path is edited
+-- the LSP's label, repair, reservation or path is edited
 abbrev pub is_edited : Edits → Key → Bool
-is_edited e key = is_among key_cmp e.labels key || (is_among key_cmp e.resvs key || is_among key_cmp e.paths key)
+is_edited e key = is_among key_cmp e.labels key || (is_among key_cmp e.repairs key || (is_among key_cmp e.resvs key || is_among key_cmp e.paths key))

@@ -36,6 +36,7 @@ joined e later = record {
   bypasses = later_or later.bypasses e.bypasses;
   paths = joined_rows key_cmp e.paths later.paths;
   resvs = joined_rows key_cmp e.resvs later.resvs;
+  repairs = joined_rows key_cmp e.repairs later.repairs;
   labels = joined_rows key_cmp e.labels later.labels;
 }
 
@@ -59,6 +60,7 @@ edited_joined e later s are = λ i. record s {
     paths = rows-joined key_cmp key_total key_exact e.paths later.paths s.facts.paths are.paths i;
   };
   resvs = rows-joined key_cmp key_total key_exact e.resvs later.resvs s.resvs are.resvs i;
+  repairs = rows-joined key_cmp key_total key_exact e.repairs later.repairs s.repairs are.repairs i;
   labels = rows-joined key_cmp key_total key_exact e.labels later.labels s.labels are.labels i;
 }
 

@@ -7,12 +7,12 @@ ghost use Rattle.std.specs.Prelude.{◌≡◌, IfOk, T};
 ghost use Rattle.sorted_rows.specs.Edits as rows;
 ghost use Rattle.lsr_facts.specs.Orders.{key_cmp};
 ghost use Rattle.abstract_router.specs.States.{State};
-ghost use Rattle.state_views.specs.Edits.{AreInOrder, edited, unedited, without_resvs};
+ghost use Rattle.state_views.specs.Edits.{AreInOrder, edited, unedited, without_rows};
 ghost use Rattle.state_views.specs.Joining.{joined_rows, later_or};
 
 use crate::views::StateView;
 use lsr_facts::{Bypass, Key, Node, PathFact, Tunnel};
-use resv_facts::ResvFact;
+use resv_facts::{Repair, ResvFact};
 use rsvp_routes::Prefix;
 use sorted_rows::Table;
 use std::alloc::{AllocError, Global};
@@ -34,6 +34,8 @@ pub struct Edits {
     pub paths: Table<Key, Option<PathFact>>,
     /// Of LSPs what is known of their reservations from now on: `None` where one goes.
     pub resvs: Table<Key, Option<ResvFact>>,
+    /// Of LSPs what is known of their repairs from now on: `None` where one goes.
+    pub repairs: Table<Key, Option<Repair>>,
     /// Of LSPs the label that each has from now on: `None` where it is free again.
     pub labels: Table<Key, Option<u32>>,
 }
@@ -51,6 +53,7 @@ impl Edits {
             bypasses: None,
             paths: Table::new(alloc),
             resvs: Table::new(alloc),
+            repairs: Table::new(alloc),
             labels: Table::new(alloc),
         }
     }
@@ -74,6 +77,13 @@ impl Edits {
         ensures { option_copied result ≡ find key_cmp key.now self.now.resvs }
     {
         self.resvs.get(key)
+    }
+
+    /// The edit of an LSP's repair, if there is one.
+    pub fn repair(&self, key: &Key) -> Option<&Option<Repair>>
+        ensures { option_copied result ≡ find key_cmp key.now self.now.repairs }
+    {
+        self.repairs.get(key)
     }
 
     /// The edit of an LSP's label, if there is one.
@@ -125,16 +135,17 @@ pub fn joined<V: StateView>(_view: &V, edits: Edits, later: Edits) -> Result<Edi
         bypasses: later_or(later.bypasses, edits.bypasses),
         paths: joined_rows(edits.paths, later.paths)?,
         resvs: joined_rows(edits.resvs, later.resvs)?,
+        repairs: joined_rows(edits.repairs, later.repairs)?,
         labels: joined_rows(edits.labels, later.labels)?,
     })
 }
 
-/// Edits of reservations, and then these LSPs have none. The only error is out of memory.
-pub fn without_resvs(
-    edits: Table<Key, Option<ResvFact>>,
+/// Edits of what LSPs have, and then these LSPs have none. The only error is out of memory.
+pub fn without_rows<V: Drop>(
+    edits: Table<Key, Option<V>>,
     gone: &[Key],
-) -> Result<Table<Key, Option<ResvFact>>, AllocError>
-    ensures { IfOk result (λ left. left ≡ without_resvs edits gone.now) }
+) -> Result<Table<Key, Option<V>>, AllocError>
+    ensures { IfOk result (λ left. left ≡ without_rows edits gone.now) }
 {
     let mut left = edits;
     for key in gone {
@@ -208,6 +219,14 @@ impl<'a, V: StateView> StateView for Changed<'a, V> {
         match self.edits.resv(key) {
             Some(edit) => edit.as_ref(),
             None => self.under.resv(key),
+        }
+    }
+
+    #[tactic(auto, using(crate::specs::EditLaws::repair_edited))]
+    fn repair(&self, key: &Key) -> Option<&Repair> {
+        match self.edits.repair(key) {
+            Some(edit) => edit.as_ref(),
+            None => self.under.repair(key),
         }
     }
 

@@ -1,5 +1,5 @@
 //! What decisions ask of what a router knows, whoever keeps it; and what a decision answers: a reply, errors, and edits of
-//! paths, reservations and labels.
+//! paths, reservations, repairs and labels.
 #![tactic(auto)]
 
 mod draft;
@@ -7,6 +7,6 @@ mod edits;
 mod views;
 
 pub use draft::{Draft, refused};
-pub use edits::{Changed, Edits, joined, without_resvs};
+pub use edits::{Changed, Edits, joined, without_rows};
 pub use router_events::{Output, Outputs};
 pub use views::{StateView, WholeState, node_of};

@@ -20,7 +20,7 @@ ghost use Rattle.abstract_router.specs.Reserving.{conflicts};
 ghost use Rattle.abstract_router.specs.States.{State};
 
 use lsr_facts::{Bypass, Item, Key, Node, PathFact, Tunnel};
-use resv_facts::{Claim, Request, ResvFact, ResvStyle, Upstream};
+use resv_facts::{Claim, Repair, Request, ResvFact, ResvStyle, Upstream};
 use rsvp_objects::Session;
 use sorted_rows::Table;
 use std::alloc::{AllocError, Global};
@@ -61,6 +61,10 @@ pub trait StateView {
     fn resv(&self, key: &Key) -> Option<&ResvFact>
         ensures resv { option_copied result ≡ find key_cmp key.now (state self.now).resvs };
 
+    /// What is known of an LSP's repair, while it runs over a bypass.
+    fn repair(&self, key: &Key) -> Option<&Repair>
+        ensures repair { option_copied result ≡ find key_cmp key.now (state self.now).repairs };
+
     /// The label that an LSP has, if it has one.
     fn label(&self, key: &Key) -> Option<u32>
         ensures label { result ≡ find key_cmp key.now (state self.now).labels };
@@ -87,6 +91,14 @@ pub trait WholeState: StateView {
     /// The reservation at a place, in the order of the LSPs; `None` past the last.
     fn resv_at(&self, place: usize) -> Option<&(Key, ResvFact)>
         ensures row { option_copied result ≡ slice_get (Self.state self.now).resvs place };
+
+    /// How many repairs are known.
+    fn repair_count(&self) -> usize
+        ensures count { result ≡ length (Self.state self.now).repairs };
+
+    /// The repair at a place, in the order of the LSPs; `None` past the last.
+    fn repair_at(&self, place: usize) -> Option<&(Key, Repair)>
+        ensures row { option_copied result ≡ slice_get (Self.state self.now).repairs place };
 
     /// When a Path was sent last that is kept alive at a neighbour, in milliseconds; `None` for any other.
     fn sent_at(&self, item: &Item) -> Option<u64>
@@ -116,6 +128,11 @@ pub trait WholeState: StateView {
     fn expiring_resvs(&self, alloc: Global, moment: u64) -> Result<Vec<Key>, AllocError>
         ensures expiring { IfOk result (λ keys. keys.items
             ≡ keys_of (filter (λ resv. not (lives_past moment resv.1)) (Self.state self.now).resvs)) };
+
+    /// The LSPs whose repairs expire at a moment, in milliseconds. The only error is out of memory.
+    fn expiring_repairs(&self, alloc: Global, moment: u64) -> Result<Vec<Key>, AllocError>
+        ensures expiring { IfOk result (λ keys. keys.items
+            ≡ keys_of (filter (λ repair. not (lives_past moment repair.1.resv)) (Self.state self.now).repairs)) };
 
     /// Whether a path of the session is known.
     fn knows_session(&self, session: &Session) -> bool

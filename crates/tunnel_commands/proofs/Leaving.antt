@@ -8,7 +8,7 @@ use Rattle.sorted_rows.specs.Edits as rows
 use Rattle.lsr_facts.specs.OrderLaws.{key_exact, key_total}
 use Rattle.lsr_facts.specs.Orders.{is_one_of, key_cmp}
 use Rattle.lsr_facts.specs.declared.key.Key.{Key}
-use Rattle.abstract_router.specs.States.{State, without_resvs}
+use Rattle.abstract_router.specs.States.{State, without_held}
 use Rattle.state_views.specs.EditLaws.{without_more, without_none}
 
 -- one leaves
@@ -42,6 +42,6 @@ without_heads key other was h =
     ∙ ap (rows.at_key key_cmp key None) (without_pending other was)
     ∙ by_both (λ row. is_eq (key_cmp key row.0)) (λ row. is_one_of (option_to_list other) row.0) was
 
--- where no reservation goes, all is as it was
-pub none_leaves : (s : State) → without_resvs [] s ≡ s
-none_leaves s = ap (λ resvs. record s { resvs = resvs }) (without_none s.resvs)
+-- where no LSP loses what it has, all is as it was
+pub none_leaves : (s : State) → without_held [] s ≡ s
+none_leaves s = λ i. record s { resvs = without_none s.resvs i; repairs = without_none s.repairs i }

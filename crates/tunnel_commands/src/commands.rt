@@ -12,10 +12,10 @@ ghost use Rattle.state_views.specs.Edits.{edited};
 ghost use Rattle.tunnel_commands.specs.Commanding.{commanded_state};
 
 use crate::bypasses::{with_bypass, without_bypass};
-use crate::refusals::refusal_of;
+use crate::refusals::{refusal_of, takes_used_bypass};
 use crate::routes::{with_route, without_route};
 use crate::tunnels::{with_begun, with_cancelled, with_change, with_dropped};
-use lsr_facts::Reply;
+use lsr_facts::{Refusal, Reply};
 use router_events::{Command, TunnelChange};
 use state_views::{Draft, Edits, Outputs, StateView, WholeState, refused};
 use std::alloc::{AllocError, Global};
@@ -96,6 +96,9 @@ pub fn command<V: WholeState>(
 {
     if let Some(refusal) = refusal_of(view, command) {
         return Ok(refused(alloc, view, refusal));
+    }
+    if takes_used_bypass(view, command) {
+        return Ok(refused(alloc, view, Refusal::InUse));
     }
     Ok(Draft {
         reply: Reply::Done,

@@ -1,8 +1,11 @@
 //! Why commands are refused: of each its tests, in their order. None takes memory.
 
-ghost use Rattle.std.specs.Prelude.{◌≡◌, ◌≤◌};
+ghost use Rattle.std.specs.List.{list_any};
+ghost use Rattle.std.specs.Option.{option_map_or};
+ghost use Rattle.std.specs.Prelude.{◌≡◌, ◌≤◌, ◌==◌, false, slice_get};
 ghost use Rattle.abstract_paths.specs.Commands.{has_route, refusal_of};
 ghost use Rattle.abstract_paths.specs.Heads.{is_full};
+ghost use Rattle.abstract_router.specs.Arrivals.{takes_used_bypass};
 ghost use Rattle.router_events.specs.declared.commands.Command.TheVariants.{AddTunnel, ChangeTunnel, CancelChange, DropTunnel, AddBypass, DropBypass, AddRoute, DropRoute};
 
 use crate::protecting::{is_for_bypass, is_onto_its_link, runs_over};
@@ -166,5 +169,39 @@ pub(crate) fn refusal_of<V: WholeState>(view: &V, command: &Command) -> Option<R
         Command::DropBypass(number) => of_old_bypass(view, *number),
         Command::AddRoute(prefix, link) => of_new_route(view, *prefix, *link),
         Command::DropRoute(prefix) => of_old_route(view, *prefix),
+    }
+}
+
+/// Whether the repair at a place runs over the bypass of a number.
+fn is_over_at<V: WholeState>(view: &V, place: usize, number: u16) -> bool
+    ensures { result ≡ option_map_or (λ repair. repair.1.bypass == number)
+        (slice_get (V.state view.now).repairs place) false }
+{
+    match view.repair_at(place) {
+        Some(repair) => repair.1.bypass == number,
+        None => false,
+    }
+}
+
+/// Whether an LSP runs over the bypass of a number (RFC 4090, 6.4).
+#[tactic(auto, using(crate::proofs::Places::any_from))]
+fn is_used<V: WholeState>(view: &V, number: u16) -> bool
+    ensures { result ≡ list_any (λ repair. repair.1.bypass == number) (V.state view.now).repairs }
+{
+    for place in 0..view.repair_count() {
+        if is_over_at(view, place, number) {
+            return true;
+        }
+    }
+    false
+}
+
+/// Whether a command would drop a bypass that an LSP runs over. Takes no memory.
+pub(crate) fn takes_used_bypass<V: WholeState>(view: &V, command: &Command) -> bool
+    ensures { result ≡ takes_used_bypass (V.state view.now) command.now }
+{
+    match command {
+        Command::DropBypass(number) => is_used(view, *number),
+        _ => false,
     }
 }

@@ -10,7 +10,7 @@ ghost use Rattle.make_before_break.specs.Changes.{begun};
 ghost use Rattle.abstract_paths.specs.Changes.{with_tunnel};
 ghost use Rattle.abstract_paths.specs.Commands.{tunnel_by, with_begun, with_cancelled, with_change, with_dropped};
 ghost use Rattle.abstract_paths.specs.Heads.{with_head};
-ghost use Rattle.abstract_router.specs.States.{State, with_facts, without_resvs};
+ghost use Rattle.abstract_router.specs.States.{State, with_facts, without_held};
 ghost use Rattle.state_views.specs.Edits.{edited};
 ghost use Rattle.path_steps.specs.Signalling.{with_some};
 
@@ -19,7 +19,7 @@ use make_before_break::{begin, cancel};
 use path_steps::{current_key, head_key, head_of, pending_key};
 use router_events::{NewTunnel, TunnelChange};
 use sorted_rows::{Table, TryCopy};
-use state_views::{Edits, StateView, without_resvs};
+use state_views::{Edits, StateView, without_rows};
 use std::alloc::{AllocError, Global};
 
 /// The LSP ID of a tunnel's first LSP.
@@ -38,8 +38,8 @@ fn tunnel_edit(
     Ok(tunnels)
 }
 
-/// The tunnel of a number is this from now on, and an LSP of it has this path, if a way leads on. No reservation is known
-/// of that LSP. The only error is out of memory.
+/// The tunnel of a number is this from now on, and an LSP of it has this path, if a way leads on. Neither a reservation nor
+/// a repair is known of that LSP. The only error is out of memory.
 #[tactic(auto, using(crate::proofs::Leaving::without_one))]
 fn with_lsp(
     alloc: Global,
@@ -49,7 +49,7 @@ fn with_lsp(
     head: Option<(Key, PathFact)>,
 ) -> Result<Edits, AllocError>
     ensures { IfOk result (λ edits. (s : State) → edited edits s
-        ≡ without_resvs (key ∷ []) (with_facts (with_tunnel number tunnel (with_some head s.facts)) s)) }
+        ≡ without_held (key ∷ []) (with_facts (with_tunnel number tunnel (with_some head s.facts)) s)) }
 {
     let mut paths = Table::new(alloc);
     if let Some((key, fact)) = head {
@@ -58,7 +58,8 @@ fn with_lsp(
     Ok(Edits {
         tunnels: tunnel_edit(alloc, number, Some(tunnel))?,
         paths,
-        resvs: without_resvs(Table::new(alloc), &[key])?,
+        resvs: without_rows(Table::new(alloc), &[key])?,
+        repairs: without_rows(Table::new(alloc), &[key])?,
         ..Edits::none(alloc)
     })
 }
@@ -90,7 +91,7 @@ pub(crate) fn with_begun<V: StateView>(
 ) -> Result<Edits, AllocError>
     requires { IsTrue (is_short_route (route_from (V.router view.now) asked.now.route)) }
     ensures { IfOk result (λ edits. edited edits (V.state view.now)
-        ≡ without_resvs (head_key (V.router view.now) asked.now.number asked.now.endpoint 1 ∷ [])
+        ≡ without_held (head_key (V.router view.now) asked.now.number asked.now.endpoint 1 ∷ [])
         (with_facts (with_begun (V.router view.now) asked.now.number (tunnel_by asked.now) (V.state view.now).facts)
         (V.state view.now))) }
 {
@@ -131,7 +132,7 @@ pub(crate) fn with_change<V: StateView>(
     requires last { (tunnel.now.last == 65535) ≡ false }
     requires route { IsTrue (is_short_route (route_from (V.router view.now) change.now.route)) }
     ensures { IfOk result (λ edits. edited edits (V.state view.now)
-        ≡ without_resvs (head_key (V.router view.now) change.now.number tunnel.now.endpoint (tunnel.now.last + 1) ∷ [])
+        ≡ without_held (head_key (V.router view.now) change.now.number tunnel.now.endpoint (tunnel.now.last + 1) ∷ [])
         (with_facts (with_change (V.router view.now) change.now.number (begun change.now.route change.now.tspec tunnel.now)
         (V.state view.now).facts) (V.state view.now))) }
 {

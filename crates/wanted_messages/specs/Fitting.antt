@@ -7,13 +7,21 @@ use Rattle.lsr_facts.specs.declared.key.Key.{Key}
 use Rattle.lsr_facts.specs.declared.path_fact.PathFact.{PathFact}
 use Rattle.lsr_facts.specs.declared.router.Link.{Link}
 use Rattle.lsr_facts.specs.declared.router.Router.{Router}
+use Rattle.resv_facts.specs.declared.repair.Detour.{Detour}
+use Rattle.resv_facts.specs.declared.repair.Repair.{Repair}
 use Rattle.abstract_paths.specs.Onward.{path_onward}
+use Rattle.abstract_router.specs.Through.{backup_path}
 use Rattle.abstract_router.specs.Upstreams.{Reserved}
 
 -- The Path that goes on of a path fits a message, over any link: its parts do, and its Tspec leaves room for them.
 abbrev pub CanGoOn : Router → Key → PathFact → Type 0
 CanGoOn r key fact =
     (link : Link) → IsTrue (fits_path (path_onward r key fact link)) × HasRoom (contents.Path (path_onward r key fact link))
+
+-- and so does the Path that goes through a bypass
+abbrev pub CanGoThrough : Router → Key → PathFact → Repair → Detour → Type 0
+CanGoThrough r key fact repair detour =
+    (link : Link) → IsTrue (fits_path (backup_path r key fact repair detour link)) × HasRoom (contents.Path (backup_path r key fact repair detour link))
 
 -- What is said of an LSP fits a Resv, type 2: the FLOWSPEC is a whole token bucket, and what is passed on is short.
 pub record IsFitting (a : Reserved) : Type 0 where

@@ -2,7 +2,7 @@
 use Rattle.std.specs.Prelude.{◌≡◌, ℕ, ◌≤◌, ◌==◌, ◌&&◌, nat_le, nat_lt, Bool, true, false, if◌then◌else◌, List, [], ◌∷◌, ◌++◌, drop, length, Option, Some, None, Result, Err, IfSome, IsOk, IsTrue}
 use Rattle.std.specs.FinMap.Entries.{find}
 use Rattle.std.specs.List.{AllByRecursion}
-use Rattle.std.specs.Option.{ok_or, option_and_then, option_map, option_map_or}
+use Rattle.std.specs.Option.{ok_or, option_and_then, option_map, option_map_or, option_or}
 use Rattle.std.proofs.Common.{refl, ◌∙◌, arith, length-append}
 use Rattle.std.proofs.lemmas.Bool.{and_from, and_parts, leb-true}
 use Rattle.std.proofs.lemmas.List.{length-set}
@@ -31,17 +31,18 @@ use Rattle.lsr_facts.specs.declared.path_fact.Origin.{Origin}
 use Rattle.lsr_facts.specs.declared.path_fact.PathFact.{PathFact}
 use Rattle.lsr_facts.specs.declared.router.Link.{Link}
 use Rattle.lsr_facts.specs.declared.router.Router.{Router}
-use Rattle.resv_facts.specs.Reservations.{timeless_resv}
+use Rattle.resv_facts.specs.Reservations.{timeless_repair, timeless_resv}
+use Rattle.resv_facts.specs.declared.repair.Repair.{Repair}
 use Rattle.resv_facts.specs.declared.resv_fact.ResvFact.{ResvFact}
 use Rattle.resv_facts.specs.declared.resv_fact.ResvStyle.{ResvStyle}
 use Rattle.resv_facts.specs.declared.resv_fact.ResvStyle.TheVariants.{FixedFilter, SharedExplicit}
 use Rattle.sorted_rows.specs.RowsLaws.{find-all_row}
 use Rattle.abstract_paths.specs.Paths.{goes_on}
 use Rattle.resv_facts.specs.Reservations.{style_word}
-use Rattle.abstract_router.specs.Lsps.{lsp_of}
+use Rattle.abstract_router.specs.Lsps.{Around, Lsp, held_of, lsp_of}
 use Rattle.abstract_router.specs.Soundness.{IsResv}
 use Rattle.abstract_router.specs.States.{State}
-use Rattle.abstract_router.specs.Upstreams.{Reserved, record_upstream, reserved_by_end, reserved_by_next, reserved_for, resv_to, own_entries}
+use Rattle.abstract_router.specs.Upstreams.{Reserved, own_flags, record_upstream, reserved_by_end, reserved_by_next, reserved_for, resv_to, own_entries}
 use Rattle.wanted_messages.specs.Fitting.{IsFitting}
 use Rattle.abstract_paths.specs.Paths.{short_only}
 
@@ -74,12 +75,12 @@ short_only-short entries true same = same
 short_only-short entries false same = refl
 
 -- so is the record that a Resv goes upstream with
-pub record_upstream-short : (r : Router) (path : PathFact) (label : ℕ) (recorded : List Trace) → IsTrue (option_map_or is_short_record (record_upstream r path label recorded) true)
+pub record_upstream-short : (r : Router) (flags : ℕ) (path : PathFact) (label : ℕ) (recorded : List Trace) → IsTrue (option_map_or is_short_record (record_upstream r flags path label recorded) true)
 unfolding record_upstream
-record_upstream-short r path label recorded = by path.recorded
+record_upstream-short r flags path label recorded = by path.recorded
   where
     own : List Trace
-    own = own_entries r path label
+    own = own_entries r flags path label
 
     by : (came : Option (List Trace)) → IsTrue (option_map_or is_short_record (option_and_then (λ came. short_only (own ++ recorded)) came) true)
     by None = refl
@@ -100,49 +101,59 @@ style-fits SharedExplicit d = refl
 -- The parts of the Resv fit that an origin is sent, where what it says of the LSP does.
 pub resv_fits : (r : Router) (key : Key) (path : PathFact) (origin : Origin) (link : Link) (label : ℕ) (a : Reserved) → IsFitting a → IsTrue (fits_resv (resv_to r key path origin link label a))
 resv_fits r key path origin link label a is =
-    and_from (option_map_or is_short_record (record_upstream r path label a.recorded) true && true) _
-    (and_from (option_map_or is_short_record (record_upstream r path label a.recorded) true) true (record_upstream-short r path label a.recorded) refl)
+    and_from (option_map_or is_short_record (record_upstream r a.flags path label a.recorded) true && true) _
+    (and_from (option_map_or is_short_record (record_upstream r a.flags path label a.recorded) true) true (record_upstream-short r a.flags path label a.recorded) refl)
     (and_from (is_short_passing a.passing) _ is.passing
     (and_from (are_passed_by 2 a.passing) _ is.passed_on
-    (and_from (has_adspec_last a.passing) _ is.adspec_last (style-fits a.style (record { flowspec = a.flowspec; filter = key.sender; label = record { number = label }; recorded = record_upstream r path label a.recorded })))))
+    (and_from (has_adspec_last a.passing) _ is.adspec_last (style-fits a.style (record { flowspec = a.flowspec; filter = key.sender; label = record { number = label }; recorded = record_upstream r a.flags path label a.recorded })))))
 
 -- And its flow descriptor leaves room for all else that it says.
 pub resv_has_room : (r : Router) (key : Key) (path : PathFact) (origin : Origin) (link : Link) (label : ℕ) (a : Reserved) → IsAddress key.sender.sender → IsFitting a → HasRoom (contents.Resv (resv_to r key path origin link label a))
 resv_has_room r key path origin link label a address is =
-    let recorded = record_upstream r path label a.recorded in
+    let recorded = record_upstream r a.flags path label a.recorded in
     omega (
       arith,
       flow_parts None (record { flowspec = a.flowspec; filter = key.sender; label = record { number = label }; recorded = recorded }),
       length-flat_map-spelling (objects.Flowspec a.flowspec ∷ []),
       length-flat_map-spelling (if_some recorded objects.RecordRoute),
       total-if_some size_of objects.RecordRoute recorded,
-      record-length recorded (record_upstream-short r path label a.recorded),
+      record-length recorded (record_upstream-short r a.flags path label a.recorded),
       length-append {A = ℕ},
       is.flowspec,
       address,
     )
 
 -- what the next hop reserved fits, as it should be
-next_fits : (moment : ℕ) (key : Key) (resv : ResvFact) → IsResv moment (key, resv) → IsFitting (reserved_by_next resv)
-next_fits moment key resv is = record {
+next_fits : (moment flags : ℕ) (key : Key) (resv : ResvFact) → IsResv moment (key, resv) → IsFitting (reserved_by_next flags resv)
+next_fits moment flags key resv is = record {
   flowspec = flowspec-whole resv.flowspec is.has_rate;
   passing = is.passing;
   passed_on = is.passed_on;
   adspec_last = is.adspec_last;
 }
 
+-- and what is held of it: a reservation, or one that a repair keeps
+held_fits : (moment flags : ℕ) (key : Key) (resv : Option ResvFact) (repair : Option Repair) → IfSome resv (λ resv. IsResv moment (key, resv)) → IfSome repair (λ repair. IsResv moment (key, repair.resv))
+    → IfSome (option_map (reserved_by_next flags) (option_or (option_map timeless_resv resv) (option_map (λ (repair : Repair). repair.resv) (option_map timeless_repair repair)))) IsFitting
+held_fits moment flags key (Some resv) repair is kept = next_fits moment flags key resv is
+held_fits moment flags key None (Some repair) is kept = next_fits moment flags key repair.resv kept
+held_fits moment flags key None None is kept = tt
+
 -- What is said of an LSP fits a Resv, where its path's Tspec is a whole token bucket, and each reservation is as it
--- should be.
-pub reserved_fits : (s : State) (key : Key) (path : PathFact) → length path.tspec ≡ 32 → AllByRecursion (IsResv s.facts.moment) s.resvs → IfSome (reserved_for (lsp_of s key path)) IsFitting
-reserved_fits s key path whole each =
+-- should be, also one that a repair keeps.
+pub reserved_fits : (a : Around) (s : State) (key : Key) (path : PathFact) → length path.tspec ≡ 32 → AllByRecursion (IsResv s.facts.moment) s.resvs → AllByRecursion (λ repair. IsResv s.facts.moment (repair.0, repair.1.resv)) s.repairs
+    → IfSome (reserved_for a (key, lsp_of s key path)) IsFitting
+reserved_fits a s key path whole each kept =
     by (goes_on path.role)
   where
-    by_resv : (o : Option ResvFact) → IfSome o (λ resv. IsResv s.facts.moment (key, resv)) → IfSome (option_map reserved_by_next (option_map timeless_resv o)) IsFitting
-    by_resv None is = tt
-    by_resv (Some resv) is = next_fits s.facts.moment key resv is
+    lsp : Lsp
+    lsp = lsp_of s key path
 
-    by : (goes : Bool) → IfSome (if goes then option_map reserved_by_next (option_map timeless_resv (find key_cmp key s.resvs)) else Some (reserved_by_end path)) IsFitting
-    by true = by_resv (find key_cmp key s.resvs) (find-all_row key_cmp key_exact (IsResv s.facts.moment) key s.resvs each)
+    by : (goes : Bool) → IfSome (if goes then option_map (reserved_by_next (own_flags a (key, lsp))) (held_of lsp) else Some (reserved_by_end lsp.path)) IsFitting
+    by true =
+        held_fits s.facts.moment (own_flags a (key, lsp)) key (find key_cmp key s.resvs) (find key_cmp key s.repairs)
+        (find-all_row key_cmp key_exact (IsResv s.facts.moment) key s.resvs each)
+        (find-all_row key_cmp key_exact (λ (repair : Key × Repair). IsResv s.facts.moment (repair.0, repair.1.resv)) key s.repairs kept)
     by false = record {
       flowspec = length-set path.tspec 4 5 ∙ whole;
       passing = refl;

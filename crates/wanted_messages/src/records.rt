@@ -4,11 +4,11 @@ ghost use Rattle.std.specs.Option.{option_and_then};
 ghost use Rattle.std.specs.Prelude.{◌≡◌, ◌++◌, IfOk};
 ghost use Rattle.rsvp_contents.specs.Limits.{is_short_record};
 ghost use Rattle.lsr_facts.specs.Timeless.{timeless_path};
-ghost use Rattle.abstract_router.specs.Upstreams.{label_entry, own_entries, record_upstream};
+ghost use Rattle.abstract_router.specs.Upstreams.{flagged_entry, label_entry, own_entries, record_upstream};
 ghost use Rattle.abstract_paths.specs.Paths.{short_only};
 
 use crate::reserved::records_labels;
-use explicit_routes::own_entry;
+use explicit_routes::node_at;
 use lsr_facts::{PathFact, Router};
 use rsvp_contents::limits::is_short_record;
 use rsvp_routes::{Record, Trace};
@@ -27,21 +27,32 @@ fn label_entry(label: u32) -> Trace
     }
 }
 
+/// The entry of this router: its id, with how it protects the LSP (RFC 4090, 4.4).
+fn flagged_entry(router: &Router, flags: u8) -> Trace
+    ensures { result ≡ flagged_entry router.now flags }
+{
+    Trace::Ipv4 {
+        prefix: node_at(router.id),
+        flags,
+    }
+}
+
 /// The entries of a record after those of this router. The only error is out of memory.
 fn after_own(
     alloc: Global,
     router: &Router,
+    flags: u8,
     path: &PathFact,
     label: u32,
     recorded: &Record,
 ) -> Result<Vec<Trace>, AllocError>
-    ensures { IfOk result (λ entries. entries.items ≡ own_entries router.now path.now label ++ recorded.now) }
+    ensures { IfOk result (λ entries. entries.items ≡ own_entries router.now flags path.now label ++ recorded.now) }
 {
     let mut entries = Vec::from_clones(alloc, recorded.as_slice())?;
     if records_labels(&path.attr) {
         entries.insert(0, label_entry(label))?;
     }
-    entries.insert(0, own_entry(router))?;
+    entries.insert(0, flagged_entry(router, flags))?;
     Ok(entries)
 }
 
@@ -60,22 +71,24 @@ fn short_record(entries: Vec<Trace>) -> Option<Record>
     }
 }
 
-/// The record of a Resv that goes upstream, which begins with this router: its id, and its label where the Path asks
-/// for that. `None` where the Path has no record, or where it would be above the router's limits. The only error is
-/// out of memory.
+/// The record of a Resv that goes upstream, which begins with this router: its id with these flags, and its label where
+/// the Path asks for that. `None` where the Path has no record, or where it would be above the router's limits. The only
+/// error is out of memory.
 #[tactic(auto, unfolding(abstract_router::specs::Upstreams::record_upstream))]
 pub(crate) fn record_upstream(
     alloc: Global,
     router: &Router,
+    flags: u8,
     path: &PathFact,
     label: u32,
     recorded: &Record,
 ) -> Result<Option<Record>, AllocError>
     ensures { IfOk result (λ whole. whole
-        ≡ record_upstream router.now (timeless_path path.now) label recorded.now) }
+        ≡ record_upstream router.now flags (timeless_path path.now) label recorded.now) }
 {
     if path.recorded.is_none() {
         return Ok(None);
     }
-    Ok(short_record(after_own(alloc, router, path, label, recorded)?))
+    let entries = after_own(alloc, router, flags, path, label, recorded)?;
+    Ok(short_record(entries))
 }

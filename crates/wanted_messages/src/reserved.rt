@@ -1,11 +1,14 @@
-//! What is said of an LSP to the neighbours that its Paths came from, where it is reserved.
+//! What is said of an LSP to the neighbours that its Paths came from, where it is reserved or repaired.
 
-ghost use Rattle.std.specs.Option.{option_map, unwrap_or};
+ghost use Rattle.std.specs.Option.{option_copied, option_map, unwrap_or};
 ghost use Rattle.std.specs.Prelude.{◌≡◌, [], IfOk, length};
-ghost use Rattle.abstract_router.specs.Lsps.{lsp_of};
+ghost use Rattle.lsr_facts.specs.declared.path_fact.PathFact.{PathFact};
+ghost use Rattle.resv_facts.specs.Reservations.{timeless_resv};
+ghost use Rattle.abstract_router.specs.Lsps.{around_of, held_of, lsp_of};
 ghost use Rattle.abstract_router.specs.Upstreams.{records_labels, reserved_by_end, reserved_by_next, reserved_for, wants_sharing};
 ghost use Rattle.wanted_messages.specs.Telling.{said};
 
+use facility_backup::own_flags;
 use lsr_facts::{Key, PathFact};
 use message_rules::goes_on;
 use resv_facts::{ResvFact, ResvStyle};
@@ -21,6 +24,9 @@ const LABEL_RECORDING: u8 = 0x02;
 /// The flag by which a Path asks for a reservation that its session shares (RFC 3209, 4.7.1).
 const SHARED_STYLE: u8 = 0x04;
 
+/// The flags of an LSP that ends here: there is nothing to protect (RFC 4090, 4.4).
+const UNPROTECTED: u8 = 0;
+
 /// What a Resv says of an LSP.
 #[derive(Debug, Drop)]
 pub(crate) struct Reserved {
@@ -28,6 +34,8 @@ pub(crate) struct Reserved {
     pub style: ResvStyle,
     /// The traffic that is reserved for.
     pub flowspec: Flowspec,
+    /// How this router protects the LSP (RFC 4090, 4.4).
+    pub flags: u8,
     /// The route that the Resv took so far.
     pub recorded: Record,
     /// What it passes on.
@@ -70,6 +78,7 @@ fn reserved_by_end(alloc: Global, path: &PathFact) -> Result<Reserved, AllocErro
     Ok(Reserved {
         style,
         flowspec: Flowspec::of_tspec(alloc, &path.tspec)?,
+        flags: UNPROTECTED,
         recorded: Record::new(alloc),
         passing: Passing::new(alloc),
     })
@@ -85,19 +94,32 @@ fn record_so_far(alloc: Global, recorded: &Option<Record>) -> Result<Record, All
     }
 }
 
-/// What the next hop reserved, as it is passed on. The only error is out of memory.
-fn reserved_by_next(alloc: Global, resv: &ResvFact) -> Result<Reserved, AllocError>
-    ensures { IfOk result (λ a. said a ≡ reserved_by_next resv.now) }
+/// What the next hop reserved, as it is passed on with these flags. The only error is out of memory.
+fn reserved_by_next(alloc: Global, flags: u8, resv: &ResvFact) -> Result<Reserved, AllocError>
+    ensures { IfOk result (λ a. said a ≡ reserved_by_next flags resv.now) }
 {
     Ok(Reserved {
         style: resv.style,
         flowspec: resv.flowspec.clone()?,
+        flags,
         recorded: record_so_far(alloc, &resv.recorded)?,
         passing: resv.passing.clone()?,
     })
 }
 
-/// What is said of an LSP, if it is reserved. Its path's Tspec is a whole token bucket. The only error is out of memory.
+/// What holds an LSP's label at the router after it: its reservation, or what its repair keeps of it.
+fn held_of<'a, V: StateView>(view: &'a V, key: &Key) -> Option<&'a ResvFact>
+    ensures { (path : PathFact) → option_map timeless_resv (option_copied result)
+        ≡ held_of (lsp_of (V.state view.now) key.now path) }
+{
+    match view.resv(key) {
+        Some(resv) => Some(resv),
+        None => view.repair(key).map(|repair| &repair.resv),
+    }
+}
+
+/// What is said of an LSP, if it is reserved or repaired. Its path's Tspec is a whole token bucket. The only error is out of
+/// memory.
 pub(crate) fn reserved_for<V: StateView>(
     alloc: Global,
     view: &V,
@@ -105,14 +127,17 @@ pub(crate) fn reserved_for<V: StateView>(
     path: &PathFact,
 ) -> Result<Option<Reserved>, AllocError>
     requires { length path.now.tspec ≡ 32 }
-    ensures { IfOk result (λ a. option_map said a
-        ≡ reserved_for (lsp_of (V.state view.now) key.now path.now)) }
+    ensures { IfOk result (λ a. option_map said a ≡ reserved_for (around_of (V.router view.now) (V.state view.now))
+        (key.now, lsp_of (V.state view.now) key.now path.now)) }
 {
     if !goes_on(path.role) {
         return Ok(Some(reserved_by_end(alloc, path)?));
     }
-    match view.resv(key) {
-        Some(resv) => Ok(Some(reserved_by_next(alloc, resv)?)),
+    match held_of(view, key) {
+        Some(resv) => {
+            let flags = own_flags(view, key, path);
+            Ok(Some(reserved_by_next(alloc, flags, resv)?))
+        }
         None => Ok(None),
     }
 }

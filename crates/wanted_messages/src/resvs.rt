@@ -1,28 +1,27 @@
 //! The Resv that each origin of an LSP is sent (RFC 2205, 3.1.4; RFC 3209, 4.1.1).
 
 ghost use Rattle.std.specs.Prelude.{◌≡◌, IfOk};
-ghost use Rattle.rsvp_objects.specs.Ranges.{IsAddress};
 ghost use Rattle.lsr_facts.specs.Timeless.{timeless_path};
 ghost use Rattle.abstract_router.specs.Lsps.{around_of, lsp_of};
 ghost use Rattle.abstract_router.specs.Upstreams.{record_upstream, resv_to, upstream_over, upstream_row, upstream_to};
 ghost use Rattle.wanted_messages.specs.Fitting.{IsFitting};
 ghost use Rattle.wanted_messages.specs.Telling.{said};
 
+use crate::addresses::has_four_octets;
 use crate::records::record_upstream;
 use crate::reserved::Reserved;
 use crate::upstream::WantedUpstream;
 use lsr_facts::{Key, Link, Origin, PathFact, Router};
 use message_rules::{is_up, link_at, sent_by};
 use resv_facts::Upstream;
-use rsvp_contents::numbers::ADDRESS_LEN;
 use rsvp_contents::{Content, Message, Resv};
 use rsvp_flows::{FlowDescriptor, FlowDescriptors};
-use rsvp_objects::{Hop, Label, Template, TimeValues};
+use rsvp_objects::{Hop, Label, TimeValues};
 use state_views::{StateView, node_of};
 use std::alloc::{AllocError, Global};
 use std::net::Ipv4Addr;
 
-/// An LSP that has a label and is reserved, as its origins are told of it.
+/// An LSP that has a label and is reserved or repaired, as its origins are told of it.
 #[derive(Debug, Drop)]
 pub(crate) struct ToldLsp<'a> {
     /// The LSP.
@@ -35,13 +34,6 @@ pub(crate) struct ToldLsp<'a> {
     pub reserved: Reserved,
 }
 
-/// That the address of an LSP's head has four octets: so much room is there for its filter.
-fn has_address(filter: &Template)
-    ensures { IsAddress filter.now.sender }
-{
-    prove!(filter.sender.octets().len() == ADDRESS_LEN);
-}
-
 /// The flow descriptor of an LSP. The only error is out of memory.
 fn descriptor_of(
     alloc: Global,
@@ -52,14 +44,23 @@ fn descriptor_of(
       flowspec = lsp.now.reserved.flowspec;
       filter = lsp.now.key.now.sender;
       label = record { number = lsp.now.label };
-      recorded = record_upstream router.now (timeless_path lsp.now.path.now) lsp.now.label lsp.now.reserved.recorded;
+      recorded = record_upstream router.now lsp.now.reserved.flags (timeless_path lsp.now.path.now) lsp.now.label
+          lsp.now.reserved.recorded;
     }) }
 {
+    let said = &lsp.reserved;
     Ok(FlowDescriptor {
-        flowspec: lsp.reserved.flowspec.clone()?,
+        flowspec: said.flowspec.clone()?,
         filter: lsp.key.sender,
         label: Label { number: lsp.label },
-        recorded: record_upstream(alloc, router, lsp.path, lsp.label, &lsp.reserved.recorded)?,
+        recorded: record_upstream(
+            alloc,
+            router,
+            said.flags,
+            lsp.path,
+            lsp.label,
+            &said.recorded,
+        )?,
     })
 }
 
@@ -126,7 +127,7 @@ fn upstream_over<V: StateView>(
         return Ok(None);
     };
     let resv = resv_to(alloc, node.router, lsp, &origin.1, link)?;
-    has_address(&lsp.key.sender);
+    has_four_octets(lsp.key.sender.sender);
     let message = Message::checked(Content::Resv(resv)).unwrap();
     Ok(Some((
         upstream_to(lsp.key, origin.0, &origin.1),

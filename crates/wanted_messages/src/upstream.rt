@@ -47,7 +47,7 @@ fn told_each<V: StateView>(
 }
 
 /// What the origins of an LSP are sent, whose path this is. Its Tspec is a whole token bucket, and each reservation is as
-/// it should be. The only error is out of memory.
+/// it should be, also one that a repair keeps. The only error is out of memory.
 fn upstream_rows<V: StateView>(
     alloc: Global,
     view: &V,
@@ -56,6 +56,8 @@ fn upstream_rows<V: StateView>(
 ) -> Result<Vec<WantedUpstream>, AllocError>
     requires tspec { length path.now.tspec ≡ 32 }
     requires resvs { AllByRecursion (IsResv (V.state view.now).facts.moment) (V.state view.now).resvs }
+    requires repairs { AllByRecursion (λ repair. IsResv (V.state view.now).facts.moment (repair.0, repair.1.resv))
+        (V.state view.now).repairs }
     ensures rows { IfOk result (λ rows. rows.items ≡ upstream_rows
         (around_of (V.router view.now) (V.state view.now))
         (key.now, lsp_of (V.state view.now) key.now path.now)) }
@@ -83,6 +85,8 @@ fn upstream_at_key<V: StateView>(
 ) -> Result<Vec<WantedUpstream>, AllocError>
     requires paths { ArePaths (V.router view.now) (V.state view.now).facts.moment (V.state view.now).facts.paths }
     requires resvs { AllByRecursion (IsResv (V.state view.now).facts.moment) (V.state view.now).resvs }
+    requires repairs { AllByRecursion (λ repair. IsResv (V.state view.now).facts.moment (repair.0, repair.1.resv))
+        (V.state view.now).repairs }
     ensures rows { IfOk result (λ rows. rows.items
         ≡ upstream_at_key (V.router view.now) (V.state view.now) key.now) }
 {
@@ -100,6 +104,8 @@ fn asked_in_turn<V: StateView, E>(
 ) -> Result<Vec<WantedUpstream>, AllocError>
     requires paths { ArePaths (V.router view.now) (V.state view.now).facts.moment (V.state view.now).facts.paths }
     requires resvs { AllByRecursion (IsResv (V.state view.now).facts.moment) (V.state view.now).resvs }
+    requires repairs { AllByRecursion (λ repair. IsResv (V.state view.now).facts.moment (repair.0, repair.1.resv))
+        (V.state view.now).repairs }
     ensures rows { IfOk result (λ rows. rows.items ≡ flat_map
         (λ e. upstream_at_key (V.router view.now) (V.state view.now) e.0) touched.now) }
 {
@@ -112,7 +118,8 @@ fn asked_in_turn<V: StateView, E>(
 }
 
 /// All Resvs that are wanted of the LSPs of these rows, in their order. The paths are those of a router: one of each
-/// LSP, in order, each within the limits; and each reservation is as it should be. The only error is out of memory.
+/// LSP, in order, each within the limits; and each reservation is as it should be, also one that a repair keeps. The only
+/// error is out of memory.
 pub fn upstream_at_keys<V: StateView, E>(
     alloc: Global,
     view: &V,
@@ -120,6 +127,8 @@ pub fn upstream_at_keys<V: StateView, E>(
 ) -> Result<Vec<WantedUpstream>, AllocError>
     requires paths { ArePaths (V.router view.now) (V.state view.now).facts.moment (V.state view.now).facts.paths }
     requires resvs { AllByRecursion (IsResv (V.state view.now).facts.moment) (V.state view.now).resvs }
+    requires repairs { AllByRecursion (λ repair. IsResv (V.state view.now).facts.moment (repair.0, repair.1.resv))
+        (V.state view.now).repairs }
     requires order { T (is_sorted key_cmp touched.now) }
     ensures rows { IfOk result (λ rows. rows.items
         ≡ upstream_at (V.router view.now) (V.state view.now) (is_among key_cmp touched.now)) }

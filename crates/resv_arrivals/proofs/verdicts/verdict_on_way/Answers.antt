@@ -15,7 +15,7 @@ returns-in-Some g c =
     let state = (reached s c.args.progress.now).state in
     let asked = c.args.asked.now in
     let fact = fact_at s.facts.moment asked in
-    on_path_is r state asked.key fact c.args.path.now c.style_in_conflict.result c.requires.leaves c.style_in_conflict.ensures
+    on_path_is r state asked.key fact c.args.path.now c.style_in_conflict.result c.requires.leaves c.requires.unrepaired c.style_in_conflict.ensures
     ∙ ap (λ (o : Option ResvStyle). option_map_or (λ style. Failed (style_conflict style)) o (verdict_by_rate r state asked.key fact (flowspec_rate fact.flowspec))) c.in-Some.is
     ∙ ap Failed (sym c.style_conflict.ensures)
 
@@ -28,6 +28,6 @@ returns-in-None g c =
     let asked = c.args.asked.now in
     let fact = fact_at s.facts.moment asked in
     subst (IsVerdict r s p asked c.verdict_by_rate.result)
-    (sym (on_path_is r state asked.key fact c.args.path.now c.style_in_conflict.result c.requires.leaves c.style_in_conflict.ensures
+    (sym (on_path_is r state asked.key fact c.args.path.now c.style_in_conflict.result c.requires.leaves c.requires.unrepaired c.style_in_conflict.ensures
     ∙ ap (λ (o : Option ResvStyle). option_map_or (λ style. Failed (style_conflict style)) o (verdict_by_rate r state asked.key fact (flowspec_rate fact.flowspec))) c.in-None.is))
     c.verdict_by_rate.ensures

@@ -5,7 +5,7 @@ use Rattle.abstract_router.specs.Outputs.{outputs_of}
 use Rattle.router_events.specs.declared.events.Output.{Output}
 use Rattle.router_tables.specs.Below.views.Drafts.{due_by, upstream_due_by}
 use Rattle.router_tables.specs.Below.views.Edits.{edited}
-use Rattle.router_core.proofs.Planning.{next_labels, next_paths, next_rates, next_resvs, sending}
+use Rattle.router_core.proofs.Planning.{next_labels, next_paths, next_rates, next_repairs, next_resvs, sending}
 use Rattle.router_core.proofs.plan.sending_plan.Goals as goal
 
 pub sends_of-requires-clause-paths : goal.sends_of-requires-clause-paths
@@ -37,6 +37,24 @@ table_of-requires-clause-resvs c =
     let t = c.args.tables.now in
     let x = c.in_ok-edits in
     next_resvs t.router t.state c.soundness.ensures.sound c.args.draft c.requires x.field-0.edits x.field-0.chosen x.ensures.after x.ensures.chosen
+
+pub sends_of-requires-clause-repairs : goal.sends_of-requires-clause-repairs
+sends_of-requires-clause-repairs c =
+    let t = c.args.tables.now in
+    let x = c.in_ok-edits in
+    next_repairs t.router t.state c.soundness.ensures.sound c.args.draft c.requires x.field-0.edits x.field-0.chosen x.ensures.after x.ensures.chosen
+
+pub table_of-requires-clause-repairs : goal.table_of-requires-clause-repairs
+table_of-requires-clause-repairs c =
+    let t = c.args.tables.now in
+    let x = c.in_ok-edits in
+    next_repairs t.router t.state c.soundness.ensures.sound c.args.draft c.requires x.field-0.edits x.field-0.chosen x.ensures.after x.ensures.chosen
+
+pub tunnel_edits-requires-clause-repairs : goal.tunnel_edits-requires-clause-repairs
+tunnel_edits-requires-clause-repairs c =
+    let t = c.args.tables.now in
+    let x = c.in_ok-edits in
+    next_repairs t.router t.state c.soundness.ensures.sound c.args.draft c.requires x.field-0.edits x.field-0.chosen x.ensures.after x.ensures.chosen
 
 pub tunnel_edits-requires-clause-resvs : goal.tunnel_edits-requires-clause-resvs
 tunnel_edits-requires-clause-resvs c =

@@ -12,8 +12,8 @@ use Rattle.abstract_router.specs.Tearing.{err_onward}
 use Rattle.router_steps.proofs.errors.errs_onward.Goals as goal
 use Rattle.router_steps.proofs.errors.errs_onward.Goals.{in-Some+in_ok-push, in_default}
 
-pub err_onward-requires : goal.err_onward-requires
-err_onward-requires g c =
+pub err_onward-requires-clause-room : goal.err_onward-requires-clause-room
+err_onward-requires-clause-room g c =
     let P = λ (d : ErrorDescriptor). HaveRoom (d ∷ []) in
     let items = c.as_slice-descriptor-items.result.now in
     subst P (sym c.descriptor-item.is)

@@ -8,8 +8,8 @@ use Rattle.resv_facts.specs.declared.resv_fact.ResvFact.{ResvFact}
 use Rattle.abstract_router.specs.Outcomes.{Outcome}
 use Rattle.abstract_router.specs.Tearing.{resv_tear_arrival}
 use Rattle.state_views.specs.Drafts.{IsDraft}
-use Rattle.state_views.specs.EditLaws.{resvs_without}
-use Rattle.state_views.specs.Edits.{edited, without_resvs}
+use Rattle.state_views.specs.EditLaws.{rows_without}
+use Rattle.state_views.specs.Edits.{edited, without_rows}
 use Rattle.state_views.specs.declared.edits.Edits.{Edits}
 use Rattle.router_steps.proofs.Torn.{tear_speaks, tears_none, tears_some}
 use Rattle.router_steps.proofs.tears.resv_tear_arrival.Goals as goal
@@ -28,8 +28,8 @@ returns-then-is_empty-clause-draft g c =
     (tears_none s c.args.link c.args.tear.now c.requires c.in_ok-torn.torn.items c.in_ok-torn.ensures.keys (omega (arith, c.in_ok-torn.torn.ok, eqb-true (vec_len c.in_ok-torn.torn) 0 (sym c.is_empty.ensures ∙ c.if-is_empty.true))))
     c.refused.ensures
 
-pub returns-in_err-without_resvs-clause-memory : goal.returns-in_err-without_resvs-clause-memory
-returns-in_err-without_resvs-clause-memory g c =
+pub returns-in_err-without_rows-clause-memory : goal.returns-in_err-without_rows-clause-memory
+returns-in_err-without_rows-clause-memory g c =
     let s = g.V.StateView.state c.args.view.now in
     let speaks : (resv_tear_arrival s c.args.link c.args.tear.now).is_silent ≡ false = sym (ap (λ (o : Outcome). o.is_silent) (tears_some s c.args.link c.args.tear.now c.requires c.in_ok-torn.torn.items c.in_ok-torn.ensures.keys (λ none. eqb-false (vec_len c.in_ok-torn.torn) 0 (sym c.is_empty.ensures ∙ c.if-is_empty.false) (omega (arith, c.in_ok-torn.torn.ok, none))))) in
     search rules
@@ -38,7 +38,7 @@ pub returns-clause-draft : goal.returns-clause-draft
 returns-clause-draft g c =
     let r = g.V.StateView.router c.args.view.now in
     let s = g.V.StateView.state c.args.view.now in
-    let resvs = c.in_ok-without_resvs.field-0 in
+    let resvs = c.in_ok-without_rows.field-0 in
     subst (λ (o : Outcome). IsDraft (record { reply = replies.Done; errors = c.new.result; due = None; is_silent = false; edits = record c.none.result { resvs = resvs } }) o r s)
     (tears_some s c.args.link c.args.tear.now c.requires c.in_ok-torn.torn.items c.in_ok-torn.ensures.keys (λ none. eqb-false (vec_len c.in_ok-torn.torn) 0 (sym c.is_empty.ensures ∙ c.if-is_empty.false) (omega (arith, c.in_ok-torn.torn.ok, none))))
     (record {
@@ -50,6 +50,6 @@ returns-clause-draft g c =
       after =
           ap (λ (e : Edits). edited (record e { resvs = resvs }) s) c.none.ensures
           ∙ ap (λ (left : List (Key × ResvFact)). record s { resvs = left })
-          (ap (λ (edits : List (Key × Option ResvFact)). rows.edited key_cmp edits s.resvs) (c.in_ok-without_resvs.ensures ∙ (λ i. without_resvs (c.new-2.ensures i) (c.as_slice.ensures.value i)))
-          ∙ resvs_without [] c.in_ok-torn.torn.items s.resvs c.requires);
+          (ap (λ (edits : List (Key × Option ResvFact)). rows.edited key_cmp edits s.resvs) (c.in_ok-without_rows.ensures ∙ (λ i. without_rows (c.new-2.ensures i) (c.as_slice.ensures.value i)))
+          ∙ rows_without [] c.in_ok-torn.torn.items s.resvs c.requires);
     })

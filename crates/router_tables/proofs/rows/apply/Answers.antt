@@ -1,5 +1,5 @@
 -- A change of a sound router finds room, and leaves the tables of one.
-use Rattle.std.proofs.Common.{◌≡◌, ◌≤◌, ap, arith, nat_cmp, length, subst, sym, ℕ, List, ◌∙◌}
+use Rattle.std.proofs.Common.{◌≤◌, ap, arith, nat_cmp, length, subst, sym, ℕ, List, ◌∙◌}
 use Rattle.sorted_rows.specs.Edits as in_rows
 use Rattle.admission.specs.Bandwidths.{resv_edits}
 use Rattle.forwarding_table.specs.declared.action.Action.{Action}
@@ -13,7 +13,7 @@ use Rattle.router_tables.specs.Changes.{changed}
 use Rattle.router_tables.specs.States.{AreTables, state_of}
 use Rattle.router_tables.specs.declared.rows.Rows.{Rows}
 use Rattle.router_tables.proofs.Applying.{all_made, applied_are, four_made, three_made, two_made}
-use Rattle.router_tables.proofs.Rooms.{few_labels, few_moments, few_paths, few_resvs, few_tunnels, few_upstream}
+use Rattle.router_tables.proofs.Rooms.{few_labels, few_moments, few_paths, few_repairs, few_resvs, few_tunnels, few_upstream}
 use Rattle.router_tables.proofs.rows.apply.Goals as goal
 
 pub edit_paths-requires-clause-room : goal.edit_paths-requires-clause-room
@@ -34,6 +34,13 @@ edit_held-requires-clause-room c =
     let rows = two_made c.args.change t c.edit_place.new.rows c.edit_paths.new.rows c.edit_place.ensures.rows c.edit_paths.ensures.rows in
     subst (λ (rows : Rows). length (in_rows.edited key_cmp (resv_edits c.args.change.bandwidth) rows.bandwidth.resvs) ≤ 1024) (sym rows)
     (few_resvs t.router (changed c.args.change (state_of t)) c.requires.change.sound)
+
+pub edit_held-requires-clause-repairs : goal.edit_held-requires-clause-repairs
+edit_held-requires-clause-repairs c =
+    let t = c.args.rows.now in
+    let rows = two_made c.args.change t c.edit_place.new.rows c.edit_paths.new.rows c.edit_place.ensures.rows c.edit_paths.ensures.rows in
+    subst (λ (rows : Rows). length (in_rows.edited key_cmp c.args.change.repairs rows.repairs) ≤ 1024) (sym rows)
+    (few_repairs t.router (changed c.args.change (state_of t)) c.requires.change.sound)
 
 pub edit_held-requires-clause-few : goal.edit_held-requires-clause-few
 edit_held-requires-clause-few c =

@@ -5,7 +5,7 @@ use Rattle.forwarding_table.specs.declared.action.Action.{Action}
 use Rattle.label_space.specs.Bindings.{Bindings}
 use Rattle.label_table.specs.RowLaws.{table-no_path}
 use Rattle.label_table.specs.Rows.{IsTableOf}
-use Rattle.label_table.specs.TunnelLaws.{tunnel_table-no_resv}
+use Rattle.label_table.specs.TunnelLaws.{tunnel_table-none}
 use Rattle.lsr_facts.specs.declared.key.Item.{Item}
 use Rattle.refresh_timers.specs.Timers.{Timers}
 use Rattle.resv_facts.specs.declared.upstream.Upstream.{Upstream}
@@ -21,11 +21,12 @@ pub returns-clause-tables : goal.returns-clause-tables
 unfolding claims_of
 returns-clause-tables c =
     let t = c.args.rows.now in
-    let state : state_of (record t { tunnels = c.cancel_all.new.tunnels; paths = c.clear.new.self; timers = c.clear_all.new.self; bandwidth = c.clear-2.new.self; labels = c.clear-3.new.self; upstream = c.clear_all-2.new.self; table = c.clear-4.new.self }) ≡ emptied (state_of t) =
+    let state : state_of (record t { tunnels = c.cancel_all.new.tunnels; paths = c.clear.new.self; timers = c.clear_all.new.self; bandwidth = c.clear-2.new.self; repairs = c.clear-3.new.self; labels = c.clear-4.new.self; upstream = c.clear_all-2.new.self; table = c.clear-5.new.self }) ≡ emptied (state_of t) =
     λ i. record {
       facts = record (facts_of t) { tunnels = c.cancel_all.ensures i; paths = c.clear.ensures i; sent = (c.clear_all.ensures i).sent };
       resvs = (c.clear-2.ensures i).resvs;
-      labels = (c.clear-3.ensures i).labels;
+      repairs = c.clear-3.ensures i;
+      labels = (c.clear-4.ensures i).labels;
       sent_upstream = (c.clear_all-2.ensures i).sent;
     } in
     record {
@@ -34,9 +35,9 @@ returns-clause-tables c =
       period = ap (λ (timers : Timers Item). timers.refresh_ms) c.clear_all.ensures ∙ c.requires.period;
       upstream_period = ap (λ (timers : Timers Upstream). timers.refresh_ms) c.clear_all-2.ensures ∙ c.requires.upstream_period;
       claims = ap (λ (b : Bandwidth). b.claims) c.clear-2.ensures ∙ sym (λ i. claims_of (c.clear.ensures i) (c.clear-2.ensures i).resvs);
-      range = ap (λ (labels : Bindings). labels.range) c.clear-3.ensures ∙ c.requires.range;
-      table = subst (λ (s : State). IsTableOf s c.clear-4.new.self.labels) (sym state) (subst (λ (rows : List (ℕ × Action)). IsTableOf (emptied (state_of t)) rows) (sym (ap (λ (table : Actions). table.labels) c.clear-4.ensures)) (table-no_path (emptied (state_of t)) refl));
+      range = ap (λ (labels : Bindings). labels.range) c.clear-4.ensures ∙ c.requires.range;
+      table = subst (λ (s : State). IsTableOf t.router s c.clear-5.new.self.labels) (sym state) (subst (λ (rows : List (ℕ × Action)). IsTableOf t.router (emptied (state_of t)) rows) (sym (ap (λ (table : Actions). table.labels) c.clear-5.ensures)) (table-no_path t.router (emptied (state_of t)) refl));
       tunnel_table =
-          ap (λ (table : Actions). table.tunnels) c.clear-4.ensures
-          ∙ sym (ap (tunnel_table_of t.router) state ∙ tunnel_table-no_resv t.router (emptied (state_of t)) refl);
+          ap (λ (table : Actions). table.tunnels) c.clear-5.ensures
+          ∙ sym (ap (tunnel_table_of t.router) state ∙ tunnel_table-none t.router (emptied (state_of t)) refl refl);
     }

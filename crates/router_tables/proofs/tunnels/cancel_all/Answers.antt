@@ -1,4 +1,4 @@
-use Rattle.std.proofs.Common.{◌≡◌, Bool, filter, map, true, refl, ap, ◌∙◌, ℕ}
+use Rattle.std.proofs.Common.{◌≡◌, Bool, map, true, refl, ap, ◌∙◌, ℕ}
 use Rattle.sorted_rows.specs.ListLaws.{all-always, filter-all_pass}
 use Rattle.lsr_facts.specs.declared.tunnel.Tunnel.{Tunnel}
 use Rattle.make_before_break.specs.Changes.{cancelled}

@@ -3,9 +3,10 @@ use Rattle.std.proofs.Common.{◌≡◌, ◌++◌, filter_map, ◌∙◌}
 use Rattle.std.proofs.lemmas.Result.{IfOk-weaker}
 use Rattle.lsr_facts.specs.declared.key.Key.{Key}
 use Rattle.abstract_router.specs.States.{is_one_of}
+use Rattle.abstract_router.specs.Steps.{stands}
 use Rattle.state_views.specs.Edits.{edited}
 use Rattle.state_settling.specs.Falling.{fallen_key, has_fallen}
-use Rattle.state_settling.specs.FallingLaws.{fallen_of_all, fallen_of_edits}
+use Rattle.state_settling.specs.FallingLaws.{failing_of_all, fallen_of_edits}
 use Rattle.state_settling.proofs.standing.fallen.Goals as goal
 
 pub returns-in-Some : goal.returns-in-Some
@@ -18,7 +19,7 @@ returns-in-Some g c =
     IfOk-weaker c.with_all_fallen.result
     (λ all. all.items ≡ keys.items ++ filter_map (λ resv. fallen_key (edited e s) resv.0) s.resvs)
     (λ all. (key : Key) → is_one_of all.items key ≡ has_fallen (edited e s) key)
-    (λ all is. fallen_of_all s e all.items (is ∙ (λ i. among_edits i ++ filter_map (λ resv. fallen_key (edited e s) resv.0) s.resvs)))
+    (λ all is. failing_of_all (stands (edited e s).facts) e.resvs s.resvs all.items (is ∙ (λ i. among_edits i ++ filter_map (λ resv. fallen_key (edited e s) resv.0) s.resvs)))
     c.with_all_fallen.ensures
 
 pub returns-in-None : goal.returns-in-None

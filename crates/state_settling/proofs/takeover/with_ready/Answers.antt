@@ -3,9 +3,11 @@ use Rattle.std.proofs.Common.{Option, ap, sym, ◌∙◌}
 use Rattle.std.specs.FinMap.Entries.{put}
 use Rattle.std.specs.Option.{option_copied, option_map_or}
 use Rattle.std.specs.Ordering.{nat_cmp}
+use Rattle.std.proofs.lemmas.Cmp.{nat_cmp_total}
+use Rattle.std.proofs.lemmas.Map.Lookups.{exact_unsigned}
 use Rattle.lsr_facts.specs.declared.tunnel.Tunnel.{Tunnel}
 use Rattle.state_settling.specs.Switching.{ready_at}
-use Rattle.state_settling.proofs.Readying.{one_looked_at}
+use Rattle.state_settling.proofs.Asking.{one_asked}
 use Rattle.state_settling.proofs.takeover.with_ready.Goals as goal
 use Rattle.state_settling.proofs.takeover.with_ready.Goals.{in-Some+in_ok-try_copy+in_ok-set, in_default}
 
@@ -16,10 +18,10 @@ loop-row-preserved g c =
     let row = c.row-item.result in
     let before = c.loop-row.all in
     let set = λ (ready : Option Tunnel). option_map_or (λ tunnel. put nat_cmp row.0 tunnel before) ready before in
-    let looked = one_looked_at c.args.rows.now c.loop-row.row-index row c.loop-row-test.true c.row-item.is (ready_at r s) c.args.tunnels before c.match-ready_at.all in
+    let asked = one_asked nat_cmp nat_cmp_total exact_unsigned c.args.rows.now c.loop-row.row-index (ready_at r s) c.args.tunnels before c.match-ready_at.all row c.loop-row-test.true c.row-item.is in
     elim c.match-ready_at.branch [
       | in-Some+in_ok-try_copy+in_ok-set w ↦
-          looked (w.all-is ∙ w.in_ok-set.ensures.ok ∙ ap (λ tunnel. put nat_cmp row.0 tunnel before) w.in_ok-try_copy.ensures ∙ ap set (sym (ap option_copied w.in-Some.is) ∙ c.ready_at.ensures)) c.loop-row.invariant
+          asked (w.all-is ∙ w.in_ok-set.ensures.ok ∙ ap (λ tunnel. put nat_cmp row.0 tunnel before) w.in_ok-try_copy.ensures ∙ ap set (sym (ap option_copied w.in-Some.is) ∙ c.ready_at.ensures)) c.loop-row.invariant
       | in_default w ↦
-          looked (w.all-is ∙ ap set (sym (ap option_copied w.in_default.is) ∙ c.ready_at.ensures)) c.loop-row.invariant
+          asked (w.all-is ∙ ap set (sym (ap option_copied w.in_default.is) ∙ c.ready_at.ensures)) c.loop-row.invariant
     ]

@@ -4,20 +4,20 @@ use Rattle.std.proofs.lemmas.Result.{IfOk-weaker}
 use Rattle.lsr_facts.specs.declared.router.Router.{Router}
 use Rattle.router_events.specs.declared.commands.Command.{Command}
 use Rattle.abstract_paths.specs.Commands.{begun_by, commanded}
-use Rattle.abstract_router.specs.States.{State, with_facts, without_resvs}
+use Rattle.abstract_router.specs.States.{State, with_facts, without_held}
 use Rattle.state_views.specs.Edits.{edited}
 use Rattle.state_views.specs.declared.edits.Edits.{Edits}
 use Rattle.tunnel_commands.specs.Commanding.{commanded_state}
 use Rattle.tunnel_commands.proofs.Leaving.{none_leaves}
 use Rattle.tunnel_commands.proofs.commands.edits_of.Goals as goal
 
--- a command that has no LSP signalled leaves reservations as they are
+-- a command that has no LSP signalled leaves reservations and repairs as they are
 without_signal : (r : Router) (s : State) (c found : Command) (result : Result Edits AllocError) → c ≡ found → begun_by r s.facts found ≡ None
     → IfOk result (λ edits. edited edits s ≡ with_facts (commanded r s.facts found) s)
     → IfOk result (λ edits. edited edits s ≡ commanded_state r s c)
 without_signal r s c found result is none made =
     let after = with_facts (commanded r s.facts found) s in
-    let same = ap (λ signalled. without_resvs (option_to_list signalled) after) none ∙ none_leaves after in
+    let same = ap (λ signalled. without_held (option_to_list signalled) after) none ∙ none_leaves after in
     subst (λ (command : Command). IfOk result (λ edits. edited edits s ≡ commanded_state r s command)) (sym is)
     (IfOk-weaker result (λ edits. edited edits s ≡ after) (λ edits. edited edits s ≡ commanded_state r s found) (λ edits is. is ∙ sym same) made)
 

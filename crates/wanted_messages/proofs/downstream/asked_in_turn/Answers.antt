@@ -1,19 +1,16 @@
--- One LSP more is asked: what it wants is put after the others.
-use Rattle.std.proofs.Common.{Some, None, append-nil, sym, ◌∙◌}
+-- One LSP more is asked: what it wants is put after the others, at its next hop and through a bypass.
 use Rattle.abstract_paths.specs.RowLaws.{one_more}
-use Rattle.abstract_router.specs.Wanted.{item_row}
+use Rattle.abstract_router.specs.Wanted.{backup_at, downstream_at}
 use Rattle.wanted_messages.proofs.downstream.asked_in_turn.Goals as goal
-use Rattle.wanted_messages.proofs.downstream.asked_in_turn.Goals.{in-Some+in_ok-push, in_default}
 
 pub loop-row-preserved : goal.loop-row-preserved
 loop-row-preserved g c =
-    let wants = λ (e : _ × _). item_row (g.V.StateView.router c.args.view.now) (g.V.StateView.state c.args.view.now) e.0 in
-    let before = c.loop-row.rows.items in
-    let after = c.match-branch-2.rows.items in
-    let keys = c.args.touched.now in
+    let r = g.V.StateView.router c.args.view.now in
+    let s = g.V.StateView.state c.args.view.now in
+    let touched = c.args.touched.now in
     let at = c.loop-row.row-index in
     let row = c.row-item.result in
-    elim c.match-branch-2.branch [
-      | in-Some+in_ok-push w ↦ one_more wants before after keys at row (Some w.in-Some.wanted) c.loop-row-test.true c.row-item.is c.loop-row.invariant (sym w.in-Some.is ∙ c.in_ok-wanted.ensures) ((λ k. (w.rows-is k).items) ∙ w.in_ok-push.ensures.items)
-      | in_default w ↦ one_more wants before after keys at row None c.loop-row-test.true c.row-item.is c.loop-row.invariant (sym w.in_default.is ∙ c.in_ok-wanted.ensures) ((λ k. (w.rows-is k).items) ∙ sym (append-nil before))
-    ]
+    record {
+      rows = one_more (λ (e : _ × _). downstream_at r s e.0) c.loop-row.rows.items c.in_ok-rows.rows.items touched at row c.in_ok-downstream_at.field-0 c.loop-row-test.true c.row-item.is c.loop-row.invariant.rows c.in_ok-downstream_at.ensures c.in_ok-rows.ensures;
+      backups = one_more (λ (e : _ × _). backup_at r s e.0) c.loop-row.backups.items c.in_ok-backups.backups.items touched at row c.in_ok-backup_at.field-0 c.loop-row-test.true c.row-item.is c.loop-row.invariant.backups c.in_ok-backup_at.ensures.row c.in_ok-backups.ensures;
+    }

@@ -19,4 +19,4 @@ unwrap-message-requires g c =
     let a = said lsp.reserved in
     c.checked.ensures.room
     (subst (λ (v : Resv). IsTrue (fits_resv v)) (sym c.in_ok-resv.ensures) (resv_fits r key path origin link lsp.label a c.requires))
-    (subst (λ (v : Resv). HasRoom (contents.Resv v)) (sym c.in_ok-resv.ensures) (resv_has_room r key path origin link lsp.label a c.has_address.ensures c.requires))
+    (subst (λ (v : Resv). HasRoom (contents.Resv v)) (sym c.in_ok-resv.ensures) (resv_has_room r key path origin link lsp.label a c.has_four_octets.ensures c.requires))

@@ -16,8 +16,9 @@ use Rattle.wanted_messages.proofs.upstream.upstream_rows.Goals as goal
 pub told_each-requires : goal.told_each-requires
 told_each-requires g c =
     let s = g.V.StateView.state c.args.view.now in
+    let a = around_of (g.V.StateView.router c.args.view.now) s in
     subst (λ (o : Option Reserved). IfSome o IsFitting) (sym c.in_ok-reserved.ensures ∙ ap (option_map said) c.in-Some-2.is)
-    (reserved_fits s c.args.key.now c.args.path.now c.requires.tspec c.requires.resvs)
+    (reserved_fits a s c.args.key.now c.args.path.now c.requires.tspec c.requires.resvs c.requires.repairs)
 
 pub returns : goal.returns
 returns g c =
@@ -25,7 +26,7 @@ returns g c =
     let a = around_of (g.V.StateView.router c.args.view.now) s in
     let lsp : Key × Lsp = (c.args.key.now, lsp_of s c.args.key.now c.args.path.now) in
     let says = said c.in-Some-2.reserved in
-    let reserved : Some says ≡ reserved_for lsp.1 = sym (ap (option_map said) c.in-Some-2.is) ∙ c.in_ok-reserved.ensures in
+    let reserved : Some says ≡ reserved_for a lsp = sym (ap (option_map said) c.in-Some-2.is) ∙ c.in_ok-reserved.ensures in
     let made : filter_map (upstream_row a lsp c.in-Some.label says) c.as_slice.result.now ≡ upstream_rows a lsp =
     ap (filter_map (upstream_row a lsp c.in-Some.label says)) c.as_slice.ensures.rows
     ∙ sym (rows-timeless a lsp c.in-Some.label says c.args.path.now.origins)

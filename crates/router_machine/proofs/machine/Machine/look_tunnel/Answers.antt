@@ -4,6 +4,7 @@ use Rattle.lsr_facts.specs.declared.facts.Facts.{Facts}
 use Rattle.lsr_facts.specs.declared.router.Router.{Router}
 use Rattle.abstract_router.specs.Tables.{look_tunnel}
 use Rattle.router_machine.specs.Below.labels.TunnelLaws.{look_tunnel-alike}
+use Rattle.router_machine.proofs.WhileCold.{detours_running}
 use Rattle.router_machine.proofs.machine.Machine.look_tunnel.Goals as goal
 
 pub returns : goal.returns
@@ -11,6 +12,9 @@ returns c =
     let knows = c.tables.ensures in
     let tables = c.tables.result.now in
     let state = c.args.self.now.state in
+    let r = c.args.self.now.router in
     c.look_tunnel.ensures
     ∙ ap (λ (r : Router). look_tunnel r tables.state c.args.number) knows.router
-    ∙ look_tunnel-alike c.args.self.now.router tables.state state c.args.number (ap (λ (f : Facts). f.tunnels) knows.facts) knows.resvs
+    ∙ look_tunnel-alike r tables.state state c.args.number
+    (detours_running r tables.state state (record { facts = knows.facts; lsps = record { resvs = knows.resvs; repairs = knows.repairs; labels = knows.labels } }))
+    (ap (λ (f : Facts). f.tunnels) knows.facts) knows.resvs knows.repairs

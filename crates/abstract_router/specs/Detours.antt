@@ -1,0 +1,39 @@
+-- Bypasses as a point of local repair sees them: where each ends, and what it runs over (RFC 4090, 3.2).
+use Rattle.std.specs.Prelude.{ℕ, Bool, if◌then◌else◌, List, filter_map, Option, Some, None}
+use Rattle.std.specs.FinMap.Entries.{find}
+use Rattle.std.specs.Option.{option_and_then, option_map}
+use Rattle.std.specs.Ordering.{nat_cmp}
+use Rattle.lsr_facts.specs.Orders.{key_cmp}
+use Rattle.lsr_facts.specs.Tunnels.{current_key}
+use Rattle.lsr_facts.specs.declared.bypass.Bypass.{Bypass}
+use Rattle.lsr_facts.specs.declared.router.Router.{Router}
+use Rattle.lsr_facts.specs.declared.tunnel.Tunnel.{Tunnel}
+use Rattle.resv_facts.specs.declared.repair.Detour.{Detour}
+use Rattle.resv_facts.specs.declared.repair.Over.{Over}
+use Rattle.resv_facts.specs.declared.resv_fact.ResvFact.{ResvFact}
+use Rattle.abstract_paths.specs.Places.{is_up}
+use Rattle.abstract_router.specs.States.{State}
+
+-- by a reservation: its link and label, where the link is up
+abbrev pub over_by : List (ℕ × Bool) → ResvFact → Option Over
+over_by up resv = if is_up up resv.link then Some (record { link = resv.link; label = resv.label }) else None
+
+-- what a tunnel runs over: its current LSP is reserved, over a link that is up
+abbrev pub over_of : Router → State → ℕ × Tunnel → Option Over
+over_of r s tunnel = option_and_then (over_by s.facts.up) (find key_cmp (current_key r tunnel) s.resvs)
+
+-- a bypass that runs in this tunnel
+abbrev pub detour_of : Router → State → Bypass → Tunnel → Detour
+detour_of r s bypass tunnel = record { tunnel = bypass.tunnel; protects = bypass.link; ends_at = tunnel.endpoint; over = over_of r s (bypass.tunnel, tunnel) }
+
+-- a bypass, by the tunnel that it names
+abbrev pub detour_by : Router → State → ℕ × Bypass → Option Detour
+detour_by r s bypass = option_map (detour_of r s bypass.1) (find nat_cmp bypass.1.tunnel s.facts.tunnels)
+
+-- all bypasses, in the order of their numbers
+unfoldable pub detours_of : Router → State → List (ℕ × Detour)
+detours_of r s = filter_map (λ bypass. option_map (λ detour. (bypass.0, detour)) (detour_by r s bypass)) s.facts.bypasses
+
+-- What the bypass of a number runs over. A bypass is up where that is something.
+abbrev pub over_at : List (ℕ × Detour) → ℕ → Option Over
+over_at detours number = option_and_then (λ detour. detour.over) (find nat_cmp number detours)

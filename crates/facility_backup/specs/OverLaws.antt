@@ -1,0 +1,72 @@
+-- What bypasses run over that are up: a link that is up, under a number that may stand for a label.
+use Rattle.std.specs.Prelude.{◌≡◌, ℕ, true, false, cond, IfSome, Option, Some, None}
+use Rattle.std.specs.FinMap.Entries.{find}
+use Rattle.std.specs.List.{AllByRecursion}
+use Rattle.std.specs.Option.{option_and_then, option_map}
+use Rattle.std.specs.Ordering.{nat_cmp}
+use Rattle.std.proofs.Common.{refl, subst}
+use Rattle.sorted_rows.specs.ListLaws.{all-weaker}
+use Rattle.sorted_rows.specs.RowsLaws.{find-all}
+use Rattle.lsr_facts.specs.Orders.{key_cmp}
+use Rattle.lsr_facts.specs.Tunnels.{current_key}
+use Rattle.lsr_facts.specs.declared.bypass.Bypass.{Bypass}
+use Rattle.lsr_facts.specs.declared.key.Key.{Key}
+use Rattle.lsr_facts.specs.declared.router.Router.{Router}
+use Rattle.lsr_facts.specs.declared.tunnel.Tunnel.{Tunnel}
+use Rattle.resv_facts.specs.declared.repair.Detour.{Detour}
+use Rattle.resv_facts.specs.declared.repair.Over.{Over}
+use Rattle.resv_facts.specs.declared.resv_fact.ResvFact.{ResvFact}
+use Rattle.forwarding_table.specs.Labels.{is_label}
+use Rattle.abstract_paths.specs.Places.{is_up}
+use Rattle.abstract_router.specs.Detours.{detour_of, detours_of, over_at, over_by, over_of}
+use Rattle.abstract_router.specs.Soundness.{IsResv}
+use Rattle.abstract_router.specs.States.{State}
+use Rattle.abstract_router.specs.UpstreamLaws.{all-filter_map}
+use Rattle.facility_backup.specs.Asking.{row_by}
+
+-- What a bypass runs over that is up.
+pub record IsOver (s : State) (over : Over) : Type 0 where
+  pub label : is_label over.label ≡ true
+  pub up : is_up s.facts.up over.link ≡ true
+
+-- so it is by a reservation
+by_is : (s : State) (resv : ResvFact) → is_label resv.label ≡ true → IfSome (over_by s.facts.up resv) (IsOver s)
+by_is s resv label =
+    elim (is_up s.facts.up resv.link) as (λ b. is_up s.facts.up resv.link ≡ b → IfSome (cond b (Some (record { link = resv.link; label = resv.label })) None) (IsOver s)) [
+      | true ↦ λ up. record { label = label; up = up }
+      | false ↦ λ up. tt
+    ] refl
+
+-- by one that is found
+found_is : (s : State) (resv : Option ResvFact) → IfSome resv (λ resv. is_label resv.label ≡ true) → IfSome (option_and_then (over_by s.facts.up) resv) (IsOver s)
+found_is s None label = tt
+found_is s (Some resv) label = by_is s resv label
+
+-- of a tunnel
+of_is : (r : Router) (s : State) (tunnel : ℕ × Tunnel) → AllByRecursion (λ resv. is_label resv.1.label ≡ true) s.resvs → IfSome (over_of r s tunnel) (IsOver s)
+of_is r s tunnel labels = found_is s (find key_cmp (current_key r tunnel) s.resvs) (find-all key_cmp (λ resv. is_label resv.label ≡ true) (current_key r tunnel) s.resvs labels)
+
+-- of a bypass
+row_is : (r : Router) (s : State) → AllByRecursion (λ resv. is_label resv.1.label ≡ true) s.resvs → (bypass : ℕ × Bypass) → IfSome {T = ℕ × Detour} (row_by r s bypass) (λ row. IfSome row.1.over (IsOver s))
+row_is r s labels bypass = by (find nat_cmp bypass.1.tunnel s.facts.tunnels)
+  where
+    by : (tunnel : Option Tunnel) → IfSome {T = ℕ × Detour} (option_map (λ (detour : Detour). (bypass.0, detour)) (option_map (detour_of r s bypass.1) tunnel)) (λ row. IfSome row.1.over (IsOver s))
+    by None = tt
+    by (Some tunnel) = of_is r s (bypass.1.tunnel, tunnel) labels
+
+-- and of all
+all_are : (r : Router) (s : State) → AllByRecursion (λ resv. is_label resv.1.label ≡ true) s.resvs → AllByRecursion (λ row. IfSome row.1.over (IsOver s)) (detours_of r s)
+unfolding detours_of
+all_are r s labels = all-filter_map (λ (row : ℕ × Detour). IfSome row.1.over (IsOver s)) (row_by r s) (row_is r s labels) s.facts.bypasses
+
+-- so of the one that is found
+at_is : (s : State) (detour : Option Detour) → IfSome detour (λ detour. IfSome detour.over (IsOver s)) → IfSome (option_and_then (λ (detour : Detour). detour.over) detour) (IsOver s)
+at_is s None h = tt
+at_is s (Some detour) h = h
+
+-- What the bypass of a number runs over is a link that is up, under a label, where each reservation's label is one.
+pub over_is : (m : ℕ) (r : Router) (s : State) (number : ℕ) (over : Over) → over_at (detours_of r s) number ≡ Some over → AllByRecursion (IsResv m) s.resvs → IsOver s over
+over_is m r s number over found resvs =
+    let labels = all-weaker (IsResv m) (λ (resv : Key × ResvFact). is_label resv.1.label ≡ true) (λ resv is. is.label) s.resvs resvs in
+    let each = find-all nat_cmp (λ (detour : Detour). IfSome detour.over (IsOver s)) number (detours_of r s) (all_are r s labels) in
+    subst (λ over. IfSome over (IsOver s)) found (at_is s (find nat_cmp number (detours_of r s)) each)

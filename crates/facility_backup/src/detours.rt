@@ -1,0 +1,60 @@
+//! Bypasses as a point of local repair sees them: where each ends, and what it runs over (RFC 4090, 3.2).
+
+ghost use Rattle.std.specs.FinMap.Entries.{find};
+ghost use Rattle.std.specs.Ordering.{nat_cmp};
+ghost use Rattle.std.specs.Prelude.{◌≡◌};
+ghost use Rattle.abstract_router.specs.Detours.{detour_by, detours_of, over_at, over_of};
+
+use lsr_facts::{Bypass, Tunnel};
+use message_rules::{current_key, is_up};
+use resv_facts::{Detour, Over};
+use state_views::StateView;
+
+/// What the tunnel of a number runs over: its current LSP is reserved, over a link that is up.
+fn over_of<V: StateView>(view: &V, number: u16, tunnel: &Tunnel) -> Option<Over>
+    ensures { result ≡ over_of (V.router view.now) (V.state view.now) (number, tunnel.now) }
+{
+    let node = view.node();
+    let resv = view.resv(&current_key(node.router, number, tunnel))?;
+    if !is_up(node.up, resv.link) {
+        return None;
+    }
+    Some(Over {
+        link: resv.link,
+        label: resv.label,
+    })
+}
+
+/// A bypass, by the tunnel that it names; `None` where there is no such tunnel. Takes no memory.
+pub fn detour_by<V: StateView>(view: &V, bypass: &(u16, Bypass)) -> Option<Detour>
+    ensures { result ≡ detour_by (V.router view.now) (V.state view.now) bypass.now }
+{
+    let number = bypass.1.tunnel;
+    let tunnel = view.tunnel(number)?;
+    Some(Detour {
+        tunnel: number,
+        protects: bypass.1.link,
+        ends_at: tunnel.endpoint,
+        over: over_of(view, number, tunnel),
+    })
+}
+
+/// The bypass of a number. Takes no memory.
+pub fn detour_at<V: StateView>(view: &V, number: u16) -> Option<Detour>
+    ensures { result ≡ find nat_cmp number (detours_of (V.router view.now) (V.state view.now)) }
+{
+    let bypasses = view.bypasses();
+    // That no two bypasses have one number.
+    let _ = bypasses.as_slice();
+    match bypasses.get(&number) {
+        Some(bypass) => detour_by(view, &(number, *bypass)),
+        None => None,
+    }
+}
+
+/// What the bypass of a number runs over. It is up where that is something. Takes no memory.
+pub fn over_at<V: StateView>(view: &V, number: u16) -> Option<Over>
+    ensures { result ≡ over_at (detours_of (V.router view.now) (V.state view.now)) number }
+{
+    detour_at(view, number)?.over
+}

@@ -1,0 +1,17 @@
+//! Local repair over bypass tunnels: the decisions of a point of local repair with facility backup (RFC 4090, 3.2 and 6),
+//! by what is known of its LSPs, whoever keeps that. An LSP is signalled, held or repaired, and only one that is held can
+//! be repaired. No decision takes memory.
+#![tactic(auto)]
+
+mod detours;
+mod labels;
+mod protecting;
+mod repairs;
+mod selecting;
+mod surroundings;
+
+pub use detours::{detour_at, detour_by, over_at};
+pub use repairs::{Held, Repaired, repair};
+pub use selecting::{own_flags, select};
+pub use state_views::{Edits, StateView};
+pub use surroundings::is_same_around;

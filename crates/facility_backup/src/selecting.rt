@@ -1,0 +1,104 @@
+//! The bypass over which an LSP would be repaired, and what its records say of that (RFC 4090, 4.4 and 6.2).
+
+ghost use Rattle.std.specs.Prelude.{◌≡◌};
+ghost use Rattle.abstract_router.specs.Lsps.{around_of, lsp_of};
+ghost use Rattle.abstract_router.specs.Protecting.{is_preferred, selected};
+ghost use Rattle.abstract_router.specs.Upstreams.{flags_ready, own_flags, protection_flags};
+ghost use Rattle.facility_backup.specs.Asking.{candidate_by};
+ghost use Rattle.facility_backup.specs.Choosing.{best_of};
+
+use crate::detours::detour_by;
+use crate::protecting::{is_preferred, is_protected, selected_by};
+use lsr_facts::{Bypass, Key, PathFact};
+use resv_facts::{ResvFact, Selected};
+use state_views::StateView;
+
+/// The flag of a recorded router that it protects the LSP (RFC 4090, 4.4).
+const PROTECTION_AVAILABLE: u8 = 0x01;
+/// The flag that the LSP runs over a bypass.
+const PROTECTION_IN_USE: u8 = 0x02;
+/// The flag that the next router is protected too.
+const NODE_PROTECTION: u8 = 0x08;
+
+/// A bypass as a candidate for a reservation.
+fn candidate_by<V: StateView>(view: &V, resv: &ResvFact, bypass: &(u16, Bypass)) -> Option<Selected>
+    ensures { result ≡ candidate_by (V.router view.now) (V.state view.now) resv.now bypass.now }
+{
+    let detour = detour_by(view, bypass)?;
+    selected_by(view.node().router, resv, bypass.0, &detour)
+}
+
+/// The first candidate among these bypasses that the head prefers, else the first.
+fn best_of<V: StateView>(
+    view: &V,
+    path: &PathFact,
+    resv: &ResvFact,
+    bypasses: &[(u16, Bypass)],
+) -> Option<Selected>
+    ensures { result ≡ best_of (is_preferred path.now)
+        (candidate_by (V.router view.now) (V.state view.now) resv.now) bypasses.now None }
+{
+    let mut first = None;
+    for bypass in bypasses {
+        if let Some(choice) = candidate_by(view, resv, bypass) {
+            if is_preferred(path, choice) {
+                return Some(choice);
+            }
+            first = first.or(Some(choice));
+        }
+    }
+    first
+}
+
+/// The bypass over which an LSP would be repaired, if it is protected: of those that are up around its link, in the order
+/// of their numbers, the first that ends where the head would have it, else the first (RFC 4090, 6.2). Takes no memory.
+pub fn select<V: StateView>(
+    view: &V,
+    key: &Key,
+    path: &PathFact,
+    resv: &ResvFact,
+) -> Option<Selected>
+    ensures { result ≡ selected (around_of (V.router view.now) (V.state view.now)) key.now path.now resv.now }
+{
+    if !is_protected(view, key, path) {
+        return None;
+    }
+    best_of(view, path, resv, view.bypasses().as_slice())
+}
+
+/// How a bypass protects, in this router's own entry of a record (RFC 4090, 4.4).
+fn protection_flags(in_use: bool, is_later: bool) -> u8
+    ensures { result ≡ protection_flags in_use is_later }
+{
+    let use_flag = if in_use { PROTECTION_IN_USE } else { 0 };
+    let node_flag = if is_later { NODE_PROTECTION } else { 0 };
+    PROTECTION_AVAILABLE + use_flag + node_flag
+}
+
+/// How an LSP is protected that is reserved: by the bypass over which it would be repaired, if there is one.
+#[tactic(auto, using(crate::proofs::Rows::selected_timeless))]
+fn flags_ready<V: StateView>(view: &V, key: &Key, path: &PathFact, resv: &ResvFact) -> u8
+    ensures { let s = V.state view.now in
+        result ≡ flags_ready (around_of (V.router view.now) s) (key.now, lsp_of s key.now path.now) resv.now }
+{
+    match select(view, key, path, resv) {
+        Some(choice) => protection_flags(false, choice.is_later),
+        None => 0,
+    }
+}
+
+/// How this router protects an LSP, as its own entry of a record says it (RFC 4090, 4.4): by the bypass over which the LSP
+/// runs, or would run. Takes no memory.
+#[tactic(auto, unfolding(abstract_router::specs::Upstreams::own_flags))]
+pub fn own_flags<V: StateView>(view: &V, key: &Key, path: &PathFact) -> u8
+    ensures { let s = V.state view.now in
+        result ≡ own_flags (around_of (V.router view.now) s) (key.now, lsp_of s key.now path.now) }
+{
+    if let Some(resv) = view.resv(key) {
+        return flags_ready(view, key, path, resv);
+    }
+    match view.repair(key) {
+        Some(repair) => protection_flags(true, repair.is_later),
+        None => 0,
+    }
+}

@@ -1,0 +1,173 @@
+-- What a message that comes leaves of links, paths, tunnels and bypasses: it puts a path or takes one away, or notes an error
+-- of a tunnel, and no more.
+use Rattle.std.specs.Prelude.{◌&&◌, ◌==◌, ℕ, not, nat_le, false, List, [], ◌∷◌, filter_map, fold, length, Option, Some, None, is_none, Result, Ok, Err}
+use Rattle.std.specs.FinMap.Entries.{find}
+use Rattle.std.specs.List.{list_any}
+use Rattle.std.specs.Option.{option_map_or}
+use Rattle.std.specs.declared.net.ipv4_addr.Ipv4Addr.{Ipv4Addr}
+use Rattle.std.proofs.lemmas.Bool.{cond_both}
+use Rattle.rsvp_contents.specs.declared.message.Reading.TheVariants as readings
+use Rattle.rsvp_contents.specs.declared.message.Reading.{Reading}
+use Rattle.rsvp_contents.specs.declared.messages.Content.TheVariants as contents
+use Rattle.rsvp_contents.specs.declared.messages.Content.{Content}
+use Rattle.rsvp_contents.specs.declared.messages.Path.{Path}
+use Rattle.rsvp_contents.specs.declared.messages.PathErr.{PathErr}
+use Rattle.rsvp_contents.specs.declared.messages.PathTear.{PathTear}
+use Rattle.rsvp_contents.specs.declared.messages.Resv.{Resv}
+use Rattle.rsvp_contents.specs.declared.messages.ResvErr.{ResvErr}
+use Rattle.rsvp_contents.specs.declared.messages.ResvTear.{ResvTear}
+use Rattle.rsvp_flows.specs.declared.descriptors.FlowDescriptor.{FlowDescriptor}
+use Rattle.rsvp_objects.specs.declared.values.ErrorSpec.{ErrorSpec}
+use Rattle.rsvp_traffic.specs.TokenBuckets.{token_rate}
+use Rattle.lsr_facts.specs.Errors.{system_error}
+use Rattle.lsr_facts.specs.Lifetimes.{begins_here}
+use Rattle.lsr_facts.specs.Orders.{key_cmp}
+use Rattle.lsr_facts.specs.Routers.{link_at}
+use Rattle.lsr_facts.specs.Tunnels.{is_head}
+use Rattle.lsr_facts.specs.declared.choice.Choice.{Choice}
+use Rattle.lsr_facts.specs.declared.errors.RsvpError.{RsvpError}
+use Rattle.lsr_facts.specs.declared.facts.Facts.{Facts}
+use Rattle.lsr_facts.specs.declared.key.Key.{Key}
+use Rattle.lsr_facts.specs.declared.path_fact.Origin.{Origin}
+use Rattle.lsr_facts.specs.declared.path_fact.PathFact.{PathFact}
+use Rattle.lsr_facts.specs.declared.refusal.Refusal.TheVariants.{LinkDown, NoMatch, UnknownLink}
+use Rattle.lsr_facts.specs.declared.router.Router.{Router}
+use Rattle.resv_facts.specs.Reservations.{style_of}
+use Rattle.resv_facts.specs.declared.resv_fact.ResvFact.{ResvFact}
+use Rattle.resv_facts.specs.declared.resv_fact.ResvStyle.{ResvStyle}
+use Rattle.router_events.specs.declared.events.Output.{Output}
+use Rattle.router_events.specs.declared.ways.ArrivalWay.{ArrivalWay}
+use Rattle.router_events.specs.declared.ways.ArrivalWay.TheVariants as ways
+use Rattle.router_events.specs.declared.ways.Arrive.{Arrive}
+use Rattle.abstract_paths.specs.Changes.{with_path, without_path}
+use Rattle.abstract_paths.specs.Heads.{with_noted}
+use Rattle.abstract_paths.specs.Outcomes as paths
+use Rattle.abstract_paths.specs.Outcomes.{lsp}
+use Rattle.abstract_paths.specs.Paths.{failed, has_loop, key_of, path_arrival, path_by, path_on_its_way, taken, way_for}
+use Rattle.abstract_paths.specs.Places.{is_up, place_of}
+use Rattle.abstract_paths.specs.Tears as tears
+use Rattle.abstract_paths.specs.Tears.{leaves_by, left_with, noted_of, origins_without, path_err_arrival, path_err_passed_on, path_tear_arrival, torn}
+use Rattle.abstract_router.specs.Arrivals.{arrival, arrival_by, is_done, labelled_path_arrival, message_arrival, reading_arrival}
+use Rattle.abstract_router.specs.Errors.{no_label, unknown_style}
+use Rattle.abstract_router.specs.Labels.{has_free_label}
+use Rattle.abstract_router.specs.Outcomes.{Outcome, of_paths, refused}
+use Rattle.abstract_router.specs.Reserving.{Failed, Granted, PassedOver, Progress, Verdict, all_descriptors, carried_on, key_in, next_descriptor, resv_arrival, resv_by, resv_failed, resv_replied, unknown_resv, verdict_of}
+use Rattle.abstract_router.specs.States.{State}
+use Rattle.abstract_router.specs.Tearing.{err_onward, is_resv_torn_by, resv_err_arrival, resv_err_passed_on, resv_tear_arrival}
+
+-- What holds of what is known holds after a message to paths, where it holds once that message has put its path, or taken it
+-- away, or noted its error.
+module _ (s : Facts) (P : Facts → Type 0) (stays : P s) where
+  pub path_leaves : (r : Router) (link : ℕ) (p : Path) → ((fact : PathFact) → P (with_path (key_of p) fact s)) → P (path_arrival r s link p).after
+  unfolding path_arrival path_on_its_way
+  path_leaves r link p put =
+      cond_both (is_head r s.tunnels (key_of p)) _ _ After (λ head. stays)
+      (λ elsewhere. cond_both (not (p.label_request.l3pid == 0x0800)) _ _ After (λ a. stays)
+      (λ a. cond_both (is_none (token_rate 1 p.tspec)) _ _ After (λ b. stays)
+      (λ b. cond_both (has_loop r p.recorded) _ _ After (λ c. stays)
+      (λ c. on_way (way_for (place_of r s) (find key_cmp (key_of p) s.paths) p)))))
+    where
+      After : paths.PathOutcome → Type 0
+      After o = P o.after
+
+      on_way : (way : Result Choice RsvpError) → After (path_on_its_way r s (find key_cmp (key_of p) s.paths) link p way)
+      on_way (Err e) = stays
+      on_way (Ok way) =
+          cond_both (is_none (find key_cmp (key_of p) s.paths) && nat_le 1024 (length s.paths)) (failed r s link p system_error) (taken r s (find key_cmp (key_of p) s.paths) link p way) After
+          (λ full. stays) (λ room. put (path_by s.moment (find key_cmp (key_of p) s.paths) link p way))
+
+  pub tear_leaves : (link : ℕ) (t : PathTear) → ((fact : PathFact) → P (with_path (lsp t.session t.sender) fact s)) → P (without_path (lsp t.session t.sender) s) → P (path_tear_arrival s link t).after
+  unfolding path_tear_arrival
+  tear_leaves link t put gone = by (find key_cmp (lsp t.session t.sender) s.paths)
+    where
+      left : (fact : PathFact) (origins : List (Ipv4Addr × Origin)) → P (left_with (lsp t.session t.sender) fact origins s)
+      left fact [] = gone
+      left fact (o ∷ os) = put (record fact { origins = o ∷ os })
+
+      by : (known : Option PathFact) → P (torn s link t known).after
+      by None = stays
+      by (Some fact) = cond_both (tears.is_torn_by link t fact) _ _ (λ (o : paths.PathOutcome). P o.after) (λ a. left fact (origins_without t.sender.sender fact)) (λ a. stays)
+
+  pub err_leaves : (link : ℕ) (e : PathErr) → P (with_noted e.error e.session.tunnel s) → P (path_err_arrival s link e).after
+  unfolding path_err_arrival
+  err_leaves link e noted = by (find key_cmp (lsp e.session e.sender) s.paths)
+    where
+      by : (known : Option PathFact) → P (path_err_passed_on s link e known).after
+      by None = stays
+      by (Some fact) = cond_both (leaves_by link fact) _ _ (λ (o : paths.PathOutcome). P o.after) (λ a. cond_both (begins_here fact.role) _ _ P (λ begins. noted) (λ elsewhere. stays)) (λ a. stays)
+
+-- And so of any message: a Resv, a ResvTear and a ResvErr change none of that.
+module _ (r : Router) (s : State) (P : Facts → Type 0) (stays : P s.facts) (put : (key : Key) (fact : PathFact) → P (with_path key fact s.facts)) (gone : (key : Key) → P (without_path key s.facts))
+    (noted : (e : ErrorSpec) (number : ℕ) → P (with_noted e number s.facts)) where
+  labelled_path_leaves : (link : ℕ) (p : Path) → P (labelled_path_arrival r s link p).after.facts
+  unfolding labelled_path_arrival
+  labelled_path_leaves link p =
+      cond_both (is_done (path_arrival r s.facts link p).reply && is_none (find key_cmp (key_of p) s.facts.paths) && not (has_free_label r s.labels)) (of_paths s (failed r s.facts link p no_label)) (of_paths s (path_arrival r s.facts link p)) (λ (o : Outcome). P o.after.facts)
+      (λ full. stays) (λ room. path_leaves s.facts P stays r link p (put (key_of p)))
+
+  -- the descriptors of a Resv
+  verdict_leaves : (link : ℕ) (v : Resv) (d : FlowDescriptor) (fact : ResvFact) (progress : Progress) (verdict : Verdict) → P progress.state.facts → P (carried_on r link v d fact progress verdict).state.facts
+  verdict_leaves link v d fact progress (Failed e) h = h
+  verdict_leaves link v d fact progress PassedOver h = h
+  verdict_leaves link v d fact progress Granted h = h
+
+  descriptors_leave : (link : ℕ) (style : ResvStyle) (v : Resv) (ds : List FlowDescriptor) (progress : Progress) → P progress.state.facts → P (fold (next_descriptor r link style v) progress ds).state.facts
+  descriptors_leave link style v [] progress h = h
+  descriptors_leave link style v (d ∷ ds) progress h =
+      let fact = resv_by progress.state.facts.moment link style v d in
+      descriptors_leave link style v ds (next_descriptor r link style v progress d) (verdict_leaves link v d fact progress (verdict_of r progress.state (key_in v d) fact) h)
+
+  resv_leaves : (link : ℕ) (v : Resv) → P (resv_arrival r s link v).after.facts
+  unfolding resv_arrival
+  resv_leaves link v = by_style (style_of v.style)
+    where
+      by_first : (progress : Progress) → P progress.state.facts → (first : Option RsvpError) → P (resv_replied s progress first).after.facts
+      by_first progress h (Some e) = h
+      by_first progress h None = cond_both progress.has_granted _ (refused s NoMatch) (λ (o : Outcome). P o.after.facts) (λ some. h) (λ none. stays)
+
+      by_style : (style : Option ResvStyle) → P (option_map_or (λ style. let progress = all_descriptors r s link style v in resv_replied s progress progress.first) style (resv_failed r s link v false [] unknown_style)).after.facts
+      by_style None = stays
+      by_style (Some style) =
+          let progress = all_descriptors r s link style v in
+          by_first progress (descriptors_leave link style v v.descriptors (record { state = s; errors = []; first = None; has_granted = false }) stays) progress.first
+
+  resv_tear_leaves : (link : ℕ) (t : ResvTear) → P (resv_tear_arrival s link t).after.facts
+  unfolding resv_tear_arrival
+  resv_tear_leaves link t = cond_both (list_any (is_resv_torn_by link t) s.resvs) _ (refused s NoMatch) (λ (o : Outcome). P o.after.facts) (λ some. stays) (λ none. stays)
+
+  resv_err_leaves : (link : ℕ) (e : ResvErr) → P (resv_err_arrival r s link e).after.facts
+  unfolding resv_err_arrival
+  resv_err_leaves link e = by (filter_map (err_onward r s link e) e.descriptors)
+    where
+      by : (matched : List (List Output)) → P (resv_err_passed_on s matched).after.facts
+      by [] = stays
+      by (one ∷ more) = stays
+
+  message_leaves : (link : ℕ) (content : Content) → P (message_arrival r s link content).after.facts
+  message_leaves link (contents.Path p) = labelled_path_leaves link p
+  message_leaves link (contents.Resv v) = resv_leaves link v
+  message_leaves link (contents.PathErr e) = err_leaves s.facts P stays link e (noted e.error e.session.tunnel)
+  message_leaves link (contents.ResvErr e) = resv_err_leaves link e
+  message_leaves link (contents.PathTear t) = tear_leaves s.facts P stays link t (put (lsp t.session t.sender)) (gone (lsp t.session t.sender))
+  message_leaves link (contents.ResvTear t) = resv_tear_leaves link t
+
+  reading_leaves : (link : ℕ) (reading : Reading) → P (reading_arrival r s link reading).after.facts
+  unfolding unknown_resv
+  reading_leaves link (readings.Whole content) = message_leaves link content
+  reading_leaves link (readings.Unknown (contents.Path p) class ctype) = stays
+  reading_leaves link (readings.Unknown (contents.Resv v) class ctype) = stays
+  reading_leaves link (readings.Unknown (contents.PathErr e) class ctype) = message_leaves link (contents.PathErr e)
+  reading_leaves link (readings.Unknown (contents.ResvErr e) class ctype) = message_leaves link (contents.ResvErr e)
+  reading_leaves link (readings.Unknown (contents.PathTear t) class ctype) = message_leaves link (contents.PathTear t)
+  reading_leaves link (readings.Unknown (contents.ResvTear t) class ctype) = message_leaves link (contents.ResvTear t)
+
+  way_leaves : (way : ArrivalWay) (link : ℕ) (reading : Reading) → P (arrival_by r s way link reading).after.facts
+  way_leaves ways.Hop link reading = reading_leaves link reading
+  way_leaves ways.Stack link reading = stays
+  way_leaves ways.Routed link reading = stays
+
+  pub arrival_leaves : (a : Arrive) → P (arrival r s a).after.facts
+  unfolding arrival
+  arrival_leaves a =
+      cond_both (is_none (link_at r a.link)) (refused s UnknownLink) _ (λ (o : Outcome). P o.after.facts) (λ none. stays)
+      (λ there. cond_both (not (is_up s.facts.up a.link)) (refused s LinkDown) _ (λ (o : Outcome). P o.after.facts) (λ down. stays) (λ up. way_leaves a.way a.link a.reading))

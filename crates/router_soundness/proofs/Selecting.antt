@@ -1,0 +1,102 @@
+-- What a bypass runs over is a link that is up, and the label that the end of a selected one takes can be written.
+use Rattle.std.specs.Prelude.{◌≡◌, ◌%◌, ◌==◌, ◌&&◌, ℕ, not, true, if◌then◌else◌, List, [], ◌∷◌, find as find_first, Option, Some, None, IfSome}
+use Rattle.std.specs.FinMap.Entries.{find}
+use Rattle.std.specs.Option.{option_and_then, option_map, unwrap_or}
+use Rattle.std.specs.Ordering.{nat_cmp}
+use Rattle.std.specs.declared.net.ipv4_addr.Ipv4Addr.{Ipv4Addr}
+use Rattle.std.proofs.Common.{subst}
+use Rattle.std.proofs.lemmas.Bool.{and_parts, cond_both}
+use Rattle.rsvp_routes.specs.declared.trace.Trace.{Trace}
+use Rattle.rsvp_routes.specs.declared.trace.Trace.TheVariants.{Ipv4, Label, Other}
+use Rattle.sorted_rows.specs.RowsLaws.{find-all}
+use Rattle.lsr_facts.specs.Orders.{key_cmp}
+use Rattle.lsr_facts.specs.Tunnels.{current_key}
+use Rattle.lsr_facts.specs.declared.bypass.Bypass.{Bypass}
+use Rattle.lsr_facts.specs.declared.key.Key.{Key}
+use Rattle.lsr_facts.specs.declared.path_fact.PathFact.{PathFact}
+use Rattle.lsr_facts.specs.declared.router.Router.{Router}
+use Rattle.lsr_facts.specs.declared.tunnel.Tunnel.{Tunnel}
+use Rattle.forwarding_table.specs.Labels.{is_label}
+use Rattle.resv_facts.specs.declared.repair.Detour.{Detour}
+use Rattle.resv_facts.specs.declared.repair.Over.{Over}
+use Rattle.resv_facts.specs.declared.repair.Selected.{Selected}
+use Rattle.resv_facts.specs.declared.resv_fact.ResvFact.{ResvFact}
+use Rattle.abstract_paths.specs.Places.{is_up}
+use Rattle.abstract_paths.specs.RowLaws.{find-holds, option_map-holds, option_or-holds}
+use Rattle.abstract_router.specs.Detours.{detour_by, detour_of, detours_of, over_at, over_by}
+use Rattle.abstract_router.specs.Lsps.{Around}
+use Rattle.abstract_router.specs.Protecting.{candidates_of, ends_at_peer, first_label, is_preferred, is_protected, label_after, leads_around, names_router, selected, selected_by}
+use Rattle.abstract_router.specs.States.{State}
+use Rattle.abstract_router.specs.UpstreamLaws.{all-filter_map}
+
+-- ---- what a bypass runs over
+
+module _ (r : Router) (s : State) where
+  -- what a tunnel runs over is a link that is up
+  over_up : (o : Option ResvFact) → IfSome (option_and_then (over_by s.facts.up) o) (λ over. is_up s.facts.up over.link ≡ true)
+  over_up None = tt
+  over_up (Some resv) = cond_both (is_up s.facts.up resv.link) _ _ (λ (o : Option Over). IfSome o (λ over. is_up s.facts.up over.link ≡ true)) (λ up. up) (λ down. tt)
+
+  -- and so is what a bypass runs over
+  detour_up : (bypass : ℕ × Bypass) → IfSome (option_map {U = ℕ × Detour} (λ (detour : Detour). (bypass.0, detour)) (detour_by r s bypass)) (λ row. IfSome row.1.over (λ over. is_up s.facts.up over.link ≡ true))
+  detour_up bypass = by (find nat_cmp bypass.1.tunnel s.facts.tunnels)
+    where
+      by : (o : Option Tunnel) → IfSome (option_map {U = ℕ × Detour} (λ (detour : Detour). (bypass.0, detour)) (option_map (detour_of r s bypass.1) o)) (λ row. IfSome row.1.over (λ over. is_up s.facts.up over.link ≡ true))
+      by None = tt
+      by (Some tunnel) = over_up (find key_cmp (current_key r (bypass.1.tunnel, tunnel)) s.resvs)
+
+  -- What the bypass of a number runs over, if it is up, is a link that is up.
+  pub over_at-up : (number : ℕ) (over : Over) → over_at (detours_of r s) number ≡ Some over → is_up s.facts.up over.link ≡ true
+  unfolding detours_of
+  over_at-up number over =
+      by (find nat_cmp number (detours_of r s))
+      (find-all nat_cmp (λ detour. IfSome detour.over (λ over. is_up s.facts.up over.link ≡ true)) number (detours_of r s)
+      (all-filter_map (λ (row : ℕ × Detour). IfSome row.1.over (λ over. is_up s.facts.up over.link ≡ true)) (λ bypass. option_map {U = ℕ × Detour} (λ (detour : Detour). (bypass.0, detour)) (detour_by r s bypass)) detour_up s.facts.bypasses))
+    where
+      by : (o : Option Detour) → IfSome o (λ detour. IfSome detour.over (λ over. is_up s.facts.up over.link ≡ true)) → option_and_then (λ (detour : Detour). detour.over) o ≡ Some over → is_up s.facts.up over.link ≡ true
+      by None holds at = absurd (let e = at in cc)
+      by (Some detour) holds at = subst (λ o. IfSome o (λ over. is_up s.facts.up over.link ≡ true)) at holds
+
+-- ---- the label that its end takes
+
+-- a label that a record begins with can be written
+first_label-is : (entries : List Trace) → IfSome (first_label entries) (λ label. is_label label ≡ true)
+first_label-is [] = tt
+first_label-is (Ipv4 prefix flags ∷ entries) = tt
+first_label-is (Label flags label ∷ entries) =
+    cond_both ((flags % 2 == 1) && is_label label) _ _ (λ (o : Option ℕ). IfSome o (λ label. is_label label ≡ true)) (λ passes. (and_parts (flags % 2 == 1) (is_label label) passes).1) (λ other. tt)
+first_label-is (Other bytes ∷ entries) = tt
+
+-- and so can one that stands after a router's address
+label_after-is : (a : Ipv4Addr) (entries : List Trace) → IfSome (label_after a entries) (λ label. is_label label ≡ true)
+unfolding label_after
+label_after-is a [] = tt
+label_after-is a (entry ∷ entries) =
+    option_or-holds (λ label. is_label label ≡ true) (if names_router a entry then first_label entries else None) (label_after a entries)
+    (cond_both (names_router a entry) _ _ (λ (o : Option ℕ). IfSome o (λ label. is_label label ≡ true)) (λ named. first_label-is entries) (λ other. tt)) (label_after-is a entries)
+
+-- what is selected has a label that can be written
+abbrev HasLabel : Selected → Type 0
+HasLabel choice = is_label choice.label ≡ true
+
+module _ (resv : ResvFact) (is : is_label resv.label ≡ true) where
+  -- a bypass that an LSP may be repaired over
+  by_detour : (r : Router) (detour : ℕ × Detour) → IfSome (selected_by r resv detour) HasLabel
+  by_detour r detour =
+      cond_both (not (leads_around resv detour.1)) _ _ (λ (o : Option Selected). IfSome o HasLabel) (λ other. tt)
+      (λ around.
+      cond_both (ends_at_peer r resv detour.1) _ _ (λ (o : Option Selected). IfSome o HasLabel) (λ next. is)
+      (λ later.
+      option_map-holds HasLabel (λ label. record { bypass = detour.0; is_later = true; label = label }) (label_after detour.1.ends_at (unwrap_or resv.recorded []))
+      (label_after-is detour.1.ends_at (unwrap_or resv.recorded []))))
+
+  -- The bypass that is selected: the label that its end takes can be written.
+  pub selected-is : (a : Around) (key : Key) (path : PathFact) → IfSome (selected a key path resv) HasLabel
+  unfolding selected candidates_of
+  selected-is a key path =
+      let all = all-filter_map HasLabel (selected_by a.place.router resv) (by_detour a.place.router) a.detours in
+      cond_both (is_protected a key path) _ _ (λ (o : Option Selected). IfSome o HasLabel)
+      (λ protected.
+      option_or-holds HasLabel (find_first (is_preferred path) (candidates_of a resv)) (find_first (λ choice. true) (candidates_of a resv))
+      (find-holds HasLabel (is_preferred path) (candidates_of a resv) all) (find-holds HasLabel (λ choice. true) (candidates_of a resv) all))
+      (λ other. tt)
