@@ -1,15 +1,17 @@
--- What the paths of tunnels that are signalled, and what commands leave as it was: all other paths, the moment and the links.
-use Rattle.std.specs.Prelude.{◌≡◌, ℕ, ◌+◌, ◌||◌, not, Bool, true, false, List, [], ◌∷◌, Option, Some, None, Result, Ok, Err, is_some, fold, option_to_list}
-use Rattle.std.specs.FinMap.Entries.{find}
+-- What the paths of tunnels that are signalled, what commands, and what comes through stacks leave as it was: all other paths,
+-- the moment and the links.
+use Rattle.std.specs.Prelude.{◌≡◌, ℕ, ◌+◌, ◌||◌, not, Bool, true, false, List, [], ◌∷◌, Option, Some, None, Result, Ok, Err, is_some, fold, option_to_list, T}
+use Rattle.std.specs.FinMap.Entries.{find, is_sorted}
 use Rattle.std.specs.List.{AllByRecursion}
 use Rattle.std.specs.Option.{option_map_or}
 use Rattle.std.specs.Ordering.{is_eq, nat_cmp}
 use Rattle.std.proofs.Common.{refl, ap, sym, ◌∙◌}
-use Rattle.std.proofs.lemmas.Bool.{cond_both, or_parts}
+use Rattle.std.proofs.lemmas.Bool.{and_parts, both_ways, cond_both, or_parts}
 use Rattle.std.proofs.lemmas.Cmp.{nat_cmp_total}
+use Rattle.std.specs.declared.net.ipv4_addr.Ipv4Addr.{Ipv4Addr}
 use Rattle.rsvp_objects.specs.declared.values.ErrorSpec.{ErrorSpec}
 use Rattle.sorted_rows.specs.ListLaws.{all-filter, all-weaker}
-use Rattle.sorted_rows.specs.RowsLaws.{all-put_row, all_found, find-put_other}
+use Rattle.sorted_rows.specs.RowsLaws.{all-put_row, all_found, find-put_other, find-removed_other}
 use Rattle.lsr_facts.specs.Lifetimes.{begins_here}
 use Rattle.lsr_facts.specs.OrderLaws.{key_total}
 use Rattle.lsr_facts.specs.Orders.{is_one_of, key_cmp}
@@ -18,6 +20,7 @@ use Rattle.lsr_facts.specs.declared.choice.Choice.{Choice}
 use Rattle.lsr_facts.specs.declared.errors.RsvpError.{RsvpError}
 use Rattle.lsr_facts.specs.declared.facts.Facts.{Facts}
 use Rattle.lsr_facts.specs.declared.key.Key.{Key}
+use Rattle.lsr_facts.specs.declared.path_fact.Origin.{Origin}
 use Rattle.lsr_facts.specs.declared.path_fact.PathFact.{PathFact}
 use Rattle.lsr_facts.specs.declared.router.Router.{Router}
 use Rattle.lsr_facts.specs.declared.tunnel.Tunnel.{Tunnel}
@@ -25,13 +28,19 @@ use Rattle.lsr_facts.specs.declared.tunnel.TunnelLsp.{TunnelLsp}
 use Rattle.make_before_break.specs.Changes.{begun}
 use Rattle.router_events.specs.declared.commands.Command.{Command}
 use Rattle.router_events.specs.declared.commands.Command.TheVariants.{AddTunnel, ChangeTunnel, CancelChange, DropTunnel, AddBypass, DropBypass, AddRoute, DropRoute}
+use Rattle.rsvp_contents.specs.declared.messages.Path.{Path}
 use Rattle.rsvp_contents.specs.declared.messages.PathErr.{PathErr}
-use Rattle.abstract_paths.proofs.Heads.{is_head-current, same_keys}
+use Rattle.rsvp_contents.specs.declared.messages.PathTear.{PathTear}
+use Rattle.abstract_paths.proofs.Heads.{apart_back, is_head-current, same_keys}
+use Rattle.abstract_paths.proofs.Merging.{joined-beside, stack_path_by, stack_tear_by}
 use Rattle.abstract_paths.specs.Changes.{with_tunnel}
 use Rattle.abstract_paths.specs.Commands.{commanded, tunnel_by, with_cancelled, with_change, with_dropped}
 use Rattle.abstract_paths.specs.Heads.{head_hop, head_path, is_full, noted, signalled, tried, with_head, with_head_by, with_noted}
+use Rattle.abstract_paths.specs.Merging.{is_beside, stack_path_arrival, stack_tear_arrival, with_stack}
+use Rattle.abstract_paths.specs.Outcomes.{lsp}
+use Rattle.abstract_paths.specs.Paths.{key_of}
 use Rattle.abstract_paths.specs.Places.{place_of}
-use Rattle.abstract_paths.specs.Tears.{noted_of}
+use Rattle.abstract_paths.specs.Tears.{left_with, noted_of, origins_without}
 
 -- The facts are the same but for paths.
 abbrev pub IsSameButPaths : Facts → Facts → Type 0
@@ -226,3 +235,40 @@ with_noted-same e number s = by (find nat_cmp number s.tunnels)
 -- And so it is where a PathErr is noted or goes on.
 pub noted_of-same : (e : PathErr) (fact : PathFact) (s : Facts) → IsSameButTunnels s (noted_of e fact s)
 noted_of-same e fact s = cond_both (begins_here fact.role) (with_noted e.error e.session.tunnel s) s (IsSameButTunnels s) (λ begins. with_noted-same e.error e.session.tunnel s) (λ other. refl)
+
+-- A path that is left with some of its origins, or goes with them, changes paths alone,
+pub left_with-same : (key : Key) (fact : PathFact) (origins : List (Ipv4Addr × Origin)) (s : Facts) → IsSameButPaths s (left_with key fact origins s)
+left_with-same key fact [] s = refl
+left_with-same key fact (o ∷ os) s = refl
+
+-- and no other one.
+pub left_with-other : (q key : Key) (fact : PathFact) (origins : List (Ipv4Addr × Origin)) (s : Facts) → is_eq (key_cmp q key) ≡ false → find key_cmp q (left_with key fact origins s).paths ≡ find key_cmp q s.paths
+left_with-other q key fact [] s apart = find-removed_other key_cmp key_total q key s.paths (apart_back q key apart)
+left_with-other q key fact (o ∷ os) s apart = find-put_other key_cmp key_total q key (record fact { origins = o ∷ os }) s.paths apart
+
+-- two paths are of different LSPs, where a message is beside one of them alone
+beside_apart : (message q key : Key) → is_beside message q ≡ false → is_beside message key ≡ true → is_eq (key_cmp q key) ≡ false
+beside_apart message q key other beside = by (is_eq (key_cmp q key)) refl
+  where
+    by : (tie : Bool) → is_eq (key_cmp q key) ≡ tie → tie ≡ false
+    by true tied = absurd (both_ways (is_beside message q) other (ap (is_beside message) (same_keys q key tied) ∙ beside))
+    by false apart = refl
+
+-- A Path that comes through a stack changes paths alone, and of these none but those of its session and LSP ID.
+pub stack_path-same : (s : Facts) (p : Path) → IsSameButPaths s (stack_path_arrival s p).after
+stack_path-same s p = stack_path_by (λ o. IsSameButPaths s o.after) s p refl (λ path only room. refl)
+
+pub stack_path-other : (s : Facts) (p : Path) (q : Key) → is_beside (key_of p) q ≡ false → find key_cmp q (stack_path_arrival s p).after.paths ≡ find key_cmp q s.paths
+stack_path-other s p q other =
+    stack_path_by (λ o. find key_cmp q o.after.paths ≡ find key_cmp q s.paths) s p refl
+    (λ path only room. find-put_other key_cmp key_total q path.0 (with_stack s.moment p path.1) s.paths (beside_apart (key_of p) q path.0 other (joined-beside s.paths p path only)))
+
+-- So does a PathTear.
+pub stack_tear-same : (s : Facts) (t : PathTear) → T (is_sorted key_cmp s.paths) → IsSameButPaths s (stack_tear_arrival s t).after
+stack_tear-same s t in_order = stack_tear_by (λ o. IsSameButPaths s o.after) s t in_order refl (λ path found came. left_with-same path.0 path.1 (origins_without t.sender.sender path.1) s)
+
+pub stack_tear-other : (s : Facts) (t : PathTear) (q : Key) → T (is_sorted key_cmp s.paths) → is_beside (lsp t.session t.sender) q ≡ false → find key_cmp q (stack_tear_arrival s t).after.paths ≡ find key_cmp q s.paths
+stack_tear-other s t q in_order other =
+    stack_tear_by (λ o. find key_cmp q o.after.paths ≡ find key_cmp q s.paths) s t in_order refl
+    (λ path found came.
+    left_with-other q path.0 path.1 (origins_without t.sender.sender path.1) s (beside_apart (lsp t.session t.sender) q path.0 other (and_parts (is_beside (lsp t.session t.sender) path.0) _ came).0))

@@ -1,9 +1,9 @@
 -- The table of bypasses keeps what holds of it, whichever change is made of it or of the tunnels.
-use Rattle.std.specs.Prelude.{◌≡◌, ◌≢◌, ℕ, ◌+◌, ◌==◌, ◌≤◌, ◌||◌, Bool, true, false, cond, not, nat_le, List, [], ◌∷◌, length, map, Option, Some, None, is_some}
-use Rattle.std.specs.FinMap.Entries.{find, put, where_key, find-put, is_some-find, is_sorted-put, is_sorted-where_key, length-put}
+use Rattle.std.specs.Prelude.{◌≡◌, ◌≢◌, ℕ, ◌==◌, ◌||◌, Bool, true, false, cond, not, nat_le, List, [], ◌∷◌, length, Option, Some, is_some}
+use Rattle.std.specs.FinMap.Entries.{find, put, where_key, find-put, is_sorted-put, is_sorted-where_key, length-put}
 use Rattle.std.specs.List.{AllByRecursion}
 use Rattle.std.specs.Ordering.{eq_by_cmp, is_eq, nat_cmp}
-use Rattle.std.proofs.Common.{refl, ap, sym, subst, ◌∙◌, arith}
+use Rattle.std.proofs.Common.{refl, ap, sym, ◌∙◌, arith}
 use Rattle.std.proofs.lemmas.Bool.{eq-eqb, or_right}
 use Rattle.std.proofs.lemmas.Cmp.{nat_cmp_total}
 use Rattle.std.proofs.lemmas.Map.Lookups.{exact_unsigned}

@@ -1,21 +1,24 @@
 -- Whatever an event does to paths, links and time leaves them as they should be: each by its few primitives.
 use Rattle.std.proofs.Common.{refl, ap, sym, subst, ◌∙◌, arith}
 use Rattle.std.proofs.lemmas.Bool.{and_parts, cond_both, ltb-false, not-false}
-use Rattle.std.specs.FinMap.Entries.{find, put, where_key, length-put}
+use Rattle.std.specs.FinMap.Entries.{find, put, where_key}
 use Rattle.std.specs.Option.{option_map_or}
 use Rattle.std.specs.Ordering.{is_eq, nat_cmp}
-use Rattle.std.specs.Prelude.{◌≡◌, ℕ, ◌+◌, ◌≤◌, Bool, false, cond, not, ◌&&◌, ◌==◌, nat_le, nat_lt, ◌^◌, IsTrue, List, [], ◌∷◌, length, Option, Some, None, is_some, is_none, Result, Ok, Err, IfSome}
+use Rattle.std.specs.Prelude.{◌≡◌, ℕ, ◌≤◌, Bool, true, false, not, ◌&&◌, ◌==◌, nat_le, nat_lt, ◌^◌, IsTrue, List, [], ◌∷◌, filter, length, Option, Some, None, is_none, Result, Ok, Err, IfSome}
 use Rattle.std.specs.declared.net.ipv4_addr.Ipv4Addr.{Ipv4Addr}
+use Rattle.abstract_paths.proofs.Apart.{apart_put, came-hop, came-left}
 use Rattle.abstract_paths.proofs.Bypasses.{bypasses_tunnel_put}
+use Rattle.abstract_paths.proofs.Merging.{joined-found, joined_apart, joined_sound, stack_path_by, stack_tear_by}
 use Rattle.abstract_paths.proofs.NextHops.{Leads, IsPlace, next_hop-leads}
 use Rattle.abstract_paths.proofs.Heads.{head_known, heads_noted, heads_same}
 use Rattle.abstract_paths.proofs.PathTable.{IsTaken, way_of-leads, path_sound, path_left_sound, path_known, put_few, role_of-elsewhere}
 use Rattle.abstract_paths.proofs.Primitives.{sound_with_path, sound_where, sound_expire, sound_with_link}
 use Rattle.abstract_paths.proofs.Signalling.{signalled-stands}
 use Rattle.abstract_paths.proofs.Tunnels.{noted_stands, tunnel_known, tunnels_put_known}
-use Rattle.abstract_paths.specs.Changes.{with_tunnel}
+use Rattle.abstract_paths.specs.Changes.{with_path, with_tunnel}
 use Rattle.abstract_paths.specs.Heads.{noted, with_noted}
 use Rattle.abstract_paths.specs.Links.{link_change}
+use Rattle.abstract_paths.specs.Merging.{came_through, may_join, other_stacks, stack_path_arrival, stack_path_failed, stack_tear_arrival, with_stack}
 use Rattle.abstract_paths.specs.MessageLaws.{tspec-whole}
 use Rattle.abstract_paths.specs.Outcomes.{PathOutcome, done, lsp, refused}
 use Rattle.abstract_paths.specs.Paths.{key_of, is_same_route, way_of, way_for, path_by, has_loop, failed, taken, path_on_its_way, path_arrival}
@@ -23,11 +26,10 @@ use Rattle.abstract_paths.specs.Places.{is_up, place_of}
 use Rattle.abstract_paths.specs.Relays.{relay, relayed_by}
 use Rattle.abstract_paths.specs.Routing.{next_hop, route_to}
 use Rattle.abstract_paths.specs.Soundness.{IsHeadOf, IsPath, IsStanding}
-use Rattle.abstract_paths.specs.Tears.{is_torn_by, leaves_by, left_with, origins_without, torn, path_err_passed_on}
+use Rattle.abstract_paths.specs.Tears.{err_of_path, is_torn_by, leaves_by, left_with, origins_without, torn, path_err_passed_on}
 use Rattle.abstract_paths.specs.Time.{tick}
 use Rattle.lsr_facts.specs.Errors.{system_error}
 use Rattle.lsr_facts.specs.Lifetimes.{begins_here, expire}
-use Rattle.lsr_facts.specs.OrderLaws.{key_total}
 use Rattle.lsr_facts.specs.Orders.{address_cmp, key_cmp}
 use Rattle.lsr_facts.specs.Routers.{HasLink, IsRouter, link_at}
 use Rattle.lsr_facts.specs.Tunnels.{is_head}
@@ -84,7 +86,8 @@ path_on_its_way-stands r s link p (Ok way) runs is other can leads =
     sound_with_path r s (key_of p) (path_by s.moment known link p way) runs is
     (path_sound r s.moment known link p way can (path_known r s.moment (key_of p) s.paths is.paths) leads)
     (role_of-elsewhere way ∙ sym other)
-    (put_few (key_of p) (path_by s.moment known link p way) s.paths is.paths.in_order is.paths.few room))
+    (put_few (key_of p) (path_by s.moment known link p way) s.paths is.paths.in_order is.paths.few room)
+    (apart_put (key_of p) (path_by s.moment known link p way) s.paths (λ message came. came-hop message (key_of p) s.moment known link p way s.paths refl came) is.paths.apart))
 
 -- a Path that is read whole
 pub path_arrival-stands : (r : Router) (s : Facts) (link : ℕ) (p : Path) → IsRouter r → s.cold ≡ false → IsStanding r s → HasLink r link → IsTrue (fits_path p) → LeavesStanding r (path_arrival r s link p)
@@ -104,18 +107,27 @@ path_arrival-stands r s link p router runs is there whole =
     (record { over_link = there; fits = whole; whole_tspec = tspec-whole p.tspec (not-false _ rate) })
     (way_for-leads r s known p router is knows whole)))))
 
+-- a path that is known begins here where its LSP is a tunnel's
+known_begins : (r : Router) (s : Facts) (key : Key) (fact : PathFact) → IsStanding r s → find key_cmp key s.paths ≡ Some fact → IsHeadOf r s.tunnels (key, fact)
+known_begins r s key fact is found = subst (λ (known : Option PathFact). IfSome known (λ f. IsHeadOf r s.tunnels (key, f))) found (head_known r s.tunnels key s.paths is.heads)
+
+-- there is room for another in its place
+known_few : (r : Router) (s : Facts) (key : Key) (old fact : PathFact) → IsStanding r s → find key_cmp key s.paths ≡ Some old → length (put key_cmp key fact s.paths) ≤ 1024
+known_few r s key old fact is found =
+    put_few key fact s.paths is.paths.in_order is.paths.few (ap (λ known. is_none known && nat_le 1024 (length s.paths)) found)
+
 -- a path that is left with some origins, or with none
-left_with-stands : (r : Router) (s : Facts) (key : Key) (fact : PathFact) (p : Ipv4Addr → Bool) (origins : List (Ipv4Addr × Origin)) → s.cold ≡ false → IsStanding r s → IfSome (find key_cmp key s.paths) (λ known. IsPath r s.moment (key, known)) → find key_cmp key s.paths ≡ Some fact → where_key address_cmp p fact.origins ≡ origins → IsStanding r (left_with key fact origins s)
+pub left_with-stands : (r : Router) (s : Facts) (key : Key) (fact : PathFact) (p : Ipv4Addr → Bool) (origins : List (Ipv4Addr × Origin)) → s.cold ≡ false → IsStanding r s → IfSome (find key_cmp key s.paths) (λ known. IsPath r s.moment (key, known)) → find key_cmp key s.paths ≡ Some fact → where_key address_cmp p fact.origins ≡ origins → IsStanding r (left_with key fact origins s)
 left_with-stands r s key fact p [] runs is knows found left = sound_where r s (λ k. not (is_eq (key_cmp key k))) is
 left_with-stands r s key fact p (o ∷ os) runs is knows found left =
     let path : IsPath r s.moment (key, fact) = subst (λ (known : Option PathFact). IfSome known (λ f. IsPath r s.moment (key, f))) found knows in
     let some : 1 ≤ length (where_key address_cmp p fact.origins) = subst (λ (xs : List (Ipv4Addr × Origin)). 1 ≤ length xs) (sym left) (omega arith) in
     let after : IsPath r s.moment (key, record fact { origins = o ∷ os }) =
     subst (λ (xs : List (Ipv4Addr × Origin)). IsPath r s.moment (key, record fact { origins = xs })) left (path_left_sound r s.moment key fact p some path) in
-    let same : length (put key_cmp key (record fact { origins = o ∷ os }) s.paths) ≡ cond (is_some (find key_cmp key s.paths)) (length s.paths) (length s.paths + 1) = length-put key_cmp key_total key (record fact { origins = o ∷ os }) s.paths is.paths.in_order in
-    let head : IsHeadOf r s.tunnels (key, fact) = subst (λ (known : Option PathFact). IfSome known (λ f. IsHeadOf r s.tunnels (key, f))) found (head_known r s.tunnels key s.paths is.heads) in
-    sound_with_path r s key (record fact { origins = o ∷ os }) runs is after head
-    (subst (λ (n : ℕ). n ≤ 1024) (sym (same ∙ ap (λ known. cond (is_some known) (length s.paths) (length s.paths + 1)) found)) is.paths.few)
+    sound_with_path r s key (record fact { origins = o ∷ os }) runs is after (known_begins r s key fact is found) (known_few r s key fact (record fact { origins = o ∷ os }) is found)
+    (apart_put key (record fact { origins = o ∷ os }) s.paths
+    (λ message came. (fact, found, came-left message key fact (λ origin. p origin.0) path.origins.in_order (subst (λ (xs : List (Ipv4Addr × Origin)). came_through message (key, record fact { origins = xs }) ≡ true) (sym left) came)))
+    is.paths.apart)
 
 -- a PathTear
 pub torn-stands : (r : Router) (s : Facts) (link : ℕ) (t : PathTear) (known : Option PathFact) → s.cold ≡ false → IsStanding r s → find key_cmp (lsp t.session t.sender) s.paths ≡ known → LeavesStanding r (torn s link t known)
@@ -143,13 +155,37 @@ with_noted-stands r s e number is = by (find nat_cmp number s.tunnels) refl
       cold = is.cold;
     }
 
+-- a PathErr that is for a path's LSP
+pub err_of_path-stands : (r : Router) (s : Facts) (key : Key) (e : PathErr) (fact : PathFact) → IsStanding r s → LeavesStanding r (err_of_path r s key e fact)
+err_of_path-stands r s key e fact is = cond_both (begins_here fact.role) (with_noted e.error e.session.tunnel s) s (IsStanding r) (λ begins. with_noted-stands r s e.error e.session.tunnel is) (λ elsewhere. is)
+
 -- a PathErr
-pub path_err_passed_on-stands : (r : Router) (s : Facts) (link : ℕ) (e : PathErr) (known : Option PathFact) → IsStanding r s → LeavesStanding r (path_err_passed_on s link e known)
+pub path_err_passed_on-stands : (r : Router) (s : Facts) (link : ℕ) (e : PathErr) (known : Option PathFact) → IsStanding r s → LeavesStanding r (path_err_passed_on r s link e known)
 path_err_passed_on-stands r s link e None is = is
 path_err_passed_on-stands r s link e (Some fact) is =
-    cond_both (leaves_by link fact) _ (refused s NoMatch) (LeavesStanding r)
-    (λ leaves. cond_both (begins_here fact.role) (with_noted e.error e.session.tunnel s) s (IsStanding r) (λ begins. with_noted-stands r s e.error e.session.tunnel is) (λ elsewhere. is))
-    (λ other. is)
+    cond_both (leaves_by link fact) _ (refused s NoMatch) (LeavesStanding r) (λ leaves. err_of_path-stands r s (lsp e.session e.sender) e fact is) (λ other. is)
+
+-- a Path that comes through a stack
+pub stack_path-stands : (r : Router) (s : Facts) (p : Path) → s.cold ≡ false → IsStanding r s → LeavesStanding r (stack_path_arrival s p)
+stack_path-stands r s p runs is = stack_path_by (LeavesStanding r) s p is (λ path only room. joins path only room)
+  where
+    joins : (path : Key × PathFact) → filter (may_join (key_of p)) s.paths ≡ path ∷ [] → nat_le 3 (length (other_stacks p.sender.sender path.1)) ≡ false → IsStanding r (with_path path.0 (with_stack s.moment p path.1) s)
+    joins path only room =
+        let found = joined-found s.paths p path only is.paths.in_order in
+        sound_with_path r s path.0 (with_stack s.moment p path.1) runs is (joined_sound r s.moment s.paths is.paths p path only room) (known_begins r s path.0 path.1 is found)
+        (known_few r s path.0 path.1 (with_stack s.moment p path.1) is found)
+        (joined_apart r s.moment s.paths is.paths p path only)
+
+-- and one with an error
+pub stack_path_failed-stands : (r : Router) (s : Facts) (p : Path) (e : RsvpError) → IsStanding r s → LeavesStanding r (stack_path_failed r s p e)
+stack_path_failed-stands r s p e is = is
+
+-- a PathTear that comes through a stack
+pub stack_tear-stands : (r : Router) (s : Facts) (t : PathTear) → s.cold ≡ false → IsStanding r s → LeavesStanding r (stack_tear_arrival s t)
+stack_tear-stands r s t runs is =
+    stack_tear_by (LeavesStanding r) s t is.paths.in_order is
+    (λ path found came.
+    left_with-stands r s path.0 path.1 (λ k. not (is_eq (address_cmp t.sender.sender k))) (origins_without t.sender.sender path.1) runs is (path_known r s.moment path.0 s.paths is.paths) found refl)
 
 -- a message for another router
 pub relay-stands : (r : Router) (s : Facts) (m : Relay) → IsStanding r s → LeavesStanding r (relay r s m)

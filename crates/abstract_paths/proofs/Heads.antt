@@ -30,7 +30,7 @@ use Rattle.abstract_paths.specs.Soundness.{IsHeadOf}
 pub same_keys : (a b : Key) → is_eq (key_cmp a b) ≡ true → a ≡ b
 same_keys a b tie = key_exact a b (ties _ tie)
 
-apart_back : (a b : Key) → is_eq (key_cmp a b) ≡ false → is_eq (key_cmp b a) ≡ false
+pub apart_back : (a b : Key) → is_eq (key_cmp a b) ≡ false → is_eq (key_cmp b a) ≡ false
 apart_back a b apart = by (is_eq (key_cmp b a)) refl
   where
     by : (tie : Bool) → is_eq (key_cmp b a) ≡ tie → tie ≡ false

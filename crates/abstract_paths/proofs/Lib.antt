@@ -1,10 +1,12 @@
 pub mod Alongside
+pub mod Apart
 pub mod Bypasses
 pub mod Commanding
 pub mod Detouring
 pub mod EventStanding
 pub mod Heads
 pub mod Masked
+pub mod Merging
 pub mod NextHops
 pub mod PathTable
 pub mod Primitives

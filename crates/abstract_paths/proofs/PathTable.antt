@@ -3,9 +3,11 @@ use Rattle.std.specs.Prelude.{◌≡◌, ℕ, ◌+◌, ◌≤◌, Bool, true, fa
 use Rattle.std.specs.FinMap.Entries.{find, put, where_key, is_sorted, is_sorted-put, is_sorted-where_key, length-put}
 use Rattle.std.specs.List.{AllByRecursion, list_any}
 use Rattle.std.specs.Option.{option_map_or}
+use Rattle.std.specs.Ordering.{is_eq}
 use Rattle.std.specs.declared.net.ipv4_addr.Ipv4Addr.{Ipv4Addr}
-use Rattle.std.proofs.Common.{refl, sym, subst, arith}
+use Rattle.std.proofs.Common.{refl, ap, sym, subst, ◌∙◌, arith}
 use Rattle.std.proofs.lemmas.Bool.{and_parts, leb-false, ltb-true}
+use Rattle.std.proofs.lemmas.Cmp.{tied_itself}
 use Rattle.rsvp_routes.specs.declared.step.Step.{Step}
 use Rattle.rsvp_contents.specs.Fitting.{fits_path, are_passed_on, has_adspec_last}
 use Rattle.rsvp_contents.specs.Limits.{is_short_route, is_short_record, is_short_passing}
@@ -24,27 +26,31 @@ use Rattle.lsr_facts.specs.declared.path_fact.Role.{Role}
 use Rattle.lsr_facts.specs.declared.path_fact.Role.TheVariants as roles
 use Rattle.lsr_facts.specs.declared.router.Router.{Router}
 use Rattle.abstract_paths.specs.Paths.{key_of, goes_on, way_of, role_of, link_of, rest_of, origin_of, origins_of, path_by}
-use Rattle.abstract_paths.specs.OriginLaws.{one_origin}
-use Rattle.abstract_paths.specs.RowLaws.{keys-map, length-filter_most, length-put_some}
-use Rattle.abstract_paths.specs.Soundness.{IsOrigin, AreOrigins, ArePaths, IsCountAs, IsWayAs, IsWithinLimits, IsPath, begins_with_ipv4}
+use Rattle.abstract_paths.specs.Merging.{is_stack, stacks_in}
+use Rattle.abstract_paths.specs.OriginLaws.{stacks_but_one}
+use Rattle.abstract_paths.specs.RowLaws.{keys-map, length-filter_most, length-filter_put_none, length-filter_twice, length-put_some}
+use Rattle.abstract_paths.specs.Soundness.{IsOrigin, AreApart, AreOrigins, ArePaths, IsCountAs, IsSenderAs, IsWayAs, IsWithinLimits, IsPath, begins_with_ipv4}
 use Rattle.lsr_facts.specs.Lifetimes.{begins_here, expire, lives_on, lives_past, with_living}
+use Rattle.abstract_paths.proofs.Apart.{apart_expire, apart_where}
 use Rattle.abstract_paths.proofs.NextHops.{LeadsOn}
 
 -- Origins that may not be there yet: as those of a path, but for their number.
-record AreBefore (r : Router) (moment : ℕ) (key : Key) (origins : List (Ipv4Addr × Origin)) : Type 0 where
-  in_order : T (is_sorted address_cmp origins)
-  own : AllByRecursion (λ o. o.0 ≡ key.sender.sender) origins
-  each : AllByRecursion (λ o. IsOrigin r moment o.1) origins
+pub record AreBefore (r : Router) (moment : ℕ) (key : Key) (origins : List (Ipv4Addr × Origin)) : Type 0 where
+  pub in_order : T (is_sorted address_cmp origins)
+  pub senders : AllByRecursion (IsSenderAs key) origins
+  pub stacks : length (stacks_in origins) ≤ 3
+  pub each : AllByRecursion (λ o. IsOrigin r moment o.1) origins
 
 -- those of a path that may be known
 origins_before : (r : Router) (moment : ℕ) (key : Key) (known : Option PathFact) → IfSome known (λ fact. IsPath r moment (key, fact)) → AreBefore r moment key (origins_of known)
-origins_before r moment key None is = record { in_order = tt; own = tt; each = tt }
-origins_before r moment key (Some fact) is = record { in_order = is.origins.in_order; own = is.origins.own; each = is.origins.each }
+origins_before r moment key None is = record { in_order = tt; senders = tt; stacks = omega arith; each = tt }
+origins_before r moment key (Some fact) is = record { in_order = is.origins.in_order; senders = is.origins.senders; stacks = is.origins.stacks; each = is.origins.each }
 
--- a path of this way that doesn't begin here may have one origin
-one_counts : (way : Choice) (n : ℕ) → 1 ≤ n → n ≤ 1 → IsCountAs (role_of way) n
-one_counts choices.Tail n some most = (some, omega arith)
-one_counts (choices.Link link rest) n some most = (some, omega arith)
+-- a path that doesn't begin here may have one to four
+some_count : (role : Role) (n : ℕ) → begins_here role ≡ false → 1 ≤ n → n ≤ 4 → IsCountAs role n
+some_count roles.Tail n elsewhere some few = (some, few)
+some_count roles.Transit n elsewhere some few = (some, few)
+some_count roles.Head n elsewhere some few = absurd (let e = elsewhere in cc)
 
 -- and fewer of those that it has, as long as some are left
 fewer_count : (role : Role) (n m : ℕ) → IsCountAs role m → 1 ≤ n → n ≤ m → IsCountAs role n
@@ -52,20 +58,30 @@ fewer_count roles.Tail n m counts some fewer = (some, omega (arith, counts.1))
 fewer_count roles.Transit n m counts some fewer = (some, omega (arith, counts.1))
 fewer_count roles.Head n m counts some fewer = omega arith
 
--- An origin of the key's own sender is put.
-origins_put : (r : Router) (moment : ℕ) (key : Key) (way : Choice) (o : Origin) (origins : List (Ipv4Addr × Origin)) → IsOrigin r moment o → AreBefore r moment key origins → AreOrigins r moment key (role_of way) (put address_cmp key.sender.sender o origins)
-origins_put r moment key way o origins is before =
-    let in_order = is_sorted-put address_cmp address_total key.sender.sender o origins before.in_order in
-    let own = all-put_row address_cmp (λ row. row.0 ≡ key.sender.sender) key.sender.sender o (λ sender tied. sym (address_exact key.sender.sender sender tied)) refl origins before.own in
+-- An origin is put under a sender that names how its Paths come, and three at most come through stacks then.
+pub origins_put : (r : Router) (moment : ℕ) (key : Key) (role : Role) (sender : Ipv4Addr) (o : Origin) (origins : List (Ipv4Addr × Origin)) → begins_here role ≡ false → IsOrigin r moment o → IsSenderAs key (sender, o) → length (stacks_in (put address_cmp sender o origins)) ≤ 3
+    → AreBefore r moment key origins → AreOrigins r moment key role (put address_cmp sender o origins)
+origins_put r moment key role sender o origins elsewhere is named few before =
+    let in_order = is_sorted-put address_cmp address_total sender o origins before.in_order in
+    let senders = all-put_row address_cmp (IsSenderAs key) sender o (λ a tied. subst (λ (x : Ipv4Addr). IsSenderAs key (x, o)) (address_exact sender a tied) named) named origins before.senders in
     record {
       in_order = in_order;
-      count = one_counts way _ (length-put_some address_cmp key.sender.sender o origins) (one_origin key.sender.sender (put address_cmp key.sender.sender o origins) in_order own);
-      own = own;
-      each = all-put address_cmp (IsOrigin r moment) key.sender.sender o is origins before.each;
+      count = some_count role _ elsewhere (length-put_some address_cmp sender o origins) (omega (arith, few, stacks_but_one key (put address_cmp sender o origins) in_order senders));
+      senders = senders;
+      stacks = few;
+      each = all-put address_cmp (IsOrigin r moment) sender o is origins before.each;
     }
 
+-- A neighbour's origin is put, under the key's own sender.
+hop_put : (r : Router) (moment : ℕ) (key : Key) (role : Role) (o : Origin) (origins : List (Ipv4Addr × Origin)) → begins_here role ≡ false → is_stack o.via ≡ false → IsOrigin r moment o → AreBefore r moment key origins
+    → AreOrigins r moment key role (put address_cmp key.sender.sender o origins)
+hop_put r moment key role o origins elsewhere hop is before =
+    origins_put r moment key role key.sender.sender o origins elsewhere is (ap is_eq (tied_itself address_total key.sender.sender) ∙ ap not (sym hop))
+    (omega (arith, length-filter_put_none address_cmp (λ (origin : Ipv4Addr × Origin). is_stack origin.1.via) key.sender.sender o origins (λ a. hop), before.stacks))
+    before
+
 -- A path has other origins.
-with_origins : (r : Router) (moment later : ℕ) (key : Key) (fact : PathFact) (origins : List (Ipv4Addr × Origin)) → IsPath r moment (key, fact) → AreOrigins r later key fact.role origins → IsPath r later (key, record fact { origins = origins })
+pub with_origins : (r : Router) (moment later : ℕ) (key : Key) (fact : PathFact) (origins : List (Ipv4Addr × Origin)) → IsPath r moment (key, fact) → AreOrigins r later key fact.role origins → IsPath r later (key, record fact { origins = origins })
 with_origins r moment later key fact origins is others = record {
   origins = others;
   way = is.way;
@@ -127,7 +143,7 @@ pub record IsTaken (r : Router) (link : ℕ) (p : Path) : Type 0 where
 -- The path that a Path makes or renews stands as paths do.
 pub path_sound : (r : Router) (moment : ℕ) (known : Option PathFact) (link : ℕ) (p : Path) (way : Choice) → IsTaken r link p → IfSome known (λ fact. IsPath r moment (key_of p, fact)) → LeadsOn r way → IsPath r moment (key_of p, path_by moment known link p way)
 path_sound r moment known link p way is knows leads = record {
-  origins = origins_put r moment (key_of p) way (origin_of moment link p) (origins_of known) (record { over_link = is.over_link; live = omega arith }) (origins_before r moment (key_of p) known knows);
+  origins = hop_put r moment (key_of p) (role_of way) (origin_of moment link p) (origins_of known) (role_of-elsewhere way) refl (record { over_link = is.over_link; live = omega arith }) (origins_before r moment (key_of p) known knows);
   way = way-as r way leads;
   whole_tspec = is.whole_tspec;
   limits = limits_fit moment known link p way is.fits (rest_of-short r way leads) (rest_of-begins r way leads);
@@ -139,7 +155,8 @@ path_left_sound r moment key fact p some is =
     with_origins r moment moment key fact (where_key address_cmp p fact.origins) is (record {
       in_order = is_sorted-where_key address_cmp p fact.origins is.origins.in_order;
       count = fewer_count fact.role _ (length fact.origins) is.origins.count some (length-filter_most (λ (o : Ipv4Addr × Origin). p o.0) fact.origins);
-      own = all-filter (λ (o : Ipv4Addr × Origin). o.0 ≡ key.sender.sender) (λ o. p o.0) fact.origins is.origins.own;
+      senders = all-filter (IsSenderAs key) (λ o. p o.0) fact.origins is.origins.senders;
+      stacks = omega (arith, is.origins.stacks, length-filter_twice (λ (o : Ipv4Addr × Origin). is_stack o.1.via) (λ o. p o.0) fact.origins);
       each = all-filter (λ (o : Ipv4Addr × Origin). IsOrigin r moment o.1) (λ o. p o.0) fact.origins is.origins.each;
     })
 
@@ -147,9 +164,10 @@ path_left_sound r moment key fact p some is =
 pub path_known : (r : Router) (moment : ℕ) (key : Key) (paths : List (Key × PathFact)) → ArePaths r moment paths → IfSome (find key_cmp key paths) (λ fact. IsPath r moment (key, fact))
 path_known r moment key paths are = find-all_row key_cmp key_exact (IsPath r moment) key paths are.each
 
--- A path is put.
-pub paths_put : (r : Router) (moment : ℕ) (key : Key) (fact : PathFact) (paths : List (Key × PathFact)) → ArePaths r moment paths → IsPath r moment (key, fact) → length (put key_cmp key fact paths) ≤ 1024 → ArePaths r moment (put key_cmp key fact paths)
-paths_put r moment key fact paths are is few = record {
+-- A path is put, and messages that come through stacks are of one path at most still.
+pub paths_put : (r : Router) (moment : ℕ) (key : Key) (fact : PathFact) (paths : List (Key × PathFact)) → ArePaths r moment paths → IsPath r moment (key, fact) → length (put key_cmp key fact paths) ≤ 1024 → AreApart (put key_cmp key fact paths) → ArePaths r moment (put key_cmp key fact paths)
+paths_put r moment key fact paths are is few apart = record {
+  apart = apart;
   in_order = is_sorted-put key_cmp key_total key fact paths are.in_order;
   few = few;
   each = all-put_row key_cmp (IsPath r moment) key fact (λ k tied. subst (λ (q : Key). IsPath r moment (q, fact)) (key_exact key k tied) is) is paths are.each;
@@ -158,6 +176,7 @@ paths_put r moment key fact paths are is few = record {
 -- Paths are taken away by a test of their keys.
 pub paths_where : (r : Router) (moment : ℕ) (p : Key → Bool) (paths : List (Key × PathFact)) → ArePaths r moment paths → ArePaths r moment (where_key key_cmp p paths)
 paths_where r moment p paths are = record {
+  apart = apart_where p paths are.apart;
   in_order = is_sorted-where_key key_cmp p paths are.in_order;
   few = omega (arith, are.few, length-filter_most (λ (path : Key × PathFact). p path.0) paths);
   each = all-filter (IsPath r moment) (λ path. p path.0) paths are.each;
@@ -201,7 +220,8 @@ module _ (r : Router) (moment n : ℕ) where
       with_origins r moment n path.0 path.1 (filter (lives_past n) path.1.origins) is (record {
         in_order = is_sorted-filter address_cmp (lives_past n) path.1.origins is.origins.in_order;
         count = living_count n path.1.role path.1.origins is.origins.count lives;
-        own = all-filter (λ (o : Ipv4Addr × Origin). o.0 ≡ path.0.sender.sender) (lives_past n) path.1.origins is.origins.own;
+        senders = all-filter (IsSenderAs path.0) (lives_past n) path.1.origins is.origins.senders;
+        stacks = omega (arith, is.origins.stacks, length-filter_twice (λ (o : Ipv4Addr × Origin). is_stack o.1.via) (lives_past n) path.1.origins);
         each = all-both (λ (o : Ipv4Addr × Origin). IsOrigin r moment o.1) (λ (o : Ipv4Addr × Origin). lives_past n o ≡ true) (λ (o : Ipv4Addr × Origin). IsOrigin r n o.1) origin_lives
             (filter (lives_past n) path.1.origins)
             (all-filter (λ (o : Ipv4Addr × Origin). IsOrigin r moment o.1) (lives_past n) path.1.origins is.origins.each)
@@ -214,6 +234,7 @@ module _ (r : Router) (moment n : ℕ) where
   paths_expire paths are =
       let living = filter (lives_on n) paths in
       record {
+        apart = apart_expire n paths are.in_order (λ q v found. (known q v found).origins.in_order) are.apart;
         in_order = subst T (sym (is_sorted-both key_cmp (map (with_living n) living) living (keys-map (λ (e : Key × PathFact). (with_living n e).1) living))) (is_sorted-filter key_cmp (lives_on n) paths are.in_order);
         few = omega (arith, are.few, length-filter_most (lives_on n) paths, length-map_same (with_living n) living);
         each = all-map (IsPath r n) (with_living n) living
@@ -221,3 +242,6 @@ module _ (r : Router) (moment n : ℕ) where
             (all-filter (IsPath r moment) (lives_on n) paths are.each)
             (all-filter_passes (λ path. lives_on n path ≡ true) (lives_on n) (λ path passes. passes) paths));
       }
+    where
+      known : (q : Key) (v : PathFact) → find key_cmp q paths ≡ Some v → IsPath r moment (q, v)
+      known q v found = subst (λ (o : Option PathFact). IfSome o (λ fact. IsPath r moment (q, fact))) found (path_known r moment q paths are)

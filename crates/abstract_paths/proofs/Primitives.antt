@@ -21,8 +21,9 @@ use Rattle.lsr_facts.specs.declared.tunnel.Tunnel.{Tunnel}
 use Rattle.abstract_paths.specs.Changes.{with_link, with_path}
 use Rattle.abstract_paths.specs.Restarts.{opening_facts, restarted}
 use Rattle.abstract_paths.specs.RowLaws.{keys-map}
-use Rattle.abstract_paths.specs.Soundness.{ArePaths, IsHeadOf, IsPath, IsStanding}
+use Rattle.abstract_paths.specs.Soundness.{AreApart, ArePaths, IsHeadOf, IsPath, IsStanding}
 use Rattle.lsr_facts.specs.Lifetimes.{expire}
+use Rattle.abstract_paths.proofs.Apart.{none_apart}
 use Rattle.abstract_paths.proofs.Bypasses.{bypasses_cancelled}
 use Rattle.abstract_paths.proofs.Heads.{heads_expire, heads_put, heads_where}
 use Rattle.abstract_paths.proofs.PathTable.{paths_expire, paths_put, paths_where}
@@ -36,7 +37,7 @@ opening_stands r routes tunnels bypasses are begin protect = record {
   routes = are;
   tunnels = begin;
   bypasses = protect;
-  paths = record { in_order = tt; few = omega arith; each = tt };
+  paths = record { apart = none_apart; in_order = tt; few = omega arith; each = tt };
   heads = tt;
   cold = λ cold. refl;
 }
@@ -55,10 +56,11 @@ sound_with_heads r s routes tunnels paths runs is are_routes are_tunnels are_byp
   cold = λ cold. absurd (let e = sym runs ∙ cold in cc);
 }
 
--- A path is put, by a router that runs: it begins here where its LSP is a tunnel's.
-pub sound_with_path : (r : Router) (s : Facts) (key : Key) (fact : PathFact) → s.cold ≡ false → IsStanding r s → IsPath r s.moment (key, fact) → IsHeadOf r s.tunnels (key, fact) → length (put key_cmp key fact s.paths) ≤ 1024 → IsStanding r (with_path key fact s)
-sound_with_path r s key fact runs is path head few =
-    sound_with_heads r s s.routes s.tunnels (put key_cmp key fact s.paths) runs is is.routes is.tunnels is.bypasses (paths_put r s.moment key fact s.paths is.paths path few)
+-- A path is put, by a router that runs: it begins here where its LSP is a tunnel's, and messages that come through stacks are
+-- of one path at most still.
+pub sound_with_path : (r : Router) (s : Facts) (key : Key) (fact : PathFact) → s.cold ≡ false → IsStanding r s → IsPath r s.moment (key, fact) → IsHeadOf r s.tunnels (key, fact) → length (put key_cmp key fact s.paths) ≤ 1024 → AreApart (put key_cmp key fact s.paths) → IsStanding r (with_path key fact s)
+sound_with_path r s key fact runs is path head few apart =
+    sound_with_heads r s s.routes s.tunnels (put key_cmp key fact s.paths) runs is is.routes is.tunnels is.bypasses (paths_put r s.moment key fact s.paths is.paths path few apart)
     (heads_put r s.tunnels s.tunnels key fact s.paths head (λ q apart. refl) is.paths.in_order is.heads)
 
 -- Bypasses change.
@@ -113,7 +115,7 @@ sound_restarted r s is = record {
   routes = is.routes;
   tunnels = all_cancelled_stand r s.tunnels is.tunnels;
   bypasses = bypasses_cancelled r s.tunnels s.bypasses is.bypasses;
-  paths = record { in_order = tt; few = omega arith; each = tt };
+  paths = record { apart = none_apart; in_order = tt; few = omega arith; each = tt };
   heads = tt;
   cold = λ cold. refl;
 }

@@ -1,5 +1,5 @@
 -- What is refused of events that change paths, links and time is silent, and leaves what is known.
-use Rattle.std.specs.Prelude.{◌≡◌, ◌&&◌, ℕ, Bool, not, ◌==◌, nat_le, nat_lt, ◌^◌, true, [], ◌∷◌, length, Option, Some, None, is_none, Result, Ok, Err}
+use Rattle.std.specs.Prelude.{◌≡◌, ◌&&◌, ℕ, Bool, not, ◌==◌, nat_le, nat_lt, ◌^◌, true, [], ◌∷◌, length, Option, Some, None, is_none, find as find_first, Result, Ok, Err}
 use Rattle.std.specs.FinMap.Entries.{find}
 use Rattle.std.specs.Option.{option_map_or}
 use Rattle.std.proofs.Common.{refl}
@@ -14,21 +14,24 @@ use Rattle.lsr_facts.specs.Tunnels.{is_head}
 use Rattle.lsr_facts.specs.declared.choice.Choice.{Choice}
 use Rattle.lsr_facts.specs.declared.errors.RsvpError.{RsvpError}
 use Rattle.lsr_facts.specs.declared.facts.Facts.{Facts}
+use Rattle.lsr_facts.specs.declared.key.Key.{Key}
 use Rattle.lsr_facts.specs.declared.path_fact.PathFact.{PathFact}
 use Rattle.lsr_facts.specs.declared.refusal.Refusal.{Refusal}
-use Rattle.lsr_facts.specs.declared.refusal.Refusal.TheVariants.{BadMoment, Late, LinkDown, NoMatch, UnknownLink}
+use Rattle.lsr_facts.specs.declared.refusal.Refusal.TheVariants.{BadMoment, Late, LinkDown, NoMatch, NoMerge, UnknownLink}
 use Rattle.lsr_facts.specs.declared.reply.Reply.TheVariants as replies
 use Rattle.lsr_facts.specs.declared.router.Router.{Router}
 use Rattle.router_events.specs.declared.commands.Command.{Command}
 use Rattle.router_events.specs.declared.ways.Relay.{Relay}
+use Rattle.abstract_paths.proofs.Merging.{stack_path_by}
 use Rattle.abstract_paths.specs.Commands.{command, commanded, refusal_of}
 use Rattle.abstract_paths.specs.Links.{link_change}
+use Rattle.abstract_paths.specs.Merging.{came_through, stack_path_arrival, stack_path_failed, stack_tear_arrival}
 use Rattle.abstract_paths.specs.Outcomes.{PathOutcome, done, lsp, refused}
 use Rattle.abstract_paths.specs.Paths.{has_loop, key_of, path_arrival, path_on_its_way, way_for}
 use Rattle.abstract_paths.specs.Places.{is_up, place_of}
 use Rattle.abstract_paths.specs.Relays.{relay, relayed_by}
 use Rattle.abstract_paths.specs.Routing.{route_to}
-use Rattle.abstract_paths.specs.Tears.{is_torn_by, leaves_by, path_err_passed_on, path_err_arrival, path_tear_arrival, torn}
+use Rattle.abstract_paths.specs.Tears.{is_torn_by, leaves_by, left_with, origins_without, path_err_passed_on, path_err_arrival, path_tear_arrival, torn}
 use Rattle.abstract_paths.specs.Time.{tick}
 
 -- An outcome that is refused is silent, and leaves the facts as they were.
@@ -49,7 +52,7 @@ module _ (r : Router) (s : Facts) where
   torn_refuses link t None = refuses NoMatch
   torn_refuses link t (Some fact) = cond_both (is_torn_by link t fact) _ (refused s NoMatch) (RefusesSilently s) (λ matches refusal is. cc) (λ other. refuses NoMatch)
 
-  err_refuses : (link : ℕ) (e : PathErr) (known : Option PathFact) → RefusesSilently s (path_err_passed_on s link e known)
+  err_refuses : (link : ℕ) (e : PathErr) (known : Option PathFact) → RefusesSilently s (path_err_passed_on r s link e known)
   err_refuses link e None = refuses NoMatch
   err_refuses link e (Some fact) = cond_both (leaves_by link fact) _ (refused s NoMatch) (RefusesSilently s) (λ leaves refusal is. cc) (λ other. refuses NoMatch)
 
@@ -66,13 +69,28 @@ module _ (r : Router) (s : Facts) where
       cond_both (has_loop r p.recorded) _ _ (RefusesSilently s) (λ loops refusal is. cc)
       (λ straight. path_refuses link p (way_for (place_of r s) (find key_cmp (key_of p) s.paths) p)))))
 
-  pub path_err-refuses : (link : ℕ) (e : PathErr) → RefusesSilently s (path_err_arrival s link e)
+  pub path_err-refuses : (link : ℕ) (e : PathErr) → RefusesSilently s (path_err_arrival r s link e)
   unfolding path_err_arrival
   path_err-refuses link e = err_refuses link e (find key_cmp (lsp e.session e.sender) s.paths)
 
   pub path_tear-refuses : (link : ℕ) (t : PathTear) → RefusesSilently s (path_tear_arrival s link t)
   unfolding path_tear_arrival
   path_tear-refuses link t = torn_refuses link t (find key_cmp (lsp t.session t.sender) s.paths)
+
+  -- a Path that comes through a stack is refused where it doesn't join one path
+  pub stack_path-refuses : (p : Path) → RefusesSilently s (stack_path_arrival s p)
+  stack_path-refuses p = stack_path_by (RefusesSilently s) s p (refuses NoMerge) (λ path only room refusal is. cc)
+
+  pub stack_path_failed-refuses : (p : Path) (e : RsvpError) → RefusesSilently s (stack_path_failed r s p e)
+  stack_path_failed-refuses p e = λ refusal is. cc
+
+  pub stack_tear-refuses : (t : PathTear) → RefusesSilently s (stack_tear_arrival s t)
+  unfolding stack_tear_arrival
+  stack_tear-refuses t = by (find_first (came_through (lsp t.session t.sender)) s.paths)
+    where
+      by : (o : Option (Key × PathFact)) → RefusesSilently s (option_map_or (λ path. done [] (left_with path.0 path.1 (origins_without t.sender.sender path.1) s)) o (refused s NoMatch))
+      by None = refuses NoMatch
+      by (Some path) = λ refusal is. cc
 
   relay_refuses : (m : Relay) (way : Option ℕ) → RefusesSilently s (option_map_or (λ link. done (relayed_by m link ∷ []) s) way (refused s NoMatch))
   relay_refuses m None = refuses NoMatch

@@ -5,8 +5,8 @@ use Rattle.std.specs.List.{AllByRecursion, prefix_len}
 use Rattle.std.specs.Option.{option_map_or}
 use Rattle.std.specs.Ordering.{is_eq, nat_cmp}
 use Rattle.std.specs.declared.net.ipv4_addr.Ipv4Addr.{Ipv4Addr}
-use Rattle.std.proofs.Common.{refl, sym, ap, ◌∙◌}
-use Rattle.std.proofs.lemmas.Bool.{and_right, both_ways, cond_both, or_parts}
+use Rattle.std.proofs.Common.{refl, sym, ap, ◌∙◌, arith}
+use Rattle.std.proofs.lemmas.Bool.{and_parts, and_right, both_ways, cond_both, false≢true, or_parts}
 use Rattle.std.proofs.lemmas.Cmp.{nat_cmp_total}
 use Rattle.rsvp_contents.specs.Limits.{is_short_route}
 use Rattle.rsvp_objects.specs.declared.values.FastReroute.{FastReroute}
@@ -29,11 +29,13 @@ use Rattle.lsr_facts.specs.declared.router.Link.{Link}
 use Rattle.lsr_facts.specs.declared.router.Router.{Router}
 use Rattle.lsr_facts.specs.declared.tunnel.Tunnel.{Tunnel}
 use Rattle.lsr_facts.specs.declared.tunnel.TunnelLsp.{TunnelLsp}
+use Rattle.abstract_paths.proofs.Apart.{apart_put}
 use Rattle.abstract_paths.proofs.Heads.{heads_put, is_head-current}
 use Rattle.abstract_paths.proofs.NextHops.{Leads, LeadsOn, next_hop-leads, room-behind, room-short}
 use Rattle.abstract_paths.proofs.PathTable.{paths_put, put_few}
 use Rattle.abstract_paths.proofs.Primitives.{sound_with_heads}
 use Rattle.abstract_paths.specs.Heads.{head_hop, head_path, is_full, signalled, tried, with_head, with_head_by}
+use Rattle.abstract_paths.specs.Merging.{is_beside}
 use Rattle.abstract_paths.specs.Places.{Place, contains, is_here, is_own, neighbour, place_of}
 use Rattle.abstract_paths.specs.RowLaws.{ok_or-holds, option_map-holds}
 use Rattle.abstract_paths.specs.Routing.{hop_by_rest, hop_by_route, hop_to_endpoint, hop_to_step, is_loose, leads_here, next_hop, nodes_of, route_to, with_neighbour}
@@ -122,7 +124,7 @@ pub head_sound : (r : Router) (moment : ℕ) (number : ℕ) (tunnel : Tunnel) (l
     → IsPath r moment (head_key r number tunnel.endpoint lsp.id, head_path tunnel lsp way)
 head_sound r moment number tunnel lsp last choices.Tail is leads goes = absurd goes
 head_sound r moment number tunnel lsp last (choices.Link link rest) is leads goes = record {
-  origins = record { in_order = tt; count = refl; own = tt; each = tt };
+  origins = record { in_order = tt; count = refl; senders = tt; stacks = omega arith; each = tt };
   way = leads.0;
   whole_tspec = is.whole_tspec;
   limits = record {
@@ -151,7 +153,8 @@ module _ (r : Router) (s : Facts) (runs : s.cold ≡ false) (is : IsStanding r s
       let key = head_key r number tunnel.endpoint lsp.id in
       let fact = head_path tunnel lsp way in
       sound_with_heads r s s.routes after (put key_cmp key fact s.paths) runs is is.routes are protect
-      (paths_put r s.moment key fact s.paths is.paths (head_sound r s.moment number tunnel lsp last way asked leads goes) (put_few key fact s.paths is.paths.in_order is.paths.few (room_for s key room)))
+      (paths_put r s.moment key fact s.paths is.paths (head_sound r s.moment number tunnel lsp last way asked leads goes) (put_few key fact s.paths is.paths.in_order is.paths.few (room_for s key room))
+      (apart_put key fact s.paths (λ message came. absurd (false≢true (and_parts (is_beside message key) false came).1)) is.paths.apart))
       (heads_put r s.tunnels after key fact s.paths (sym head) others is.paths.in_order is.heads)
 
 -- what holds while tunnels are tried, one after the other

@@ -3,6 +3,7 @@ pub mod Commands
 pub mod Detouring
 pub mod Heads
 pub mod Links
+pub mod Merging
 pub mod MessageLaws
 pub mod Onward
 pub mod OriginLaws

@@ -139,10 +139,10 @@ drops_record r fact = goes_on fact.role && option_map_or (λ entries. is_none (g
 
 -- That a record is dropped is told upstream (RFC 3209, 4.4.3). It is this router's choice to tell it where the
 -- path is new, or its record another than before.
-unfoldable pub record_errors : Router → Key → Option PathFact → PathFact → List Output
-record_errors r key known fact =
-    if drops_record r fact && not (option_map_or (λ old. is_same_record old.recorded fact.recorded) known false)
-    then told_upstream key fact (Some fact.tspec) (found_here r record_too_long)
+unfoldable pub record_errors : Place → Key → Option PathFact → PathFact → List Output
+record_errors n key known fact =
+    if drops_record n.router fact && not (option_map_or (λ old. is_same_record old.recorded fact.recorded) known false)
+    then told_upstream n key fact (Some fact.tspec) (found_here n.router record_too_long)
     else []
 
 -- A Path that meets an error: it is told to the neighbour that sent it, and changes nothing (RFC 2205, 3.1.7).
@@ -159,7 +159,7 @@ failed r s link p e = record {
 abbrev pub taken : Router → Facts → Option PathFact → ℕ → Path → Choice → PathOutcome
 taken r s known link p way =
     let fact = path_by s.moment known link p way in
-    done (record_errors r (key_of p) known fact) (with_path (key_of p) fact s)
+    done (record_errors (place_of r s) (key_of p) known fact) (with_path (key_of p) fact s)
 
 -- A Path whose way is asked for: no way leads on; there is no room for another LSP (RFC 2205, B, 23); or it is taken.
 unfoldable pub path_on_its_way : Router → Facts → Option PathFact → ℕ → Path → Result Choice RsvpError → PathOutcome

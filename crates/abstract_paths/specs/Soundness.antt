@@ -1,8 +1,9 @@
 -- What holds of paths, tunnels, bypasses, links, routes and time in every state that a router comes to.
-use Rattle.std.specs.Prelude.{◌≡◌, ℕ, ◌^◌, ◌≤◌, Bool, true, false, List, [], ◌∷◌, length, Option, None, IsTrue, T}
-use Rattle.std.specs.FinMap.Entries.{is_sorted}
+use Rattle.std.specs.Prelude.{◌≡◌, ℕ, ◌^◌, ◌≤◌, not, Bool, true, false, List, [], ◌∷◌, length, Option, Some, None, IsTrue, T}
+use Rattle.std.specs.FinMap.Entries.{find, is_sorted}
 use Rattle.std.specs.List.{AllByRecursion}
 use Rattle.std.specs.Option.{option_map_or}
+use Rattle.std.specs.Ordering.{is_eq}
 use Rattle.std.specs.declared.net.ipv4_addr.Ipv4Addr.{Ipv4Addr}
 use Rattle.rsvp_routes.specs.declared.step.Step.{Step}
 use Rattle.rsvp_routes.specs.declared.step.Step.TheVariants.{Ipv4, Other}
@@ -24,14 +25,14 @@ use Rattle.lsr_facts.specs.declared.path_fact.Via.{Via}
 use Rattle.lsr_facts.specs.declared.path_fact.Via.TheVariants as vias
 use Rattle.lsr_facts.specs.declared.router.Router.{Router}
 use Rattle.lsr_facts.specs.declared.tunnel.Tunnel.{Tunnel}
+use Rattle.abstract_paths.specs.Merging.{came_through, is_stack, stacks_in}
 
--- The Paths of an origin come over a link of the router. None come through a stack of labels yet.
+-- The Paths of an origin come over a link of the router, or through a stack of labels.
 abbrev pub IsVia : Router → Via → Type 0
 IsVia r (vias.Link number) = HasLink r number
-IsVia r vias.Stack = ⊥
+IsVia r vias.Stack = Unit {0}
 
--- an origin at a moment: over a link of the router, and its expiry isn't below the moment (at refresh 0 they are
--- equal)
+-- an origin at a moment: its Paths come so, and its expiry isn't below the moment (at refresh 0 they are equal)
 pub record IsOrigin (r : Router) (moment : ℕ) (origin : Origin) : Type 0 where
   pub over_link : IsVia r origin.via
   pub live : moment ≤ origin.expiry
@@ -41,11 +42,16 @@ abbrev pub IsCountAs : Role → ℕ → Type 0
 IsCountAs roles.Head count = count ≡ 0
 IsCountAs role count = (1 ≤ count) × (count ≤ 4)
 
--- The origins of a path, in the order of their senders. A neighbour's Paths name the LSP's own sender.
+-- a neighbour's Paths name the LSP's own sender, those that come through a stack another one
+abbrev pub IsSenderAs : Key → Ipv4Addr × Origin → Type 0
+IsSenderAs key origin = is_eq (address_cmp key.sender.sender origin.0) ≡ not (is_stack origin.1.via)
+
+-- The origins of a path, in the order of their senders: at most three come through stacks.
 pub record AreOrigins (r : Router) (moment : ℕ) (key : Key) (role : Role) (origins : List (Ipv4Addr × Origin)) : Type 0 where
   pub in_order : T (is_sorted address_cmp origins)
   pub count : IsCountAs role (length origins)
-  pub own : AllByRecursion (λ o. o.0 ≡ key.sender.sender) origins
+  pub senders : AllByRecursion (IsSenderAs key) origins
+  pub stacks : length (stacks_in origins) ≤ 3
   pub each : AllByRecursion (λ o. IsOrigin r moment o.1) origins
 
 -- The way of a path, by its role: one that ends here has none, another leaves by a link of the router.
@@ -58,13 +64,13 @@ IsWayAs r roles.Head link rest = HasLink r link
 abbrev pub IsWay : Router → PathFact → Type 0
 IsWay r fact = IsWayAs r fact.role fact.out_link fact.rest
 
--- a route's first step, where it has one, is of type IPv4 (RFC 3209, 4.3.3.2)
+-- a route has a first step, and that is of type IPv4 (RFC 3209, 4.3.3.2)
 abbrev pub begins_with_ipv4 : List Step → Bool
-begins_with_ipv4 [] = true
+begins_with_ipv4 [] = false
 begins_with_ipv4 (Ipv4 loose prefix ∷ steps) = true
 begins_with_ipv4 (Other bytes ∷ steps) = false
 
--- what a path carries fits a message, and what is left of its route begins with a step of type IPv4
+-- what a path carries fits a message, and what is left of its route, if anything is, begins with a step of type IPv4
 pub record IsWithinLimits (fact : PathFact) : Type 0 where
   pub given : IsTrue (option_map_or is_short_route fact.given true)
   pub rest : IsTrue (option_map_or is_short_route fact.rest true)
@@ -82,8 +88,16 @@ pub record IsPath (r : Router) (moment : ℕ) (path : Key × PathFact) : Type 0 
   pub whole_tspec : length path.1.tspec ≡ 32
   pub limits : IsWithinLimits path.1
 
+-- A message that comes through a stack is of one path at most: no two paths of one session and LSP ID have an origin of the
+-- same sender whose Paths come so.
+abbrev pub AreApart : List (Key × PathFact) → Type 0
+AreApart paths =
+    (message a b : Key) (x y : PathFact) → find key_cmp a paths ≡ Some x → find key_cmp b paths ≡ Some y → came_through message (a, x) ≡ true
+    → came_through message (b, y) ≡ true → is_eq (key_cmp a b) ≡ true
+
 -- the paths: one of each LSP, in the order of keys, at most 1,024
 pub record ArePaths (r : Router) (moment : ℕ) (paths : List (Key × PathFact)) : Type 0 where
+  pub apart : AreApart paths
   pub in_order : T (is_sorted key_cmp paths)
   pub few : length paths ≤ 1024
   pub each : AllByRecursion (IsPath r moment) paths

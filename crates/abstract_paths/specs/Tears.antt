@@ -19,7 +19,9 @@ use Rattle.abstract_paths.specs.Changes.{with_path, without_path}
 use Rattle.abstract_paths.specs.Heads.{with_noted}
 use Rattle.abstract_paths.specs.Outcomes.{PathOutcome, done, lsp, refused, told_upstream}
 use Rattle.abstract_paths.specs.Paths.{goes_on}
+use Rattle.abstract_paths.specs.Places.{place_of}
 use Rattle.lsr_facts.specs.Routers.{is_same}
+use Rattle.lsr_facts.specs.declared.router.Router.{Router}
 
 -- the origin is a neighbour over this link
 abbrev pub is_over : ℕ → Via → Bool
@@ -62,15 +64,17 @@ leaves_by link fact = goes_on fact.role && (fact.out_link == link)
 abbrev pub noted_of : PathErr → PathFact → Facts → Facts
 noted_of e fact s = if begins_here fact.role then with_noted e.error e.session.tunnel s else s
 
+-- what a PathErr does that is for the LSP of this path: it is told to the path's origins
+abbrev pub err_of_path : Router → Facts → Key → PathErr → PathFact → PathOutcome
+err_of_path r s key e fact = done (told_upstream (place_of r s) key fact e.tspec e.error) (noted_of e fact s)
+
 -- A PathErr that comes by the link that its path leaves by goes on upstream with its error unchanged, and where the path
 -- begins here, it has come to its end and is noted; one that matches none is refused.
-abbrev pub path_err_passed_on : Facts → ℕ → PathErr → Option PathFact → PathOutcome
-path_err_passed_on s link e None = refused s NoMatch
-path_err_passed_on s link e (Some fact) =
-    if leaves_by link fact
-    then done (told_upstream (lsp e.session e.sender) fact e.tspec e.error) (noted_of e fact s)
-    else refused s NoMatch
+abbrev pub path_err_passed_on : Router → Facts → ℕ → PathErr → Option PathFact → PathOutcome
+path_err_passed_on r s link e None = refused s NoMatch
+path_err_passed_on r s link e (Some fact) =
+    if leaves_by link fact then err_of_path r s (lsp e.session e.sender) e fact else refused s NoMatch
 
 -- What a PathErr does (RFC 2205, 3.1.7).
-unfoldable pub path_err_arrival : Facts → ℕ → PathErr → PathOutcome
-path_err_arrival s link e = path_err_passed_on s link e (find key_cmp (lsp e.session e.sender) s.paths)
+unfoldable pub path_err_arrival : Router → Facts → ℕ → PathErr → PathOutcome
+path_err_arrival r s link e = path_err_passed_on r s link e (find key_cmp (lsp e.session e.sender) s.paths)

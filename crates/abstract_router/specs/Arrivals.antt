@@ -2,7 +2,6 @@
 use Rattle.std.specs.Prelude.{ℕ, ◌==◌, ◌&&◌, not, Bool, true, false, if◌then◌else◌, [], is_none, option_to_list}
 use Rattle.std.specs.FinMap.Entries.{find}
 use Rattle.std.specs.List.{list_any}
-use Rattle.rsvp_contents.specs.Picking.{content_in}
 use Rattle.rsvp_contents.specs.declared.message.Reading.TheVariants as readings
 use Rattle.rsvp_contents.specs.declared.message.Reading.{Reading}
 use Rattle.rsvp_contents.specs.declared.messages.Content.TheVariants as contents
@@ -10,8 +9,7 @@ use Rattle.rsvp_contents.specs.declared.messages.Content.{Content}
 use Rattle.rsvp_contents.specs.declared.messages.Path.{Path}
 use Rattle.lsr_facts.specs.Orders.{key_cmp}
 use Rattle.lsr_facts.specs.Routers.{link_at}
-use Rattle.lsr_facts.specs.declared.refusal.Refusal.{Refusal}
-use Rattle.lsr_facts.specs.declared.refusal.Refusal.TheVariants.{InUse, LinkDown, NoMatch, NoMerge, UnknownLink}
+use Rattle.lsr_facts.specs.declared.refusal.Refusal.TheVariants.{InUse, LinkDown, NoMatch, UnknownLink}
 use Rattle.lsr_facts.specs.declared.reply.Reply.TheVariants as replies
 use Rattle.lsr_facts.specs.declared.reply.Reply.{Reply}
 use Rattle.lsr_facts.specs.declared.router.Router.{Router}
@@ -25,6 +23,7 @@ use Rattle.router_events.specs.declared.events.Event.TheVariants as events
 use Rattle.router_events.specs.declared.events.Event.{Event}
 use Rattle.abstract_paths.specs.Commands.{begun_by, command}
 use Rattle.abstract_paths.specs.Links.{link_change}
+use Rattle.abstract_paths.specs.Merging.{stack_path_arrival, stack_path_failed, stack_tear_arrival}
 use Rattle.abstract_paths.specs.Paths.{failed, key_of, path_arrival, unknown_object}
 use Rattle.abstract_paths.specs.Places.{is_up}
 use Rattle.abstract_paths.specs.Relays.{relay}
@@ -36,8 +35,9 @@ use Rattle.abstract_router.specs.Errors.{no_label}
 use Rattle.abstract_router.specs.Labels.{has_free_label}
 use Rattle.abstract_router.specs.Outcomes.{Outcome, of_paths, refused}
 use Rattle.abstract_router.specs.Reserving.{resv_arrival, unknown_resv}
+use Rattle.abstract_router.specs.Returning.{returned_err, returned_resv, returned_tear, returned_unknown}
 use Rattle.abstract_router.specs.States.{State, without_held}
-use Rattle.abstract_router.specs.Tearing.{resv_err_arrival, resv_tear_arrival}
+use Rattle.abstract_router.specs.Tearing.{resv_err_arrival, resv_tear_arrival, stack_err_arrival}
 
 -- the reply is that it was done
 abbrev pub is_done : Reply → Bool
@@ -57,7 +57,7 @@ labelled_path_arrival r s link p =
 abbrev pub message_arrival : Router → State → ℕ → Content → Outcome
 message_arrival r s link (contents.Path p) = labelled_path_arrival r s link p
 message_arrival r s link (contents.Resv v) = resv_arrival r s link v
-message_arrival r s link (contents.PathErr e) = of_paths s (path_err_arrival s.facts link e)
+message_arrival r s link (contents.PathErr e) = of_paths s (path_err_arrival r s.facts link e)
 message_arrival r s link (contents.ResvErr e) = resv_err_arrival r s link e
 message_arrival r s link (contents.PathTear t) = of_paths s (path_tear_arrival s.facts link t)
 message_arrival r s link (contents.ResvTear t) = resv_tear_arrival s link t
@@ -73,18 +73,39 @@ abbrev pub reading_arrival : Router → State → ℕ → Reading → Outcome
 reading_arrival r s link (readings.Whole content) = message_arrival r s link content
 reading_arrival r s link (readings.Unknown content class ctype) = unknown_arrival r s link content class ctype
 
--- Why a message is refused that came through a stack of labels: no path is here yet that a Path joins, or that came so and
--- that a PathTear or a ResvErr names (RFC 4090, 7).
-abbrev pub unmerged : Content → Refusal
-unmerged (contents.Path p) = NoMerge
-unmerged content = NoMatch
+-- What a message does that came through a stack of labels: it is about an LSP that another router repairs, over a bypass
+-- that ends here (RFC 4090, 7). The link doesn't count. No other type comes so.
+abbrev pub stack_arrival : Router → State → Content → Outcome
+stack_arrival r s (contents.Path p) = of_paths s (stack_path_arrival s.facts p)
+stack_arrival r s (contents.PathTear t) = of_paths s (stack_tear_arrival s.facts t)
+stack_arrival r s (contents.ResvErr e) = stack_err_arrival r s e
+stack_arrival r s content = refused s NoMatch
 
--- What a message does, by the way in which it came. No LSP is repaired yet for which one comes in a Routed frame (RFC
--- 4090, 6.4).
+-- and with an object that it doesn't know
+abbrev pub unknown_stack_arrival : Router → State → Content → ℕ → ℕ → Outcome
+unknown_stack_arrival r s (contents.Path p) class ctype = of_paths s (stack_path_failed r s.facts p (unknown_object class ctype))
+unknown_stack_arrival r s content class ctype = stack_arrival r s content
+
+-- What a message does that came in a Routed frame: it is about an LSP that this router repairs, from the end of the bypass
+-- or beyond (RFC 4090, 6.4.4). No other type comes so.
+abbrev pub routed_arrival : Router → State → Content → Outcome
+routed_arrival r s (contents.Resv v) = returned_resv r s v
+routed_arrival r s (contents.ResvTear t) = returned_tear r s t
+routed_arrival r s (contents.PathErr e) = returned_err r s e
+routed_arrival r s content = refused s NoMatch
+
+-- and with an object that it doesn't know
+abbrev pub unknown_routed_arrival : Router → State → Content → ℕ → ℕ → Outcome
+unknown_routed_arrival r s (contents.Resv v) class ctype = returned_unknown r s v class ctype
+unknown_routed_arrival r s content class ctype = routed_arrival r s content
+
+-- What a message does, by the way in which it came, whole or with an object that it doesn't know.
 abbrev pub arrival_by : Router → State → ArrivalWay → ℕ → Reading → Outcome
 arrival_by r s ways.Hop link reading = reading_arrival r s link reading
-arrival_by r s ways.Stack link reading = refused s (unmerged (content_in reading))
-arrival_by r s ways.Routed link reading = refused s NoMatch
+arrival_by r s ways.Stack link (readings.Whole content) = stack_arrival r s content
+arrival_by r s ways.Stack link (readings.Unknown content class ctype) = unknown_stack_arrival r s content class ctype
+arrival_by r s ways.Routed link (readings.Whole content) = routed_arrival r s content
+arrival_by r s ways.Routed link (readings.Unknown content class ctype) = unknown_routed_arrival r s content class ctype
 
 -- A message that comes over no link of this router, or over one that is down, is refused.
 unfoldable pub arrival : Router → State → Arrive → Outcome

@@ -14,6 +14,7 @@ pub mod Preempting
 pub mod Protecting
 pub mod Repairing
 pub mod Reserving
+pub mod Returning
 pub mod Soundness
 pub mod States
 pub mod Steps

@@ -12,7 +12,7 @@ use Rattle.resv_facts.specs.declared.repair.Repair.{Repair}
 use Rattle.resv_facts.specs.declared.resv_fact.ResvFact.{ResvFact}
 use Rattle.router_events.specs.declared.events.Output.{Output}
 use Rattle.abstract_paths.specs.Outcomes.{found_here, told_upstream}
-use Rattle.abstract_paths.specs.Places.{is_up}
+use Rattle.abstract_paths.specs.Places.{is_up, place_of}
 use Rattle.abstract_paths.specs.Tears.{leaves_by}
 use Rattle.abstract_router.specs.Detours.{detours_of, over_at}
 use Rattle.abstract_router.specs.Errors.{locally_repaired}
@@ -44,7 +44,7 @@ repaired r s = record s { repairs = rows.edited key_cmp (map put_repair (new_rep
 -- The origins of a repaired LSP are told that it runs over a bypass (RFC 4090, 6.5).
 abbrev pub told_of : Router → State → Key × Repair → List Output
 told_of r s repair =
-    option_map_or (λ path. told_upstream repair.0 path (Some path.tspec) (found_here r locally_repaired)) (find key_cmp repair.0 s.facts.paths) []
+    option_map_or (λ path. told_upstream (place_of r s.facts) repair.0 path (Some path.tspec) (found_here r locally_repaired)) (find key_cmp repair.0 s.facts.paths) []
 
 -- the errors that repair tells, in the order of the keys
 unfoldable pub told_repaired : Router → State → List Output

@@ -60,22 +60,27 @@ pub data Verdict : Type 0 where
   PassedOver : Verdict
   Granted : Verdict
 
--- What becomes of a descriptor that asks for this reservation, by what its FLOWSPEC's rate is (RFC 2205, B, 1 and 21; its
--- label: RFC 3209, 7.3; its record: RFC 3209, 4.4.4).
-abbrev pub verdict_by_rate : Router → State → Key → ResvFact → Result ℕ TrafficFault → Verdict
-verdict_by_rate r s key fact (Err fault) = Failed (traffic_error fault)
-verdict_by_rate r s key fact (Ok rate) =
+-- What becomes of a descriptor that asks for this reservation, by what its FLOWSPEC's rate is, and whether there is room for
+-- it (RFC 2205, B, 1 and 21; its label: RFC 3209, 7.3; its record: RFC 3209, 4.4.4).
+abbrev pub verdict_by_rate : Router → ResvFact → Bool → Result ℕ TrafficFault → Verdict
+verdict_by_rate r fact has_room (Err fault) = Failed (traffic_error fault)
+verdict_by_rate r fact has_room (Ok rate) =
     if not (is_label fact.label) then Failed unacceptable_label
     else if has_loop r fact.recorded then PassedOver
-    else if not (fits r s key fact) then Failed no_bandwidth
+    else if not has_room then Failed no_bandwidth
     else Granted
+
+-- and by the other reservations of its session on the link
+abbrev pub verdict_by_style : Router → State → Key → ResvFact → Bool → Verdict
+verdict_by_style r s key fact has_room =
+    option_map_or (λ other. Failed (style_conflict other.1.style)) (find_first (conflicts fact.link fact.style key) s.resvs)
+    (verdict_by_rate r fact has_room (flowspec_rate fact.flowspec))
 
 -- What becomes of it where its LSP has this path (RFC 2205, B, 5). One for a repaired LSP comes through no bypass here.
 abbrev pub verdict_on_path : Router → State → Key → ResvFact → PathFact → Verdict
 verdict_on_path r s key fact path =
     if not (leaves_by fact.link path) || is_repaired s key then PassedOver
-    else option_map_or (λ other. Failed (style_conflict other.1.style)) (find_first (conflicts fact.link fact.style key) s.resvs)
-    (verdict_by_rate r s key fact (flowspec_rate fact.flowspec))
+    else verdict_by_style r s key fact (fits r s key fact)
 
 -- What becomes of it: the first of these that holds (RFC 2205, B, 3 and 4).
 unfoldable pub verdict_of : Router → State → Key → ResvFact → Verdict

@@ -41,6 +41,10 @@ without_resvs keys s = with_resvs_where (λ resv. not (is_one_of keys resv.0)) s
 abbrev pub with_repairs_where : (Key × Repair → Bool) → State → State
 with_repairs_where test s = record s { repairs = filter test s.repairs }
 
+-- the repair of an LSP is put
+abbrev pub with_repair : Key → Repair → State → State
+with_repair key repair s = record s { repairs = put key_cmp key repair s.repairs }
+
 -- the reservations and the repairs of these LSPs go
 abbrev pub without_held : List Key → State → State
 without_held keys s = with_repairs_where (λ repair. not (is_one_of keys repair.0)) (without_resvs keys s)

@@ -1,5 +1,5 @@
 -- What a ResvTear and a ResvErr do (RFC 2205, 3.1.6 and 3.1.8).
-use Rattle.std.specs.Prelude.{ℕ, ◌==◌, ◌&&◌, not, Bool, if◌then◌else◌, List, [], ◌∷◌, filter_map, Option, Some, None}
+use Rattle.std.specs.Prelude.{ℕ, ◌==◌, ◌&&◌, not, Bool, if◌then◌else◌, List, [], ◌∷◌, filter_map, find as find_first, Option, Some, None}
 use Rattle.std.specs.FinMap.Entries.{find}
 use Rattle.std.specs.List.{flat_map, list_any}
 use Rattle.std.specs.Option.{option_and_then, option_map, option_or, option_to_list}
@@ -15,6 +15,7 @@ use Rattle.lsr_facts.specs.declared.reply.Reply.TheVariants as replies
 use Rattle.lsr_facts.specs.declared.router.Router.{Router}
 use Rattle.resv_facts.specs.declared.resv_fact.ResvFact.{ResvFact}
 use Rattle.router_events.specs.declared.events.Output.{Output}
+use Rattle.abstract_paths.specs.Merging.{came_through}
 use Rattle.abstract_paths.specs.Outcomes.{lsp}
 use Rattle.abstract_paths.specs.Paths.{goes_on}
 use Rattle.abstract_paths.specs.Tears.{is_from}
@@ -56,6 +57,12 @@ err_onward r s link e d =
     else err_to r s e d key)
     (find key_cmp key s.facts.paths)
 
+-- A ResvErr that came through a stack of labels names the sender of an origin. It goes on under the LSP's own sender.
+abbrev pub stack_err_onward : Router → State → ResvErr → ErrorDescriptor → Option (List Output)
+stack_err_onward r s e d =
+    option_and_then (λ path. if not (goes_on path.1.role) then Some [] else err_to r s e (record d { filter = path.0.sender }) path.0)
+    (find_first (came_through (lsp e.session d.filter)) s.facts.paths)
+
 -- what comes of the descriptors that matched
 abbrev pub resv_err_passed_on : State → List (List Output) → Outcome
 resv_err_passed_on s [] = refused s NoMatch
@@ -64,3 +71,7 @@ resv_err_passed_on s (one ∷ more) = replied replies.Done (flat_map (λ told. t
 -- What a ResvErr does, descriptor by descriptor: one of which none matches is refused (RFC 2205, 3.1.8).
 unfoldable pub resv_err_arrival : Router → State → ℕ → ResvErr → Outcome
 resv_err_arrival r s link e = resv_err_passed_on s (filter_map (err_onward r s link e) e.descriptors)
+
+-- and what one does that came through a stack
+unfoldable pub stack_err_arrival : Router → State → ResvErr → Outcome
+stack_err_arrival r s e = resv_err_passed_on s (filter_map (stack_err_onward r s e) e.descriptors)

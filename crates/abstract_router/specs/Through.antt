@@ -8,7 +8,10 @@ use Rattle.rsvp_contents.specs.declared.messages.Content.TheVariants as contents
 use Rattle.rsvp_contents.specs.declared.messages.Path.{Path}
 use Rattle.rsvp_contents.specs.declared.messages.ResvErr.{ResvErr}
 use Rattle.rsvp_flows.specs.declared.descriptors.ErrorDescriptor.{ErrorDescriptor}
+use Rattle.rsvp_objects.specs.declared.values.ErrorSpec.{ErrorSpec}
 use Rattle.rsvp_objects.specs.declared.values.Hop.{Hop}
+use Rattle.rsvp_objects.specs.declared.values.Session.{Session}
+use Rattle.rsvp_objects.specs.declared.values.Style.{Style}
 use Rattle.rsvp_objects.specs.declared.values.Template.{Template}
 use Rattle.label_stacks.specs.declared.entry.StackEntry.{StackEntry}
 use Rattle.link_frames.specs.declared.frame.Frame.TheVariants as frames
@@ -69,15 +72,13 @@ backup_over r key path repair detour =
 abbrev pub backup_of : Around → Key → PathFact → Repair → Option Output
 backup_of a key path repair = option_and_then (backup_over a.place.router key path repair) (find nat_cmp repair.bypass a.detours)
 
--- A ResvErr for a repaired LSP: it goes through the bypass, under the sender that the bypass's end knows (RFC 4090, 6.4.3).
+-- a ResvErr for a repaired LSP, as it goes through the bypass
+abbrev pub told_through : Around → Repair → Session → ErrorSpec → Style → List ErrorDescriptor → Option Output
+told_through a repair session error style descriptors =
+    through a repair (contents.ResvErr (record { session = session; hop = hop_through a.place.router repair; error = error; style = style; descriptors = descriptors }))
+
+-- One that came from upstream goes on so, under the sender that the bypass's end knows (RFC 4090, 6.4.3).
 abbrev pub err_through : Around → Repair → ResvErr → ErrorDescriptor → Option Output
 err_through a repair e d =
-    option_and_then (λ link.
-    through a repair (contents.ResvErr (record {
-      session = e.session;
-      hop = hop_through a.place.router repair;
-      error = e.error;
-      style = e.style;
-      descriptors = record d { filter = head_through d.filter link } ∷ [];
-    })))
+    option_and_then (λ link. told_through a repair e.session e.error e.style (record d { filter = head_through d.filter link } ∷ []))
     (link_at a.place.router repair.resv.link)

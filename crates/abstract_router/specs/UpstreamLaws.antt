@@ -1,9 +1,9 @@
 -- Laws of the Resvs that are wanted upstream: they stand in order, those of some LSPs come of these alone, and they are
 -- no more than the paths.
-use Rattle.std.specs.Prelude.{◌≡◌, ◌++◌, ◌≤◌, ℕ, suc, not, Bool, true, false, cond, T, List, [], ◌∷◌, filter, filter_map, length, map, Option, Some, None, IfSome}
+use Rattle.std.specs.Prelude.{◌≡◌, ◌++◌, ◌*◌, ◌≤◌, ℕ, suc, not, Bool, true, false, cond, T, List, [], ◌∷◌, filter, filter_map, length, map, Option, Some, None, IfSome}
 use Rattle.std.specs.FinMap.Entries.{below_all, is_sorted, where_key}
 use Rattle.std.specs.List.{AllByRecursion, cons_option, flat_map}
-use Rattle.std.specs.Option.{option_and_then, option_map, option_map_or}
+use Rattle.std.specs.Option.{option_map, option_map_or}
 use Rattle.std.specs.Ordering.{is_lt, nat_cmp, ordering_then}
 use Rattle.std.specs.declared.cmp.Ordering.{Ordering}
 use Rattle.std.specs.declared.cmp.Ordering.TheVariants.{Less, Equal, Greater}
@@ -20,16 +20,19 @@ use Rattle.lsr_facts.specs.Orders.{address_cmp, key_cmp}
 use Rattle.lsr_facts.specs.Routers.{link_at}
 use Rattle.lsr_facts.specs.Timeless.{timeless_origin}
 use Rattle.lsr_facts.specs.declared.key.Key.{Key}
-use Rattle.lsr_facts.specs.Origins.{number_of, via_link}
+use Rattle.lsr_facts.specs.Origins.{number_of}
 use Rattle.lsr_facts.specs.declared.path_fact.Origin.{Origin}
 use Rattle.lsr_facts.specs.declared.path_fact.PathFact.{PathFact}
+use Rattle.lsr_facts.specs.declared.path_fact.Via.{Via}
+use Rattle.lsr_facts.specs.declared.path_fact.Via.TheVariants as vias
 use Rattle.lsr_facts.specs.declared.router.Link.{Link}
 use Rattle.lsr_facts.specs.declared.router.Router.{Router}
 use Rattle.resv_facts.specs.Upstreams.{upstream_cmp}
 use Rattle.resv_facts.specs.declared.upstream.Upstream.{Upstream}
 use Rattle.router_events.specs.declared.events.Output.{Output}
-use Rattle.abstract_paths.specs.Outcomes.{sent_by}
-use Rattle.abstract_paths.specs.OriginLaws.{one_origin}
+use Rattle.abstract_paths.specs.Outcomes.{routed_by, sent_by}
+use Rattle.abstract_paths.specs.Routing.{route_to}
+use Rattle.abstract_paths.specs.OriginLaws.{few_origins}
 use Rattle.abstract_paths.specs.Places.{is_up}
 use Rattle.abstract_paths.specs.Soundness.{ArePaths, IsPath}
 use Rattle.abstract_paths.specs.RowLaws.{both, first, keys-map, second}
@@ -38,7 +41,7 @@ use Rattle.abstract_router.specs.States.{State}
 use Rattle.abstract_router.specs.LspLaws.{is_sorted-lsps, lsps-among, lsps-elsewhere}
 use Rattle.abstract_router.specs.Lsps.{Around, Lsp, around_of, lsp_at, lsp_of, lsps_of}
 use Rattle.abstract_router.specs.Touched.{IsSameElsewhere}
-use Rattle.abstract_router.specs.Upstreams.{Reserved, reserved_for, resv_to, upstream_at, upstream_at_key, upstream_of, upstream_over, upstream_row, upstream_rows, upstream_to}
+use Rattle.abstract_router.specs.Upstreams.{Reserved, reserved_for, resv_to, upstream_at, upstream_at_key, upstream_of, upstream_row, upstream_rows, upstream_to, upstream_via}
 
 -- a filter that nothing passes
 filter-none_pass : {A : Type 0} (p : A → Bool) (xs : List A) → AllByRecursion (λ x. p x ≡ false) xs → filter p xs ≡ []
@@ -79,8 +82,8 @@ flat_map_agree_within : {A B : Type 0} (f g : A → List B) (xs : List A) → Al
 flat_map_agree_within f g [] h = refl
 flat_map_agree_within f g (x ∷ xs) h = λ i. h.0 i ++ flat_map_agree_within f g xs h.1 i
 
--- where f gives one of each element at most, it gives no more than these
-length-flat_map-le : {A B : Type 0} (f : A → List B) (xs : List A) → AllByRecursion (λ x. length (f x) ≤ 1) xs → length (flat_map f xs) ≤ length xs
+-- where f gives four of each element at most, it gives no more than four times as many
+length-flat_map-le : {A B : Type 0} (f : A → List B) (xs : List A) → AllByRecursion (λ x. length (f x) ≤ 4) xs → length (flat_map f xs) ≤ 4 * length xs
 length-flat_map-le f [] h = omega arith
 length-flat_map-le f (x ∷ xs) h = omega (arith, length-append (f x) (flat_map f xs), h.0, length-flat_map-le f xs h.1)
 
@@ -125,16 +128,20 @@ below_sender key o p low =
 module _ (a : Around) (lsp : Key × Lsp) where
   -- what an origin is sent is for its own LSP, sender, link and neighbour
   row-is : (P : Upstream × Output → Type 0) (label : ℕ) (said : Reserved) (origin : Ipv4Addr × Origin) → ((o : Output) → P (upstream_to lsp.0 origin, o)) → IfSome (upstream_row a lsp label said origin) P
-  row-is P label said origin holds = over (via_link origin.1.via)
+  row-is P label said origin holds = over origin.1.via
     where
-      by : (number : ℕ) (b : Bool) (l : Option Link) → IfSome (cond b (option_map (λ link. (upstream_to lsp.0 origin, sent_by number (contents.Resv (resv_to a.place.router lsp.0 lsp.1.path origin.1 link label said)))) l) None) P
+      by : (number : ℕ) (b : Bool) (l : Option Link) → IfSome (cond b (option_map (λ link. (upstream_to lsp.0 origin, sent_by number (contents.Resv (resv_to a.place.router lsp.0 lsp.1.path origin link.address label said)))) l) None) P
       by number true None = tt
       by number true (Some link) = holds _
       by number false l = tt
 
-      over : (via : Option ℕ) → IfSome (option_and_then (upstream_over a lsp label said origin) via) P
-      over None = tt
-      over (Some number) = by number (is_up a.place.up number) (link_at a.place.router number)
+      back : (l : Option ℕ) → IfSome (option_map (λ link. (upstream_to lsp.0 origin, routed_by link origin.1.hop.address (contents.Resv (resv_to a.place.router lsp.0 lsp.1.path origin a.place.router.id label said)))) l) P
+      back None = tt
+      back (Some link) = holds _
+
+      over : (via : Via) → IfSome (upstream_via a lsp label said origin via) P
+      over (vias.Link number) = by number (is_up a.place.up number) (link_at a.place.router number)
+      over vias.Stack = back (route_to a.place origin.1.hop.address)
 
   -- what holds of no Resvs, and of those that any label and reservation make, holds of those that the path wants
   rows-are : (P : List (Upstream × Output) → Type 0) → P [] → ((label : ℕ) (said : Reserved) → P (filter_map (upstream_row a lsp label said) lsp.1.path.origins)) → P (upstream_rows a lsp)
@@ -242,12 +249,12 @@ pub rows-timeless : (a : Around) (lsp : Key × Lsp) (label : ℕ) (said : Reserv
 rows-timeless a lsp label said [] = refl
 rows-timeless a lsp label said (o ∷ os) = ap (cons_option (upstream_row a lsp label said o)) (rows-timeless a lsp label said os)
 
--- No more Resvs are wanted than paths are known, so at most 1,024.
-pub upstream-few : (r : Router) (s : State) (moment : ℕ) → ArePaths r moment s.facts.paths → (length (upstream_of r s) ≤ length s.facts.paths) × (length (upstream_of r s) ≤ 1024)
+-- At most four Resvs are wanted of each path that is known, so at most 4,096.
+pub upstream-few : (r : Router) (s : State) (moment : ℕ) → ArePaths r moment s.facts.paths → (length (upstream_of r s) ≤ 4 * length s.facts.paths) × (length (upstream_of r s) ≤ 4096)
 unfolding upstream_of lsps_of
 upstream-few r s moment are =
-    let one : AllByRecursion (λ path. length (upstream_rows (around_of r s) (path.0, lsp_of s path.0 path.1)) ≤ 1) s.facts.paths = all-weaker (IsPath r moment) (λ path. length (upstream_rows (around_of r s) (path.0, lsp_of s path.0 path.1)) ≤ 1)
-    (λ path is. omega (arith, length-rows (around_of r s) (path.0, lsp_of s path.0 path.1), one_origin path.0.sender.sender path.1.origins is.origins.in_order is.origins.own, length-map path.1.origins timeless_origin)) s.facts.paths are.each in
-    let few = length-flat_map-le (upstream_rows (around_of r s)) (lsps_of s) (all-lsps (λ lsp. length (upstream_rows (around_of r s) lsp) ≤ 1) s s.facts.paths one) in
+    let each : AllByRecursion (λ path. length (upstream_rows (around_of r s) (path.0, lsp_of s path.0 path.1)) ≤ 4) s.facts.paths = all-weaker (IsPath r moment) (λ path. length (upstream_rows (around_of r s) (path.0, lsp_of s path.0 path.1)) ≤ 4)
+    (λ path is. omega (arith, length-rows (around_of r s) (path.0, lsp_of s path.0 path.1), few_origins r moment path is, length-map path.1.origins timeless_origin)) s.facts.paths are.each in
+    let few = length-flat_map-le (upstream_rows (around_of r s)) (lsps_of s) (all-lsps (λ lsp. length (upstream_rows (around_of r s) lsp) ≤ 4) s s.facts.paths each) in
     let as_many = length-map {B = Key × Lsp} s.facts.paths (λ row. (row.0, lsp_of s row.0 row.1)) in
     (omega (arith, few, as_many), omega (arith, few, as_many, are.few))

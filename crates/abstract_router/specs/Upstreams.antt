@@ -1,4 +1,5 @@
--- The Resvs that the state wants kept alive at the neighbours upstream (RFC 2205, 3.1.4 and 3.7; RFC 3209, 2.2 and 4.4).
+-- The Resvs that the state wants kept alive upstream: at the neighbours, and at the heads of bypasses that end here (RFC
+-- 2205, 3.1.4 and 3.7; RFC 3209, 2.2 and 4.4; RFC 4090, 6.4.4).
 use Rattle.std.specs.Prelude.{ℕ, ◌+◌, ◌%◌, ◌/◌, ◌==◌, ◌++◌, Bool, true, false, if◌then◌else◌, List, [], ◌∷◌, filter_map, Option, Some, None}
 use Rattle.std.specs.FinMap.Entries.{where_key}
 use Rattle.std.specs.List.{flat_map}
@@ -12,20 +13,22 @@ use Rattle.rsvp_routes.specs.declared.trace.Trace.TheVariants as traces
 use Rattle.rsvp_traffic.specs.Traffic.{flowspec_of}
 use Rattle.session_attribute.specs.declared.attr.Attr.{Attr}
 use Rattle.lsr_facts.specs.Orders.{key_cmp}
-use Rattle.lsr_facts.specs.Origins.{number_of, via_link}
+use Rattle.lsr_facts.specs.Origins.{number_of}
 use Rattle.lsr_facts.specs.Routers.{link_at}
 use Rattle.lsr_facts.specs.declared.key.Key.{Key}
 use Rattle.lsr_facts.specs.declared.path_fact.Origin.{Origin}
 use Rattle.lsr_facts.specs.declared.path_fact.PathFact.{PathFact}
-use Rattle.lsr_facts.specs.declared.router.Link.{Link}
+use Rattle.lsr_facts.specs.declared.path_fact.Via.{Via}
+use Rattle.lsr_facts.specs.declared.path_fact.Via.TheVariants as vias
 use Rattle.lsr_facts.specs.declared.router.Router.{Router}
 use Rattle.resv_facts.specs.declared.resv_fact.ResvFact.{ResvFact}
 use Rattle.resv_facts.specs.declared.resv_fact.ResvStyle.{ResvStyle}
 use Rattle.resv_facts.specs.declared.resv_fact.ResvStyle.TheVariants.{FixedFilter, SharedExplicit}
 use Rattle.router_events.specs.declared.events.Output.{Output}
-use Rattle.abstract_paths.specs.Outcomes.{sent_by}
+use Rattle.abstract_paths.specs.Outcomes.{routed_by, sent_by}
 use Rattle.abstract_paths.specs.Paths.{goes_on, short_only}
 use Rattle.abstract_paths.specs.Places.{is_up}
+use Rattle.abstract_paths.specs.Routing.{route_to}
 use Rattle.resv_facts.specs.Reservations.{style_word}
 use Rattle.resv_facts.specs.declared.upstream.Upstream.{Upstream}
 use Rattle.abstract_router.specs.Lsps.{Around, Lsp, around_of, held_of, lsp_at, lsps_of}
@@ -97,18 +100,19 @@ own_entries r flags path label = if records_labels path.attr then flagged_entry 
 unfoldable pub record_upstream : Router → ℕ → PathFact → ℕ → List Trace → Option (List Trace)
 record_upstream r flags path label recorded = option_and_then (λ came. short_only (own_entries r flags path label ++ recorded)) path.recorded
 
--- The Resv to an origin: this router is its hop, with the interface handle that the origin named; the label is its own
--- (RFC 2205, 3.1.4; RFC 3209, 4.1.1).
-abbrev pub resv_to : Router → Key → PathFact → Origin → Link → ℕ → Reserved → Resv
-resv_to r key path origin link label a = record {
+-- The Resv to an origin: this router is its hop, by this address, with the interface handle that the origin named; its
+-- filter names the sender of the origin's Paths; the label is the router's own (RFC 2205, 3.1.4; RFC 3209, 4.1.1; RFC 4090,
+-- 6.4.4).
+abbrev pub resv_to : Router → Key → PathFact → Ipv4Addr × Origin → Ipv4Addr → ℕ → Reserved → Resv
+resv_to r key path origin address label a = record {
   session = key.session;
-  hop = record { address = link.address; interface = origin.hop.interface };
+  hop = record { address = address; interface = origin.1.hop.interface };
   time = record { refresh_ms = r.refresh_ms };
   passing = a.passing;
   style = style_word a.style;
   descriptors = record {
     flowspec = a.flowspec;
-    filter = key.sender;
+    filter = record key.sender { sender = origin.0 };
     label = record { number = label };
     recorded = record_upstream r a.flags path label a.recorded;
   } ∷ [];
@@ -122,12 +126,23 @@ upstream_to key origin = record { key = key; sender = origin.0; link = number_of
 abbrev pub upstream_over : Around → Key × Lsp → ℕ → Reserved → Ipv4Addr × Origin → ℕ → Option (Upstream × Output)
 upstream_over a lsp label said origin number =
     if is_up a.place.up number
-    then option_map (λ link. (upstream_to lsp.0 origin, sent_by number (contents.Resv (resv_to a.place.router lsp.0 lsp.1.path origin.1 link label said)))) (link_at a.place.router number)
+    then option_map (λ link. (upstream_to lsp.0 origin, sent_by number (contents.Resv (resv_to a.place.router lsp.0 lsp.1.path origin link.address label said)))) (link_at a.place.router number)
     else None
 
--- what an origin is sent, where it is a neighbour: no LSP has another yet
+-- what the head of a bypass is sent, in a Routed frame towards its address: nothing where no way leads there
+abbrev pub upstream_back : Around → Key × Lsp → ℕ → Reserved → Ipv4Addr × Origin → Option (Upstream × Output)
+upstream_back a lsp label said origin =
+    option_map (λ link. (upstream_to lsp.0 origin, routed_by link origin.1.hop.address (contents.Resv (resv_to a.place.router lsp.0 lsp.1.path origin a.place.router.id label said))))
+    (route_to a.place origin.1.hop.address)
+
+-- what an origin is sent, by how its Paths come
+abbrev pub upstream_via : Around → Key × Lsp → ℕ → Reserved → Ipv4Addr × Origin → Via → Option (Upstream × Output)
+upstream_via a lsp label said origin (vias.Link number) = upstream_over a lsp label said origin number
+upstream_via a lsp label said origin vias.Stack = upstream_back a lsp label said origin
+
+-- what an origin is sent
 abbrev pub upstream_row : Around → Key × Lsp → ℕ → Reserved → Ipv4Addr × Origin → Option (Upstream × Output)
-upstream_row a lsp label said origin = option_and_then (upstream_over a lsp label said origin) (via_link origin.1.via)
+upstream_row a lsp label said origin = upstream_via a lsp label said origin origin.1.via
 
 -- what all origins of an LSP are sent, in the order of their senders
 abbrev pub upstream_rows : Around → Key × Lsp → List (Upstream × Output)

@@ -10,6 +10,7 @@ use Rattle.link_frames.specs.declared.payload.Payload.{Payload}
 use Rattle.link_frames.specs.declared.payload.Payload.TheVariants as payloads
 use Rattle.lsr_facts.specs.declared.refusal.Refusal.{Refusal}
 use Rattle.lsr_facts.specs.declared.router.Router.{Router}
+use Rattle.router_events.specs.Ways.{takes}
 use Rattle.router_events.specs.declared.events.Event.TheVariants as events
 use Rattle.router_events.specs.declared.ways.ArrivalWay.{ArrivalWay}
 use Rattle.router_events.specs.declared.ways.ArrivalWay.TheVariants as ways
@@ -17,11 +18,11 @@ use Rattle.router_events.specs.declared.ways.Arrive.{Arrive}
 use Rattle.abstract_paths.specs.Places.{is_own}
 use Rattle.datagrams.specs.declared.datagram.Datagram.{Datagram}
 use Rattle.datagrams.specs.declared.datagram.Datagram.TheVariants as kinds
-use Rattle.datagrams.specs.Datagrams.{IsArrival, IsDelivered, IsMessage, IsReading, IsRouted, is_event}
+use Rattle.datagrams.specs.Datagrams.{IsArrival, IsDelivered, IsMessage, IsReading, IsRouted}
 use Rattle.datagrams.specs.Parts.{OrNoMemory, refusal_for}
 
 -- a message that its way takes is an event
-pub message_arrives : (link : ℕ) (way : ArrivalWay) (reading : Reading) (arrive : Arrive) → is_event way reading ≡ true → IsArrival link way reading arrive → IsReading link way reading (Ok (kinds.Event (events.Arrive arrive)))
+pub message_arrives : (link : ℕ) (way : ArrivalWay) (reading : Reading) (arrive : Arrive) → takes way reading ≡ true → IsArrival link way reading arrive → IsReading link way reading (Ok (kinds.Event (events.Arrive arrive)))
 message_arrives link way reading arrive is comes = rw is (arrive, comes, refl)
 
 -- a message that isn't read

@@ -1,6 +1,6 @@
 -- What a datagram is that came over a link: an event of the router, a labelled frame that goes on, a payload that has
 -- arrived, or a refusal.
-use Rattle.std.specs.Prelude.{◌≡◌, ◌⊎◌, ℕ, Bool, false, nat_lt, List, length, None, Result, Ok, Err}
+use Rattle.std.specs.Prelude.{◌≡◌, ◌⊎◌, ℕ, nat_lt, List, length, None, Result, Ok, Err}
 use Rattle.std.specs.Bool.{MatchBool}
 use Rattle.std.specs.declared.net.ipv4_addr.Ipv4Addr.{Ipv4Addr}
 use Rattle.label_stacks.specs.declared.entry.StackEntry.{StackEntry}
@@ -47,17 +47,10 @@ pub record IsArrival (link : ℕ) (way : ArrivalWay) (reading : Reading) (arrive
   pub by : arrive.way ≡ way
   pub says : arrive.reading ≡ reading
 
--- A message is an event where its way takes its type. No path merges here yet, so none that comes through a stack of
--- labels is one.
-abbrev pub is_event : ArrivalWay → Reading → Bool
-is_event ways.Hop reading = takes ways.Hop reading
-is_event ways.Stack reading = false
-is_event ways.Routed reading = takes ways.Routed reading
-
--- what was read of a message is that event, or refused
+-- What was read of a message is that event where its way takes its type, and else refused.
 abbrev pub IsReading : ℕ → ArrivalWay → Reading → Result Datagram Refusal → Type 0
 IsReading link way reading answer =
-    MatchBool (is_event way reading) ((arrive : Arrive) × IsArrival link way reading arrive × (answer ≡ Ok (kinds.Event (events.Arrive arrive))))
+    MatchBool (takes way reading) ((arrive : Arrive) × IsArrival link way reading arrive × (answer ≡ Ok (kinds.Event (events.Arrive arrive))))
     (answer ≡ dropped_for dropped.KindUnsupported)
 
 -- A message that is for this router is read: it is dropped for its first fault, or it is what was read.
@@ -72,7 +65,7 @@ IsRelay link to limit message answer =
     MatchBool (nat_lt 4096 (length message)) (answer ≡ dropped_for dropped.TooLong)
     (answer ≡ Ok (kinds.Event (events.Relay (record { link = link; to = to; limit = limit; message = message }))))
 
--- A payload whose stack ends here: bytes have arrived, a message is read.
+-- A payload whose stack ends here: bytes have arrived, a message is one for this router that came through the stack.
 abbrev pub IsDelivered : ℕ → Payload → Result Datagram Refusal → Type 0
 IsDelivered link (payloads.Bytes content) answer = answer ≡ Ok (kinds.Passed (passes.Delivered content))
 IsDelivered link (payloads.Unread content) answer = IsMessage link ways.Stack content answer

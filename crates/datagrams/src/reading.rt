@@ -1,7 +1,7 @@
 //! What a datagram is, by its frame: the frame is read, and what it carries goes by its kind.
 
 ghost use Rattle.std.specs.Prelude.{◌≡◌};
-ghost use Rattle.datagrams.specs.Datagrams.{IsCarried, IsDatagram, IsDelivered, IsFrame, IsMessage, IsReading, IsRelay, IsRouted, is_event, refusal_of};
+ghost use Rattle.datagrams.specs.Datagrams.{IsCarried, IsDatagram, IsDelivered, IsFrame, IsMessage, IsReading, IsRelay, IsRouted, refusal_of};
 ghost use Rattle.datagrams.specs.Parts.{IsFrameRead, IsPayloadRead, OrNoMemory, refusal_for};
 
 use crate::datagram::{Datagram, Forwards, Passed};
@@ -37,22 +37,11 @@ fn refusal_for(fault: Dropped) -> Refusal
     }
 }
 
-/// Whether a message is an event: its way takes its type. No path merges here yet, so none that comes through a stack
-/// of labels is one.
-fn is_event(way: ArrivalWay, reading: &Reading) -> bool
-    ensures { result ≡ is_event way reading.now }
-{
-    match way {
-        ArrivalWay::Stack => false,
-        ArrivalWay::Hop | ArrivalWay::Routed => takes(way, reading),
-    }
-}
-
-/// What was read of a message for this router, as an event.
+/// What was read of a message for this router: the event that it came, where its way takes its type.
 fn arrival(link: u16, way: ArrivalWay, reading: Reading) -> Result<Datagram, Refusal>
     ensures { IsReading link way reading result }
 {
-    if is_event(way, &reading) {
+    if takes(way, &reading) {
         Ok(Datagram::Event(Event::Arrive(Arrive { link, way, reading })))
     } else {
         Err(Refusal::Unread(Dropped::KindUnsupported))
@@ -115,7 +104,7 @@ fn routed(
     }
 }
 
-/// A payload whose stack ends here: bytes have arrived, a message is read.
+/// A payload whose stack ends here: bytes have arrived, a message is one for this router that came through the stack.
 fn deliver(alloc: Global, link: u16, payload: Payload) -> Result<Datagram, Refusal>
     requires { IsPayloadRead payload }
     ensures { OrNoMemory (IsDelivered link payload) result }
@@ -173,9 +162,9 @@ fn by_frame<F: Forwards>(
 /// What a datagram is that came over a link, by the router's own addresses and by what becomes of stacks of labels. It
 /// is refused for its first fault, in this order: the frame's ([`Refusal::Unread`]); while a stack is followed, a label
 /// that nothing is done with ([`Refusal::NoLabel`]), a TTL that ran out ([`Refusal::HopLimit`]), a ninth label
-/// ([`Dropped::TooLong`]); of a message for this router its own, and then a type that its frame doesn't take
-/// ([`Dropped::KindUnsupported`]); of one for another router, that it is above 4,096 bytes ([`Dropped::TooLong`]).
-/// [`Refusal::NoMemory`] can come in place of any answer but a fault of the datagram's head.
+/// ([`Dropped::TooLong`]); of a message for this router, also under labels that end here, its own, and then a type that
+/// its frame doesn't take ([`Dropped::KindUnsupported`]); of one for another router, that it is above 4,096 bytes
+/// ([`Dropped::TooLong`]). [`Refusal::NoMemory`] can come in place of any answer but a fault of the datagram's head.
 pub fn read_datagram<F: Forwards>(
     alloc: Global,
     router: &Router,

@@ -160,7 +160,7 @@ pub const ERRORS: &str = "\
   See: RFC 3209, 7.3 and 4.4.3
 25/3 LocallyRepaired
   Notify: a link or router on the way failed, and the tunnel goes round it over a bypass.
-  This is news and no failure: the tunnel works. This router says so to the neighbours that an
+  This is news and no failure: the tunnel works. This router says so to the routers that an
   LSP's Paths came from when it moves the LSP onto a bypass; what another router says it passes
   on, and where the tunnel begins here `show tunnels` tells it.
   What to do: route the tunnel anew while the bypass carries it: where it begins,

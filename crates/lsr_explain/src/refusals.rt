@@ -37,12 +37,12 @@ pub const REFUSALS: &str = "\
   See: RFC 2205, 3.1.3 to 3.1.8; RFC 3209, 3.1 and 3.2
 7 KindUnsupported
   The message's type is none of 1 to 6, or the frame doesn't take it; or the frame's or its
-  payload's kind isn't known here. A Routed frame (kind 3) takes Resv, PathErr and ResvTear.
-  A message whose labels end here isn't taken yet.
+  payload's kind isn't known here. A Labelled frame (kind 2) whose labels end here takes Path,
+  ResvErr and PathTear, a Routed frame (kind 3) Resv, PathErr and ResvTear.
   What to do: turn off at the neighbour what sends it, such as Hello, Bundle or Srefresh; ResvConf
   (7) does no harm.
   In `frame LINK HEX` begin with 01 before a message, or with 02 before labels.
-  See: RFC 2205, 3.1.1; docs/WIRE.md (Frames)
+  See: RFC 2205, 3.1.1; RFC 4090, 6.4; docs/WIRE.md (Frames)
 8 Integrity
   The message has an INTEGRITY object. This router can't check it, and takes nothing
   that was to be checked.
@@ -55,21 +55,25 @@ pub const REFUSALS: &str = "\
   See: docs/WIRE.md (Limits); docs/WIRE.md (Frames)
 10 NoMatch
   Nothing here is what the message speaks of, or no route leads to the router that a Routed
-  frame is for. One that is for this router would speak of a repair, and isn't taken yet.
-  A PathTear and a ResvErr have to come from the
-  hop that their path comes from, over the same link; a PathErr, a Resv and a ResvTear over the
-  link that their path leaves by. A Resv whose record has an address of this router is
-  refused so too: it has been here before. And so is a Path of an LSP that begins here: no
-  other router sends it.
+  frame is for. A PathTear and a ResvErr have to come from the hop that their path comes from,
+  over the same link; a PathErr, a Resv and a ResvTear over the link that their path leaves by.
+  Through labels that end here a PathTear and a ResvErr have to name the sender of a backup path
+  that joined a path here. In a Routed frame for this router a Resv, a PathErr and a ResvTear
+  have to name an LSP that runs over a bypass of this router, by the address that this router has
+  on the protected link; and a Resv and a ResvTear have to come from the end of that bypass.
+  A Resv whose record has an address of this router is refused so too: it has been here before.
+  And so is a Path of an LSP that begins here: no other router sends it.
   What to do: nothing, where the path or reservation was torn down or expired before. Else
-  compare session, sender, LSP ID and link with `show paths` and `show resvs`.
-  See: RFC 2205, 3.1.5 to 3.1.8; RFC 3209, 4.4.4; docs/ROUTER.md (A Resv comes)
+  compare session, sender, LSP ID and link with `show paths` and `show resvs`, and the end of the
+  bypass with `show bypasses` and `show tunnels`.
+  See: RFC 2205, 3.1.5 to 3.1.8; RFC 3209, 4.4.4; RFC 4090, 6.4; docs/ROUTER.md (A Resv comes)
 11 NoMerge
-  Not exactly one path here is the one that this backup path joins, which has its
-  session, its LSP ID and another sender; or that path has no room for one more.
-  This version takes no backup paths yet, and never says so.
+  A Path came through labels that end here, for an LSP that another router leads over a bypass.
+  Not exactly one path here is the one that this backup path joins, which has its session, its
+  LSP ID and another sender, and doesn't begin here; or three other backup paths have joined that
+  path, and there is no room for one more.
   What to do: see that the protected path passes here, and that no two LSPs have its LSP ID.
-  See: RFC 4090, 7; docs/PROVED.md (Not there yet)
+  See: RFC 4090, 7; docs/ROUTER.md (Messages of repaired LSPs, and the merge point)
 12 LinkDown
   It came over a link that is down here.
   What to do: take the link up first: `up LINK`. `show links` says which links are up.
@@ -167,7 +171,8 @@ pub const REFUSALS: &str = "\
 42 IsCold
   The router was restarted, and lost what messages had set up in it. Until it is started it
   takes no message, no moment, no command, and no link that comes up or goes down.
-  What to do: start it: `start`. `show` and labelled frames are answered all the same.
+  What to do: start it: `start`. `show` and labelled frames are answered all the same, but for
+  messages whose labels end here.
   See: docs/ROUTER.md (A restart)
 43 WrongPort
   The port isn't the one that the router knows by its number, or isn't at the entry

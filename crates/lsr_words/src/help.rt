@@ -41,7 +41,7 @@ newline at the very end begins no further line. Each line is one of these:
                     hexadecimal digits of either case, two for each, and may be empty
   frame LINK HEX    a whole frame came over link LINK: its first byte is 01 before a message,
                     02 before a payload under labels, 03 before the address of the router that a
-                    message is for, how many routers may pass it on, and the message
+                    message is for, its limit, which each router lowers, and the message
   tick N            moment N came, in milliseconds, 0 to 18446744073709551615; the router is
                     opened at moment 0, and refuses N above 4611686018427387904
   up LINK           link LINK came up

@@ -7,6 +7,7 @@ mod descriptors;
 mod errors;
 mod heads;
 pub mod laws;
+mod merging;
 mod messages;
 mod paths;
 mod requests;
@@ -26,7 +27,10 @@ pub use explicit_routes::{
     Frame, Output, Outputs, RouteError, RouteFault, Way, head_way, is_up, link_at, route_to,
 };
 pub use heads::{current_key, head_key, pending_key};
-pub use messages::{found_here, lsp, sent_by};
+pub use merging::{
+    came_through, is_beside, is_full_beside, is_stack, may_join, stack_origin, under,
+};
+pub use messages::{found_here, lsp, routed_by, sent_back, sent_by};
 pub use paths::{
     ETHERTYPE_IPV4, carries_ipv4, drops_record, has_been_here, has_no_rate, knows_record, lifetime,
     link_of, origins_of, rest_of, role_of, unknown_object, way_for,

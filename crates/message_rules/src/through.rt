@@ -14,7 +14,7 @@ use resv_facts::{Over, Repair};
 use rsvp_contents::Message;
 use rsvp_objects::{Hop, Template};
 
-/// How many routers may pass a message on (RFC 3032, 2.4.1).
+/// The TTL of a message that this router sends under a label (RFC 3032, 2.4.1).
 const MESSAGE_TTL: u8 = 255;
 
 /// The stack of a message through a bypass, by the label that its next hop gave: one entry, and none where that is

@@ -4,6 +4,7 @@
 
 mod heads;
 mod links;
+mod merging;
 mod paths;
 mod relays;
 mod signals;
@@ -13,9 +14,12 @@ mod told;
 
 pub use heads::{head_of, is_head};
 pub use links::link_change;
+pub use merging::{
+    path_through, stack_path_arrival, stack_tear_arrival, unknown_stack_path_arrival,
+};
 pub use message_rules::{current_key, head_key, leaves_by, pending_key};
 pub use paths::{path_arrival, unknown_path_arrival};
 pub use relays::{exceeds_hop_limit, relay};
-pub use tears::{path_err_arrival, path_tear_arrival};
+pub use tears::{err_of_path, path_err_arrival, path_tear_arrival};
 pub use ticks::tick;
 pub use told::{failed, told_upstream};

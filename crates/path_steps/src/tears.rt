@@ -5,7 +5,8 @@ ghost use Rattle.rsvp_contents.specs.Spelling.{IsMessage};
 ghost use Rattle.rsvp_contents.specs.declared.messages.Content.TheVariants as contents;
 ghost use Rattle.abstract_paths.specs.Heads.{noted};
 ghost use Rattle.abstract_paths.specs.MessageLaws.{LeavesRoom};
-ghost use Rattle.abstract_paths.specs.Tears.{left_with, noted_of, path_err_arrival, path_tear_arrival};
+ghost use Rattle.abstract_paths.specs.Outcomes.{done};
+ghost use Rattle.abstract_paths.specs.Tears.{err_of_path, left_with, noted_of, origins_without, path_err_arrival, path_tear_arrival};
 ghost use Rattle.abstract_router.specs.Outcomes.{of_paths};
 ghost use Rattle.abstract_router.specs.States.{State, with_facts};
 ghost use Rattle.state_views.specs.Drafts.{IsDraft};
@@ -18,7 +19,7 @@ use message_rules::{Outputs, is_torn_by, leaves_by, lsp, origins_without};
 use rsvp_contents::{PathErr, PathTear};
 use rsvp_objects::ErrorSpec;
 use sorted_rows::{Table, TryCopy};
-use state_views::{Draft, Edits, StateView, refused};
+use state_views::{Draft, Edits, StateView, node_of, refused};
 use std::alloc::{AllocError, Global};
 use std::net::Ipv4Addr;
 
@@ -43,7 +44,29 @@ fn left_with(
     path_edit(alloc, *key, Some(left))
 }
 
-/// What a PathTear does. The only error is out of memory.
+/// A tear takes the origin of a sender from a path. The only error is out of memory.
+pub(crate) fn torn_from<V: StateView>(
+    alloc: Global,
+    _view: &V,
+    sender: Ipv4Addr,
+    key: &Key,
+    fact: &PathFact,
+) -> Result<Draft, AllocError>
+    ensures { IfOk result (λ draft. IsDraft draft (of_paths (V.state _view.now)
+        (done [] (left_with key.now fact.now (origins_without sender fact.now) (V.state _view.now).facts)))
+        (V.router _view.now) (V.state _view.now)) }
+{
+    let origins = origins_without(alloc, sender, fact)?;
+    Ok(Draft {
+        reply: Reply::Done,
+        errors: Outputs::new(alloc),
+        due: None,
+        is_silent: false,
+        edits: left_with(alloc, key, fact, origins)?,
+    })
+}
+
+/// What a PathTear does. The only error is out of memory, and it comes for none that is refused.
 #[tactic(auto, unfolding(abstract_paths::specs::Tears::path_tear_arrival))]
 pub fn path_tear_arrival<V: StateView>(
     alloc: Global,
@@ -63,14 +86,7 @@ pub fn path_tear_arrival<V: StateView>(
     if !is_torn_by(link, tear, fact) {
         return Ok(refused(alloc, view, Refusal::NoMatch));
     }
-    let origins = origins_without(alloc, tear.sender.sender, fact)?;
-    Ok(Draft {
-        reply: Reply::Done,
-        errors: Outputs::new(alloc),
-        due: None,
-        is_silent: false,
-        edits: left_with(alloc, &key, fact, origins)?,
-    })
+    torn_from(alloc, view, tear.sender.sender, &key, fact)
 }
 
 /// That the Tspec of a PathErr leaves room for the rest of it.
@@ -127,7 +143,31 @@ fn noted_of<V: StateView>(
     })
 }
 
-/// What a PathErr does. The only error is out of memory.
+/// What a PathErr does that is for the LSP of this path: it is told to the path's origins, and noted where the path
+/// begins here. The only error is out of memory.
+pub fn err_of_path<V: StateView>(
+    alloc: Global,
+    view: &V,
+    key: &Key,
+    error: &PathErr,
+    fact: &PathFact,
+) -> Result<Draft, AllocError>
+    requires { IsMessage (contents.PathErr error.now) }
+    ensures { IfOk result (λ draft. IsDraft draft (of_paths (V.state view.now)
+        (err_of_path (V.router view.now) (V.state view.now).facts key.now error.now fact.now))
+        (V.router view.now) (V.state view.now)) }
+{
+    leaves_room(error);
+    Ok(Draft {
+        reply: Reply::Done,
+        errors: told_upstream(alloc, &node_of(view), key, fact, &error.tspec, error.error)?,
+        due: None,
+        is_silent: false,
+        edits: noted_of(alloc, view, error, fact)?,
+    })
+}
+
+/// What a PathErr does. The only error is out of memory, and it comes for none that is refused.
 #[tactic(auto, unfolding(abstract_paths::specs::Tears::path_err_arrival))]
 pub fn path_err_arrival<V: StateView>(
     alloc: Global,
@@ -136,10 +176,11 @@ pub fn path_err_arrival<V: StateView>(
     error: &PathErr,
 ) -> Result<Draft, AllocError>
     requires { IsMessage (contents.PathErr error.now) }
-    ensures draft { IfOk result (λ draft. IsDraft draft
-        (of_paths (V.state view.now) (path_err_arrival (V.state view.now).facts link error.now))
+    ensures draft { IfOk result (λ draft. IsDraft draft (of_paths (V.state view.now)
+        (path_err_arrival (V.router view.now) (V.state view.now).facts link error.now))
         (V.router view.now) (V.state view.now)) }
-    ensures memory { OnErr result ((path_err_arrival (V.state view.now).facts link error.now).is_silent ≡ false) }
+    ensures memory { OnErr result
+        ((path_err_arrival (V.router view.now) (V.state view.now).facts link error.now).is_silent ≡ false) }
 {
     let key = lsp(error.session, error.sender);
     let Some(fact) = view.path(&key) else {
@@ -148,12 +189,5 @@ pub fn path_err_arrival<V: StateView>(
     if !leaves_by(link, fact) {
         return Ok(refused(alloc, view, Refusal::NoMatch));
     }
-    leaves_room(error);
-    Ok(Draft {
-        reply: Reply::Done,
-        errors: told_upstream(alloc, &key, fact, &error.tspec, error.error)?,
-        due: None,
-        is_silent: false,
-        edits: noted_of(alloc, view, error, fact)?,
-    })
+    err_of_path(alloc, view, &key, error, fact)
 }

@@ -19,11 +19,11 @@ on_err (Ok x) P holds = tt
 on_err (Err e) P holds = holds
 
 -- an error is there, first or not
-some_error : (first : Option RsvpError) (e : RsvpError) → is_some (option_or first (Some e)) ≡ true
+pub some_error : (first : Option RsvpError) (e : RsvpError) → is_some (option_or first (Some e)) ≡ true
 some_error None e = refl
 some_error (Some other) e = refl
 
-either_granted : (b : Bool) → (b || true) ≡ true
+pub either_granted : (b : Bool) → (b || true) ≡ true
 either_granted true = refl
 either_granted false = refl
 
@@ -37,25 +37,27 @@ still_carried r link v d fact progress (Failed e) was = ap (λ b. b || progress.
 still_carried r link v d fact progress PassedOver was = was
 still_carried r link v d fact progress Granted was = either_granted (is_some progress.first)
 
-module _ (r : Router) (link : ℕ) (style : ResvStyle) (v : Resv) where
-  -- once something is heard, it stays so
-  pub heard_fold : (ds : List FlowDescriptor) (progress : Progress) → is_heard progress ≡ true → is_heard (fold (next_descriptor r link style v) progress ds) ≡ true
+-- What is heard of stays so, whatever comes of the next flow descriptor.
+module _ (next : Progress → FlowDescriptor → Progress) (stays : (progress : Progress) (d : FlowDescriptor) → is_heard progress ≡ true → is_heard (next progress d) ≡ true) where
+  heard_fold : (ds : List FlowDescriptor) (progress : Progress) → is_heard progress ≡ true → is_heard (fold next progress ds) ≡ true
   heard_fold [] progress was = was
-  heard_fold (d ∷ ds) progress was =
-      let fact = resv_by progress.state.facts.moment link style v d in
-      heard_fold ds (next_descriptor r link style v progress d) (still_carried r link v d fact progress (verdict_of r progress.state (key_in v d) fact) was)
+  heard_fold (d ∷ ds) progress was = heard_fold ds (next progress d) (stays progress d was)
+
+  -- where one of all is heard of, all are
+  pub heard_all : (progress : Progress) (ds : List FlowDescriptor) (i : ℕ) (d : FlowDescriptor) (whole : Progress) → i < length ds → d ≡ get_or ds i d
+      → is_heard (next progress d) ≡ true → fold next progress (drop i ds) ≡ whole → is_heard whole ≡ true
+  heard_all progress ds i d whole below is heard same =
+      subst (λ p. is_heard p ≡ true) (sym (ap (fold next progress) (drop_one ds i d below is)) ∙ same)
+      (heard_fold (drop (i + 1) ds) (next progress d) heard)
+
+module _ (r : Router) (link : ℕ) (style : ResvStyle) (v : Resv) where
+  -- so it is of a Resv that comes over a link
+  pub still_heard : (progress : Progress) (d : FlowDescriptor) → is_heard progress ≡ true → is_heard (next_descriptor r link style v progress d) ≡ true
+  still_heard progress d was = let fact = resv_by progress.state.facts.moment link style v d in still_carried r link v d fact progress (verdict_of r progress.state (key_in v d) fact) was
 
   -- a flow descriptor that isn't passed over is heard of
   pub heard_next : (progress : Progress) (d : FlowDescriptor) → verdict_of r progress.state (key_in v d) (resv_by progress.state.facts.moment link style v d) ≢ PassedOver → is_heard (next_descriptor r link style v progress d) ≡ true
   heard_next progress d other = let fact = resv_by progress.state.facts.moment link style v d in heard_carried r link v d fact progress (verdict_of r progress.state (key_in v d) fact) other
-
-  -- where one of all isn't passed over, all are heard of
-  pub heard_all : (progress : Progress) (ds : List FlowDescriptor) (i : ℕ) (d : FlowDescriptor) (whole : Progress) → i < length ds → d ≡ get_or ds i d
-      → verdict_of r progress.state (key_in v d) (resv_by progress.state.facts.moment link style v d) ≢ PassedOver
-      → fold (next_descriptor r link style v) progress (drop i ds) ≡ whole → is_heard whole ≡ true
-  heard_all progress ds i d whole below is other same =
-      subst (λ p. is_heard p ≡ true) (sym (ap (fold (next_descriptor r link style v) progress) (drop_one ds i d below is)) ∙ same)
-      (heard_fold (drop (i + 1) ds) (next_descriptor r link style v progress d) (heard_next progress d other))
 
 -- what is heard of isn't silent
 pub heard_speaks : (s : State) (progress : Progress) → is_heard progress ≡ true → (resv_replied s progress progress.first).is_silent ≡ false

@@ -39,11 +39,19 @@ use Rattle.resv_arrivals.specs.declared.asked.Asked.{Asked}
 use Rattle.resv_arrivals.specs.declared.progress.Progress.{Progress}
 
 -- what the code asks for is what the LSP does
-pub request_is : (paths : List (Key × PathFact)) (key : Key) (fact : ResvFact) (path : PathFact) (rate : ℕ) → find key_cmp key paths ≡ Some path → flowspec_rate fact.flowspec ≡ Ok rate
+request_is : (paths : List (Key × PathFact)) (key : Key) (fact : ResvFact) (path : PathFact) (rate : ℕ) → find key_cmp key paths ≡ Some path → flowspec_rate fact.flowspec ≡ Ok rate
     → request_of paths key fact ≡ record { key = key; claim = record { link = fact.link; style = fact.style; rate = rate; holding = holding_of path.attr }; setup = setup_of path.attr }
 request_is paths key fact path rate found rated =
     let with = λ (attr : Option Attr) (n : ℕ). let request : Request = record { key = key; claim = record { link = fact.link; style = fact.style; rate = n; holding = holding_of attr }; setup = setup_of attr } in request in
     ap (λ o. with (option_and_then (λ (p : PathFact). p.attr) o) (result_unwrap_or (flowspec_rate fact.flowspec) 0)) found ∙ ap (λ r. with path.attr (result_unwrap_or r 0)) rated
+
+-- so of a flow descriptor, by the priorities that the path names
+pub asks_is : (s : State) (asked : Asked) (path : PathFact) (rate : ℕ) (attr : Option Attr) (request : Request) → find key_cmp asked.key s.facts.paths ≡ Some path → flowspec_rate asked.descriptor.now.flowspec ≡ Ok rate → attr ≡ path.attr
+    → request ≡ record { key = asked.key; claim = record { link = asked.link; style = asked.style; rate = rate; holding = holding_of attr }; setup = setup_of attr } → request ≡ request_of s.facts.paths asked.key (fact_at s.facts.moment asked)
+asks_is s asked path rate attr request found rated named is =
+    is
+    ∙ ap (λ attr. record { key = asked.key; claim = record { link = asked.link; style = asked.style; rate = rate; holding = holding_of attr }; setup = setup_of attr }) named
+    ∙ sym (request_is s.facts.paths asked.key (fact_at s.facts.moment asked) path rate found rated)
 
 -- a reservation that stands against it, by its style alone
 pub by_style : (o : Option (Key × ResvFact)) (otherwise : Verdict) → option_map_or (λ other. Failed (style_conflict other.1.style)) o otherwise ≡ option_map_or (λ style. Failed (style_conflict style)) (option_map (λ other. other.1.style) o) otherwise
@@ -63,13 +71,28 @@ has_own_path key path (row ∷ rows) =
     either true b h = refl
     either false b h = h
 
+-- A verdict where there may be no room, by the one where there is.
+abbrev pub in_room : Bool → Verdict → Verdict
+in_room has_room (Failed e) = Failed e
+in_room has_room PassedOver = PassedOver
+in_room has_room Granted = if not has_room then Failed no_bandwidth else Granted
+
+by_room : (r : Router) (fact : ResvFact) (has_room : Bool) (rate : Result ℕ TrafficFault) → verdict_by_rate r fact has_room rate ≡ in_room has_room (verdict_by_rate r fact true rate)
+by_room r fact has_room (Err fault) = refl
+by_room r fact has_room (Ok rate) = by (not (is_label fact.label)) (has_loop r fact.recorded)
+  where
+    by : (bad loop : Bool) → (if bad then Failed unacceptable_label else if loop then PassedOver else if not has_room then Failed no_bandwidth else Granted) ≡ in_room has_room (if bad then Failed unacceptable_label else if loop then PassedOver else Granted)
+    by true loop = refl
+    by false true = refl
+    by false false = refl
+
 -- So the verdict on a path that leaves by the link, of an LSP that isn't repaired, is told by the style of the first that
 -- stands against it.
 pub on_path_is : (r : Router) (s : State) (key : Key) (fact : ResvFact) (path : PathFact) (found : Option ResvStyle) → leaves_by fact.link path ≡ true → is_repaired s key ≡ false
     → found ≡ option_map (λ other. other.1.style) (find_first (conflicts fact.link fact.style key) s.resvs)
-    → verdict_on_path r s key fact path ≡ option_map_or (λ style. Failed (style_conflict style)) found (verdict_by_rate r s key fact (flowspec_rate fact.flowspec))
+    → verdict_on_path r s key fact path ≡ option_map_or (λ style. Failed (style_conflict style)) found (verdict_by_rate r fact (fits r s key fact) (flowspec_rate fact.flowspec))
 on_path_is r s key fact path found leaves unrepaired found_is =
-    let rest = verdict_by_rate r s key fact (flowspec_rate fact.flowspec) in
+    let rest = verdict_by_rate r fact (fits r s key fact) (flowspec_rate fact.flowspec) in
     (λ i. cond (not (leaves i) || unrepaired i) PassedOver (option_map_or (λ (other : Key × ResvFact). Failed (style_conflict other.1.style)) (find_first (conflicts fact.link fact.style key) s.resvs) rest))
     ∙ by_style (find_first (conflicts fact.link fact.style key) s.resvs) rest
     ∙ ap (λ (o : Option ResvStyle). option_map_or (λ style. Failed (style_conflict style)) o rest) (sym found_is)
@@ -91,7 +114,7 @@ module _ (r : Router) (s : State) (key : Key) (fact : ResvFact) where
   abbrev IsRated : Verdict → Type 0
   IsRated verdict = verdict ≡ Granted → IsOk (flowspec_rate fact.flowspec)
 
-  rated_by_rate : (rate : Result ℕ TrafficFault) → flowspec_rate fact.flowspec ≡ rate → IsRated (verdict_by_rate r s key fact rate)
+  rated_by_rate : (rate : Result ℕ TrafficFault) → flowspec_rate fact.flowspec ≡ rate → IsRated (verdict_by_rate r fact (fits r s key fact) rate)
   rated_by_rate (Err fault) is = λ e. absurd (let h = e in cc)
   rated_by_rate (Ok rate) is = λ e. subst IsOk (sym is) refl
 
@@ -100,7 +123,7 @@ module _ (r : Router) (s : State) (key : Key) (fact : ResvFact) where
       cond_both (not (leaves_by fact.link path) || is_repaired s key) _ _ IsRated (λ other. λ e. absurd (let h = e in cc))
       (λ leaves. by (find_first (conflicts fact.link fact.style key) s.resvs))
     where
-      by : (o : Option (Key × ResvFact)) → IsRated (option_map_or (λ other. Failed (style_conflict other.1.style)) o (verdict_by_rate r s key fact (flowspec_rate fact.flowspec)))
+      by : (o : Option (Key × ResvFact)) → IsRated (option_map_or (λ other. Failed (style_conflict other.1.style)) o (verdict_by_rate r fact (fits r s key fact) (flowspec_rate fact.flowspec)))
       by None = rated_by_rate (flowspec_rate fact.flowspec) refl
       by (Some other) = λ e. absurd (let h = e in cc)
 
@@ -114,7 +137,7 @@ module _ (r : Router) (s : State) (key : Key) (fact : ResvFact) where
       by None is = λ e. absurd (let h = e in cc)
       by (Some path) is = λ e. record { path = ap is_some is; rate = rated_on_path path e }
 
-module _ (r : Router) (s : State) (p : Progress) (asked : Asked) (rate : ℕ) (request : Request) (is : IsReached r s p) (none : is_some p.claims ≡ false) where
+module _ (r : Router) (s : State) (p : Progress) (asked : Asked) (request : Request) (is : IsReached r s p) (none : is_some p.claims ≡ false) where
   -- what is claimed is what was claimed, within the limits
   was_claimed : claims_of s.facts.paths s.resvs ≡ claims_at s p
   was_claimed = sym (ap (λ o. unwrap_or o (claims_of s.facts.paths s.resvs)) (by p.claims none)) ∙ is.claimed
@@ -126,15 +149,23 @@ module _ (r : Router) (s : State) (p : Progress) (asked : Asked) (rate : ℕ) (r
   within : (priority : ℕ) → priority ≤ 7 → reserved_of request.claim.link priority (claims_at s p) ≤ limit_of r request.claim.link
   within priority most = subst (λ cs. reserved_of request.claim.link priority cs ≤ limit_of r request.claim.link) was_claimed (is.held.within request.claim.link priority most)
 
-  -- An LSP that asks for what it claims already is granted it, and nobody gives way.
-  pub renewed_is : not (is_label asked.descriptor.now.label.number) ≡ false → has_loop r asked.descriptor.now.recorded ≡ false
-      → request ≡ request_of s.facts.paths asked.key (fact_at s.facts.moment asked) → request.setup ≤ 7 → find key_cmp request.key (claims_at s p) ≡ Some request.claim
-      → (verdict_by_rate r (reached s p).state asked.key (fact_at s.facts.moment asked) (Ok rate) ≡ Granted) × IsRenewed r s p asked
-  renewed_is label loop asks most found =
+  -- An LSP that asks for what it claims already has room, and nobody gives way.
+  pub renewed_is : request ≡ request_of s.facts.paths asked.key (fact_at s.facts.moment asked) → request.setup ≤ 7 → find key_cmp request.key (claims_at s p) ≡ Some request.claim
+      → (fits r (reached s p).state asked.key (fact_at s.facts.moment asked) ≡ true) × IsRenewed r s p asked
+  renewed_is asks most found =
       let fact = fact_at s.facts.moment asked in
       let sorted = claims_sorted r s p is in
       let room : fits r (reached s p).state asked.key fact ≡ true = sym (ap (λ (q : Request). admission.fits (limit_of r q.claim.link) q (claims_at s p)) asks) ∙ fits_again request (claims_at s p) sorted found (limit_of r request.claim.link) within most in
-      let alone : giving_way r (reached s p).state asked.key fact ≡ [] = sym (ap (λ (q : Request). victims_of (limit_of r q.claim.link) q (claims_at s p)) asks) ∙ none_gives_way request (claims_at s p) sorted found (limit_of r request.claim.link) within in (
-        (λ i. if label i then Failed unacceptable_label else if loop i then PassedOver else if not (room i) then Failed no_bandwidth else Granted),
-        record { claimed = subst (λ (q : Request). find key_cmp q.key (claims_at s p) ≡ Some q.claim) asks found; alone = alone },
-      )
+      let alone : giving_way r (reached s p).state asked.key fact ≡ [] = sym (ap (λ (q : Request). victims_of (limit_of r q.claim.link) q (claims_at s p)) asks) ∙ none_gives_way request (claims_at s p) sorted found (limit_of r request.claim.link) within in
+      (room, record { claimed = subst (λ (q : Request). find key_cmp q.key (claims_at s p) ≡ Some q.claim) asks found; alone = alone })
+
+-- What is granted where there is room is granted, or fails, as what the code asks for fits.
+pub as_it_fits : (r : Router) (s : State) (p : Progress) (asked : Asked) (rate : ℕ) (request : Request) (room : Bool) → flowspec_rate asked.descriptor.now.flowspec ≡ Ok rate
+    → verdict_by_rate r (fact_at s.facts.moment asked) true (Ok rate) ≡ Granted
+    → request ≡ request_of s.facts.paths asked.key (fact_at s.facts.moment asked)
+    → room ≡ admission.fits (limit_of r request.claim.link) request (claims_at s p)
+    → verdict_by_rate r (fact_at s.facts.moment asked) (fits r (reached s p).state asked.key (fact_at s.facts.moment asked)) (flowspec_rate asked.descriptor.now.flowspec) ≡ in_room room Granted
+as_it_fits r s p asked rate request room rated granted asks is =
+    let fact = fact_at s.facts.moment asked in
+    let has : fits r (reached s p).state asked.key fact ≡ room = sym (is ∙ ap (λ (q : Request). admission.fits (limit_of r q.claim.link) q (claims_at s p)) asks) in
+    (λ i. verdict_by_rate r fact (has i) (rated i)) ∙ by_room r fact room (Ok rate) ∙ ap (in_room room) granted

@@ -114,7 +114,7 @@ module _ (r : Router) (s : State) (p now : Progress) (key : Key) (fact : ResvFac
       all = gives ∙ ap (λ k. giving_way r (reached s p).state k fact) own
 
 -- A flow descriptor that is granted leads to what the code makes of it.
-pub granted_leads : (r : Router) (s : State) (p : Progress) (asked : Asked) (request : Request) (gone : List Key) (fact : ResvFact) (errors : List Output) (edits : List (Key × Option ResvFact)) (claims : Option (List (Key × Claim)))
+pub granted_leads : (r : Router) (s : State) (p : Progress) (asked : Asked) (is_last : Bool) (request : Request) (gone : List Key) (fact : ResvFact) (errors : List Output) (edits : List (Key × Option ResvFact)) (claims : Option (List (Key × Claim)))
     → IsReached r s p → IsOwn asked
     → verdict_of r (reached s p).state asked.key (fact_at s.facts.moment asked) ≡ reserving.Granted
     → request ≡ request_of s.facts.paths asked.key (fact_at s.facts.moment asked)
@@ -122,16 +122,16 @@ pub granted_leads : (r : Router) (s : State) (p : Progress) (asked : Asked) (req
     → fact ≡ fact_at s.facts.moment asked
     → errors ≡ fold (told_of r (resvs_at s p)) p.errors gone
     → edits ≡ put key_cmp request.key (Some fact) (fold without_edit p.edits gone)
-    → (asked.is_last ≡ false → claims ≡ Some (granted request (without gone (unwrap_or p.claims (claims_of s.facts.paths s.resvs)))))
+    → (is_last ≡ false → claims ≡ Some (granted request (without gone (unwrap_or p.claims (claims_of s.facts.paths s.resvs)))))
     → let now : Progress = record { claims = claims; edits = edits; errors = errors; first = p.first; has_granted = true } in
-    (reached s now ≡ carried_on r asked.link asked.resv.now asked.descriptor.now (fact_at s.facts.moment asked) (reached s p) reserving.Granted) × (asked.is_last ≡ false → IsReached r s now)
-granted_leads r s p asked request gone fact errors edits claims is own may asks gives same tells edited_so claimed_so =
+    (reached s now ≡ carried_on r asked.link asked.resv.now asked.descriptor.now (fact_at s.facts.moment asked) (reached s p) reserving.Granted) × (is_last ≡ false → IsReached r s now)
+granted_leads r s p asked is_last request gone fact errors edits claims is own may asks gives same tells edited_so claimed_so =
     let key = asked.key in
     let wanted = fact_at s.facts.moment asked in
     let now : Progress = record { claims = claims; edits = edits; errors = errors; first = p.first; has_granted = true } in
     let put_so : edits ≡ put key_cmp key (Some wanted) (fold without_edit p.edits gone) = edited_so ∙ (λ i. put key_cmp (asks i).key (Some (same i)) (fold without_edit p.edits gone)) in
     let gives_so : gone ≡ giving_way r (reached s p).state key wanted = gives ∙ ap (λ (q : Request). victims_of (limit_of r q.claim.link) q (claims_at s p)) asks in
-    let counted : asked.is_last ≡ false → unwrap_or claims (claims_of s.facts.paths s.resvs) ≡ granted (request_of s.facts.paths key wanted) (without gone (claims_at s p)) =
+    let counted : is_last ≡ false → unwrap_or claims (claims_of s.facts.paths s.resvs) ≡ granted (request_of s.facts.paths key wanted) (without gone (claims_at s p)) =
     λ more. ap (λ (o : Option (List (Key × Claim))). unwrap_or o (claims_of s.facts.paths s.resvs)) (claimed_so more) ∙ (λ i. granted (asks i) (without gone (is.claimed i))) in (
       granted_carried r s p now key wanted gone is may put_so asked.link asked.resv.now asked.descriptor.now own gives_so (tells ∙ told_in_turn r (reached s p).state p.errors gone) refl refl,
       λ more. granted_reached r s p now key wanted gone is may put_so (counted more),

@@ -15,9 +15,10 @@ ghost use Rattle.state_views.specs.Drafts.{IsDraft};
 ghost use Rattle.resv_arrivals.specs.Progresses.{is_heard, reached};
 
 use crate::asked::Asked;
-use crate::granting::{next_descriptor, with_told};
+use crate::granting::next_descriptor;
 use crate::progress::Progress;
-use lsr_facts::{Key, Refusal, Reply, RsvpError};
+use crate::replies::{resv_replied, with_told};
+use lsr_facts::{Key, Reply, RsvpError};
 use message_rules::{
     UNKNOWN_STYLE, key_in, named, reservation_error, resv_leaves_room, told_downstream,
     unknown_object,
@@ -26,7 +27,7 @@ use resv_facts::ResvStyle;
 use router_events::Outputs;
 use rsvp_contents::Resv;
 use rsvp_flows::ErrorDescriptor;
-use state_views::{Draft, Edits, StateView, WholeState, refused};
+use state_views::{Draft, Edits, StateView, WholeState};
 use std::alloc::{AllocError, Global};
 
 /// A Resv that is in error as a whole: that is told back, and changes nothing.
@@ -92,35 +93,31 @@ fn all_descriptors<V: WholeState>(
             resv,
             descriptor,
             key: key_in(resv, descriptor),
-            is_last: index + 1 == descriptors.len(),
         };
-        progress = next_descriptor(alloc, view, progress, &asked)?;
+        let is_last = index + 1 == descriptors.len();
+        progress = next_descriptor(alloc, view, progress, &asked, is_last)?;
     }
     Ok(progress)
 }
 
-/// The reply to a Resv: the first error found; with none, done where a flow descriptor was granted; else it matches
-/// nothing.
+/// The reply to a Resv whose flow descriptors led to this.
 fn replied<V: WholeState>(alloc: Global, view: &V, progress: Progress) -> Draft
     ensures { IsDraft result (resv_replied (V.state view.now)
         (reached (V.state view.now) progress) progress.first)
         (V.router view.now) (V.state view.now) }
 {
-    let reply = match progress.first {
-        Some(error) => Reply::Error(error),
-        None if progress.has_granted => Reply::Done,
-        None => return refused(alloc, view, Refusal::NoMatch),
+    let edits = Edits {
+        resvs: progress.edits,
+        ..Edits::none(alloc)
     };
-    Draft {
-        reply,
-        errors: progress.errors,
-        due: None,
-        is_silent: false,
-        edits: Edits {
-            resvs: progress.edits,
-            ..Edits::none(alloc)
-        },
-    }
+    resv_replied(
+        alloc,
+        view,
+        edits,
+        progress.errors,
+        progress.first,
+        progress.has_granted,
+    )
 }
 
 /// What a Resv does that is read whole. It asks for what holds of each state that a router comes to. The only error is

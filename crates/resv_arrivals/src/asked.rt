@@ -8,9 +8,9 @@ use rsvp_flows::FlowDescriptor;
 /// One flow descriptor of a Resv.
 #[derive(Clone, Copy, Debug)]
 pub struct Asked<'a> {
-    /// The number of the link that the Resv came over.
+    /// The number of the link that the reservation is to be on.
     pub link: u16,
-    /// Its style.
+    /// The style of the Resv.
     pub style: ResvStyle,
     /// The Resv.
     pub resv: &'a Resv,
@@ -18,6 +18,4 @@ pub struct Asked<'a> {
     pub descriptor: &'a FlowDescriptor,
     /// The LSP that the flow descriptor is for.
     pub key: Key,
-    /// Whether it is the Resv's last.
-    pub is_last: bool,
 }

@@ -17,6 +17,7 @@ use crate::asked::Asked;
 use crate::claims::{claims_for_next, giving_way};
 use crate::edits::edits_with;
 use crate::progress::{Progress, is_held_now, resv_now};
+use crate::replies::with_told;
 use crate::verdicts::{Verdict, verdict_of};
 use lsr_facts::{Key, RsvpError};
 use message_rules::{named, reservation_error, resv_by, told_downstream, told_preempted};
@@ -25,17 +26,6 @@ use router_events::{Output, Outputs};
 use sorted_rows::Table;
 use state_views::{StateView, WholeState};
 use std::alloc::{AllocError, Global};
-
-/// Errors with one more, where it can be told. The only error is out of memory.
-pub fn with_told(errors: Outputs, told: Option<Output>) -> Result<Outputs, AllocError>
-    ensures { IfOk result (λ now. now ≡ errors ++ option_to_list told) }
-{
-    let mut now = errors;
-    if let Some(output) = told {
-        now.push(output)?;
-    }
-    Ok(now)
-}
 
 /// A flow descriptor is in error: that goes back over the link that the Resv came by, and changes nothing. It says in
 /// place where the LSP is reserved or repaired (RFC 2205, A.5).
@@ -169,13 +159,14 @@ fn renewed<V: WholeState>(
     })
 }
 
-/// A flow descriptor is granted: its reservation is put, once those who give way have lost theirs.
+/// A flow descriptor is granted, be it the last or not: its reservation is put, once those who give way have lost theirs.
 fn granted<V: WholeState>(
     alloc: Global,
     view: &V,
     progress: Progress,
     asked: &Asked,
     request: &Request,
+    is_last: bool,
 ) -> Result<Progress, AllocError>
     requires reached { IsReached (V.router view.now) (V.state view.now) progress }
     requires own { IsOwn asked.now }
@@ -188,7 +179,7 @@ fn granted<V: WholeState>(
         ≡ carried_on (V.router view.now) asked.now.link asked.now.resv.now asked.now.descriptor.now
         (fact_at (V.state view.now).facts.moment asked.now) (reached (V.state view.now) progress)
         reserving.Granted) }
-    ensures reached { IfOk result (λ now. asked.now.is_last ≡ false → IsReached (V.router view.now) (V.state view.now) now) }
+    ensures reached { IfOk result (λ now. is_last ≡ false → IsReached (V.router view.now) (V.state view.now) now) }
 {
     let gone = giving_way(alloc, view, &progress, request)?;
     let fact = resv_by(
@@ -208,7 +199,7 @@ fn granted<V: WholeState>(
     let errors = with_preempted(alloc, view, &edits, errors, &gone)?;
     let edits = edits_with(edits, &gone, request.key, fact)?;
     Ok(Progress {
-        claims: claims_for_next(alloc, view, claims, &gone, request, asked.is_last)?,
+        claims: claims_for_next(alloc, view, claims, &gone, request, is_last)?,
         edits,
         errors,
         first,
@@ -216,12 +207,13 @@ fn granted<V: WholeState>(
     })
 }
 
-/// What comes of the next flow descriptor.
+/// What comes of the next flow descriptor, be it the last or not.
 pub fn next_descriptor<V: WholeState>(
     alloc: Global,
     view: &V,
     progress: Progress,
     asked: &Asked,
+    is_last: bool,
 ) -> Result<Progress, AllocError>
     requires reached { IsReached (V.router view.now) (V.state view.now) progress }
     requires own { IsOwn asked.now }
@@ -229,7 +221,7 @@ pub fn next_descriptor<V: WholeState>(
     ensures carried { IfOk result (λ now. reached (V.state view.now) now
         ≡ next_descriptor (V.router view.now) asked.now.link asked.now.style asked.now.resv.now
         (reached (V.state view.now) progress) asked.now.descriptor.now) }
-    ensures reached { IfOk result (λ now. asked.now.is_last ≡ false → IsReached (V.router view.now) (V.state view.now) now) }
+    ensures reached { IfOk result (λ now. is_last ≡ false → IsReached (V.router view.now) (V.state view.now) now) }
     ensures memory { OnErr result (verdict_of (V.router view.now)
         (reached (V.state view.now) progress).state asked.now.key
         (fact_at (V.state view.now).facts.moment asked.now) ≢ reserving.PassedOver) }
@@ -238,6 +230,6 @@ pub fn next_descriptor<V: WholeState>(
         Verdict::Failed(error) => failed(alloc, view, progress, asked, error),
         Verdict::PassedOver => Ok(progress),
         Verdict::Renewed => renewed(view, progress, asked),
-        Verdict::Granted(request) => granted(alloc, view, progress, asked, &request),
+        Verdict::Granted(request) => granted(alloc, view, progress, asked, &request, is_last),
     }
 }

@@ -5,19 +5,18 @@ ghost use Rattle.std.specs.Prelude.{◌≡◌, Ok, Some, false, true};
 ghost use Rattle.lsr_facts.specs.Orders.{key_cmp};
 ghost use Rattle.rsvp_traffic.specs.Traffic.{flowspec_rate};
 ghost use Rattle.abstract_paths.specs.Tears.{leaves_by};
+ghost use Rattle.abstract_router.specs.Preempting.{fits};
+ghost use Rattle.abstract_router.specs.Reserving as reserving;
 ghost use Rattle.abstract_router.specs.Reserving.{verdict_by_rate, verdict_of, verdict_on_path};
 ghost use Rattle.abstract_router.specs.States.{is_repaired};
 ghost use Rattle.resv_arrivals.specs.Progresses.{IsReached, IsVerdict, fact_at, reached};
 
 use crate::asked::Asked;
 use crate::claims::{fits, is_claimed, style_in_conflict};
+use crate::judgement::{Judgement, judge};
 use crate::progress::Progress;
-use forwarding_table::is_label;
 use lsr_facts::{PathFact, RsvpError};
-use message_rules::{
-    NO_BANDWIDTH, NO_PATH, NO_SENDER, UNACCEPTABLE_LABEL, has_been_here, leaves_by, request_of,
-    style_conflict, traffic_error,
-};
+use message_rules::{NO_BANDWIDTH, NO_PATH, NO_SENDER, leaves_by, request_of, style_conflict};
 use resv_facts::Request;
 use state_views::WholeState;
 
@@ -34,10 +33,9 @@ pub enum Verdict {
     Granted(Request),
 }
 
-/// What becomes of a flow descriptor whose LSP has this path, and whose FLOWSPEC has this rate, in bytes per second.
-/// What is claimed already has room, and nobody gives way to it: so all that is reserved isn't added up then.
-#[tactic(auto, using(crate::proofs::Judging::request_is))]
-fn verdict_at_rate<V: WholeState>(
+/// What becomes of a flow descriptor whose LSP has this path, and which is granted at this rate, in bytes per second, where
+/// there is room. What is claimed already has room, and nobody gives way to it: so all that is reserved isn't added up then.
+fn verdict_in_room<V: WholeState>(
     view: &V,
     progress: &Progress,
     asked: &Asked,
@@ -47,16 +45,13 @@ fn verdict_at_rate<V: WholeState>(
     requires reached { IsReached (V.router view.now) (V.state view.now) progress.now }
     requires path { find key_cmp asked.now.key (V.state view.now).facts.paths ≡ Some path.now }
     requires rate { flowspec_rate asked.now.descriptor.now.flowspec ≡ Ok rate }
-    ensures { IsVerdict (V.router view.now) (V.state view.now) progress.now asked.now result
-        (verdict_by_rate (V.router view.now) (reached (V.state view.now) progress.now).state asked.now.key
-        (fact_at (V.state view.now).facts.moment asked.now) (Ok rate)) }
+    requires granted { verdict_by_rate (V.router view.now) (fact_at (V.state view.now).facts.moment asked.now)
+        true (Ok rate) ≡ reserving.Granted }
+    ensures { let s = (reached (V.state view.now) progress.now).state in
+        let fact = fact_at (V.state view.now).facts.moment asked.now in
+        IsVerdict (V.router view.now) (V.state view.now) progress.now asked.now result
+        (verdict_by_rate (V.router view.now) fact (fits (V.router view.now) s asked.now.key fact) (flowspec_rate fact.flowspec)) }
 {
-    if !is_label(asked.descriptor.label.number) {
-        return Verdict::Failed(UNACCEPTABLE_LABEL);
-    }
-    if has_been_here(&view.node(), &asked.descriptor.recorded) {
-        return Verdict::PassedOver;
-    }
     let request = request_of(asked.key, asked.link, asked.style, rate, path.attr.as_ref());
     if progress.claims.is_none() && is_claimed(view, progress, &request) {
         return Verdict::Renewed;
@@ -76,13 +71,15 @@ fn verdict_by_rate<V: WholeState>(
 ) -> Verdict
     requires reached { IsReached (V.router view.now) (V.state view.now) progress.now }
     requires path { find key_cmp asked.now.key (V.state view.now).facts.paths ≡ Some path.now }
-    ensures { IsVerdict (V.router view.now) (V.state view.now) progress.now asked.now result
-        (verdict_by_rate (V.router view.now) (reached (V.state view.now) progress.now).state asked.now.key
-        (fact_at (V.state view.now).facts.moment asked.now) (flowspec_rate asked.now.descriptor.now.flowspec)) }
+    ensures { let s = (reached (V.state view.now) progress.now).state in
+        let fact = fact_at (V.state view.now).facts.moment asked.now in
+        IsVerdict (V.router view.now) (V.state view.now) progress.now asked.now result
+        (verdict_by_rate (V.router view.now) fact (fits (V.router view.now) s asked.now.key fact) (flowspec_rate fact.flowspec)) }
 {
-    match asked.descriptor.flowspec.rate() {
-        Ok(rate) => verdict_at_rate(view, progress, asked, path, rate),
-        Err(fault) => Verdict::Failed(traffic_error(fault)),
+    match judge(view, asked) {
+        Judgement::Failed(error) => Verdict::Failed(error),
+        Judgement::PassedOver => Verdict::PassedOver,
+        Judgement::Granted(rate) => verdict_in_room(view, progress, asked, path, rate),
     }
 }
 

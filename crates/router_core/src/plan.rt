@@ -25,8 +25,8 @@ use router_steps::{draft_of, exceeds_hop_limit};
 use router_tables::{Change, Draft, Edits, Tables, table_edits, tunnel_edits};
 use rsvp_contents::Reading;
 use sorted_rows::Table;
-use state_sends::{StateSends, appended, sends_of};
-use state_settling::{Settled, bandwidth_edits, settle};
+use state_sends::{appended, sends_of};
+use state_settling::{bandwidth_edits, settle};
 use std::alloc::{AllocError, Global};
 
 /// Octets of an address.
@@ -119,48 +119,30 @@ fn sending_plan(alloc: Global, tables: &Tables, draft: Draft) -> Result<Plan, Al
     ensures { IfOk result (IsSendingPlan tables.now.router tables.now.state (drafted draft tables.now.router tables.now.state)) }
 {
     tables.soundness();
-    let Settled {
-        edits,
-        chosen,
-        told,
-    } = settle(alloc, tables, draft.edits)?;
-    let errors = appended(draft.errors, told)?;
-    let StateSends {
-        outputs,
-        moments,
-        upstream,
-        changed,
-    } = sends_of(alloc, tables, &edits, draft.due, errors)?;
-    let table = table_of(alloc, tables, &edits, changed)?;
-    let tunnel_table = tunnel_edits(alloc, tables, &edits)?;
-    let Edits {
-        moment,
-        up,
-        routes,
-        tunnels,
-        bypasses,
-        paths,
-        resvs,
-        repairs,
-        labels,
-    } = edits;
-    let bandwidth = bandwidth_edits(alloc, tables, &paths, resvs)?;
+    let settled = settle(alloc, tables, draft.edits)?;
+    let errors = appended(draft.errors, settled.told)?;
+    let sends = sends_of(alloc, tables, &settled.edits, draft.due, errors)?;
+    let table = table_of(alloc, tables, &settled.edits, sends.changed)?;
+    let tunnel_table = tunnel_edits(alloc, tables, &settled.edits)?;
+    let edits = settled.edits;
+    let resvs = edits.resvs;
+    let bandwidth = bandwidth_edits(alloc, tables, &edits.paths, resvs)?;
     Ok(Plan {
         reply: draft.reply,
-        outputs,
-        chosen,
+        outputs: sends.outputs,
+        chosen: settled.chosen,
         change: Some(Change {
-            moment,
-            up,
-            routes,
-            tunnels,
-            bypasses,
-            paths,
+            moment: edits.moment,
+            up: edits.up,
+            routes: edits.routes,
+            tunnels: edits.tunnels,
+            bypasses: edits.bypasses,
+            paths: edits.paths,
             bandwidth,
-            repairs,
-            labels,
-            moments,
-            upstream,
+            repairs: edits.repairs,
+            labels: edits.labels,
+            moments: sends.moments,
+            upstream: sends.upstream,
             table,
             tunnel_table,
         }),

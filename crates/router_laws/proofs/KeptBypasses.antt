@@ -27,7 +27,7 @@ use Rattle.abstract_router.specs.Repairing.{repaired, repairs_left}
 use Rattle.abstract_router.specs.Soundness.{IsSound}
 use Rattle.abstract_router.specs.States.{State}
 use Rattle.abstract_router.specs.Steps.{Step, given_up, is_ready, settled, switched_where, taken_over, with_moments}
-use Rattle.router_laws.specs.TouchedBy.{touched_by, touched_by_reading}
+use Rattle.router_laws.specs.TouchedBy.{touched_by, touched_by_way}
 use Rattle.router_laws.proofs.Arriving.{arrival_leaves}
 use Rattle.router_laws.proofs.Detouring.{RunsIn, over_at-same}
 use Rattle.router_laws.proofs.GoingOver.{found_switched, ready_given_up}
@@ -69,7 +69,7 @@ module _ (r : Router) (before after : State) (made : Made) (arrived : Arrive) (i
 
   stays : is_one_of (given_up r o.after) key ≡ false
   stays =
-      let own = touched_by_reading r before arrived.link arrived.reading in
+      let own = touched_by_way r before arrived.way arrived.link arrived.reading in
       (neither (is_one_of own key) (is_one_of (given_up r o.after) key) (sym (list_any-append (λ k. is_eq (key_cmp k key)) own (given_up r o.after)) ∙ apart)).1
 
   -- so the tunnel doesn't go over to another

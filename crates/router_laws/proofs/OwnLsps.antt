@@ -45,7 +45,7 @@ use Rattle.abstract_paths.specs.Paths.{failed, goes_on, key_of, path_arrival}
 use Rattle.abstract_paths.specs.Places.{is_up, place_of}
 use Rattle.abstract_paths.specs.Soundness.{IsCountAs, IsHeadOf, IsPath, IsStanding, IsWay, IsWayAs}
 use Rattle.abstract_paths.specs.Stamps.{stamps}
-use Rattle.abstract_paths.specs.Tears.{leaves_by, noted_of, path_err_arrival, path_err_passed_on}
+use Rattle.abstract_paths.specs.Tears.{err_of_path, leaves_by, path_err_arrival, path_err_passed_on}
 use Rattle.abstract_router.specs.Arrivals.{arrival, is_done, labelled_path_arrival, message_arrival}
 use Rattle.abstract_router.specs.Detours.{detours_of, over_at}
 use Rattle.abstract_router.specs.Errors.{no_label}
@@ -167,10 +167,10 @@ module _ (r : Router) (s : State) (e : PathErr) (fact : PathFact) (is : IsSound 
   its = subst (λ (o : Option PathFact). IfSome o (λ f. IsPath r s.facts.moment (key, f))) known (path_known r s.facts.moment key s.facts.paths is.paths.paths)
 
   -- nobody is upstream of it
-  no_origin : told_upstream key fact e.tspec e.error ≡ []
+  no_origin : told_upstream (place_of r s.facts) key fact e.tspec e.error ≡ []
   no_origin = by fact.role fact.origins begins its.origins.count
     where
-      by : (role : Role) (origins : List (Ipv4Addr × Origin)) → begins_here role ≡ true → IsCountAs role (length origins) → filter_map (told_to key e.tspec e.error) origins ≡ []
+      by : (role : Role) (origins : List (Ipv4Addr × Origin)) → begins_here role ≡ true → IsCountAs role (length origins) → filter_map (told_to (place_of r s.facts) key e.tspec e.error) origins ≡ []
       by roles.Head [] so count = refl
       by roles.Head (o ∷ os) so count = absurd (omega (arith, count))
       by roles.Tail origins so count = absurd (let e = so in cc)
@@ -213,12 +213,12 @@ module _ (r : Router) (s : State) (e : PathErr) (fact : PathFact) (is : IsSound 
       subst (λ (t : State). (known_after r s chosen (replied replies.Done [] t) ≡ t) × (sent_in r s (replied replies.Done [] t) t ≡ [])) (sym noting_same)
       (known_changed r s is tunnels standing waits detours_noting chosen, sends_changed r s is tunnels standing waits detours_noting)
 
-  noting_is : (link : ℕ) → leaves_by link fact ≡ true → of_paths s (path_err_arrival s.facts link e) ≡ replied replies.Done [] noting
+  noting_is : (link : ℕ) → leaves_by link fact ≡ true → of_paths s (path_err_arrival r s.facts link e) ≡ replied replies.Done [] noting
   unfolding path_err_arrival
   noting_is link leaves =
-      ap (λ o. of_paths s (path_err_passed_on s.facts link e o)) known
-      ∙ ap (λ b. of_paths s (cond b (paths.done (told_upstream key fact e.tspec e.error) (noted_of e fact s.facts)) (paths.refused s.facts NoMatch))) leaves
-      ∙ ap (λ b. of_paths s (paths.done (told_upstream key fact e.tspec e.error) (cond b (with_noted e.error number s.facts) s.facts))) begins
+      ap (λ o. of_paths s (path_err_passed_on r s.facts link e o)) known
+      ∙ ap (λ b. of_paths s (cond b (err_of_path r s.facts key e fact) (paths.refused s.facts NoMatch))) leaves
+      ∙ ap (λ b. of_paths s (paths.done (told_upstream (place_of r s.facts) key fact e.tspec e.error) (cond b (with_noted e.error number s.facts) s.facts))) begins
       ∙ ap (λ told. replied replies.Done told noting) no_origin
 
 -- the path leaves by the link, which is one of the router's

@@ -129,7 +129,7 @@ module _ (r : Router) (s : State) (is : IsSound r s) (key : Key) (fact : ResvFac
   abbrev again : Verdict
   again = if has_loop r fact.recorded then PassedOver else Granted
 
-  by_rate : (rate : Result ℕ TrafficFault) → IsOk rate → verdict_by_rate r s key fact rate ≡ again
+  by_rate : (rate : Result ℕ TrafficFault) → IsOk rate → verdict_by_rate r fact (fits r s key fact) rate ≡ again
   by_rate (Err fault) ok = absurd (let e = ok in cc)
   by_rate (Ok rate) ok =
       ap (λ b. if not b then Failed unacceptable_label else if has_loop r fact.recorded then PassedOver else if not (fits r s key fact) then Failed no_bandwidth else Granted) own.label
@@ -137,7 +137,7 @@ module _ (r : Router) (s : State) (is : IsSound r s) (key : Key) (fact : ResvFac
 
   on_path : (path : PathFact) → leaves_by fact.link path ≡ true → verdict_on_path r s key fact path ≡ again
   on_path path leaves =
-      let rated = verdict_by_rate r s key fact (flowspec_rate fact.flowspec) in
+      let rated = verdict_by_rate r fact (fits r s key fact) (flowspec_rate fact.flowspec) in
       let told = λ (other : Key × ResvFact). Failed (style_conflict other.1.style) in
       ap (λ b. if not b || is_repaired s key then PassedOver else option_map_or told (find_first (conflicts fact.link fact.style key) s.resvs) rated) leaves
       ∙ ap (λ b. if b then PassedOver else option_map_or told (find_first (conflicts fact.link fact.style key) s.resvs) rated) unrepaired

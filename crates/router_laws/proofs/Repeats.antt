@@ -42,7 +42,7 @@ use Rattle.abstract_paths.specs.Changes.{with_path}
 use Rattle.abstract_paths.specs.Outcomes as paths
 use Rattle.abstract_paths.specs.Outcomes.{found_here, told_upstream}
 use Rattle.abstract_paths.specs.Paths.{drops_record, failed, has_loop, key_of, origin_of, origins_of, path_arrival, path_by, path_on_its_way, record_errors, taken, way_for, way_of}
-use Rattle.abstract_paths.specs.Places.{is_up, place_of}
+use Rattle.abstract_paths.specs.Places.{Place, is_up, place_of}
 use Rattle.abstract_paths.specs.Routing.{next_hop}
 use Rattle.abstract_paths.specs.Soundness.{IsHeadOf}
 use Rattle.abstract_router.specs.Arrivals.{arrival, arrival_by, is_done, labelled_path_arrival}
@@ -176,12 +176,12 @@ path_again moment known link p way =
     ap (λ (origins : List (Ipv4Addr × Origin)). record (path_by moment known link p way) { origins = origins }) (put_twice address_cmp address_total p.sender.sender (origin_of moment link p) (origins_of known))
 
 -- that a record is dropped is told once
-errors_again : (r : Router) (key : Key) (fact : PathFact) → record_errors r key (Some fact) fact ≡ []
+errors_again : (n : Place) (key : Key) (fact : PathFact) → record_errors n key (Some fact) fact ≡ []
 unfolding record_errors
-errors_again r key fact =
-    let told = told_upstream key fact (Some fact.tspec) (found_here r record_too_long) in
-    ap (λ b. cond (drops_record r fact && not b) told []) (same_option record_bytes fact.recorded)
-    ∙ elim (drops_record r fact) as (λ b. cond (b && false) told [] ≡ []) [ true ↦ refl | false ↦ refl ]
+errors_again n key fact =
+    let told = told_upstream n key fact (Some fact.tspec) (found_here n.router record_too_long) in
+    ap (λ b. cond (drops_record n.router fact && not b) told []) (same_option record_bytes fact.recorded)
+    ∙ elim (drops_record n.router fact) as (λ b. cond (b && false) told [] ≡ []) [ true ↦ refl | false ↦ refl ]
 
 -- A Path arrives again, where the path that it made stands at the same moment: it changes nothing.
 arrival_again : (r : Router) (s : Facts) (known : Option PathFact) (link : ℕ) (p : Path) (way : Choice) → IsAccepted r s.tunnels p → T (is_sorted key_cmp s.paths) → find key_cmp (key_of p) s.paths ≡ Some (path_by s.moment known link p way) → path_arrival r s link p ≡ paths.done [] s
@@ -193,8 +193,8 @@ arrival_again r s known link p way accepted in_order found =
     ∙ ap (λ k. path_on_its_way r s k link p (way_for (place_of r s) k p)) found
     ∙ ap (λ t. path_on_its_way r s (Some fact) link p (cond t (Ok (way_of fact)) (next_hop (place_of r s) p.route p.session.endpoint))) (same_option route_bytes p.route)
     ∙ ap (λ w. path_on_its_way r s (Some fact) link p (Ok w)) (way_again s.moment known link p way)
-    ∙ ap (λ again. paths.done (record_errors r key (Some fact) again) (with_path key again s)) (path_again s.moment known link p way)
-    ∙ (λ i. paths.done (errors_again r key fact i) (record s { paths = put-found key_cmp key_total key fact s.paths in_order found i }))
+    ∙ ap (λ again. paths.done (record_errors (place_of r s) key (Some fact) again) (with_path key again s)) (path_again s.moment known link p way)
+    ∙ (λ i. paths.done (errors_again (place_of r s) key fact i) (record s { paths = put-found key_cmp key_total key fact s.paths in_order found i }))
 
 -- what a Path that is done came upon
 record IsMet (r : Router) (s : State) (link : ℕ) (p : Path) (o : Outcome) : Type 0 where

@@ -1,5 +1,5 @@
 -- The LSPs that a message touches, and that its step leaves all others as they were.
-use Rattle.std.specs.Prelude.{◌≡◌, ◌&&◌, ◌||◌, ◌==◌, ℕ, not, Bool, true, false, if◌then◌else◌, T, List, [], ◌∷◌, filter, filter_map, fold, map, Option, Some, None, is_none, is_some, IfSome}
+use Rattle.std.specs.Prelude.{◌≡◌, ◌&&◌, ◌||◌, ◌==◌, ℕ, not, Bool, true, false, if◌then◌else◌, T, List, [], ◌∷◌, filter, filter_map, find as find_first, fold, map, Option, Some, None, is_none, is_some, IfSome}
 use Rattle.std.specs.Bool.{then_some}
 use Rattle.std.specs.FinMap.Entries.{find, find-where_key, is_sorted, is_sorted-put, is_sorted-where_key, put}
 use Rattle.std.specs.List.{AllByRecursion, cons_option, list_any}
@@ -20,6 +20,7 @@ use Rattle.rsvp_contents.specs.declared.messages.Resv.{Resv}
 use Rattle.rsvp_contents.specs.declared.messages.ResvErr.{ResvErr}
 use Rattle.rsvp_contents.specs.declared.messages.ResvTear.{ResvTear}
 use Rattle.rsvp_flows.specs.declared.descriptors.FlowDescriptor.{FlowDescriptor}
+use Rattle.rsvp_objects.specs.declared.values.ErrorSpec.{ErrorSpec}
 use Rattle.rsvp_objects.specs.declared.values.Template.{Template}
 use Rattle.sorted_rows.specs.ListLaws.{all-filter}
 use Rattle.sorted_rows.specs.Rows.{keys_of}
@@ -46,30 +47,33 @@ use Rattle.router_events.specs.declared.events.Made.{Made}
 use Rattle.router_events.specs.declared.events.Output.{Output}
 use Rattle.abstract_paths.proofs.Alongside.{with_noted-same}
 use Rattle.abstract_paths.specs.Changes.{without_path}
+use Rattle.abstract_paths.specs.Heads.{with_noted}
+use Rattle.abstract_paths.specs.Merging.{came_through, may_join, stack_path_arrival, stack_tear_arrival, with_stack}
 use Rattle.abstract_paths.specs.Outcomes as paths
 use Rattle.abstract_paths.specs.Outcomes.{lsp}
 use Rattle.abstract_paths.specs.Paths.{key_of, path_arrival}
 use Rattle.abstract_paths.specs.Places.{is_up}
 use Rattle.abstract_paths.specs.StampLaws.{none-is}
-use Rattle.abstract_paths.specs.Tears.{path_err_arrival, path_tear_arrival}
-use Rattle.abstract_paths.specs.Tears.{leaves_by}
+use Rattle.abstract_paths.specs.Tears.{err_of_path, leaves_by, path_err_arrival, path_tear_arrival}
 use Rattle.abstract_paths.specs.TouchedLaws.{find-made}
-use Rattle.abstract_router.specs.Arrivals.{arrival_by, arrival, is_done, labelled_path_arrival, message_arrival, reading_arrival}
+use Rattle.abstract_router.specs.Arrivals.{arrival_by, arrival, is_done, labelled_path_arrival, message_arrival, reading_arrival, routed_arrival, stack_arrival, unknown_routed_arrival, unknown_stack_arrival}
 use Rattle.abstract_router.specs.Detours.{detours_of, over_at}
 use Rattle.abstract_router.specs.Errors.{unknown_style}
 use Rattle.abstract_router.specs.Labels.{has_free_label, labels_after}
 use Rattle.abstract_router.specs.Outcomes.{Outcome, of_paths, refused}
 use Rattle.abstract_router.specs.Preempting.{giving_way}
-use Rattle.abstract_router.specs.Reserving.{Failed, Granted, PassedOver, Progress, Verdict, all_descriptors, carried_on, key_in, next_descriptor, resv_arrival, resv_by, resv_failed, resv_replied, unknown_resv, verdict_of}
+use Rattle.abstract_router.specs.Reserving.{Failed, Granted, PassedOver, Progress, Verdict, all_descriptors, carried_on, key_in, next_descriptor, resv_arrival, resv_by, resv_failed, resv_replied, unknown_resv, verdict_by_style, verdict_of}
 use Rattle.abstract_router.specs.Repairing.{repair_stands, repairs_left}
+use Rattle.abstract_router.specs.Returning.{all_returned, carried_back, next_returned, renewed, repair_from, returned_keys, returned_resv, returned_tear, the_one, torn_back}
 use Rattle.abstract_router.specs.Soundness.{IsSound}
 use Rattle.abstract_router.specs.States.{State, is_one_of}
 use Rattle.abstract_router.specs.Steps.{Step, given_up, known_after, labelled, left_standing, resvs_left, settled, stands, taken_over, with_moments}
-use Rattle.abstract_router.specs.Tearing.{err_onward, is_resv_torn_by, resv_err_passed_on, resv_err_arrival, resv_tear_arrival}
+use Rattle.abstract_router.specs.Tearing.{err_onward, is_resv_torn_by, resv_err_passed_on, resv_err_arrival, resv_tear_arrival, stack_err_arrival, stack_err_onward}
+use Rattle.router_soundness.proofs.OtherWays.{returned_err_by, returned_unknown_by}
 use Rattle.router_soundness.proofs.Silence.{silent_keeps}
 use Rattle.router_laws.specs.Words.{where_up}
-use Rattle.router_laws.specs.TouchedBy.{touched_by, touched_by_descriptors, touched_by_message, touched_by_reading, touched_by_resv, touched_by_verdict}
-use Rattle.router_laws.proofs.Arriving.{err_leaves, path_leaves, tear_leaves}
+use Rattle.router_laws.specs.TouchedBy.{lsp_of_path, touched_beyond, touched_beyond_unknown, touched_by, touched_by_descriptors, touched_by_message, touched_by_reading, touched_by_renewal, touched_by_renewed, touched_by_resv, touched_by_returned, touched_by_returned_resv, touched_by_verdict, touched_by_way, touched_through, touched_through_unknown}
+use Rattle.router_laws.proofs.Arriving.{err_leaves, err_of_path_leaves, path_leaves, stack_path_leaves, stack_tear_leaves, tear_leaves}
 use Rattle.router_laws.proofs.GivenUp.{path_left}
 use Rattle.router_laws.proofs.Led.{led}
 use Rattle.router_laws.proofs.NoneRepaired.{AreOverUp, over-up, repaired-same}
@@ -106,6 +110,14 @@ pub record IsLeft (r : Router) (touched : Key → Bool) (before after : State) :
   pub labels : (key : Key) → touched key ≡ false → find key_cmp key after.labels ≡ find key_cmp key before.labels
   pub repairs : (key : Key) → touched key ≡ false → find key_cmp key after.repairs ≡ option_and_then (where_up r after) (find key_cmp key before.repairs)
 
+-- no LSP that isn't touched is one of these
+abbrev AreTouched : (Key → Bool) → List Key → Type 0
+AreTouched touched keys = (key : Key) → touched key ≡ false → is_one_of keys key ≡ false
+
+-- the one LSP that is touched
+one : (touched : Key → Bool) (own : Key) → AreTouched touched (own ∷ []) → (key : Key) → touched key ≡ false → is_eq (key_cmp own key) ≡ false
+one touched own among key apart = (neither (is_eq (key_cmp own key)) false (among key apart)).0
+
 -- and what one does of itself to paths
 record KeepsPaths (touched : Key → Bool) (before after : Facts) : Type 0 where
   up : after.up ≡ before.up
@@ -137,18 +149,28 @@ module _ (touched : Key → Bool) (s : Facts) (sorted : T (is_sorted key_cmp s.p
   tear-keeps : (link : ℕ) (t : PathTear) → ((key : Key) → touched key ≡ false → is_eq (key_cmp (lsp t.session t.sender) key) ≡ false) → KeepsPaths touched s (path_tear_arrival s link t).after
   tear-keeps link t apart = tear_leaves s (KeepsPaths touched s) paths-stay link t (path-put (lsp t.session t.sender) apart) (path-gone (lsp t.session t.sender) apart)
 
-  err-keeps : (link : ℕ) (e : PathErr) → KeepsPaths touched s (path_err_arrival s link e).after
-  err-keeps link e =
-      let same = with_noted-same e.error e.session.tunnel s in
-      err_leaves s (KeepsPaths touched s) paths-stay link e (record {
-        up = ap (λ (x : Facts). x.up) same;
-        in_order = subst (λ (x : Facts). T (is_sorted key_cmp x.paths)) (sym same) sorted;
-        paths = λ key apart. ap (λ (x : Facts). find key_cmp key x.paths) same;
-      })
+  noted-keeps : (e : ErrorSpec) (number : ℕ) → KeepsPaths touched s (with_noted e number s)
+  noted-keeps e number =
+      let same = with_noted-same e number s in
+      record { up = ap (λ (x : Facts). x.up) same; in_order = subst (λ (x : Facts). T (is_sorted key_cmp x.paths)) (sym same) sorted; paths = λ key apart. ap (λ (x : Facts). find key_cmp key x.paths) same }
 
--- no LSP that isn't touched is one of these
-abbrev AreTouched : (Key → Bool) → List Key → Type 0
-AreTouched touched keys = (key : Key) → touched key ≡ false → is_one_of keys key ≡ false
+  err-keeps : (r : Router) (link : ℕ) (e : PathErr) → KeepsPaths touched s (path_err_arrival r s link e).after
+  err-keeps r link e = err_leaves s (KeepsPaths touched s) paths-stay r link e (noted-keeps e.error e.session.tunnel)
+
+  -- a PathErr that is for the LSP of a path
+  err_of_path-keeps : (r : Router) (key : Key) (e : PathErr) (fact : PathFact) → KeepsPaths touched s (err_of_path r s key e fact).after
+  err_of_path-keeps r key e fact = err_of_path_leaves s (KeepsPaths touched s) paths-stay r key e fact (noted-keeps e.error e.session.tunnel)
+
+  -- what comes through a stack
+  stack_path-keeps : (p : Path) → AreTouched touched (lsp_of_path (the_one (filter (may_join (key_of p)) s.paths))) → KeepsPaths touched s (stack_path_arrival s p).after
+  stack_path-keeps p among =
+      stack_path_leaves s (KeepsPaths touched s) paths-stay p
+      (λ path only. path-put path.0 (one touched path.0 (subst (λ (rows : List (Key × PathFact)). AreTouched touched (lsp_of_path (the_one rows))) only among)) (with_stack s.moment p path.1))
+
+  stack_tear-keeps : (t : PathTear) → AreTouched touched (lsp_of_path (find_first (came_through (lsp t.session t.sender)) s.paths)) → KeepsPaths touched s (stack_tear_arrival s t).after
+  stack_tear-keeps t among =
+      stack_tear_leaves s (KeepsPaths touched s) paths-stay t
+      (λ path found. let apart = one touched path.0 (subst (λ (o : Option (Key × PathFact)). AreTouched touched (lsp_of_path o)) found among) in (path-put path.0 apart, path-gone path.0 apart))
 
 module _ (r : Router) (touched : Key → Bool) (s : State) (is : IsSound r s) where
   stays : Keeps touched s s
@@ -265,30 +287,30 @@ module _ (r : Router) (touched : Key → Bool) (s : State) (is : IsSound r s) wh
       kept key None other = refl
       kept key (Some v) other = ap (λ b. then_some (not ((v.link == link) && b)) v) other ∙ ap (λ b. then_some b v) (none_torn (v.link == link))
 
+  passed_on-keeps : (matched : List (List Output)) → Keeps touched s (resv_err_passed_on s matched).after
+  passed_on-keeps [] = stays
+  passed_on-keeps (told ∷ more) = stays
+
   resv_err-keeps : (link : ℕ) (e : ResvErr) → Keeps touched s (resv_err_arrival r s link e).after
   unfolding resv_err_arrival
-  resv_err-keeps link e = by (filter_map (err_onward r s link e) e.descriptors)
-    where
-      by : (matched : List (List Output)) → Keeps touched s (resv_err_passed_on s matched).after
-      by [] = stays
-      by (one ∷ more) = stays
+  resv_err-keeps link e = passed_on-keeps (filter_map (err_onward r s link e) e.descriptors)
 
-  -- the one LSP of a Path or a PathTear
-  one : (own : Key) → AreTouched touched (own ∷ []) → (key : Key) → touched key ≡ false → is_eq (key_cmp own key) ≡ false
-  one own among key apart = (neither (is_eq (key_cmp own key)) false (among key apart)).0
+  stack_err-keeps : (e : ResvErr) → Keeps touched s (stack_err_arrival r s e).after
+  unfolding stack_err_arrival
+  stack_err-keeps e = passed_on-keeps (filter_map (stack_err_onward r s e) e.descriptors)
 
   labelled_path-keeps : (link : ℕ) (p : Path) → AreTouched touched (key_of p ∷ []) → Keeps touched s (labelled_path_arrival r s link p).after
   unfolding labelled_path_arrival
   labelled_path-keeps link p among =
       cond_both (is_done (path_arrival r s.facts link p).reply && is_none (find key_cmp (key_of p) s.facts.paths) && not (has_free_label r s.labels)) _ _ (λ (o : Outcome). Keeps touched s o.after) (λ full. stays)
-      (λ room. of_paths-keeps (path_arrival r s.facts link p) (path-keeps touched s.facts is.paths.paths.in_order r link p (one (key_of p) among)))
+      (λ room. of_paths-keeps (path_arrival r s.facts link p) (path-keeps touched s.facts is.paths.paths.in_order r link p (one touched (key_of p) among)))
 
   message-keeps : (link : ℕ) (content : Content) → is_up s.facts.up link ≡ true → AreTouched touched (touched_by_message r s link content) → Keeps touched s (message_arrival r s link content).after
   message-keeps link (contents.Path p) up among = labelled_path-keeps link p among
   message-keeps link (contents.Resv v) up among = resv-keeps link v up among
-  message-keeps link (contents.PathErr e) up among = of_paths-keeps (path_err_arrival s.facts link e) (err-keeps touched s.facts is.paths.paths.in_order link e)
+  message-keeps link (contents.PathErr e) up among = of_paths-keeps (path_err_arrival r s.facts link e) (err-keeps touched s.facts is.paths.paths.in_order r link e)
   message-keeps link (contents.ResvErr e) up among = resv_err-keeps link e
-  message-keeps link (contents.PathTear t) up among = of_paths-keeps (path_tear_arrival s.facts link t) (tear-keeps touched s.facts is.paths.paths.in_order link t (one (lsp t.session t.sender) among))
+  message-keeps link (contents.PathTear t) up among = of_paths-keeps (path_tear_arrival s.facts link t) (tear-keeps touched s.facts is.paths.paths.in_order link t (one touched (lsp t.session t.sender) among))
   message-keeps link (contents.ResvTear t) up among = resv_tear-keeps link t among
 
   reading-keeps : (link : ℕ) (reading : Reading) → is_up s.facts.up link ≡ true → AreTouched touched (touched_by_reading r s link reading) → Keeps touched s (reading_arrival r s link reading).after
@@ -301,12 +323,119 @@ module _ (r : Router) (touched : Key → Bool) (s : State) (is : IsSound r s) wh
   reading-keeps link (readings.Unknown (contents.PathTear t) class ctype) up among = message-keeps link (contents.PathTear t) up among
   reading-keeps link (readings.Unknown (contents.ResvTear t) class ctype) up among = message-keeps link (contents.ResvTear t) up among
 
-  way-keeps : (way : ArrivalWay) (link : ℕ) (reading : Reading) → is_up s.facts.up link ≡ true → AreTouched touched (touched_by_reading r s link reading) → Keeps touched s (arrival_by r s way link reading).after
-  way-keeps ways.Hop link reading up among = reading-keeps link reading up among
-  way-keeps ways.Stack link reading up among = stays
-  way-keeps ways.Routed link reading up among = stays
+  -- what comes through a stack
+  stack-keeps : (content : Content) → AreTouched touched (touched_through s content) → Keeps touched s (stack_arrival r s content).after
+  stack-keeps (contents.Path p) among = of_paths-keeps (stack_path_arrival s.facts p) (stack_path-keeps touched s.facts is.paths.paths.in_order p among)
+  stack-keeps (contents.Resv v) among = stays
+  stack-keeps (contents.PathErr e) among = stays
+  stack-keeps (contents.ResvErr e) among = stack_err-keeps e
+  stack-keeps (contents.PathTear t) among = of_paths-keeps (stack_tear_arrival s.facts t) (stack_tear-keeps touched s.facts is.paths.paths.in_order t among)
+  stack-keeps (contents.ResvTear t) among = stays
 
-  arrival-keeps : (a : Arrive) → AreTouched touched (touched_by_reading r s a.link a.reading) → Keeps touched s (arrival r s a).after
+  unknown_stack-keeps : (content : Content) (class ctype : ℕ) → AreTouched touched (touched_through_unknown s content) → Keeps touched s (unknown_stack_arrival r s content class ctype).after
+  unknown_stack-keeps (contents.Path p) class ctype among = stays
+  unknown_stack-keeps (contents.Resv v) class ctype among = stays
+  unknown_stack-keeps (contents.PathErr e) class ctype among = stays
+  unknown_stack-keeps (contents.ResvErr e) class ctype among = stack_err-keeps e
+  unknown_stack-keeps (contents.PathTear t) class ctype among = stack-keeps (contents.PathTear t) among
+  unknown_stack-keeps (contents.ResvTear t) class ctype among = stays
+
+  -- a descriptor of a Resv from the end of a bypass
+  renewal-keeps : (v : Resv) (d : FlowDescriptor) (repair : Key × Repair) (fact : ResvFact) (progress : Progress) (verdict : Verdict) → AreTouched touched (touched_by_renewal repair.0 verdict) → Keeps touched s progress.state
+      → Keeps touched s (carried_back r v d repair fact progress verdict).state
+  renewal-keeps v d repair fact progress (Failed e) among keeps = keeps
+  renewal-keeps v d repair fact progress PassedOver among keeps = keeps
+  renewal-keeps v d repair fact progress Granted among keeps =
+      let new : Repair = record repair.1 { resv = fact } in
+      record {
+        up = keeps.up;
+        labels = keeps.labels;
+        paths_in_order = keeps.paths_in_order;
+        resvs_in_order = keeps.resvs_in_order;
+        repairs_in_order = is_sorted-put key_cmp key_total repair.0 new progress.state.repairs keeps.repairs_in_order;
+        over_up = keeps.over_up;
+        paths = keeps.paths;
+        resvs = keeps.resvs;
+        repairs = λ key apart. find-put_other key_cmp key_total key repair.0 new progress.state.repairs (apart-back repair.0 key (one touched repair.0 among key apart)) ∙ keeps.repairs key apart;
+      }
+
+  -- and all of them
+  returned-keep : (style : ResvStyle) (v : Resv) (ds : List FlowDescriptor) (progress : Progress) → AreTouched touched (touched_by_returned r style v progress ds) → Keeps touched s progress.state
+      → Keeps touched s (fold (next_returned r style v) progress ds).state
+  returned-keep style v [] progress among keeps = keeps
+  returned-keep style v (d ∷ ds) progress among keeps =
+      let for = repair_from r progress.state v.hop.address (lsp v.session d.filter) in
+      let next = next_returned r style v progress d in
+      let each = λ (key : Key) (apart : touched key ≡ false). neither _ _ (sym (list_any-append (λ k. is_eq (key_cmp k key)) (option_map_or (touched_by_renewed r style v d progress.state) for []) (touched_by_returned r style v next ds)) ∙ among key apart) in
+      returned-keep style v ds next (λ key apart. (each key apart).1) (by for (λ key apart. (each key apart).0))
+    where
+      by : (o : Option (Key × Repair)) → AreTouched touched (option_map_or (touched_by_renewed r style v d progress.state) o []) → Keeps touched s (option_map_or (renewed r style v d progress) o progress).state
+      by None among = keeps
+      by (Some repair) among =
+          let fact = resv_by progress.state.facts.moment repair.1.resv.link style v d in
+          renewal-keeps v d repair fact progress (verdict_by_style r progress.state repair.0 fact true) among keeps
+
+  -- what comes in a Routed frame
+  returned_resv-keeps : (v : Resv) → AreTouched touched (touched_by_returned_resv r s v) → Keeps touched s (returned_resv r s v).after
+  unfolding returned_resv
+  returned_resv-keeps v = by_style (style_of v.style)
+    where
+      by_first : (progress : Progress) → Keeps touched s progress.state → (first : Option RsvpError) → Keeps touched s (resv_replied s progress first).after
+      by_first progress keeps (Some e) = keeps
+      by_first progress keeps None = cond_both progress.has_granted _ (refused s NoMatch) (λ (o : Outcome). Keeps touched s o.after) (λ some. keeps) (λ none. stays)
+
+      by_style : (style : Option ResvStyle) → AreTouched touched (option_map_or (λ style. touched_by_returned r style v (record { state = s; errors = []; first = None; has_granted = false }) v.descriptors) style [])
+          → Keeps touched s (option_map_or (λ style. let progress = all_returned r s style v in resv_replied s progress progress.first) style (refused s NoMatch)).after
+      by_style None among = stays
+      by_style (Some style) among =
+          let progress = all_returned r s style v in
+          by_first progress (returned-keep style v v.descriptors (record { state = s; errors = []; first = None; has_granted = false }) among stays) progress.first
+
+  returned_tear-keeps : (t : ResvTear) → AreTouched touched (returned_keys r s t) → Keeps touched s (returned_tear r s t).after
+  unfolding returned_tear
+  returned_tear-keeps t = by (returned_keys r s t)
+    where
+      by : (keys : List Key) → AreTouched touched keys → Keeps touched s (torn_back s keys).after
+      by [] among = stays
+      by (key ∷ keys) among =
+          let left : Key → Bool = λ k. not (is_one_of (key ∷ keys) k) in
+          record {
+            up = refl;
+            labels = refl;
+            paths_in_order = is.paths.paths.in_order;
+            resvs_in_order = is.held.in_order;
+            repairs_in_order = is_sorted-where_key key_cmp left s.repairs is.repaired.in_order;
+            over_up = over-up r s is;
+            paths = λ k apart. refl;
+            resvs = λ k apart. refl;
+            repairs = λ k apart. find-where_key key_cmp left k (λ x tie. ap left (sym (key_exact k x tie))) s.repairs ∙ ap (λ b. if not b then find key_cmp k s.repairs else None) (among k apart);
+          }
+
+  routed-keeps : (content : Content) → AreTouched touched (touched_beyond r s content) → Keeps touched s (routed_arrival r s content).after
+  routed-keeps (contents.Path p) among = stays
+  routed-keeps (contents.Resv v) among = returned_resv-keeps v among
+  routed-keeps (contents.PathErr e) among =
+      returned_err_by (λ (o : Outcome). Keeps touched s o.after) r s stays e (λ key path. of_paths-keeps (err_of_path r s.facts key e path) (err_of_path-keeps touched s.facts is.paths.paths.in_order r key e path))
+  routed-keeps (contents.ResvErr e) among = stays
+  routed-keeps (contents.PathTear t) among = stays
+  routed-keeps (contents.ResvTear t) among = returned_tear-keeps t among
+
+  unknown_routed-keeps : (content : Content) (class ctype : ℕ) → AreTouched touched (touched_beyond_unknown r s content) → Keeps touched s (unknown_routed_arrival r s content class ctype).after
+  unknown_routed-keeps (contents.Path p) class ctype among = stays
+  unknown_routed-keeps (contents.Resv v) class ctype among = returned_unknown_by (λ (o : Outcome). Keeps touched s o.after) r s stays v class ctype (λ repair. stays)
+  unknown_routed-keeps (contents.PathErr e) class ctype among = routed-keeps (contents.PathErr e) among
+  unknown_routed-keeps (contents.ResvErr e) class ctype among = stays
+  unknown_routed-keeps (contents.PathTear t) class ctype among = stays
+  unknown_routed-keeps (contents.ResvTear t) class ctype among = routed-keeps (contents.ResvTear t) among
+
+  way-keeps : (way : ArrivalWay) (link : ℕ) (reading : Reading) → is_up s.facts.up link ≡ true → AreTouched touched (touched_by_way r s way link reading) → Keeps touched s (arrival_by r s way link reading).after
+  way-keeps ways.Hop link reading up among = reading-keeps link reading up among
+  way-keeps ways.Stack link (readings.Whole content) up among = stack-keeps content among
+  way-keeps ways.Stack link (readings.Unknown content class ctype) up among = unknown_stack-keeps content class ctype among
+  way-keeps ways.Routed link (readings.Whole content) up among = routed-keeps content among
+  way-keeps ways.Routed link (readings.Unknown content class ctype) up among = unknown_routed-keeps content class ctype among
+
+  pub arrival-keeps : (a : Arrive) → AreTouched touched (touched_by_way r s a.way a.link a.reading) → Keeps touched s (arrival r s a).after
   unfolding arrival
   arrival-keeps a among =
       cond_both (is_none (link_at r a.link)) (refused s UnknownLink) _ (λ (o : Outcome). Keeps touched s o.after) (λ none. stays)
@@ -437,7 +566,7 @@ pub left-message : (r : Router) (before after : State) (made : Made) (arrived : 
 left-message r before after made arrived is step event =
     let touched = is_one_of (touched_by r before arrived) in
     let o = arrival r before arrived in
-    let own = touched_by_reading r before arrived.link arrived.reading in
+    let own = touched_by_way r before arrived.way arrived.link arrived.reading in
     let each = λ (key : Key) (apart : touched key ≡ false). neither _ _ (sym (list_any-append (λ k. is_eq (key_cmp k key)) own (given_up r o.after)) ∙ apart) in
     let same = silent_message r before arrived (λ cold. sym event ∙ step.awake cold) in
     subst (IsLeft r touched before) (sym (led r before after made (events.Arrive arrived) o step event refl))

@@ -57,6 +57,7 @@ use Rattle.abstract_paths.specs.Changes.{with_tunnel}
 use Rattle.abstract_paths.specs.Commands.{begun_by, command, commanded, is_bad_tunnel, refusal_of, tunnel_by, with_cancelled, with_change, with_dropped}
 use Rattle.abstract_paths.specs.Heads.{is_full, noted, with_head, with_noted}
 use Rattle.abstract_paths.specs.Links.{link_change}
+use Rattle.abstract_paths.specs.Merging.{stack_path_arrival, stack_tear_arrival}
 use Rattle.abstract_paths.specs.Outcomes as paths
 use Rattle.abstract_paths.specs.Outcomes.{lsp}
 use Rattle.abstract_paths.specs.Paths.{failed, key_of, path_arrival}
@@ -67,7 +68,7 @@ use Rattle.abstract_paths.specs.Routing.{route_to}
 use Rattle.abstract_paths.specs.RowLaws.{keys-map}
 use Rattle.abstract_paths.specs.Tears.{leaves_by, path_err_arrival, path_tear_arrival}
 use Rattle.abstract_paths.specs.Time.{tick}
-use Rattle.abstract_router.specs.Arrivals.{arrival, arrival_by, command_comes, commanded_by, for_reservations, is_done, labelled_path_arrival, lost, message_arrival, moment_comes, outcome, reading_arrival, takes_used_bypass}
+use Rattle.abstract_router.specs.Arrivals.{arrival, arrival_by, command_comes, commanded_by, for_reservations, is_done, labelled_path_arrival, lost, message_arrival, moment_comes, outcome, reading_arrival, routed_arrival, stack_arrival, takes_used_bypass}
 use Rattle.abstract_router.specs.Errors.{no_label, no_sender, unknown_style}
 use Rattle.abstract_router.specs.Labels.{has_free_label}
 use Rattle.abstract_router.specs.Outcomes.{Outcome, of_paths, refused}
@@ -75,10 +76,12 @@ use Rattle.abstract_router.specs.Preempting.{giving_way}
 use Rattle.abstract_router.specs.Reserving.{Failed, Granted, PassedOver, Progress, Verdict, all_descriptors, carried_on, key_in, next_descriptor, resv_arrival, resv_by, resv_failed, resv_replied, unknown_resv, verdict_of, verdict_on_path}
 use Rattle.resv_facts.specs.Claims.{is_same_session}
 use Rattle.abstract_router.specs.Soundness.{IsSound}
-use Rattle.abstract_router.specs.States.{State, is_repaired, is_reserved, with_facts, without_held}
+use Rattle.abstract_router.specs.Returning.{all_returned}
+use Rattle.abstract_router.specs.States.{State, is_repaired, is_reserved, with_facts, with_repairs_where, without_held}
 use Rattle.abstract_router.specs.Steps.{AreSettled, is_ready, stands}
-use Rattle.abstract_router.specs.Tearing.{err_onward, is_resv_torn_by, resv_err_arrival, resv_err_passed_on, resv_tear_arrival}
-use Rattle.router_laws.proofs.Arriving.{err_leaves, path_leaves, tear_leaves}
+use Rattle.abstract_router.specs.Tearing.{err_onward, is_resv_torn_by, resv_err_arrival, resv_err_passed_on, resv_tear_arrival, stack_err_arrival, stack_err_onward}
+use Rattle.router_soundness.proofs.OtherWays.{returned_err_by, returned_resv_by, returned_tear_by, returned_unknown_by, unknown_routed_by, unknown_stack_by}
+use Rattle.router_laws.proofs.Arriving.{err_leaves, err_of_path_leaves, path_leaves, returned-same, stack_path_leaves, stack_tear_leaves, tear_leaves}
 use Rattle.router_laws.proofs.Settled.{none_of_fewer, still_waits}
 use Rattle.router_laws.proofs.Ticks.{lived, ticked, ticked-settled}
 use Rattle.router_laws.proofs.Touching.{neither}
@@ -230,8 +233,8 @@ module _ (r : Router) (s : State) (rests : AreSettled r s) where
   noted_rests e number = settles_moved (with_facts (with_noted e number s.facts) s) (λ key none. none) (noted_moves e number).rests
 
   -- a PathErr
-  err_moves : (link : ℕ) (e : PathErr) → Moves r s (of_paths s (path_err_arrival s.facts link e)).after
-  err_moves link e = err_leaves s.facts (λ facts. Moves r s (with_facts facts s)) moves_none link e (noted_moves e.error e.session.tunnel)
+  err_moves : (link : ℕ) (e : PathErr) → Moves r s (of_paths s (path_err_arrival r s.facts link e)).after
+  err_moves link e = err_leaves s.facts (λ facts. Moves r s (with_facts facts s)) moves_none r link e (noted_moves e.error e.session.tunnel)
 
   -- a ResvTear
   resv_tear_moves : (link : ℕ) (t : ResvTear) → Moves r s (resv_tear_arrival s link t).after
@@ -241,13 +244,39 @@ module _ (r : Router) (s : State) (rests : AreSettled r s) where
       (λ some. moves_same _ refl (λ key none. none_of_fewer (λ resv. not (is_resv_torn_by link t resv)) key s.resvs none)) (λ none. moves_none)
 
   -- a ResvErr
+  passed_on_moves : (matched : List (List Output)) → Moves r s (resv_err_passed_on s matched).after
+  passed_on_moves [] = moves_none
+  passed_on_moves (one ∷ more) = moves_none
+
   resv_err_moves : (link : ℕ) (e : ResvErr) → Moves r s (resv_err_arrival r s link e).after
   unfolding resv_err_arrival
-  resv_err_moves link e = by (filter_map (err_onward r s link e) e.descriptors)
-    where
-      by : (matched : List (List Output)) → Moves r s (resv_err_passed_on s matched).after
-      by [] = moves_none
-      by (one ∷ more) = moves_none
+  resv_err_moves link e = passed_on_moves (filter_map (err_onward r s link e) e.descriptors)
+
+  -- ---- what comes by other ways
+
+  stack_err_moves : (e : ResvErr) → Moves r s (stack_err_arrival r s e).after
+  unfolding stack_err_arrival
+  stack_err_moves e = passed_on_moves (filter_map (stack_err_onward r s e) e.descriptors)
+
+  -- what comes through a stack
+  stack_moves : (content : Content) → Moves r s (stack_arrival r s content).after
+  stack_moves (contents.Path p) = moves_paths (stack_path_arrival s.facts p) (stack_path_leaves s.facts (λ facts. facts.tunnels ≡ s.facts.tunnels) refl p (λ path only. refl))
+  stack_moves (contents.Resv v) = moves_none
+  stack_moves (contents.PathErr e) = moves_none
+  stack_moves (contents.ResvErr e) = stack_err_moves e
+  stack_moves (contents.PathTear t) = moves_paths (stack_tear_arrival s.facts t) (stack_tear_leaves s.facts (λ facts. facts.tunnels ≡ s.facts.tunnels) refl t (λ path found. (λ fact. refl, refl)))
+  stack_moves (contents.ResvTear t) = moves_none
+
+  -- and what comes in a Routed frame
+  routed_moves : (content : Content) → Moves r s (routed_arrival r s content).after
+  routed_moves (contents.Path p) = moves_none
+  routed_moves (contents.Resv v) =
+      returned_resv_by (λ o. Moves r s o.after) r s moves_none v (λ style reply heard. subst (Moves r s) (sym (returned-same r s style v)) (moves_same (record s { repairs = (all_returned r s style v).state.repairs }) refl (λ key none. none)))
+  routed_moves (contents.PathErr e) =
+      returned_err_by (λ o. Moves r s o.after) r s moves_none e (λ key path. err_of_path_leaves s.facts (λ facts. Moves r s (with_facts facts s)) moves_none r key e path (noted_moves e.error e.session.tunnel))
+  routed_moves (contents.ResvErr e) = moves_none
+  routed_moves (contents.PathTear t) = moves_none
+  routed_moves (contents.ResvTear t) = returned_tear_by (λ o. Moves r s o.after) r s moves_none t (λ test. moves_same (with_repairs_where test s) refl (λ key none. none))
 
   -- a message for another router
   relay_moves : (m : Relay) → Moves r s (of_paths s (relay r s.facts m)).after
@@ -454,8 +483,12 @@ module _ (r : Router) (s : State) (is : IsSound r s) (rests : AreSettled r s) wh
 
   way_moves : (way : ArrivalWay) (link : ℕ) (reading : Reading) → is_up s.facts.up link ≡ true → Moves r s (arrival_by r s way link reading).after
   way_moves ways.Hop link reading up = reading_moves link reading up
-  way_moves ways.Stack link reading up = moves_none r s rests
-  way_moves ways.Routed link reading up = moves_none r s rests
+  way_moves ways.Stack link (readings.Whole content) up = stack_moves r s rests content
+  way_moves ways.Stack link (readings.Unknown content class ctype) up =
+      unknown_stack_by (λ o. Moves r s o.after) r s class ctype content (λ p. moves_none r s rests) (stack_moves r s rests content)
+  way_moves ways.Routed link (readings.Whole content) up = routed_moves r s rests content
+  way_moves ways.Routed link (readings.Unknown content class ctype) up =
+      unknown_routed_by (λ o. Moves r s o.after) r s class ctype content (λ v. returned_unknown_by (λ o. Moves r s o.after) r s (moves_none r s rests) v class ctype (λ repair. moves_none r s rests)) (routed_moves r s rests content)
 
   arrival_moves : (a : Arrive) → Moves r s (arrival r s a).after
   unfolding arrival

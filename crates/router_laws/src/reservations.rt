@@ -3,7 +3,7 @@
 ghost use Rattle.std.specs.FinMap.Entries.{find, is_sorted};
 ghost use Rattle.std.specs.Option.{option_and_then};
 ghost use Rattle.std.specs.Ordering.{nat_cmp};
-ghost use Rattle.std.specs.Prelude.{◌≡◌, ◌≢◌, ◌≤◌, ℕ, All, [], Some, T, false, length, true};
+ghost use Rattle.std.specs.Prelude.{◌≡◌, ◌≢◌, ◌*◌, ◌≤◌, ℕ, All, [], Some, T, false, length, true};
 ghost use Rattle.rsvp_contents.specs.declared.messages.Content.TheVariants as contents;
 ghost use Rattle.rsvp_contents.specs.declared.messages.Resv.{Resv};
 ghost use Rattle.rsvp_flows.specs.declared.descriptors.FlowDescriptor.{FlowDescriptor};
@@ -54,8 +54,8 @@ pub fn refreshed_reservations_stay()
         find key_cmp key after.repairs ≡ Some repair }
 {}
 
-/// A descriptor that is in error, or passed over, changes nothing that is known: an old reservation of its LSP stays as
-/// it was, and so do all others.
+/// A descriptor of a neighbour's Resv that is in error, or passed over, changes nothing that is known: an old reservation of
+/// its LSP stays as it was, and so do all others.
 pub fn refused_descriptors_change_nothing()
     ensures { (r : Router) (link : ℕ) (v : Resv) (d : FlowDescriptor) (fact : ResvFact) (progress : Progress) (verdict : Verdict) →
         verdict ≢ Granted → (carried_on r link v d fact progress verdict).state ≡ progress.state }
@@ -65,7 +65,10 @@ pub fn refused_descriptors_change_nothing()
 /// it had, and is repaired as it was where its bypass is up still. The same links are up, and a bypass runs over what it
 /// ran over, unless the message touches the current LSP of its tunnel. A Path or a PathTear touches its own LSP; a Resv
 /// those of the descriptors that are granted, those that give way to them, and those that tunnels give up whose new LSPs it
-/// reserves; a ResvTear those of its filters; a PathErr or a ResvErr none.
+/// reserves; a ResvTear those of its filters; a PathErr or a ResvErr none. Of those that come through a stack of labels a
+/// Path touches the LSP of the one path that it may join, and a PathTear that of the path that it came through (RFC 4090,
+/// 7.1). Of those that come in Routed frames a Resv touches the LSPs whose repairs it renews, and a ResvTear those whose
+/// repairs it takes away (RFC 4090, 6.4.4).
 pub fn a_message_touches_its_own_lsps()
     ensures others { (r : Router) (before after : State) (made : Made) (arrived : Arrive) (key : Key) →
         IsSound r before → Step r before made after → made.event ≡ events.Arrive arrived →
@@ -98,9 +101,8 @@ pub fn repeated_reservations_are_silent()
         (after ≡ before) × (made.outputs ≡ []) }
 {}
 
-/// The Resvs that a sound state wants at the neighbours upstream stand in order, and there are no more of them than
-/// paths.
+/// The Resvs that a sound state wants upstream stand in order, and there are at most four of them for each path.
 pub fn wanted_resvs_stand_in_order()
     ensures in_order { (r : Router) (s : State) → IsSound r s → T (is_sorted upstream_cmp (upstream_of r s)) }
-    ensures few { (r : Router) (s : State) → IsSound r s → length (upstream_of r s) ≤ length s.facts.paths }
+    ensures few { (r : Router) (s : State) → IsSound r s → length (upstream_of r s) ≤ 4 * length s.facts.paths }
 {}

@@ -30,42 +30,54 @@ use Rattle.router_soundness.proofs.Labelling.{eqb-same}
 use Rattle.abstract_router.specs.Errors.{no_sender, style_conflict}
 use Rattle.router_soundness.proofs.Holding.{found-all, held_where}
 use Rattle.abstract_router.specs.Preempting.{attr_at, claims_of, fits, giving_way, limit_of, request_of}
-use Rattle.abstract_router.specs.Reserving.{Verdict, Failed, Granted, conflicts, is_same_style, verdict_by_rate, verdict_of, verdict_on_path}
+use Rattle.abstract_router.specs.Reserving.{Verdict, Failed, Granted, conflicts, is_same_style, verdict_by_rate, verdict_by_style, verdict_of, verdict_on_path}
 use Rattle.abstract_router.specs.Soundness.{AreHeld, IsResv}
 use Rattle.abstract_router.specs.States.{State, is_one_of, is_repaired, with_resv, without_resvs}
 
--- What a descriptor has been tested for that is granted.
-pub record IsGranted (r : Router) (s : State) (key : Key) (fact : ResvFact) : Type 0 where
+-- What a descriptor has been tested for that is granted, whichever room it takes,
+pub record IsAccepted (s : State) (key : Key) (fact : ResvFact) (has_room : Bool) : Type 0 where
   pub rate : IsOk (flowspec_rate fact.flowspec)
   pub label : is_label fact.label ≡ true
-  pub unrepaired : is_repaired s key ≡ false
   pub agrees : find_first (conflicts fact.link fact.style key) s.resvs ≡ None
-  pub fits : fits r s key fact ≡ true
+  pub room : has_room ≡ true
+
+-- and one that takes bandwidth of its link.
+pub record IsGranted (r : Router) (s : State) (key : Key) (fact : ResvFact) : Type 0 where
+  pub unrepaired : is_repaired s key ≡ false
+  pub accepted : IsAccepted s key fact (fits r s key fact)
+
+module _ (r : Router) (s : State) (key : Key) (fact : ResvFact) (has_room : Bool) where
+  -- what follows from a verdict by rate and style, if it is to grant
+  abbrev Accepts : Verdict → Type 0
+  Accepts verdict = verdict ≡ Granted → IsAccepted s key fact has_room
+
+  accepts_by_rate : (rate : Result ℕ TrafficFault) → flowspec_rate fact.flowspec ≡ rate → find_first (conflicts fact.link fact.style key) s.resvs ≡ None → Accepts (verdict_by_rate r fact has_room rate)
+  accepts_by_rate (Err fault) is agrees = λ e. absurd (let h = e in cc)
+  accepts_by_rate (Ok rate) is agrees =
+      cond_both (not (is_label fact.label)) _ _ Accepts (λ bad. λ e. absurd (let h = e in cc))
+      (λ label.
+      cond_both (has_loop r fact.recorded) _ _ Accepts (λ loops. λ e. absurd (let h = e in cc))
+      (λ straight.
+      cond_both (not has_room) _ _ Accepts (λ full. λ e. absurd (let h = e in cc))
+      (λ room. λ e. record { rate = subst IsOk (sym is) refl; label = not-false _ label; agrees = agrees; room = not-false _ room })))
+
+  pub accepted_means : verdict_by_style r s key fact has_room ≡ Granted → IsAccepted s key fact has_room
+  accepted_means = by_conflict (find_first (conflicts fact.link fact.style key) s.resvs) refl
+    where
+      by_conflict : (o : Option (Key × ResvFact)) → find_first (conflicts fact.link fact.style key) s.resvs ≡ o
+          → Accepts (option_map_or (λ other. Failed (style_conflict other.1.style)) o (verdict_by_rate r fact has_room (flowspec_rate fact.flowspec)))
+      by_conflict None none = accepts_by_rate (flowspec_rate fact.flowspec) refl none
+      by_conflict (Some other) some = λ e. absurd (let h = e in cc)
 
 module _ (r : Router) (s : State) (key : Key) (fact : ResvFact) where
   -- what follows from a verdict, if it is to grant
   abbrev Means : Verdict → Type 0
   Means verdict = verdict ≡ Granted → IsGranted r s key fact
 
-  means_by_rate : (rate : Result ℕ TrafficFault) → flowspec_rate fact.flowspec ≡ rate → is_repaired s key ≡ false → find_first (conflicts fact.link fact.style key) s.resvs ≡ None → Means (verdict_by_rate r s key fact rate)
-  means_by_rate (Err fault) is whole agrees = λ e. absurd (let h = e in cc)
-  means_by_rate (Ok rate) is whole agrees =
-      cond_both (not (is_label fact.label)) _ _ Means (λ bad. λ e. absurd (let h = e in cc))
-      (λ label.
-      cond_both (has_loop r fact.recorded) _ _ Means (λ loops. λ e. absurd (let h = e in cc))
-      (λ straight.
-      cond_both (not (fits r s key fact)) _ _ Means (λ full. λ e. absurd (let h = e in cc))
-      (λ room. λ e. record { rate = subst IsOk (sym is) refl; label = not-false _ label; unrepaired = whole; agrees = agrees; fits = not-false _ room })))
-
   means_on_path : (path : PathFact) → Means (verdict_on_path r s key fact path)
   means_on_path path =
       cond_both (not (leaves_by fact.link path) || is_repaired s key) _ _ Means (λ other. λ e. absurd (let h = e in cc))
-      (λ leaves. by_conflict (or_parts (not (leaves_by fact.link path)) (is_repaired s key) leaves).1 (find_first (conflicts fact.link fact.style key) s.resvs) refl)
-    where
-      by_conflict : is_repaired s key ≡ false → (o : Option (Key × ResvFact)) → find_first (conflicts fact.link fact.style key) s.resvs ≡ o
-          → Means (option_map_or (λ other. Failed (style_conflict other.1.style)) o (verdict_by_rate r s key fact (flowspec_rate fact.flowspec)))
-      by_conflict whole None none = means_by_rate (flowspec_rate fact.flowspec) refl whole none
-      by_conflict whole (Some other) some = λ e. absurd (let h = e in cc)
+      (λ leaves. λ e. record { unrepaired = (or_parts (not (leaves_by fact.link path)) (is_repaired s key) leaves).1; accepted = accepted_means r s key fact (fits r s key fact) e })
 
   pub granted_means : verdict_of r s key fact ≡ Granted → IsGranted r s key fact
   unfolding verdict_of
@@ -119,7 +131,7 @@ module _ (r : Router) (s : State) (key : Key) (fact : ResvFact) (held : AreHeld 
   agree b y found other session link =
       by (is_same_style fact.style y.style) (is_eq (key_cmp key b)) refl
       (subst (λ p. (p && not (is_eq (key_cmp key b)) && (y.link == fact.link) && not (is_same_style fact.style y.style)) ≡ false) session
-      (none-found (conflicts fact.link fact.style key) b y s.resvs may.agrees (found-all (λ resv. not (is_one_of gone resv.0)) b y s.resvs held.in_order found)))
+      (none-found (conflicts fact.link fact.style key) b y s.resvs may.accepted.agrees (found-all (λ resv. not (is_one_of gone resv.0)) b y s.resvs held.in_order found)))
     where
       apart : is_eq (key_cmp key b) ≡ true → ⊥
       apart tie =
@@ -164,7 +176,7 @@ module _ (r : Router) (s : State) (key : Key) (fact : ResvFact) (held : AreHeld 
       subst (λ cs. reserved_of link priority cs ≤ limit_of r link) (sym claims)
       (elim (fact.link == link) as (λ b. (fact.link == link) ≡ b → reserved_of link priority (granted (request_of s.facts.paths key fact) (without gone (claims_of s.facts.paths s.resvs))) ≤ limit_of r link) [
         | true ↦ λ on. subst (λ l. reserved_of l priority (granted (request_of s.facts.paths key fact) (without gone (claims_of s.facts.paths s.resvs))) ≤ limit_of r l) (eqb-true fact.link link on)
-            (granted-within (limit_of r fact.link) priority (request_of s.facts.paths key fact) (claims_of s.facts.paths s.resvs) gone (sorted-claims s.facts.paths s.resvs held.in_order) (victims_of-is_enough (limit_of r fact.link) (request_of s.facts.paths key fact) (claims_of s.facts.paths s.resvs) (sorted-claims s.facts.paths s.resvs held.in_order) (holding_below_setup (attr_at s.facts.paths key)) (setup_most (attr_at s.facts.paths key)) may.fits) most)
+            (granted-within (limit_of r fact.link) priority (request_of s.facts.paths key fact) (claims_of s.facts.paths s.resvs) gone (sorted-claims s.facts.paths s.resvs held.in_order) (victims_of-is_enough (limit_of r fact.link) (request_of s.facts.paths key fact) (claims_of s.facts.paths s.resvs) (sorted-claims s.facts.paths s.resvs held.in_order) (holding_below_setup (attr_at s.facts.paths key)) (setup_most (attr_at s.facts.paths key)) may.accepted.room) most)
         | false ↦ λ off. omega (
           arith,
           held.within link priority most,

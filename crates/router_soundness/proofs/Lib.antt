@@ -1,11 +1,16 @@
+pub mod Arriving
 pub mod Choosing
 pub mod Claiming
 pub mod Drafting
 pub mod Entries
 pub mod Granting
 pub mod Holding
+pub mod Keeping
 pub mod Labelling
+pub mod OtherWays
 pub mod Repairing
+pub mod Reserving
+pub mod Returning
 pub mod Running
 pub mod Selecting
 pub mod Settling

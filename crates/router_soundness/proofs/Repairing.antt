@@ -2,7 +2,7 @@
 -- what a lost link took away is repaired.
 use Rattle.std.specs.Prelude.{◌≡◌, ◌&&◌, Bool, true, false, cond, not, T, List, [], ◌∷◌, filter, filter_map, map, Option, Some, None, is_some, IfSome}
 use Rattle.std.specs.Bool.{then_some}
-use Rattle.std.specs.FinMap.Entries.{find, find-put, is_sorted, put}
+use Rattle.std.specs.FinMap.Entries.{find, find-put, is_sorted, is_sorted-put, put}
 use Rattle.std.specs.List.{AllByRecursion, cons_option}
 use Rattle.std.specs.Option.{option_and_then, option_map, option_map_or}
 use Rattle.std.specs.Ordering.{eq_by_cmp}
@@ -31,7 +31,7 @@ use Rattle.abstract_router.specs.Lsps.{around_of}
 use Rattle.abstract_router.specs.Protecting.{repair_with, selected}
 use Rattle.abstract_router.specs.Repairing.{new_repairs, put_repair, repair_of, repair_on, repair_stands, repaired, repairs_left}
 use Rattle.abstract_router.specs.Soundness.{AreHeld, AreRepaired, IsResv}
-use Rattle.abstract_router.specs.States.{State, is_repaired, with_facts, with_repairs_where, with_resv, with_resvs_where}
+use Rattle.abstract_router.specs.States.{State, is_repaired, with_facts, with_repair, with_repairs_where, with_resv, with_resvs_where}
 use Rattle.abstract_router.specs.Steps.{left_standing, resvs_left, stands}
 
 -- ---- changes of one table
@@ -81,6 +81,14 @@ module _ (s : State) (key : Key) (fact : ResvFact) (free : is_repaired s key ≡
     apart = all-both (λ (repair : Key × Repair). find key_cmp repair.0 s.repairs ≡ Some repair.1) (λ (repair : Key × Repair). find key_cmp repair.0 s.resvs ≡ None)
         (λ (repair : Key × Repair). find key_cmp repair.0 (put key_cmp key fact s.resvs) ≡ None) other s.repairs (all_found key_cmp key_total s.repairs is.in_order) is.apart;
   }
+
+-- The repair of an LSP is put that isn't reserved.
+pub repaired_with_repair : (s : State) (key : Key) (repair : Repair) → IsResv s.facts.moment (key, repair.resv) → find key_cmp key s.resvs ≡ None → AreRepaired s → AreRepaired (with_repair key repair s)
+repaired_with_repair s key repair resv free is = record {
+  in_order = is_sorted-put key_cmp key_total key repair s.repairs is.in_order;
+  each = all-put_row key_cmp (λ (repair : Key × Repair). IsResv s.facts.moment (repair.0, repair.1.resv)) key repair (λ k tied. subst (λ k. IsResv s.facts.moment (k, repair.resv)) (key_exact key k tied) resv) resv s.repairs is.each;
+  apart = all-put_row key_cmp (λ (repair : Key × Repair). find key_cmp repair.0 s.resvs ≡ None) key repair (λ k tied. subst (λ k. find key_cmp k s.resvs ≡ None) (key_exact key k tied) free) free s.repairs is.apart;
+}
 
 -- ---- what a lost link took away
 

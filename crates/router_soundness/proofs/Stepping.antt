@@ -5,12 +5,12 @@ use Rattle.std.specs.List.{list_any}
 use Rattle.std.specs.Option.{option_map_or}
 use Rattle.std.proofs.Common.{refl, ap, sym, ◌∙◌}
 use Rattle.std.proofs.lemmas.Bool.{cond_both}
-use Rattle.rsvp_contents.specs.Picking.{content_in}
 use Rattle.rsvp_contents.specs.declared.message.Reading.{Reading}
 use Rattle.rsvp_contents.specs.declared.message.Reading.TheVariants as readings
 use Rattle.rsvp_contents.specs.declared.messages.Content.{Content}
 use Rattle.rsvp_contents.specs.declared.messages.Content.TheVariants as contents
 use Rattle.rsvp_contents.specs.declared.messages.Path.{Path}
+use Rattle.rsvp_contents.specs.declared.messages.PathErr.{PathErr}
 use Rattle.rsvp_contents.specs.declared.messages.Resv.{Resv}
 use Rattle.rsvp_contents.specs.declared.messages.ResvErr.{ResvErr}
 use Rattle.rsvp_contents.specs.declared.messages.ResvTear.{ResvTear}
@@ -35,9 +35,10 @@ use Rattle.router_events.specs.declared.events.Made.{Made}
 use Rattle.router_events.specs.declared.events.Output.{Output}
 use Rattle.abstract_paths.proofs.Refusals as paths
 use Rattle.abstract_paths.specs.Outcomes as path_outcomes
-use Rattle.abstract_paths.specs.Paths.{key_of, path_arrival}
+use Rattle.abstract_paths.specs.Paths.{key_of, path_arrival, unknown_object}
 use Rattle.abstract_paths.specs.Commands.{begun_by, command}
 use Rattle.abstract_paths.specs.Links.{link_change}
+use Rattle.abstract_paths.specs.Merging.{stack_path_arrival, stack_path_failed, stack_tear_arrival}
 use Rattle.abstract_paths.specs.Places.{is_up}
 use Rattle.abstract_paths.specs.Relays.{exceeds_hop_limit, relay}
 use Rattle.abstract_router.specs.Steps.{IsEvent}
@@ -45,16 +46,18 @@ use Rattle.abstract_paths.specs.Tears.{path_err_arrival, path_tear_arrival}
 use Rattle.abstract_paths.specs.Time.{tick}
 use Rattle.router_soundness.proofs.Choosing.{labels_to_choose}
 use Rattle.router_soundness.proofs.Drafting.{outcome-leaves}
+use Rattle.router_soundness.proofs.OtherWays.{returned_err_by, returned_resv_by, returned_tear_by, returned_unknown_by, unknown_routed_by, unknown_stack_by}
 use Rattle.router_soundness.proofs.Settling.{Leaves, LeavesBy}
 use Rattle.abstract_router.specs.Soundness.{IsSound}
-use Rattle.abstract_router.specs.Arrivals.{arrival, arrival_by, command_comes, commanded_by, for_reservations, is_done, labelled_path_arrival, message_arrival, moment_comes, outcome, reading_arrival, takes_used_bypass, unmerged}
+use Rattle.abstract_router.specs.Arrivals.{arrival, arrival_by, command_comes, commanded_by, for_reservations, is_done, labelled_path_arrival, message_arrival, moment_comes, outcome, reading_arrival, routed_arrival, stack_arrival, takes_used_bypass}
 use Rattle.abstract_router.specs.Errors.{unknown_style}
 use Rattle.abstract_router.specs.Labels.{has_free_label}
 use Rattle.abstract_router.specs.Outcomes.{Outcome, of_paths, refused}
 use Rattle.abstract_router.specs.Reserving.{Progress, all_descriptors, resv_arrival, resv_failed, resv_replied, unknown_resv}
+use Rattle.abstract_router.specs.Returning.{returned_err, returned_resv, returned_tear, returned_unknown}
 use Rattle.abstract_router.specs.States.{State, with_facts, without_held}
 use Rattle.abstract_router.specs.Steps.{MayChoose, MayChooseBy, Step, known_after, sent_in, settled, with_moments}
-use Rattle.abstract_router.specs.Tearing.{err_onward, is_resv_torn_by, resv_err_passed_on, resv_err_arrival, resv_tear_arrival}
+use Rattle.abstract_router.specs.Tearing.{err_onward, is_resv_torn_by, resv_err_passed_on, resv_err_arrival, resv_tear_arrival, stack_err_arrival, stack_err_onward}
 
 -- Two steps of one event from the same state, with the same labels, are one.
 pub same_step : (r : Router) (before a b : State) (one other : Made) → one.event ≡ other.event → one.labels ≡ other.labels → Step r before one a → Step r before other b → (one ≡ other) × (a ≡ b)
@@ -92,13 +95,17 @@ module _ (r : Router) (s : State) where
   unfolding resv_tear_arrival
   tear-refuses link t = cond_both (list_any (is_resv_torn_by link t) s.resvs) _ (refused s NoMatch) (RefusesSilently s) (λ some refusal is. cc) (λ none. refuses NoMatch)
 
+  passed_on-refuses : (matched : List (List Output)) → RefusesSilently s (resv_err_passed_on s matched)
+  passed_on-refuses [] = refuses NoMatch
+  passed_on-refuses (one ∷ more) = λ refusal is. cc
+
   err-refuses : (link : ℕ) (e : ResvErr) → RefusesSilently s (resv_err_arrival r s link e)
   unfolding resv_err_arrival
-  err-refuses link e = by (filter_map (err_onward r s link e) e.descriptors)
-    where
-      by : (matched : List (List Output)) → RefusesSilently s (resv_err_passed_on s matched)
-      by [] = refuses NoMatch
-      by (one ∷ more) = λ refusal is. cc
+  err-refuses link e = passed_on-refuses (filter_map (err_onward r s link e) e.descriptors)
+
+  stack_err-refuses : (e : ResvErr) → RefusesSilently s (stack_err_arrival r s e)
+  unfolding stack_err_arrival
+  stack_err-refuses e = passed_on-refuses (filter_map (stack_err_onward r s e) e.descriptors)
 
   path-refuses : (link : ℕ) (p : Path) → RefusesSilently s (labelled_path_arrival r s link p)
   unfolding labelled_path_arrival
@@ -109,7 +116,7 @@ module _ (r : Router) (s : State) where
   message-refuses : (link : ℕ) (content : Content) → RefusesSilently s (message_arrival r s link content)
   message-refuses link (contents.Path p) = path-refuses link p
   message-refuses link (contents.Resv v) = resv-refuses link v
-  message-refuses link (contents.PathErr e) = of_paths-refuses (path_err_arrival s.facts link e) (paths.path_err-refuses r s.facts link e)
+  message-refuses link (contents.PathErr e) = of_paths-refuses (path_err_arrival r s.facts link e) (paths.path_err-refuses r s.facts link e)
   message-refuses link (contents.ResvErr e) = err-refuses link e
   message-refuses link (contents.PathTear t) = of_paths-refuses (path_tear_arrival s.facts link t) (paths.path_tear-refuses r s.facts link t)
   message-refuses link (contents.ResvTear t) = tear-refuses link t
@@ -124,10 +131,43 @@ module _ (r : Router) (s : State) where
   reading-refuses link (readings.Unknown (contents.PathTear t) class ctype) = message-refuses link (contents.PathTear t)
   reading-refuses link (readings.Unknown (contents.ResvTear t) class ctype) = message-refuses link (contents.ResvTear t)
 
+  -- a message that comes through a stack
+  stack-refuses : (content : Content) → RefusesSilently s (stack_arrival r s content)
+  stack-refuses (contents.Path p) = of_paths-refuses (stack_path_arrival s.facts p) (paths.stack_path-refuses r s.facts p)
+  stack-refuses (contents.Resv v) = refuses NoMatch
+  stack-refuses (contents.PathErr e) = refuses NoMatch
+  stack-refuses (contents.ResvErr e) = stack_err-refuses e
+  stack-refuses (contents.PathTear t) = of_paths-refuses (stack_tear_arrival s.facts t) (paths.stack_tear-refuses r s.facts t)
+  stack-refuses (contents.ResvTear t) = refuses NoMatch
+
+  -- and one that comes in a Routed frame
+  returned_resv-refuses : (v : Resv) → RefusesSilently s (returned_resv r s v)
+  returned_resv-refuses v = returned_resv_by (RefusesSilently s) r s (refuses NoMatch) v (λ style reply heard refusal is. absurd (heard refusal is))
+
+  returned_unknown-refuses : (v : Resv) (class ctype : ℕ) → RefusesSilently s (returned_unknown r s v class ctype)
+  returned_unknown-refuses v class ctype = returned_unknown_by (RefusesSilently s) r s (refuses NoMatch) v class ctype (λ repair refusal is. cc)
+
+  returned_tear-refuses : (t : ResvTear) → RefusesSilently s (returned_tear r s t)
+  returned_tear-refuses t = returned_tear_by (RefusesSilently s) r s (refuses NoMatch) t (λ test refusal is. cc)
+
+  returned_err-refuses : (e : PathErr) → RefusesSilently s (returned_err r s e)
+  returned_err-refuses e = returned_err_by (RefusesSilently s) r s (refuses NoMatch) e (λ key path refusal is. cc)
+
+  routed-refuses : (content : Content) → RefusesSilently s (routed_arrival r s content)
+  routed-refuses (contents.Path p) = refuses NoMatch
+  routed-refuses (contents.Resv v) = returned_resv-refuses v
+  routed-refuses (contents.PathErr e) = returned_err-refuses e
+  routed-refuses (contents.ResvErr e) = refuses NoMatch
+  routed-refuses (contents.PathTear t) = refuses NoMatch
+  routed-refuses (contents.ResvTear t) = returned_tear-refuses t
+
   way-refuses : (way : ArrivalWay) (link : ℕ) (reading : Reading) → RefusesSilently s (arrival_by r s way link reading)
   way-refuses ways.Hop link reading = reading-refuses link reading
-  way-refuses ways.Stack link reading = refuses (unmerged (content_in reading))
-  way-refuses ways.Routed link reading = refuses NoMatch
+  way-refuses ways.Stack link (readings.Whole content) = stack-refuses content
+  way-refuses ways.Stack link (readings.Unknown content class ctype) =
+      unknown_stack_by (RefusesSilently s) r s class ctype content (λ p. of_paths-refuses (stack_path_failed r s.facts p (unknown_object class ctype)) (paths.stack_path_failed-refuses r s.facts p (unknown_object class ctype))) (stack-refuses content)
+  way-refuses ways.Routed link (readings.Whole content) = routed-refuses content
+  way-refuses ways.Routed link (readings.Unknown content class ctype) = unknown_routed_by (RefusesSilently s) r s class ctype content (λ v. returned_unknown-refuses v class ctype) (routed-refuses content)
 
   arrival-refuses : (a : Arrive) → RefusesSilently s (arrival r s a)
   unfolding arrival

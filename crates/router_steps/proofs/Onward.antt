@@ -10,7 +10,8 @@ use Rattle.lsr_facts.specs.declared.router.Router.{Router}
 use Rattle.router_events.specs.declared.events.Output.{Output}
 use Rattle.abstract_router.specs.Outcomes.{refused, replied}
 use Rattle.abstract_router.specs.States.{State}
-use Rattle.abstract_router.specs.Tearing.{err_onward, resv_err_passed_on, resv_err_arrival}
+use Rattle.abstract_router.specs.Tearing.{resv_err_passed_on}
+use Rattle.router_steps.specs.Onward.{err_by, passed_on}
 
 -- what is passed on of one that matches isn't silent
 passed_speaks : {X : Type 0} (s : State) (f : X → Option (List Output)) (xs : List X) → list_any (λ x. is_some (f x)) xs ≡ true → (resv_err_passed_on s (filter_map f xs)).is_silent ≡ false
@@ -22,9 +23,9 @@ passed_speaks s f (x ∷ xs) any = by (f x) (passed_speaks s f xs) any
     by (Some told) rest any = refl
 
 -- A ResvErr of which a descriptor matches isn't silent.
-pub err_speaks : (r : Router) (s : State) (link : ℕ) (e : ResvErr) → list_any (λ d. is_some (err_onward r s link e d)) e.descriptors ≡ true → (resv_err_arrival r s link e).is_silent ≡ false
-unfolding resv_err_arrival
-err_speaks r s link e any = passed_speaks s (err_onward r s link e) e.descriptors any
+pub err_speaks : (r : Router) (s : State) (over : Option ℕ) (e : ResvErr) → list_any (λ d. is_some (err_by r s over e d)) e.descriptors ≡ true → (passed_on r s over e).is_silent ≡ false
+unfolding passed_on
+err_speaks r s over e any = passed_speaks s (err_by r s over e) e.descriptors any
 
 -- the messages that go on, one after the other
 flat_listed : (told : List (Option Output)) → flat_map (λ one. one) (map option_to_list told) ≡ flat_map option_to_list told
@@ -32,13 +33,13 @@ flat_listed [] = refl
 flat_listed (one ∷ more) = ap (λ rest. option_to_list one ++ rest) (flat_listed more)
 
 -- Where none matches, it is refused.
-pub none_onward : (r : Router) (s : State) (link : ℕ) (e : ResvErr) (told : List (Option Output)) → map option_to_list told ≡ filter_map (err_onward r s link e) e.descriptors → length told ≡ 0 → refused s NoMatch ≡ resv_err_arrival r s link e
-unfolding resv_err_arrival
-none_onward r s link e [] is none = ap (resv_err_passed_on s) is
-none_onward r s link e (one ∷ more) is none = absurd (omega (arith, none))
+pub none_onward : (r : Router) (s : State) (over : Option ℕ) (e : ResvErr) (told : List (Option Output)) → map option_to_list told ≡ filter_map (err_by r s over e) e.descriptors → length told ≡ 0 → refused s NoMatch ≡ passed_on r s over e
+unfolding passed_on
+none_onward r s over e [] is none = ap (resv_err_passed_on s) is
+none_onward r s over e (one ∷ more) is none = absurd (omega (arith, none))
 
 -- Where one does, what goes on is told.
-pub some_onward : (r : Router) (s : State) (link : ℕ) (e : ResvErr) (told : List (Option Output)) → map option_to_list told ≡ filter_map (err_onward r s link e) e.descriptors → (length told ≡ 0 → ⊥) → replied replies.Done (flat_map option_to_list told) s ≡ resv_err_arrival r s link e
-unfolding resv_err_arrival
-some_onward r s link e [] is some = absurd (some refl)
-some_onward r s link e (one ∷ more) is some = ap (λ (outputs : List Output). replied replies.Done outputs s) (sym (flat_listed (one ∷ more))) ∙ ap (resv_err_passed_on s) is
+pub some_onward : (r : Router) (s : State) (over : Option ℕ) (e : ResvErr) (told : List (Option Output)) → map option_to_list told ≡ filter_map (err_by r s over e) e.descriptors → (length told ≡ 0 → ⊥) → replied replies.Done (flat_map option_to_list told) s ≡ passed_on r s over e
+unfolding passed_on
+some_onward r s over e [] is some = absurd (some refl)
+some_onward r s over e (one ∷ more) is some = ap (λ (outputs : List Output). replied replies.Done outputs s) (sym (flat_listed (one ∷ more))) ∙ ap (resv_err_passed_on s) is

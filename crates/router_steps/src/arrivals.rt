@@ -2,8 +2,7 @@
 
 ghost use Rattle.std.specs.Prelude.{◌≡◌, ◌≢◌, IfOk, OnErr, false};
 ghost use Rattle.rsvp_contents.specs.Spelling.{IsMessage};
-ghost use Rattle.rsvp_contents.specs.Picking.{content_in};
-ghost use Rattle.abstract_router.specs.Arrivals.{arrival, arrival_by, message_arrival, outcome, reading_arrival, unknown_arrival, unmerged};
+ghost use Rattle.abstract_router.specs.Arrivals.{arrival, arrival_by, message_arrival, outcome, reading_arrival, unknown_arrival};
 ghost use Rattle.abstract_router.specs.Soundness.{IsSound};
 ghost use Rattle.router_events.specs.declared.events.Event.TheVariants as events;
 ghost use Rattle.state_views.specs.Drafts.{IsDraft};
@@ -11,6 +10,7 @@ ghost use Rattle.state_views.specs.Drafts.{IsDraft};
 use crate::errors::resv_err_arrival;
 use crate::paths::labelled_path_arrival;
 use crate::tears::resv_tear_arrival;
+use crate::ways::{routed_arrival, stack_arrival, unknown_routed_arrival, unknown_stack_arrival};
 use lsr_facts::{Refusal, Reply};
 use message_rules::{is_up, link_at};
 use path_steps::{
@@ -94,26 +94,6 @@ fn reading_arrival<V: WholeState>(
     }
 }
 
-/// Why a message is refused that came through a stack of labels: no path is here that it joins, or names (RFC 4090, 7).
-fn unmerged(content: &Content) -> Refusal
-    ensures { result ≡ unmerged content.now }
-{
-    match content {
-        Content::Path(_) => Refusal::NoMerge,
-        _ => Refusal::NoMatch,
-    }
-}
-
-/// What a message says, whole or with an object that its type doesn't know.
-fn content_in(reading: &Reading) -> &Content
-    ensures { result.now ≡ content_in reading.now }
-{
-    match reading {
-        Reading::Whole(message) => message.content(),
-        Reading::Unknown(message, ..) => message.content(),
-    }
-}
-
 /// What a message does that comes over a link which is up, by its way.
 fn arrival_by<V: WholeState>(alloc: Global, view: &V, arrive: &Arrive) -> Result<Draft, AllocError>
     requires { IsSound (V.router view.now) (V.state view.now) }
@@ -124,10 +104,20 @@ fn arrival_by<V: WholeState>(alloc: Global, view: &V, arrive: &Arrive) -> Result
     ensures memory { OnErr result ((arrival_by (V.router view.now)
         (V.state view.now) arrive.now.way arrive.now.link arrive.now.reading).is_silent ≡ false) }
 {
-    match arrive.way {
-        ArrivalWay::Hop => reading_arrival(alloc, view, arrive.link, &arrive.reading),
-        ArrivalWay::Stack => Ok(refused(alloc, view, unmerged(content_in(&arrive.reading)))),
-        ArrivalWay::Routed => Ok(refused(alloc, view, Refusal::NoMatch)),
+    match (arrive.way, &arrive.reading) {
+        (ArrivalWay::Hop, reading) => reading_arrival(alloc, view, arrive.link, reading),
+        (ArrivalWay::Stack, Reading::Whole(message)) => {
+            stack_arrival(alloc, view, message.content())
+        }
+        (ArrivalWay::Stack, Reading::Unknown(message, class, ctype)) => {
+            unknown_stack_arrival(alloc, view, message.content(), *class, *ctype)
+        }
+        (ArrivalWay::Routed, Reading::Whole(message)) => {
+            routed_arrival(alloc, view, message.content())
+        }
+        (ArrivalWay::Routed, Reading::Unknown(message, class, ctype)) => {
+            unknown_routed_arrival(alloc, view, message.content(), *class, *ctype)
+        }
     }
 }
 

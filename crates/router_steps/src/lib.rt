@@ -6,6 +6,7 @@ mod arrivals;
 mod errors;
 mod paths;
 mod tears;
+mod ways;
 
 pub use arrivals::draft_of;
 pub use path_steps::exceeds_hop_limit;

@@ -122,7 +122,7 @@ module _ (r : Router) (s : State) (is : IsSound r s) where
       let both = length-append (filter_map (downstream_row (around_of r s)) (lsps_of s)) (filter_map (backup_row (around_of r s)) (lsps_of s)) in
       omega (arith, as_many, wanted, lsps, both, ap length is.sent, length_either (downstream_row (around_of r s)) (backup_row (around_of r s)) (one_wanted (around_of r s)) (lsps_of s), few_paths)
 
-  pub few_upstream : length s.sent_upstream ≤ 1024
+  pub few_upstream : length s.sent_upstream ≤ 4096
   few_upstream =
       let as_many = length-map s.sent_upstream (λ (row : Upstream × ℕ). row.0) in
       let wanted = length-map (upstream_of r s) (λ row. row.0) in

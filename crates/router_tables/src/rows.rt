@@ -27,6 +27,9 @@ use resv_facts::{Repair, Upstream};
 use rsvp_routes::Prefix;
 use sorted_rows::{Table, make_edits};
 
+/// Resvs that a router keeps alive upstream: one for each of the four origins of each of 1,024 LSPs.
+pub(crate) const MAX_UPSTREAM: usize = 4_096;
+
 /// What a router holds: what never changes of it, and its tables.
 #[derive(Debug, Drop)]
 pub(crate) struct Rows {
@@ -52,8 +55,8 @@ pub(crate) struct Rows {
     pub(crate) repairs: Repairs,
     /// The labels that LSPs hold, and those that are free.
     pub(crate) labels: LabelBindings,
-    /// When each Resv was sent last that is kept alive at a neighbour.
-    pub(crate) upstream: RefreshTimers<Upstream, MAX_LSPS>,
+    /// When each Resv was sent last that is kept alive upstream.
+    pub(crate) upstream: RefreshTimers<Upstream, MAX_UPSTREAM>,
     /// What is done with labelled frames, and with the traffic of tunnels.
     pub(crate) table: ForwardingTable,
 }
@@ -134,7 +137,7 @@ fn edit_moments(
     upstream: Table<Upstream, Option<u64>>,
 )
     requires room { length (in_rows.edited item_cmp moments rows.old.timers.sent) ≤ 1024 }
-    requires few { length (in_rows.edited upstream_cmp upstream rows.old.upstream.sent) ≤ 1024 }
+    requires few { length (in_rows.edited upstream_cmp upstream rows.old.upstream.sent) ≤ 4096 }
     ensures rows { rows.new ≡ record rows.old {
       timers = record rows.old.timers { sent = in_rows.edited item_cmp moments rows.old.timers.sent };
       upstream = record rows.old.upstream { sent = in_rows.edited upstream_cmp upstream rows.old.upstream.sent };

@@ -16,7 +16,7 @@ ghost use Rattle.router_tables.specs.States.{AreOpened, emptied, opened};
 use crate::change::Change;
 use crate::export::export;
 use crate::repairs::Repairs;
-use crate::rows::{Rows, apply, forget};
+use crate::rows::{MAX_UPSTREAM, Rows, apply, forget};
 use crate::tunnels::{Tunnels, with_room};
 use admission::Admission;
 use facility_backup::over_at;
@@ -120,7 +120,7 @@ struct KeptTables {
     /// When each Path was sent last that is kept alive.
     timers: RefreshTimers<Item, MAX_LSPS>,
     /// And each Resv.
-    upstream: RefreshTimers<Upstream, MAX_LSPS>,
+    upstream: RefreshTimers<Upstream, MAX_UPSTREAM>,
     /// The labels.
     labels: LabelBindings,
 }

@@ -8,6 +8,7 @@ ghost use Rattle.lsr_facts.specs.Orders.{key_cmp};
 ghost use Rattle.lsr_facts.specs.declared.key.Key.{Key};
 ghost use Rattle.abstract_paths.specs.MessageLaws.{LeavesRoom};
 ghost use Rattle.abstract_paths.specs.Outcomes.{found_here, told_upstream};
+ghost use Rattle.abstract_paths.specs.Places.{place_at};
 ghost use Rattle.abstract_router.specs.Errors.{locally_repaired};
 ghost use Rattle.abstract_router.specs.Protecting.{repair_with};
 ghost use Rattle.abstract_router.specs.Repairing.{new_repairs, put_repair, repair_of, repaired, told_of, told_repaired};
@@ -17,7 +18,7 @@ ghost use Rattle.state_views.specs.Joining.{joined_rows};
 ghost use Rattle.state_settling.specs.Repairs.{repair_at};
 
 use facility_backup::{Held, repair, select};
-use lsr_facts::{Key, PathFact, Router};
+use lsr_facts::{Key, Node, PathFact};
 use message_rules::{LOCALLY_REPAIRED, found_here, is_up, leaves_by};
 use path_steps::told_upstream;
 use resv_facts::{Repair, ResvFact, Selected};
@@ -148,18 +149,14 @@ fn new_repairs<V: WholeState>(
 
 /// The errors that tell the origins of a path that its LSP runs over a bypass (RFC 4090, 6.5). It asks for a Tspec that
 /// leaves room for the rest of the message.
-fn told_on(
-    alloc: Global,
-    router: &Router,
-    key: &Key,
-    path: &PathFact,
-) -> Result<Outputs, AllocError>
+fn told_on(alloc: Global, node: &Node, key: &Key, path: &PathFact) -> Result<Outputs, AllocError>
     requires { LeavesRoom (Some path.now.tspec) }
     ensures { IfOk result (λ told. told
-        ≡ told_upstream key.now path.now (Some path.now.tspec) (found_here router.now locally_repaired)) }
+        ≡ told_upstream (place_at node.now) key.now path.now (Some path.now.tspec)
+        (found_here node.now.router.now locally_repaired)) }
 {
-    let error = found_here(router, LOCALLY_REPAIRED);
-    told_upstream(alloc, key, path, &Some(path.tspec.clone()?), error)
+    let error = found_here(node.router, LOCALLY_REPAIRED);
+    told_upstream(alloc, node, key, path, &Some(path.tspec.clone()?), error)
 }
 
 /// The errors that a repair tells.
@@ -172,7 +169,7 @@ fn told_of<A: StateView>(
     ensures { IfOk result (λ told. told ≡ told_of (A.router after.now) (A.state after.now) repair.now) }
 {
     match after.path(&repair.0) {
-        Some(path) => told_on(alloc, node_of(after).router, &repair.0, path),
+        Some(path) => told_on(alloc, &node_of(after), &repair.0, path),
         None => Ok(Outputs::new(alloc)),
     }
 }

@@ -1,3 +1,2 @@
 pub mod Leaving
-pub mod Places
 pub mod Taken

@@ -184,7 +184,7 @@ fn is_over_at<V: WholeState>(view: &V, place: usize, number: u16) -> bool
 }
 
 /// Whether an LSP runs over the bypass of a number (RFC 4090, 6.4).
-#[tactic(auto, using(crate::proofs::Places::any_from))]
+#[tactic(auto, using(path_steps::proofs::Places::any_from))]
 fn is_used<V: WholeState>(view: &V, number: u16) -> bool
     ensures { result ≡ list_any (λ repair. repair.1.bypass == number) (V.state view.now).repairs }
 {

@@ -3,6 +3,7 @@ use Rattle.std.specs.Prelude.{◌≡◌, ℕ, ◌≤◌, ◌==◌, ◌&&◌, nat
 use Rattle.std.specs.FinMap.Entries.{find}
 use Rattle.std.specs.List.{AllByRecursion}
 use Rattle.std.specs.Option.{ok_or, option_and_then, option_map, option_map_or, option_or}
+use Rattle.std.specs.declared.net.ipv4_addr.Ipv4Addr.{Ipv4Addr}
 use Rattle.std.proofs.Common.{refl, ◌∙◌, arith, length-append}
 use Rattle.std.proofs.lemmas.Bool.{and_from, and_parts, leb-true}
 use Rattle.std.proofs.lemmas.List.{length-set}
@@ -29,7 +30,6 @@ use Rattle.lsr_facts.specs.Orders.{key_cmp}
 use Rattle.lsr_facts.specs.declared.key.Key.{Key}
 use Rattle.lsr_facts.specs.declared.path_fact.Origin.{Origin}
 use Rattle.lsr_facts.specs.declared.path_fact.PathFact.{PathFact}
-use Rattle.lsr_facts.specs.declared.router.Link.{Link}
 use Rattle.lsr_facts.specs.declared.router.Router.{Router}
 use Rattle.resv_facts.specs.Reservations.{timeless_repair, timeless_resv}
 use Rattle.resv_facts.specs.declared.repair.Repair.{Repair}
@@ -99,28 +99,28 @@ style-fits FixedFilter d = refl
 style-fits SharedExplicit d = refl
 
 -- The parts of the Resv fit that an origin is sent, where what it says of the LSP does.
-pub resv_fits : (r : Router) (key : Key) (path : PathFact) (origin : Origin) (link : Link) (label : ℕ) (a : Reserved) → IsFitting a → IsTrue (fits_resv (resv_to r key path origin link label a))
-resv_fits r key path origin link label a is =
+pub resv_fits : (r : Router) (key : Key) (path : PathFact) (origin : Ipv4Addr × Origin) (address : Ipv4Addr) (label : ℕ) (a : Reserved) → IsFitting a → IsTrue (fits_resv (resv_to r key path origin address label a))
+resv_fits r key path origin address label a is =
     and_from (option_map_or is_short_record (record_upstream r a.flags path label a.recorded) true && true) _
     (and_from (option_map_or is_short_record (record_upstream r a.flags path label a.recorded) true) true (record_upstream-short r a.flags path label a.recorded) refl)
     (and_from (is_short_passing a.passing) _ is.passing
     (and_from (are_passed_by 2 a.passing) _ is.passed_on
-    (and_from (has_adspec_last a.passing) _ is.adspec_last (style-fits a.style (record { flowspec = a.flowspec; filter = key.sender; label = record { number = label }; recorded = record_upstream r a.flags path label a.recorded })))))
+    (and_from (has_adspec_last a.passing) _ is.adspec_last (style-fits a.style (record { flowspec = a.flowspec; filter = record key.sender { sender = origin.0 }; label = record { number = label }; recorded = record_upstream r a.flags path label a.recorded })))))
 
 -- And its flow descriptor leaves room for all else that it says.
-pub resv_has_room : (r : Router) (key : Key) (path : PathFact) (origin : Origin) (link : Link) (label : ℕ) (a : Reserved) → IsAddress key.sender.sender → IsFitting a → HasRoom (contents.Resv (resv_to r key path origin link label a))
-resv_has_room r key path origin link label a address is =
+pub resv_has_room : (r : Router) (key : Key) (path : PathFact) (origin : Ipv4Addr × Origin) (address : Ipv4Addr) (label : ℕ) (a : Reserved) → IsAddress origin.0 → IsFitting a → HasRoom (contents.Resv (resv_to r key path origin address label a))
+resv_has_room r key path origin address label a sender is =
     let recorded = record_upstream r a.flags path label a.recorded in
     omega (
       arith,
-      flow_parts None (record { flowspec = a.flowspec; filter = key.sender; label = record { number = label }; recorded = recorded }),
+      flow_parts None (record { flowspec = a.flowspec; filter = record key.sender { sender = origin.0 }; label = record { number = label }; recorded = recorded }),
       length-flat_map-spelling (objects.Flowspec a.flowspec ∷ []),
       length-flat_map-spelling (if_some recorded objects.RecordRoute),
       total-if_some size_of objects.RecordRoute recorded,
       record-length recorded (record_upstream-short r a.flags path label a.recorded),
       length-append {A = ℕ},
       is.flowspec,
-      address,
+      sender,
     )
 
 -- what the next hop reserved fits, as it should be

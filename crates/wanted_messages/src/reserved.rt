@@ -1,4 +1,4 @@
-//! What is said of an LSP to the neighbours that its Paths came from, where it is reserved or repaired.
+//! What is said of an LSP to the origins of its Paths, where it is reserved or repaired.
 
 ghost use Rattle.std.specs.Option.{option_copied, option_map, unwrap_or};
 ghost use Rattle.std.specs.Prelude.{◌≡◌, [], IfOk, length};

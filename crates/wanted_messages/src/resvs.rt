@@ -1,9 +1,10 @@
-//! The Resv that each origin of an LSP is sent (RFC 2205, 3.1.4; RFC 3209, 4.1.1).
+//! The Resv that each origin of an LSP is sent (RFC 2205, 3.1.4; RFC 3209, 4.1.1; RFC 4090, 6.4.4).
 
 ghost use Rattle.std.specs.Prelude.{◌≡◌, IfOk};
+ghost use Rattle.rsvp_contents.specs.declared.messages.Content.TheVariants as contents;
 ghost use Rattle.lsr_facts.specs.Timeless.{timeless_path};
 ghost use Rattle.abstract_router.specs.Lsps.{around_of, lsp_of};
-ghost use Rattle.abstract_router.specs.Upstreams.{record_upstream, resv_to, upstream_over, upstream_row, upstream_to};
+ghost use Rattle.abstract_router.specs.Upstreams.{record_upstream, resv_to, upstream_back, upstream_over, upstream_row, upstream_to};
 ghost use Rattle.wanted_messages.specs.Fitting.{IsFitting};
 ghost use Rattle.wanted_messages.specs.Telling.{said};
 
@@ -11,8 +12,8 @@ use crate::addresses::has_four_octets;
 use crate::records::record_upstream;
 use crate::reserved::Reserved;
 use crate::upstream::WantedUpstream;
-use lsr_facts::{Key, Link, Origin, PathFact, Router};
-use message_rules::{is_up, link_at, sent_by};
+use lsr_facts::{Key, Origin, PathFact, Router, Via};
+use message_rules::{is_up, link_at, route_to, routed_by, sent_by, under};
 use resv_facts::Upstream;
 use rsvp_contents::{Content, Message, Resv};
 use rsvp_flows::{FlowDescriptor, FlowDescriptors};
@@ -34,15 +35,16 @@ pub(crate) struct ToldLsp<'a> {
     pub reserved: Reserved,
 }
 
-/// The flow descriptor of an LSP. The only error is out of memory.
+/// The flow descriptor of an LSP, as it is told to the origin whose Paths name this sender. The only error is out of memory.
 fn descriptor_of(
     alloc: Global,
     router: &Router,
     lsp: &ToldLsp,
+    sender: Ipv4Addr,
 ) -> Result<FlowDescriptor, AllocError>
     ensures { IfOk result (λ d. d ≡ record {
       flowspec = lsp.now.reserved.flowspec;
-      filter = lsp.now.key.now.sender;
+      filter = record lsp.now.key.now.sender { sender = sender };
       label = record { number = lsp.now.label };
       recorded = record_upstream router.now lsp.now.reserved.flags (timeless_path lsp.now.path.now) lsp.now.label
           lsp.now.reserved.recorded;
@@ -51,7 +53,7 @@ fn descriptor_of(
     let said = &lsp.reserved;
     Ok(FlowDescriptor {
         flowspec: said.flowspec.clone()?,
-        filter: lsp.key.sender,
+        filter: under(sender, *lsp.key).sender,
         label: Label { number: lsp.label },
         recorded: record_upstream(
             alloc,
@@ -64,25 +66,25 @@ fn descriptor_of(
     })
 }
 
-/// The Resv to an origin: this router is its hop, with the interface handle that the origin named; the label is its
-/// own. The only error is out of memory.
+/// The Resv to an origin: this router is its hop, by this address, with the interface handle that the origin named; its
+/// filter names the sender of the origin's Paths; the label is the router's own. The only error is out of memory.
 fn resv_to(
     alloc: Global,
     router: &Router,
     lsp: &ToldLsp,
-    origin: &Origin,
-    link: &Link,
+    origin: &(Ipv4Addr, Origin),
+    address: Ipv4Addr,
 ) -> Result<Resv, AllocError>
     ensures { IfOk result (λ resv. resv ≡ resv_to router.now lsp.now.key.now (timeless_path lsp.now.path.now)
-        origin.now link.now lsp.now.label (said lsp.now.reserved)) }
+        origin.now address lsp.now.label (said lsp.now.reserved)) }
 {
     let mut descriptors = FlowDescriptors::new(alloc);
-    descriptors.push(descriptor_of(alloc, router, lsp)?)?;
+    descriptors.push(descriptor_of(alloc, router, lsp, origin.0)?)?;
     Ok(Resv {
         session: lsp.key.session,
         hop: Hop {
-            address: link.address,
-            interface: origin.hop.interface,
+            address,
+            interface: origin.1.hop.interface,
         },
         time: TimeValues {
             refresh_ms: router.refresh_ms,
@@ -93,15 +95,32 @@ fn resv_to(
     })
 }
 
+/// And the message that it is. What is said of the LSP fits a Resv. The only error is out of memory.
+fn message_to(
+    alloc: Global,
+    router: &Router,
+    lsp: &ToldLsp,
+    origin: &(Ipv4Addr, Origin),
+    address: Ipv4Addr,
+) -> Result<Message, AllocError>
+    requires { IsFitting (said lsp.now.reserved) }
+    ensures { IfOk result (λ message. message ≡ contents.Resv (resv_to router.now lsp.now.key.now
+        (timeless_path lsp.now.path.now) origin.now address lsp.now.label (said lsp.now.reserved))) }
+{
+    let resv = resv_to(alloc, router, lsp, origin, address)?;
+    has_four_octets(origin.0);
+    Ok(Message::checked(Content::Resv(resv)).unwrap())
+}
+
 /// The item of an origin.
-fn upstream_to(key: &Key, sender: Ipv4Addr, origin: &Origin) -> Upstream
-    ensures { result ≡ upstream_to key.now (sender, origin.now) }
+fn upstream_to(key: &Key, origin: &(Ipv4Addr, Origin)) -> Upstream
+    ensures { result ≡ upstream_to key.now origin.now }
 {
     Upstream {
         key: *key,
-        sender,
-        link: origin.via.number(),
-        hop: origin.hop.address,
+        sender: origin.0,
+        link: origin.1.via.number(),
+        hop: origin.1.hop.address,
     }
 }
 
@@ -126,16 +145,34 @@ fn upstream_over<V: StateView>(
     let Some(link) = link_at(node.router, number) else {
         return Ok(None);
     };
-    let resv = resv_to(alloc, node.router, lsp, &origin.1, link)?;
-    has_four_octets(lsp.key.sender.sender);
-    let message = Message::checked(Content::Resv(resv)).unwrap();
-    Ok(Some((
-        upstream_to(lsp.key, origin.0, &origin.1),
-        sent_by(number, message),
-    )))
+    let message = message_to(alloc, node.router, lsp, origin, link.address)?;
+    Ok(Some((upstream_to(lsp.key, origin), sent_by(number, message))))
 }
 
-/// What an origin is sent, where it is a neighbour. The only error is out of memory.
+/// What the head of a bypass is sent, in a Routed frame towards its address: nothing where no way leads there. The only error
+/// is out of memory.
+fn upstream_back<V: StateView>(
+    alloc: Global,
+    view: &V,
+    lsp: &ToldLsp,
+    origin: &(Ipv4Addr, Origin),
+) -> Result<Option<WantedUpstream>, AllocError>
+    requires { IsFitting (said lsp.now.reserved) }
+    ensures { IfOk result (λ row. row ≡ upstream_back
+        (around_of (V.router view.now) (V.state view.now))
+        (lsp.now.key.now, lsp_of (V.state view.now) lsp.now.key.now lsp.now.path.now)
+        lsp.now.label (said lsp.now.reserved) origin.now) }
+{
+    let node = node_of(view);
+    let head = origin.1.hop.address;
+    let Some(link) = route_to(&node, head) else {
+        return Ok(None);
+    };
+    let message = message_to(alloc, node.router, lsp, origin, node.router.id)?;
+    Ok(Some((upstream_to(lsp.key, origin), routed_by(link, head, message))))
+}
+
+/// What an origin is sent, by how its Paths come. The only error is out of memory.
 pub(crate) fn upstream_row<V: StateView>(
     alloc: Global,
     view: &V,
@@ -148,8 +185,8 @@ pub(crate) fn upstream_row<V: StateView>(
         (lsp.now.key.now, lsp_of (V.state view.now) lsp.now.key.now lsp.now.path.now)
         lsp.now.label (said lsp.now.reserved) origin.now) }
 {
-    match origin.1.via.link() {
-        Some(number) => upstream_over(alloc, view, lsp, origin, number),
-        None => Ok(None),
+    match origin.1.via {
+        Via::Link(number) => upstream_over(alloc, view, lsp, origin, number),
+        Via::Stack => upstream_back(alloc, view, lsp, origin),
     }
 }

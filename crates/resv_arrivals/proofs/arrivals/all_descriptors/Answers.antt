@@ -5,7 +5,7 @@ use Rattle.rsvp_flows.proofs.Sizes.{drop_one}
 use Rattle.rsvp_flows.specs.declared.descriptors.FlowDescriptor.{FlowDescriptor}
 use Rattle.abstract_router.specs.Reserving as reserving
 use Rattle.abstract_router.specs.Reserving.{PassedOver, next_descriptor, resv_by, verdict_of}
-use Rattle.resv_arrivals.proofs.Hearing.{heard_all, on_err}
+use Rattle.resv_arrivals.proofs.Hearing.{heard_all, heard_next, on_err, still_heard}
 use Rattle.resv_arrivals.proofs.Reaching.{start_reached}
 use Rattle.resv_arrivals.specs.Progresses.{reached}
 use Rattle.resv_arrivals.specs.declared.progress.Progress.{Progress}
@@ -31,8 +31,8 @@ returns-in_err-progress-clause-memory g c =
     let d = c.index-descriptors-index.result in
     let fact = resv_by s.facts.moment c.args.link c.args.style v d in
     on_err c.from_residual.result _
-    (heard_all r c.args.link c.args.style v p c.as_slice-descriptors.result.now c.loop-index.index d _ c.loop-index-test.true c.index-descriptors-index.is
-    (subst (λ (k : Key). verdict_of r p.state k fact ≢ PassedOver) c.key_in.ensures c.in_err-progress.ensures.memory) c.loop-index.invariant.1)
+    (heard_all (next_descriptor r c.args.link c.args.style v) (still_heard r c.args.link c.args.style v) p c.as_slice-descriptors.result.now c.loop-index.index d _ c.loop-index-test.true c.index-descriptors-index.is
+    (heard_next r c.args.link c.args.style v p d (subst (λ (k : Key). verdict_of r p.state k fact ≢ PassedOver) c.key_in.ensures c.in_err-progress.ensures.memory)) c.loop-index.invariant.1)
 
 pub loop-index-preserved : goal.loop-index-preserved
 loop-index-preserved g c =

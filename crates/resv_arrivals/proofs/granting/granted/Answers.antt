@@ -22,7 +22,7 @@ returns g c =
     let p = c.args.progress in
     let request = c.args.request.now in
     let fact = c.in_ok-fact.fact in
-    let both = granted_leads r s p c.args.asked.now request c.in_ok-gone.gone.items fact c.in_ok-errors.errors c.in_ok-edits.edits c.in_ok-claims_for_next.field-0 c.requires.reached c.requires.own c.requires.granted c.requires.request c.in_ok-gone.ensures
+    let both = granted_leads r s p c.args.asked.now c.args.is_last request c.in_ok-gone.gone.items fact c.in_ok-errors.errors c.in_ok-edits.edits c.in_ok-claims_for_next.field-0 c.requires.reached c.requires.own c.requires.granted c.requires.request c.in_ok-gone.ensures
     (c.in_ok-fact.ensures ∙ ap (λ m. fact_at m c.args.asked.now) c.moment.ensures.moment)
     (c.in_ok-errors.ensures ∙ ap (λ (keys : List Key). fold (told_of r (resvs_at s p)) p.errors keys) c.deref.ensures.value)
     (c.in_ok-edits.ensures ∙ ap (λ (keys : List Key). put key_cmp request.key (Some fact) (fold without_edit p.edits keys)) c.deref-2.ensures.value)

@@ -11,68 +11,68 @@ use Rattle.router_core.proofs.plan.sending_plan.Goals as goal
 pub sends_of-requires-clause-paths : goal.sends_of-requires-clause-paths
 sends_of-requires-clause-paths c =
     let t = c.args.tables.now in
-    let x = c.in_ok-edits in
-    next_paths t.router t.state c.soundness.ensures.sound c.args.draft c.requires x.field-0.edits x.field-0.chosen x.ensures.after x.ensures.chosen
+    let x = c.in_ok-settled in
+    next_paths t.router t.state c.soundness.ensures.sound c.args.draft c.requires x.settled.edits x.settled.chosen x.ensures.after x.ensures.chosen
 
 pub table_of-requires-clause-paths : goal.table_of-requires-clause-paths
 table_of-requires-clause-paths c =
     let t = c.args.tables.now in
-    let x = c.in_ok-edits in
-    next_paths t.router t.state c.soundness.ensures.sound c.args.draft c.requires x.field-0.edits x.field-0.chosen x.ensures.after x.ensures.chosen
+    let x = c.in_ok-settled in
+    next_paths t.router t.state c.soundness.ensures.sound c.args.draft c.requires x.settled.edits x.settled.chosen x.ensures.after x.ensures.chosen
 
 pub sends_of-requires-clause-resvs : goal.sends_of-requires-clause-resvs
 sends_of-requires-clause-resvs c =
     let t = c.args.tables.now in
-    let x = c.in_ok-edits in
-    next_resvs t.router t.state c.soundness.ensures.sound c.args.draft c.requires x.field-0.edits x.field-0.chosen x.ensures.after x.ensures.chosen
+    let x = c.in_ok-settled in
+    next_resvs t.router t.state c.soundness.ensures.sound c.args.draft c.requires x.settled.edits x.settled.chosen x.ensures.after x.ensures.chosen
 
 pub table_of-requires-clause-labels : goal.table_of-requires-clause-labels
 table_of-requires-clause-labels c =
     let t = c.args.tables.now in
-    let x = c.in_ok-edits in
-    next_labels t.router t.state c.soundness.ensures.sound c.args.draft c.requires x.field-0.edits x.field-0.chosen x.ensures.after x.ensures.chosen
+    let x = c.in_ok-settled in
+    next_labels t.router t.state c.soundness.ensures.sound c.args.draft c.requires x.settled.edits x.settled.chosen x.ensures.after x.ensures.chosen
 
 pub table_of-requires-clause-resvs : goal.table_of-requires-clause-resvs
 table_of-requires-clause-resvs c =
     let t = c.args.tables.now in
-    let x = c.in_ok-edits in
-    next_resvs t.router t.state c.soundness.ensures.sound c.args.draft c.requires x.field-0.edits x.field-0.chosen x.ensures.after x.ensures.chosen
+    let x = c.in_ok-settled in
+    next_resvs t.router t.state c.soundness.ensures.sound c.args.draft c.requires x.settled.edits x.settled.chosen x.ensures.after x.ensures.chosen
 
 pub sends_of-requires-clause-repairs : goal.sends_of-requires-clause-repairs
 sends_of-requires-clause-repairs c =
     let t = c.args.tables.now in
-    let x = c.in_ok-edits in
-    next_repairs t.router t.state c.soundness.ensures.sound c.args.draft c.requires x.field-0.edits x.field-0.chosen x.ensures.after x.ensures.chosen
+    let x = c.in_ok-settled in
+    next_repairs t.router t.state c.soundness.ensures.sound c.args.draft c.requires x.settled.edits x.settled.chosen x.ensures.after x.ensures.chosen
 
 pub table_of-requires-clause-repairs : goal.table_of-requires-clause-repairs
 table_of-requires-clause-repairs c =
     let t = c.args.tables.now in
-    let x = c.in_ok-edits in
-    next_repairs t.router t.state c.soundness.ensures.sound c.args.draft c.requires x.field-0.edits x.field-0.chosen x.ensures.after x.ensures.chosen
+    let x = c.in_ok-settled in
+    next_repairs t.router t.state c.soundness.ensures.sound c.args.draft c.requires x.settled.edits x.settled.chosen x.ensures.after x.ensures.chosen
 
 pub tunnel_edits-requires-clause-repairs : goal.tunnel_edits-requires-clause-repairs
 tunnel_edits-requires-clause-repairs c =
     let t = c.args.tables.now in
-    let x = c.in_ok-edits in
-    next_repairs t.router t.state c.soundness.ensures.sound c.args.draft c.requires x.field-0.edits x.field-0.chosen x.ensures.after x.ensures.chosen
+    let x = c.in_ok-settled in
+    next_repairs t.router t.state c.soundness.ensures.sound c.args.draft c.requires x.settled.edits x.settled.chosen x.ensures.after x.ensures.chosen
 
 pub tunnel_edits-requires-clause-resvs : goal.tunnel_edits-requires-clause-resvs
 tunnel_edits-requires-clause-resvs c =
     let t = c.args.tables.now in
-    let x = c.in_ok-edits in
-    next_resvs t.router t.state c.soundness.ensures.sound c.args.draft c.requires x.field-0.edits x.field-0.chosen x.ensures.after x.ensures.chosen
+    let x = c.in_ok-settled in
+    next_resvs t.router t.state c.soundness.ensures.sound c.args.draft c.requires x.settled.edits x.settled.chosen x.ensures.after x.ensures.chosen
 
 pub bandwidth_edits-requires-clause-rated : goal.bandwidth_edits-requires-clause-rated
 bandwidth_edits-requires-clause-rated c =
     let t = c.args.tables.now in
-    let x = c.in_ok-edits in
-    next_rates t.router t.state c.soundness.ensures.sound c.args.draft c.requires x.field-0.edits x.field-0.chosen x.ensures.after x.ensures.chosen
+    let x = c.in_ok-settled in
+    next_rates t.router t.state c.soundness.ensures.sound c.args.draft c.requires x.settled.edits x.settled.chosen x.ensures.after x.ensures.chosen
 
 pub returns : goal.returns
 returns c =
     let t = c.args.tables.now in
-    let x = c.in_ok-edits in
-    let sends = c.in_ok-outputs in
+    let x = c.in_ok-settled in
+    let sends = c.in_ok-sends in
     let bandwidth = c.in_ok-bandwidth in
-    sending t.router t.state c.soundness.ensures.sound c.args.draft c.requires x.field-0.edits x.field-0.chosen x.ensures.after x.ensures.chosen
-    bandwidth.bandwidth sends.field-0.moments sends.field-0.upstream c.in_ok-table.table c.in_ok-tunnel_table.tunnel_table sends.ensures.moments sends.ensures.upstream bandwidth.ensures.resvs sends.field-0.outputs (sends.ensures.outputs ∙ ap (λ (errors : List Output). outputs_of t.router t.state errors (due_by c.args.draft.due t.router t.state) (upstream_due_by c.args.draft.due t.router t.state) (edited x.field-0.edits t.state)) (c.in_ok-errors.ensures ∙ ap (λ (told : List Output). c.args.draft.errors ++ told) x.ensures.told)) bandwidth.ensures.edits bandwidth.ensures.claims c.in_ok-table.ensures c.in_ok-tunnel_table.ensures
+    sending t.router t.state c.soundness.ensures.sound c.args.draft c.requires x.settled.edits x.settled.chosen x.ensures.after x.ensures.chosen
+    bandwidth.bandwidth sends.sends.moments sends.sends.upstream c.in_ok-table.table c.in_ok-tunnel_table.tunnel_table sends.ensures.moments sends.ensures.upstream bandwidth.ensures.resvs sends.sends.outputs (sends.ensures.outputs ∙ ap (λ (errors : List Output). outputs_of t.router t.state errors (due_by c.args.draft.due t.router t.state) (upstream_due_by c.args.draft.due t.router t.state) (edited x.settled.edits t.state)) (c.in_ok-errors.ensures ∙ ap (λ (told : List Output). c.args.draft.errors ++ told) x.ensures.told)) bandwidth.ensures.edits bandwidth.ensures.claims c.in_ok-table.ensures c.in_ok-tunnel_table.ensures

@@ -8,12 +8,12 @@ use Rattle.rsvp_flows.specs.declared.descriptors.ErrorDescriptor.{ErrorDescripto
 use Rattle.router_events.specs.declared.events.Output.{Output}
 use Rattle.abstract_paths.specs.RowLaws.{one_more}
 use Rattle.resv_arrivals.specs.Below.rules.Rooms.{HaveRoom}
-use Rattle.abstract_router.specs.Tearing.{err_onward}
+use Rattle.router_steps.specs.Onward.{err_by}
 use Rattle.router_steps.proofs.errors.errs_onward.Goals as goal
 use Rattle.router_steps.proofs.errors.errs_onward.Goals.{in-Some+in_ok-push, in_default}
 
-pub err_onward-requires-clause-room : goal.err_onward-requires-clause-room
-err_onward-requires-clause-room g c =
+pub err_by-requires-clause-room : goal.err_by-requires-clause-room
+err_by-requires-clause-room g c =
     let P = λ (d : ErrorDescriptor). HaveRoom (d ∷ []) in
     let items = c.as_slice-descriptor-items.result.now in
     subst P (sym c.descriptor-item.is)
@@ -24,7 +24,7 @@ pub loop-descriptor-preserved : goal.loop-descriptor-preserved
 loop-descriptor-preserved g c =
     let r = g.V.StateView.router c.args.view.now in
     let s = g.V.StateView.state c.args.view.now in
-    let onward = err_onward r s c.args.link c.args.error.now in
+    let onward = err_by r s c.args.over c.args.error.now in
     let was = c.loop-descriptor.onward.items in
     let now = c.match-branch-2.onward.items in
     let items = c.as_slice-descriptor-items.result.now in

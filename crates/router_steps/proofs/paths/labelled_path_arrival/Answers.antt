@@ -1,4 +1,4 @@
-use Rattle.std.proofs.Common.{Err, IfOk, Ok, OnErr, Result, ap, false, subst, sym, ◌≡◌, ◌∙◌}
+use Rattle.std.proofs.Common.{Err, IfOk, Ok, OnErr, Result, ap, subst, sym, ◌∙◌}
 use Rattle.abstract_router.specs.Outcomes.{Outcome}
 use Rattle.state_views.specs.Drafts.{IsDraft}
 use Rattle.router_steps.proofs.Labelling.{with_label, without_label}

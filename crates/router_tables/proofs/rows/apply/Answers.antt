@@ -67,7 +67,7 @@ pub edit_moments-requires-clause-few : goal.edit_moments-requires-clause-few
 edit_moments-requires-clause-few c =
     let t = c.args.rows.now in
     let rows = three_made c.args.change t c.edit_place.new.rows c.edit_paths.new.rows c.edit_held.new.rows c.edit_place.ensures.rows c.edit_paths.ensures.rows c.edit_held.ensures.rows in
-    subst (λ (rows : Rows). length (in_rows.edited upstream_cmp c.args.change.upstream rows.upstream.sent) ≤ 1024) (sym rows)
+    subst (λ (rows : Rows). length (in_rows.edited upstream_cmp c.args.change.upstream rows.upstream.sent) ≤ 4096) (sym rows)
     (few_upstream t.router (changed c.args.change (state_of t)) c.requires.change.sound)
 
 pub edit_actions-requires-clause-room : goal.edit_actions-requires-clause-room

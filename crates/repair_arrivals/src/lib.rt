@@ -1,0 +1,18 @@
+//! What comes back to the point of local repair from the end of a bypass, or from beyond it, and what it does of itself to what
+//! a label switching router knows, whoever keeps it (RFC 4090, 6.4.4). It comes in Routed frames, and goes by the repair that it
+//! is for. Each decision is a draft that holds the answer, the errors and the edits.
+#![tactic(auto)]
+
+mod matching;
+mod path_errs;
+mod progress;
+mod renewing;
+mod returns;
+mod tears;
+mod telling;
+
+pub use path_errs::returned_err;
+pub use returns::{returned_resv, returned_unknown};
+pub use state_views::{Draft, WholeState};
+pub use tears::returned_tear;
+pub use telling::told_through;

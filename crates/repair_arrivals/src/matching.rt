@@ -1,0 +1,121 @@
+//! Which repair a message is for: the LSP is named as the bypass's end knows it (RFC 4090, 6.4.3 and 6.4.4).
+
+ghost use Rattle.std.specs.List.{list_any};
+ghost use Rattle.std.specs.Option.{option_copied, option_map_or};
+ghost use Rattle.std.specs.Prelude.{◌≡◌, drop, false, filter, slice_get};
+ghost use Rattle.abstract_router.specs.Returning.{ends_at, is_known_as, repair_from, repair_known_as, the_one};
+ghost use Rattle.repair_arrivals.specs.Matching.{is_for};
+
+use facility_backup::detour_at;
+use lsr_facts::{Key, Router};
+use message_rules::{head_through, link_at};
+use resv_facts::Repair;
+use state_views::{StateView, WholeState};
+use std::net::Ipv4Addr;
+
+/// Whether the repair is of an LSP that the bypass's end knows as this one: its sender is this router's address on the link
+/// that is protected (RFC 4090, 6.4.3).
+fn is_known_as(router: &Router, key: &Key, repair: &(Key, Repair)) -> bool
+    ensures { result ≡ is_known_as router.now key.now repair.now }
+{
+    let Some(link) = link_at(router, repair.1.resv.link) else {
+        return false;
+    };
+    let known = Key {
+        session: repair.0.session,
+        sender: head_through(repair.0.sender, link),
+    };
+    known.cmp(key).is_eq()
+}
+
+/// Whether its bypass ends at the router of this address.
+fn ends_at<V: StateView>(view: &V, hop: Ipv4Addr, repair: &(Key, Repair)) -> bool
+    ensures { result ≡ ends_at (V.router view.now) (V.state view.now) hop repair.now }
+{
+    match detour_at(view, repair.1.bypass) {
+        Some(detour) => detour.ends_at == hop,
+        None => false,
+    }
+}
+
+/// Whether a message is for the repair that names this LSP, and comes from the router of this address, if it says which.
+fn is_for<V: StateView>(view: &V, hop: Option<Ipv4Addr>, key: &Key, repair: &(Key, Repair)) -> bool
+    ensures { result ≡ is_for (V.router view.now) (V.state view.now) hop key.now repair.now }
+{
+    if !is_known_as(view.node().router, key, repair) {
+        return false;
+    }
+    match hop {
+        Some(hop) => ends_at(view, hop, repair),
+        None => true,
+    }
+}
+
+/// Whether it is for the repair at a place.
+fn is_for_at<V: WholeState>(view: &V, hop: Option<Ipv4Addr>, key: &Key, place: usize) -> bool
+    ensures { result ≡ option_map_or (is_for (V.router view.now) (V.state view.now) hop key.now)
+        (slice_get (V.state view.now).repairs place) false }
+{
+    match view.repair_at(place) {
+        Some(repair) => is_for(view, hop, key, repair),
+        None => false,
+    }
+}
+
+/// Whether it is for a repair from this place on.
+#[tactic(auto, using(path_steps::proofs::Places::any_from))]
+fn is_for_any<V: WholeState>(view: &V, hop: Option<Ipv4Addr>, key: &Key, from: usize) -> bool
+    ensures { result ≡ list_any (is_for (V.router view.now) (V.state view.now) hop key.now)
+        (drop from (V.state view.now).repairs) }
+{
+    for place in from..view.repair_count() {
+        if is_for_at(view, hop, key, place) {
+            return true;
+        }
+    }
+    false
+}
+
+/// The one repair that it is for; `None` where there is none, or there are several.
+fn only_one<'a, V: WholeState>(
+    view: &'a V,
+    hop: Option<Ipv4Addr>,
+    key: &Key,
+) -> Option<&'a (Key, Repair)>
+    ensures { option_copied result ≡ the_one (filter (is_for (V.router view.now) (V.state view.now) hop key.now)
+        (V.state view.now).repairs) }
+{
+    for place in 0..view.repair_count() {
+        if is_for_at(view, hop, key, place) {
+            if is_for_any(view, hop, key, place + 1) {
+                return None;
+            }
+            return view.repair_at(place);
+        }
+    }
+    None
+}
+
+/// The repair that a PathErr is for which names this LSP (RFC 4090, 6.4.4). Takes no memory.
+#[tactic(auto, using(crate::proofs::Matches::any_hop))]
+pub(crate) fn repair_known_as<'a, V: WholeState>(
+    view: &'a V,
+    key: &Key,
+) -> Option<&'a (Key, Repair)>
+    ensures { option_copied result ≡ repair_known_as (V.router view.now) (V.state view.now) key.now }
+{
+    only_one(view, None, key)
+}
+
+/// The repair that a Resv or a ResvTear is for which names this LSP, and comes from the router of this address: the bypass
+/// ends there, too. Takes no memory.
+#[tactic(auto, unfolding(abstract_router::specs::Returning::repair_from))]
+pub(crate) fn repair_from<'a, V: WholeState>(
+    view: &'a V,
+    hop: Ipv4Addr,
+    key: &Key,
+) -> Option<&'a (Key, Repair)>
+    ensures { option_copied result ≡ repair_from (V.router view.now) (V.state view.now) hop key.now }
+{
+    only_one(view, Some(hop), key)
+}

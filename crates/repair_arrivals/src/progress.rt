@@ -1,0 +1,36 @@
+//! What some flow descriptors of a Resv have led to that came back from the end of a bypass.
+
+ghost use Rattle.std.specs.Prelude.{◌≡◌, [], None, false};
+
+use lsr_facts::{Key, RsvpError};
+use resv_facts::Repair;
+use router_events::Outputs;
+use sorted_rows::Table;
+use std::alloc::Global;
+
+/// What some of a Resv's flow descriptors have led to.
+#[derive(Debug, Drop)]
+pub struct Progress {
+    /// Of LSPs what is known of their repairs from now on.
+    pub edits: Table<Key, Option<Repair>>,
+    /// The errors that are told, in the order found.
+    pub errors: Outputs,
+    /// The first error of a descriptor.
+    pub first: Option<RsvpError>,
+    /// Whether one was granted.
+    pub has_granted: bool,
+}
+
+impl Progress {
+    /// Nothing has changed. Takes no memory.
+    pub fn new(alloc: Global) -> Progress
+        ensures { result ≡ record { edits = []; errors = []; first = None; has_granted = false } }
+    {
+        Progress {
+            edits: Table::new(alloc),
+            errors: Outputs::new(alloc),
+            first: None,
+            has_granted: false,
+        }
+    }
+}
