@@ -1,5 +1,5 @@
 -- The label table that a state stands for, and what becomes of labelled frames by it (RFC 3031, 3.10 to 3.13).
-use Rattle.std.specs.Prelude.{◌≡◌, ◌⊎◌, ℕ, ◌==◌, false, true, if◌then◌else◌, List, filter_map, find, Option, Some, None}
+use Rattle.std.specs.Prelude.{◌≡◌, ◌⊎◌, ℕ, ◌==◌, Bool, false, true, if◌then◌else◌, List, filter_map, find, Option, Some, None}
 use Rattle.std.specs.FinMap.Entries as rows
 use Rattle.std.specs.Option.{option_and_then, option_map, option_or}
 use Rattle.std.specs.Ordering.{nat_cmp}
@@ -122,3 +122,13 @@ pub record IsTunnelEntry (r : Router) (s : State) (number : ℕ) (action : Actio
 -- is no event, and nothing that the router knows changes.
 abbrev pub forwarded : Router → State → List StackEntry → Forwarding
 forwarded r s stack = forward_of (look r s) stack
+
+-- Two states forward alike: each label has the same action in both, and so has each tunnel.
+abbrev pub ForwardAlike : Router → State → State → Type 0
+ForwardAlike r before after =
+    ((label : ℕ) → look r before label ≡ look r after label) × ((number : ℕ) → look_tunnel r before number ≡ look_tunnel r after number)
+
+-- whether what is forwarded changes from the one to the other
+abbrev pub TellsChange : Bool → Router → State → State → Type 0
+TellsChange false r before after = ForwardAlike r before after
+TellsChange true r before after = ¬ ForwardAlike r before after

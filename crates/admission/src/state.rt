@@ -1,7 +1,7 @@
 ghost use Rattle.std.specs.FinMap.Entries.{find, is_sorted, put};
 ghost use Rattle.std.specs.Option.{option_copied, option_map, option_map_or};
 ghost use Rattle.std.specs.Ordering.{nat_cmp};
-ghost use Rattle.std.specs.Prelude.{◌≡◌, ◌^◌, ◌≤◌, T, [], false, IfOk, IsOk, filter, find as find_first, length, not, slice_get};
+ghost use Rattle.std.specs.Prelude.{◌≡◌, ◌^◌, ◌≤◌, T, [], false, IfOk, IsOk, filter, find as find_first, length, not, reverse, slice_get};
 ghost use Rattle.rsvp_traffic.specs.Traffic.{flowspec_rate};
 ghost use Rattle.lsr_facts.specs.Orders.{key_cmp};
 ghost use Rattle.resv_facts.specs.Admission.{fits, victims_of};
@@ -232,15 +232,14 @@ impl Admission {
         }
     }
 
-    /// Makes those of the edits that give a reservation. There is room for all at the end.
+    /// Makes those of the edits that give a reservation, from the last one on. There is room for all at the end.
     fn give(&mut self, mut edits: Vec<(Key, Option<(ResvFact, u8)>)>)
-        requires room { length (in_turn (given key_cmp) (resv_edits edits.items) self.old.resvs) ≤ 1024 }
-        requires edits { AreEdits edits.items }
-        ensures resvs { self.new.resvs ≡ in_turn (given key_cmp) (resv_edits edits.items) self.old.resvs }
-        ensures claims { self.new.claims ≡ in_turn (given key_cmp) (claim_edits edits.items) self.old.claims }
+        requires room { length (in_turn (given key_cmp) (resv_edits (reverse edits.items)) self.old.resvs) ≤ 1024 }
+        requires edits { AreEdits (reverse edits.items) }
+        ensures resvs { self.new.resvs ≡ in_turn (given key_cmp) (resv_edits (reverse edits.items)) self.old.resvs }
+        ensures claims { self.new.claims ≡ in_turn (given key_cmp) (claim_edits (reverse edits.items)) self.old.claims }
         ensures limits { self.new.limits ≡ self.old.limits }
     {
-        edits.reverse();
         while let Some((key, now)) = edits.pop() {
             if let Some((fact, holding)) = now {
                 self.put(key, fact, holding);
@@ -258,7 +257,10 @@ impl Admission {
         // The two passes make the edits, because all rows are in order.
         self.resvs.rows_are_in_order();
         self.claims.rows_are_in_order();
-        let edits = edits.into_rows();
+        let mut edits = edits.into_rows();
+
+        // The greatest key is taken away first, and given last: then few rows move for each.
+        edits.reverse();
         self.take(&edits);
         self.give(edits);
     }

@@ -3,6 +3,7 @@
 ghost use Rattle.std.specs.Prelude.{◌≡◌, ◌≢◌, ◌||◌, Bool, Err, IfErr, IfOk, OnErr, false, true};
 ghost use Rattle.lsr_facts.specs.Orders.{key_cmp};
 ghost use Rattle.lsr_facts.specs.declared.key.Key.{Key};
+ghost use Rattle.router_events.specs.declared.events.Event.{Event};
 ghost use Rattle.router_events.specs.declared.events.Event.TheVariants as events;
 ghost use Rattle.lsr_facts.specs.declared.refusal.Refusal.TheVariants.{HopLimit};
 ghost use Rattle.abstract_paths.specs.Relays.{exceeds_hop_limit};
@@ -11,12 +12,14 @@ ghost use Rattle.abstract_paths.specs.Touched.{is_among};
 ghost use Rattle.abstract_router.specs.Arrivals.{outcome};
 ghost use Rattle.abstract_router.specs.Soundness.{AreLabelled, IsResv};
 ghost use Rattle.abstract_router.specs.Steps.{IsCommand, IsEvent};
+ghost use Rattle.abstract_router.specs.Tables.{TellsChange};
 ghost use Rattle.abstract_router.specs.Touched.{LeavesOtherLsps};
 ghost use Rattle.router_soundness.specs.Drafted.{IsDrafted};
 ghost use Rattle.router_tables.specs.Below.views.Edits.{edited};
 ghost use Rattle.std.specs.List.{AllByRecursion};
 ghost use Rattle.router_tables.specs.Below.labels.Rows.{AreTableEdits};
-ghost use Rattle.router_core.specs.Plans.{IsOutFor, IsPlanOf, IsSendingPlan, drafted};
+ghost use Rattle.router_core.specs.Plans.{IsOutFor, IsPlanOf, IsSendingPlan, after_plan, drafted};
+ghost use Rattle.router_core.specs.States.{RouterState};
 
 use forwarding_table::Action;
 use lsr_facts::{Key, Refusal, Reply};
@@ -52,6 +55,31 @@ impl Plan {
         ensures { result ≡ self.now.reply }
     {
         self.reply
+    }
+
+    /// What is sent.
+    pub fn outputs(&self) -> &Outputs
+        ensures { result.now ≡ self.now.outputs }
+    {
+        &self.outputs
+    }
+
+    /// The labels that were chosen: of each LSP that is new its own.
+    pub fn chosen(&self) -> &Table<Key, u32>
+        ensures { result.now ≡ self.now.chosen }
+    {
+        &self.chosen
+    }
+
+    /// Whether it changes what is forwarded: the action of a label, or of a tunnel.
+    pub fn changes_table(&self) -> bool
+        ensures { (s : RouterState) (event : Event) → IsPlanOf s event self.now →
+            TellsChange result s.router s.state (after_plan self.now s.state) }
+    {
+        match &self.change {
+            Some(change) => change.changes_table(),
+            None => false,
+        }
     }
 }
 

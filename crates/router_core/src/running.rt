@@ -10,7 +10,7 @@ ghost use Rattle.abstract_paths.specs.Relays.{exceeds_hop_limit};
 ghost use Rattle.abstract_router.specs.Preempting.{claims_of};
 ghost use Rattle.abstract_router.specs.Soundness.{IsSound};
 ghost use Rattle.abstract_router.specs.Steps.{Step};
-ghost use Rattle.abstract_router.specs.Tables.{look, look_tunnel};
+ghost use Rattle.abstract_router.specs.Tables.{TellsChange, look, look_tunnel};
 ghost use Rattle.router_core.specs.Plans.{IsOutFor, IsPlanOf, after_plan, made_by, quiet};
 ghost use Rattle.router_core.specs.States.{IsEmpty, cold, emptied, opened};
 
@@ -185,6 +185,13 @@ impl Running {
         ensures { result ≡ look_tunnel self.now.router self.now.state number }
     {
         self.tables.look_tunnel(number)
+    }
+
+    /// Whether anything is forwarded: by a label, or of a tunnel's traffic. A restart ends that.
+    pub fn is_forwarding(&self) -> bool
+        ensures { TellsChange result self.now.router self.now.state (emptied self.now.state) }
+    {
+        self.tables.is_forwarding()
     }
 
     /// The tables of the router.

@@ -1,2 +1,4 @@
 pub mod Answering
+pub mod Cooling
+pub mod Making
 pub mod WhileCold

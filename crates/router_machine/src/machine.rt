@@ -1,25 +1,27 @@
 //! A router that is cold or runs.
 
-ghost use Rattle.std.specs.Prelude.{◌≡◌, IfOk, OnErr, false};
+ghost use Rattle.std.specs.Prelude.{◌≡◌, IfErr, IfOk, OnErr, false};
 ghost use Rattle.lsr_facts.specs.Routers.{IsRouter};
 ghost use Rattle.resv_facts.specs.Claims.{reserved_of};
 ghost use Rattle.abstract_router.specs.Detours.{detours_of, over_at};
 ghost use Rattle.abstract_router.specs.Preempting.{claims_of};
 ghost use Rattle.abstract_router.specs.Soundness.{IsSound};
-ghost use Rattle.abstract_router.specs.Steps.{Run, opening};
+ghost use Rattle.abstract_router.specs.Steps.{Run, Step, opening};
 ghost use Rattle.abstract_router.specs.Tables.{forwarded, look_tunnel};
 ghost use Rattle.datagrams.specs.Datagrams.{IsDatagram};
-ghost use Rattle.router_core.specs.Plans.{quiet};
 ghost use Rattle.router_core.specs.States.{opened};
 ghost use Rattle.router_machine.specs.Below.labels.Rows.{IsTableOf};
-ghost use Rattle.router_machine.specs.Machines.{AreAnswered, IsCopyServed, IsDatagramServed, IsEventServed, IsInputServed, IsMadeFor, IsThere, state_in, steps_in};
+ghost use Rattle.router_events.specs.declared.events.Event.{Event};
+ghost use Rattle.router_machine.specs.Readies.{IsReady, after_ready, made_of};
+ghost use Rattle.router_machine.specs.Machines.{AreAnswered, IsCopyServed, IsDatagramServed, IsEventLeft, IsEventServed, IsInputServed, IsMadeFor, IsThere, state_in, steps_in};
 
 use crate::forwarding::Labels;
 use crate::inputs::{Input, Served};
+use crate::ready::Ready;
 use datagrams::{Datagram, read_datagram};
 use forwarding_table::Action;
 use lsr_config::Config;
-use lsr_facts::{Refusal, Reply, Router};
+use lsr_facts::{Key, Refusal, Router};
 use resv_facts::{Over, State};
 use router_core::{Cold, Running, Tables};
 use router_events::{Event, Made, Outputs};
@@ -56,50 +58,40 @@ impl Model for Machine {
     ghost invariant = { λ m. IsThere m.phase };
 }
 
-/// The step of an event that is done, and for which nothing is sent.
-fn done(alloc: Global, event: Event) -> Made
-    ensures { result ≡ quiet event }
-{
-    Made {
-        event,
-        labels: Table::new(alloc),
-        reply: Reply::Done,
-        outputs: Outputs::new(alloc),
-    }
-}
-
-/// Serves an event by a running router.
-fn serve_running(mut router: Running, alloc: Global, event: Event) -> (Phase, Result<Made, Refusal>)
+/// Makes a step that is made ready for a router that is there: the router after it, the labels that it gives, and what it
+/// sends. Takes no memory.
+fn made(phase: Phase, alloc: Global, ready: Ready) -> (Phase, (Table<Key, u32>, Outputs))
+    requires there { IsThere phase }
+    requires ready { (event : Event) × IsReady (state_in phase) event ready }
     ensures there { IsThere result.0 }
-    ensures served { IsEventServed router.router router.state event (state_in result.0).state result.1 }
-    ensures router { (state_in result.0).router ≡ router.router }
+    ensures after { state_in result.0 ≡ record (state_in phase) { state = after_ready ready (state_in phase).state } }
+    ensures step { (event : Event) → IsReady (state_in phase) event ready →
+        Step (state_in phase).router (state_in phase).state (made_of event ready) (state_in result.0).state }
+    ensures labels { (event : Event) → result.1.0 ≡ (made_of event ready).labels }
+    ensures outputs { (event : Event) → result.1.1 ≡ (made_of event ready).outputs }
 {
-    router.soundness();
-    match event {
-        Event::Restart => (
-            Phase::Cold(router.restart()),
-            Ok(done(alloc, Event::Restart)),
-        ),
-        event => {
-            let answer = router.serve_event(alloc, event);
-            (Phase::Running(router), answer)
+    match (phase, ready) {
+        (Phase::Running(mut router), Ready::Plan(plan)) => {
+            let sent = router.commit(plan);
+            (Phase::Running(router), sent)
         }
-    }
-}
-
-/// Serves an event by a cold router.
-fn serve_cold(router: Cold, alloc: Global, event: Event) -> (Phase, Result<Made, Refusal>)
-    ensures there { IsThere result.0 }
-    ensures served { IsEventServed router.router router.state event (state_in result.0).state result.1 }
-    ensures router { (state_in result.0).router ≡ router.router }
-{
-    router.soundness();
-    match event {
-        Event::Start => (
-            Phase::Running(router.start()),
-            Ok(done(alloc, Event::Start)),
+        (Phase::Running(router), Ready::Restart { .. }) => (
+            Phase::Cold(router.restart()),
+            (Table::new(alloc), Outputs::new(alloc)),
         ),
-        _ => (Phase::Cold(router), Err(Refusal::IsCold)),
+        (Phase::Cold(router), Ready::Start) => (
+            Phase::Running(router.start()),
+            (Table::new(alloc), Outputs::new(alloc)),
+        ),
+        (Phase::Running(router), Ready::Start) => {
+            router.soundness();
+            unreachable!()
+        }
+        (Phase::Cold(router), _) => {
+            router.soundness();
+            unreachable!()
+        }
+        (Phase::Between, _) => unreachable!(),
     }
 }
 
@@ -135,20 +127,67 @@ impl Machine {
         Ok((machine, answers))
     }
 
-    /// Serves an event, and gives the step that was made. A cold router refuses each event but [`Event::Start`]
-    /// ([`Refusal::IsCold`]). A message for another router whose limit ran out, over a link that is up, is dropped
-    /// ([`Refusal::HopLimit`]). Else the only error is [`Refusal::NoMemory`]. What is refused changes nothing.
+    /// Makes an event's step ready, with all the memory that it takes. It changes nothing. A cold router refuses each event
+    /// but [`Event::Start`] ([`Refusal::IsCold`]). A message for another router whose limit ran out, over a link that is up,
+    /// is dropped ([`Refusal::HopLimit`]). Else the only error is [`Refusal::NoMemory`]: a start, a restart, and an event
+    /// that is refused always have their step.
+    pub fn ready(&self, alloc: Global, event: &Event) -> Result<Ready, Refusal>
+        ensures ready { IfOk result (IsReady self.now event.now) }
+        ensures left { IfErr result (IsEventLeft self.now.router self.now.state event.now) }
+    {
+        match (&self.phase, event) {
+            (Phase::Running(router), Event::Restart) => {
+                router.soundness();
+                Ok(Ready::Restart {
+                    changes_table: router.is_forwarding(),
+                })
+            }
+            (Phase::Running(router), event) => {
+                router.soundness();
+                Ok(Ready::Plan(router.plan(alloc, event)?))
+            }
+            (Phase::Cold(router), Event::Start) => {
+                router.soundness();
+                Ok(Ready::Start)
+            }
+            (Phase::Cold(router), _) => {
+                router.soundness();
+                Err(Refusal::IsCold)
+            }
+            (Phase::Between, _) => unreachable!(),
+        }
+    }
+
+    /// Makes a step that is made ready, and gives the labels that it chose and what it sends. It asks for a step of this
+    /// router as it stands. Takes no memory, and always succeeds.
+    pub fn make(&mut self, alloc: Global, ready: Ready) -> (Table<Key, u32>, Outputs)
+        requires { (event : Event) × IsReady self.old event ready }
+        ensures after { self.new ≡ record self.old { state = after_ready ready self.old.state } }
+        ensures step { (event : Event) → IsReady self.old event ready →
+            Step self.old.router self.old.state (made_of event ready) self.new.state }
+        ensures labels { (event : Event) → result.0 ≡ (made_of event ready).labels }
+        ensures outputs { (event : Event) → result.1 ≡ (made_of event ready).outputs }
+    {
+        let (phase, sent) = made(mem::replace(&mut self.phase, Phase::Between), alloc, ready);
+        self.phase = phase;
+        sent
+    }
+
+    /// Serves an event, and gives the step that was made. What is refused, as [`Machine::ready`] refuses it, changes
+    /// nothing.
     pub fn serve_event(&mut self, alloc: Global, event: Event) -> Result<Made, Refusal>
         ensures served { IsEventServed self.old.router self.old.state event self.new.state result }
         ensures router { self.new.router ≡ self.old.router }
     {
-        let (phase, answer) = match mem::replace(&mut self.phase, Phase::Between) {
-            Phase::Running(router) => serve_running(router, alloc, event),
-            Phase::Cold(router) => serve_cold(router, alloc, event),
-            Phase::Between => unreachable!(),
-        };
-        self.phase = phase;
-        answer
+        let ready = self.ready(alloc, &event)?;
+        let reply = ready.reply();
+        let (labels, outputs) = self.make(alloc, ready);
+        Ok(Made {
+            event,
+            labels,
+            reply,
+            outputs,
+        })
     }
 
     /// Serves an event, and tells what came of it as of any input.
@@ -162,8 +201,9 @@ impl Machine {
         }
     }
 
-    /// What a datagram is that came over a link, by what the router knows.
-    fn read(&self, alloc: Global, link: u16, bytes: &[u8]) -> Result<Datagram, Refusal>
+    /// What a datagram is that came over a link, by what the router knows: an event, a labelled frame and what becomes of it,
+    /// or the datagram's first fault, as [`Machine::serve_datagram`] says.
+    pub fn read(&self, alloc: Global, link: u16, bytes: &[u8]) -> Result<Datagram, Refusal>
         ensures { IsDatagram self.now.router (forwarded self.now.router self.now.state) link bytes.now result }
     {
         let tables = self.tables();

@@ -1,5 +1,7 @@
 mod Applying
+mod Changing
 mod Emptying
+mod Forwarded
 mod Opening
 mod Rooms
 mod Taking

@@ -1,5 +1,11 @@
 //! The change of a step.
 
+ghost use Rattle.std.specs.Prelude.{◌≡◌};
+ghost use Rattle.lsr_facts.specs.declared.router.Router.{Router};
+ghost use Rattle.abstract_router.specs.States.{State};
+ghost use Rattle.abstract_router.specs.Tables.{TellsChange};
+ghost use Rattle.router_tables.specs.Changes.{IsChange, changed};
+
 use forwarding_table::Action;
 use lsr_facts::{Bypass, Item, Key, PathFact, Tunnel};
 use resv_facts::{Repair, ResvFact, Upstream};
@@ -38,4 +44,13 @@ pub struct Change {
     pub table: Table<u32, Option<Action>>,
     /// And with the traffic of tunnels.
     pub tunnel_table: Table<u16, Option<Action>>,
+}
+
+impl Change {
+    /// Whether it changes what is forwarded: the action of a label, or of a tunnel.
+    pub fn changes_table(&self) -> bool
+        ensures { (r : Router) (s : State) → IsChange r s self.now → TellsChange result r s (changed self.now s) }
+    {
+        !self.table.as_slice().is_empty() || !self.tunnel_table.as_slice().is_empty()
+    }
 }

@@ -8,7 +8,7 @@ ghost use Rattle.resv_facts.specs.Claims.{reserved_of};
 ghost use Rattle.abstract_router.specs.Detours.{detours_of, over_at};
 ghost use Rattle.abstract_router.specs.Preempting.{claims_of};
 ghost use Rattle.abstract_router.specs.Soundness.{IsSound};
-ghost use Rattle.abstract_router.specs.Tables.{forwarded, look, look_tunnel};
+ghost use Rattle.abstract_router.specs.Tables.{TellsChange, forwarded, look, look_tunnel};
 ghost use Rattle.label_table.specs.Rows.{IsTableOf};
 ghost use Rattle.router_tables.specs.Changes.{IsChange, changed};
 ghost use Rattle.router_tables.specs.States.{AreOpened, emptied, opened};
@@ -265,6 +265,13 @@ impl Tables {
         ensures { result ≡ forwarded self.now.router self.now.state stack.now }
     {
         self.rows.table.forward(stack)
+    }
+
+    /// Whether anything is forwarded: by a label, or of a tunnel's traffic. Nothing is once all is lost that messages set up.
+    pub fn is_forwarding(&self) -> bool
+        ensures { TellsChange result self.now.router self.now.state (emptied self.now.state) }
+    {
+        self.rows.table.label_count() > 0 || self.rows.table.tunnel_count() > 0
     }
 
     /// All labels under which frames may come, in their order, and what is done with them: a copy. The only error is out

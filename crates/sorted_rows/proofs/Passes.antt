@@ -1,11 +1,12 @@
 -- Both passes together make the edits, and need no row more on the way than at the end.
-use Rattle.std.proofs.Common.{◌≡◌, suc, ◌≤◌, T, Bool, true, false, cond, List, [], ◌∷◌, length, Option, Some, None, refl, reverse, sym, ap, ◌∙◌, ◌++◌, arith}
+use Rattle.std.proofs.Common.{◌≡◌, suc, ◌≤◌, T, Bool, true, false, cond, not, List, [], ◌∷◌, length, Option, Some, None, refl, reverse, sym, ap, ◌∙◌, ◌++◌, arith}
 use Rattle.std.specs.Cmp.{IsTotalOrder}
 use Rattle.std.specs.FinMap.Entries.{by_order, put, find, is_sorted, same_entries}
-use Rattle.std.specs.Ordering.{eq_by_cmp}
+use Rattle.std.specs.List.{filter}
+use Rattle.std.specs.Ordering.{eq_by_cmp, is_eq}
 use Rattle.std.specs.declared.cmp.Ordering.{Ordering}
 use Rattle.std.specs.declared.cmp.Ordering.TheVariants.{Less, Equal, Greater}
-use Rattle.std.proofs.lemmas.List.{reverse-append}
+use Rattle.std.proofs.lemmas.List.{reverse-append, reverse-reverse}
 use Rattle.sorted_rows.specs.RowsLaws.{find-behind, second, ties}
 use Rattle.sorted_rows.specs.Edits.{over, edited}
 use Rattle.sorted_rows.specs.EditLaws.{find-at_key, find-edited, is_sorted-at_key, is_sorted-edited}
@@ -54,6 +55,49 @@ pub given_next : {K X : Type 0} (cmp : K → K → Ordering) (left more : List (
 given_next cmp left more key now rows is =
     ap (λ es. in_turn (given cmp) (reverse es) rows) is ∙ ap (λ es. in_turn (given cmp) es rows) (reverse-append left ((key, now) ∷ []))
 
+-- a test of what another leaves
+filter_rest : {A : Type 0} (q : A → Bool) (b : Bool) (x : A) (xs : List A) → filter q (cond b (x ∷ xs) xs) ≡ cond b (cond (q x) (x ∷ filter q xs) (filter q xs)) (filter q xs)
+filter_rest q true x xs = refl
+filter_rest q false x xs = refl
+
+swapped : {A : Type 0} (a b : Bool) (x : A) (l r : List A) → l ≡ r → cond a (cond b (x ∷ l) l) l ≡ cond b (cond a (x ∷ r) r) r
+swapped true true x l r same = ap (λ xs. x ∷ xs) same
+swapped true false x l r same = same
+swapped false true x l r same = same
+swapped false false x l r same = same
+
+-- what two tests leave is the same whichever comes first
+filter_either : {A : Type 0} (p q : A → Bool) (xs : List A) → filter q (filter p xs) ≡ filter p (filter q xs)
+filter_either p q [] = refl
+filter_either p q (x ∷ xs) =
+    filter_rest q (p x) x (filter p xs)
+    ∙ swapped (p x) (q x) x (filter q (filter p xs)) (filter p (filter q xs)) (filter_either p q xs)
+    ∙ sym (filter_rest p (q x) x (filter q xs))
+
+-- so are the rows after two edits of the first pass
+taken_either : {K X : Type 0} (cmp : K → K → Ordering) (e f : K × Option X) (rows : List (K × X)) → taken cmp e.0 e.1 (taken cmp f.0 f.1 rows) ≡ taken cmp f.0 f.1 (taken cmp e.0 e.1 rows)
+taken_either cmp (key, None) (other, None) rows = filter_either (λ row. not (is_eq (cmp other row.0))) (λ row. not (is_eq (cmp key row.0))) rows
+taken_either cmp (key, None) (other, Some value) rows = refl
+taken_either cmp (key, Some value) (other, None) rows = refl
+taken_either cmp (key, Some value) (other, Some worth) rows = refl
+
+taken_last : {K X : Type 0} (cmp : K → K → Ordering) (e : K × Option X) (es : List (K × Option X)) (rows : List (K × X)) → in_turn (taken cmp) es (taken cmp e.0 e.1 rows) ≡ taken cmp e.0 e.1 (in_turn (taken cmp) es rows)
+taken_last cmp e [] rows = refl
+taken_last cmp e (f ∷ es) rows = ap (in_turn (taken cmp) es) (taken_either cmp f e rows) ∙ taken_last cmp e es (taken cmp f.0 f.1 rows)
+
+in_turn_append : {K X : Type 0} (make : K → Option X → List (K × X) → List (K × X)) (es fs : List (K × Option X)) (rows : List (K × X)) → in_turn make (es ++ fs) rows ≡ in_turn make fs (in_turn make es rows)
+in_turn_append make [] fs rows = refl
+in_turn_append make (e ∷ es) fs rows = in_turn_append make es fs (make e.0 e.1 rows)
+
+-- The first pass leaves the same from the last edit on.
+pub taken_back : {K X : Type 0} (cmp : K → K → Ordering) (es : List (K × Option X)) (rows : List (K × X)) → in_turn (taken cmp) (reverse es) rows ≡ in_turn (taken cmp) es rows
+taken_back cmp [] rows = refl
+taken_back cmp (e ∷ es) rows =
+    ap (λ xs. in_turn (taken cmp) xs rows) (reverse-append (e ∷ []) es)
+    ∙ in_turn_append (taken cmp) (reverse es) (e ∷ []) rows
+    ∙ ap (taken cmp e.0 e.1) (taken_back cmp es rows)
+    ∙ sym (taken_last cmp e es rows)
+
 module _ {K X : Type 0} (cmp : K → K → Ordering) (total : IsTotalOrder cmp) where
   find_taken : (q key : K) (now : Option X) (rows : List (K × X)) → find cmp q (taken cmp key now rows) ≡ cond (eq_by_cmp cmp q key) (over_taken (Some now) (find cmp q rows)) (find cmp q rows)
   find_taken q key None rows = find-at_key cmp total q key None rows
@@ -99,8 +143,10 @@ module _ {K X : Type 0} (cmp : K → K → Ordering) (total : IsTotalOrder cmp) 
       ∙ over_both (find cmp q es) (find cmp q rows)
       ∙ sym (find-edited cmp total q es rows))
 
-  -- So they do where the first pass went over a slice of the edits, and the second takes them.
-  pub passes_made : ((x y : K) → cmp x y ≡ Equal → x ≡ y) → (edits es seen : List (K × Option X)) (rows left : List (K × X)) → es ≡ edits → seen ≡ es → left ≡ in_turn (taken cmp) seen rows → T (is_sorted cmp edits) → T (is_sorted cmp rows) → in_turn (given cmp) es left ≡ edited cmp edits rows
-  passes_made exact edits es seen rows left is_edits is_seen made g h =
-      let first = made ∙ ap (λ xs. in_turn (taken cmp) xs rows) (is_seen ∙ is_edits) in
-      (λ i. in_turn (given cmp) (is_edits i) (first i)) ∙ both_passes exact edits rows g h
+  -- So they do where the first pass went over a slice of the edits, from the last one on, and the second takes them.
+  pub passes_made : ((x y : K) → cmp x y ≡ Equal → x ≡ y) → (edits rows_of es seen : List (K × Option X)) (rows left : List (K × X)) → rows_of ≡ edits → es ≡ reverse rows_of → seen ≡ es → left ≡ in_turn (taken cmp) seen rows → T (is_sorted cmp edits) → T (is_sorted cmp rows) → in_turn (given cmp) (reverse es) left ≡ edited cmp edits rows
+  passes_made exact edits rows_of es seen rows left is_edits is_back is_seen made g h =
+      let back = is_back ∙ ap reverse is_edits in
+      let first = made ∙ ap (λ xs. in_turn (taken cmp) xs rows) (is_seen ∙ back) ∙ taken_back cmp edits rows in
+      let second = ap reverse back ∙ reverse-reverse edits in
+      (λ i. in_turn (given cmp) (second i) (first i)) ∙ both_passes exact edits rows g h

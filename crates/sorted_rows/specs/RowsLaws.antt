@@ -75,6 +75,11 @@ module _ {K X : Type 0} (cmp : K → K → Ordering) where
   find-below q [] h = refl
   find-below q (e ∷ es) h = ap (λ r. cond (is_eq r) (Some e.1) (find cmp q es)) (less _ (first _ _ h)) ∙ find-below q es (second _ _ h)
 
+  -- a row of a key below every key is put before all
+  pub put-below : (k : K) (v : X) (es : List (K × X)) → T (below_all cmp k es) → put cmp k v es ≡ (k, v) ∷ es
+  put-below k v [] h = refl
+  put-below k v (e ∷ es) h = ap (λ r. by_order r ((k, v) ∷ e ∷ es) ((e.0, v) ∷ es) (e ∷ put cmp k v es)) (less _ (first _ _ h))
+
   -- `below_all`, at each row
   pub all-below : (x : K) (es : List (K × X)) → T (below_all cmp x es) → AllByRecursion (λ e. cmp x e.0 ≡ Less) es
   all-below x [] h = tt

@@ -1,6 +1,6 @@
 //! Edits of tables: what becomes of some of their keys, as a table of its own.
 
-ghost use Rattle.std.specs.Prelude.{◌≡◌, ◌≤◌, length};
+ghost use Rattle.std.specs.Prelude.{◌≡◌, ◌≤◌, length, reverse};
 ghost use Rattle.sorted_rows.specs.Edits.{edited};
 ghost use Rattle.sorted_rows.specs.InTurn.{given, in_turn, taken};
 
@@ -21,15 +21,14 @@ fn take_keys<K: Ord + Drop, V: Drop, const MOST: usize>(
     }
 }
 
-/// Makes those of the edits that give a key a value. There is room for the rows at the end.
+/// Makes those of the edits that give a key a value, from the last one on. There is room for the rows at the end.
 fn give_values<K: Ord + Drop, V: Drop, const MOST: usize>(
     table: &mut ReservedTable<K, V, MOST>,
     mut edits: Vec<(K, Option<V>)>,
 )
-    requires { length (in_turn (given K.cmp) edits.items table.old) ≤ MOST }
-    ensures { table.new ≡ in_turn (given K.cmp) edits.items table.old }
+    requires { length (in_turn (given K.cmp) (reverse edits.items) table.old) ≤ MOST }
+    ensures { table.new ≡ in_turn (given K.cmp) (reverse edits.items) table.old }
 {
-    edits.reverse();
     while let Some((key, now)) = edits.pop() {
         if let Some(value) = now {
             table.set(key, value);
@@ -49,7 +48,10 @@ pub fn make_edits<K: Ord + Drop, V: Drop, const MOST: usize>(
 {
     // That the rows are in order: the two passes make the edits for this reason.
     let _ = table.as_slice();
-    let edits = edits.into_rows();
+    let mut edits = edits.into_rows();
+
+    // The greatest key is taken away first, and given last: then few rows move for each.
+    edits.reverse();
     take_keys(table, &edits);
     give_values(table, edits);
 }

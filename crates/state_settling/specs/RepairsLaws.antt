@@ -3,11 +3,12 @@ use Rattle.std.specs.Prelude.{◌≡◌, ◌&&◌, not, Bool, true, false, if◌
 use Rattle.std.specs.FinMap.Entries.{find, is_sorted, put, same_entries}
 use Rattle.std.specs.List.{AllByRecursion}
 use Rattle.std.specs.Option.{option_and_then, option_or, unwrap_or}
-use Rattle.std.proofs.Common.{refl, sym, ap, arith, ◌∙◌}
+use Rattle.std.proofs.Common.{refl, sym, ap, arith, subst, ◌∙◌}
 use Rattle.sorted_rows.specs.EditLaws.{edited-put, find-edited}
 use Rattle.sorted_rows.specs.Edits as rows
 use Rattle.sorted_rows.specs.ListLaws.{all-filter, all-weaker}
-use Rattle.sorted_rows.specs.RowsLaws.{find-all_row}
+use Rattle.sorted_rows.specs.Rows.{keys_of}
+use Rattle.sorted_rows.specs.RowsLaws.{find-all_row, is_sorted-both}
 use Rattle.lsr_facts.specs.OrderLaws.{key_exact, key_total}
 use Rattle.lsr_facts.specs.Orders.{is_one_of, key_cmp}
 use Rattle.lsr_facts.specs.declared.key.Key.{Key}
@@ -99,10 +100,14 @@ module _ (r : Router) (s : State) (e : Edits) where
       by None None ask stood is = sym is
       by None (Some resv) ask stood is = sym (is ∙ stays q resv (is_up_still resv stood))
 
--- The last of the repairs is put first.
-pub put_last : (es : List (Key × Option Repair)) (repairs : List (Key × Repair)) (last : Key × Repair) → joined_rows key_cmp es (map put_repair (repairs ++ last ∷ [])) ≡ joined_rows key_cmp (put key_cmp last.0 (Some last.1) es) (map put_repair repairs)
-put_last es [] last = refl
-put_last es (repair ∷ repairs) last = ap (put key_cmp repair.0 (Some repair.1)) (put_last es repairs last)
+-- What puts repairs has their keys.
+keys_put : (repairs : List (Key × Repair)) → keys_of (map put_repair repairs) ≡ keys_of repairs
+keys_put [] = refl
+keys_put (repair ∷ repairs) = ap (λ keys. repair.0 ∷ keys) (keys_put repairs)
+
+-- So it stands in order where they do.
+pub sorted_put : (repairs : List (Key × Repair)) → T (is_sorted key_cmp repairs) → T (is_sorted key_cmp (map put_repair repairs))
+sorted_put repairs h = subst T (sym (is_sorted-both key_cmp (map put_repair repairs) repairs (keys_put repairs))) h
 
 -- repairs that are put among edits are put after them
 put_after : (es : List (Key × Option Repair)) (repairs before : List (Key × Repair)) → T (is_sorted key_cmp before)

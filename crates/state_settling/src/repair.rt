@@ -23,7 +23,7 @@ use message_rules::{LOCALLY_REPAIRED, found_here, is_up, leaves_by};
 use path_steps::told_upstream;
 use resv_facts::{Repair, ResvFact, Selected};
 use sorted_rows::{Table, TryCopy};
-use state_views::{Changed, Edits, Outputs, StateView, WholeState, node_of};
+use state_views::{Changed, Edits, Outputs, StateView, WholeState, joined_rows, node_of};
 use std::alloc::{AllocError, Global};
 
 /// The bypass over which an LSP is repaired that has this reservation: the one that is selected, where its path leaves by
@@ -138,13 +138,16 @@ fn new_repairs<V: WholeState>(
     alloc: Global,
     view: &V,
     edits: &Edits,
-) -> Result<Vec<(Key, Repair)>, AllocError>
+) -> Result<Table<Key, Repair>, AllocError>
     requires order { T (is_sorted key_cmp (V.state view.now).resvs) }
     requires stood { AllByRecursion (λ resv. stands (V.state view.now).facts resv ≡ true) (V.state view.now).resvs }
-    ensures { IfOk result (λ repairs. repairs.items
-        ≡ new_repairs (V.router view.now) (edited edits.now (V.state view.now))) }
+    ensures { IfOk result (λ repairs. repairs ≡ new_repairs (V.router view.now) (edited edits.now (V.state view.now))) }
 {
-    Ok(known_repairs(alloc, view, edits)?.into_rows())
+    let repairs = known_repairs(alloc, view, edits)?;
+
+    // That they are in order: so no others have the same keys and values.
+    let _ = repairs.as_slice();
+    Ok(repairs)
 }
 
 /// The errors that tell the origins of a path that its LSP runs over a bypass (RFC 4090, 6.5). It asks for a Tspec that
@@ -191,19 +194,30 @@ fn told_of_all<A: StateView>(
     Ok(Outputs::from_vec(told))
 }
 
-/// Edits of repairs, and then LSPs have these. The only error is out of memory.
-#[tactic(auto, using(crate::specs::RepairsLaws::put_last))]
-fn with_put(
-    edits: Table<Key, Option<Repair>>,
-    mut repairs: Vec<(Key, Repair)>,
-) -> Result<Table<Key, Option<Repair>>, AllocError>
-    ensures { IfOk result (λ all. all ≡ joined_rows key_cmp edits (map put_repair repairs.items)) }
+/// Edits by which LSPs have these repairs. The only error is out of memory.
+fn puts_of(
+    alloc: Global,
+    repairs: Vec<(Key, Repair)>,
+) -> Result<Vec<(Key, Option<Repair>)>, AllocError>
+    ensures { IfOk result (λ puts. puts.items ≡ map put_repair repairs.items) }
 {
-    let mut all = edits;
-    while let Some((key, repair)) = repairs.pop() {
-        all.set(key, Some(repair))?;
+    let mut puts = Vec::with_capacity(alloc, repairs.len())?;
+    for (key, repair) in repairs {
+        puts.push((key, Some(repair)))?;
     }
-    Ok(all)
+    Ok(puts)
+}
+
+/// Edits of repairs, and then LSPs have these. The only error is out of memory.
+fn with_put(
+    alloc: Global,
+    edits: Table<Key, Option<Repair>>,
+    repairs: Table<Key, Repair>,
+) -> Result<Table<Key, Option<Repair>>, AllocError>
+    ensures { IfOk result (λ all. all ≡ joined_rows key_cmp edits (map put_repair repairs)) }
+{
+    let puts = puts_of(alloc, repairs.into_rows())?;
+    joined_rows(edits, Table::from_rows(puts))
 }
 
 /// Edits, and then what a lost link takes away is repaired; and the errors that this tells, in the order of the LSPs (RFC
@@ -228,9 +242,9 @@ pub(crate) fn repaired<V: WholeState>(
         under: view,
         edits: &edits,
     };
-    let told = told_of_all(alloc, &after, &repairs)?;
+    let told = told_of_all(alloc, &after, repairs.as_slice())?;
     let edits = Edits {
-        repairs: with_put(edits.repairs, repairs)?,
+        repairs: with_put(alloc, edits.repairs, repairs)?,
         ..edits
     };
     Ok((edits, told))

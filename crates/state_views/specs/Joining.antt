@@ -1,15 +1,16 @@
 -- Edits, and others that are made after them, as one.
-use Rattle.std.specs.Prelude.{◌≡◌, T, List, [], ◌∷◌, ◌++◌, Option, Some, None}
+use Rattle.std.specs.Prelude.{◌≡◌, T, List, [], ◌∷◌, ◌++◌, length, Option, Some, None}
 use Rattle.std.specs.FinMap.Entries.{is_sorted, put}
 use Rattle.std.specs.Option.{unwrap_or}
 use Rattle.std.specs.Ordering.{nat_cmp}
 use Rattle.std.specs.Cmp.{IsTotalOrder}
 use Rattle.std.specs.declared.cmp.Ordering.{Ordering}
-use Rattle.std.proofs.Common.{ap, refl, ◌∙◌}
+use Rattle.std.proofs.Common.{ap, refl, sym, ◌∙◌}
 use Rattle.std.proofs.lemmas.Cmp.{nat_cmp_total}
 use Rattle.std.proofs.lemmas.Map.Lookups.{CmpEqualImpliesEq, exact_unsigned}
 use Rattle.sorted_rows.specs.EditLaws.{edited-put}
 use Rattle.sorted_rows.specs.Edits as rows
+use Rattle.sorted_rows.specs.RowsLaws.{first, put-below, second}
 use Rattle.lsr_facts.specs.OrderLaws.{key_exact, key_total}
 use Rattle.lsr_facts.specs.Orders.{key_cmp}
 use Rattle.abstract_router.specs.States.{State}
@@ -68,3 +69,10 @@ edited_joined e later s are = λ i. record s {
 pub joined_last : {K X : Type 0} (cmp : K → K → Ordering) (es later : List (K × Option X)) (l : K × Option X) → joined_rows cmp es (later ++ l ∷ []) ≡ joined_rows cmp (put cmp l.0 l.1 es) later
 joined_last cmp es [] l = refl
 joined_last cmp es (first ∷ later) l = ap (put cmp first.0 first.1) (joined_last cmp es later l)
+
+-- Rows in order that are joined to none are all.
+pub joined_none : {K X : Type 0} (cmp : K → K → Ordering) (es later : List (K × Option X)) → length es ≡ 0 → T (is_sorted cmp later) → later ≡ joined_rows cmp es later
+joined_none cmp [] [] none h = refl
+joined_none cmp (e ∷ es) [] none h = cc
+joined_none cmp es (l ∷ later) none h =
+    sym (ap (put cmp l.0 l.1) (sym (joined_none cmp es later none (second _ _ h))) ∙ put-below cmp l.0 l.1 later (first _ _ h))

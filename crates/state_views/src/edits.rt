@@ -94,15 +94,22 @@ impl Edits {
     }
 }
 
-/// Rows of edits with others that are made after them. The only error is out of memory.
+/// Rows of edits with others that are made after them. Where there are none before, the others are all: then no row moves.
+/// The only error is out of memory.
 #[tactic(auto, using(crate::specs::Joining::joined_last))]
-fn joined_rows<K: Ord + Drop, V: Drop>(
+pub fn joined_rows<K: Ord + Drop, V: Drop>(
     rows: Table<K, Option<V>>,
     later: Table<K, Option<V>>,
 ) -> Result<Table<K, Option<V>>, AllocError>
     ensures { IfOk result (λ all. all ≡ joined_rows K.cmp rows later) }
 {
     let mut all = rows;
+
+    // That the later ones are in order: so they are all, where they are joined to none.
+    let _ = later.as_slice();
+    if all.as_slice().is_empty() {
+        return Ok(later);
+    }
     let mut later = later.into_rows();
     while let Some((key, now)) = later.pop() {
         all.set(key, now)?;

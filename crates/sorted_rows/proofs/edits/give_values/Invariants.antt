@@ -4,7 +4,7 @@ use Rattle.sorted_rows.proofs.edits.give_values.Given as goal
 
 -- those that are left, from the last on, make of the table what all of them make of it as it was
 abbrev pub invariant-loop-key : goal.invariant-loop-key
-invariant-loop-key g l = in_turn (given g.K.Ord.cmp) (reverse l.edits.items) l.table ≡ in_turn (given g.K.Ord.cmp) l.fn.edits.items l.fn.table
+invariant-loop-key g l = in_turn (given g.K.Ord.cmp) (reverse l.edits.items) l.table ≡ in_turn (given g.K.Ord.cmp) (reverse l.fn.edits.items) l.fn.table
 
 abbrev pub decreases-loop-key : goal.decreases-loop-key
 decreases-loop-key g l = goal.left-loop-key g l

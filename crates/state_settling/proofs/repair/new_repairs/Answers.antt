@@ -1,4 +1,3 @@
-use Rattle.std.proofs.Common.{◌∙◌}
 use Rattle.lsr_facts.specs.OrderLaws.{key_total}
 use Rattle.sorted_rows.specs.EditLaws.{is_sorted-edited}
 use Rattle.state_views.specs.Edits.{edited}
@@ -11,5 +10,4 @@ returns g c =
     let r = g.V.StateView.router c.args.view.now in
     let s = g.V.StateView.state c.args.view.now in
     let e = c.args.edits.now in
-    c.into_rows.ensures.rows
-    ∙ all_repairs r (edited e s) c.in_ok-known_repairs.field-0 (is_sorted-edited key_cmp key_total e.resvs s.resvs c.requires.order) c.into_rows.ensures.sorted c.in_ok-known_repairs.ensures
+    all_repairs r (edited e s) c.in_ok-repairs.repairs (is_sorted-edited key_cmp key_total e.resvs s.resvs c.requires.order) c.as_slice.ensures.sorted c.in_ok-repairs.ensures

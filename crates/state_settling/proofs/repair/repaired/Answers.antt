@@ -14,11 +14,11 @@ returns-clause-after g c =
     let s = g.V.StateView.state c.args.view.now in
     let e = c.args.edits in
     ap (λ (repairs : List (Key × Option Repair)). edited (record e { repairs = repairs }) s) c.in_ok-with_put.ensures
-    ∙ repaired_by r s e c.in_ok-repairs.repairs.items c.requires.repairs c.in_ok-repairs.ensures
+    ∙ repaired_by r s e c.in_ok-repairs.repairs c.requires.repairs c.in_ok-repairs.ensures
 
 pub returns-clause-told : goal.returns-clause-told
 unfolding told_repaired
 returns-clause-told g c =
     let r = g.V.StateView.router c.args.view.now in
     let s = g.V.StateView.state c.args.view.now in
-    c.in_ok-told.ensures ∙ ap (flat_map (told_of r (edited c.args.edits s))) (c.deref.ensures.value ∙ c.in_ok-repairs.ensures)
+    c.in_ok-told.ensures ∙ ap (flat_map (told_of r (edited c.args.edits s))) (c.as_slice.ensures.rows ∙ c.in_ok-repairs.ensures)
