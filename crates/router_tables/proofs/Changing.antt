@@ -1,5 +1,5 @@
 -- Whether a change changes what is forwarded, by its edits of both tables.
-use Rattle.std.proofs.Common.{◌≡◌, ◌≢◌, ◌==◌, ℕ, T, Bool, true, false, cond, not, length, List, [], ◌∷◌, All, Option, Some, None, refl, sym, ap, subst, ◌∙◌}
+use Rattle.std.proofs.Common.{◌≡◌, ◌≢◌, ◌==◌, ℕ, T, Bool, true, false, cond, not, length, List, [], ◌∷◌, Option, Some, refl, sym, ap, subst, ◌∙◌}
 use Rattle.std.proofs.Math.Dec.{eqb→eq, eqb_refl}
 use Rattle.std.specs.FinMap.Entries.{find}
 use Rattle.std.specs.List as lists
@@ -13,8 +13,7 @@ use Rattle.forwarding_table.specs.declared.action.Action.{Action}
 use Rattle.lsr_facts.specs.declared.router.Router.{Router}
 use Rattle.abstract_router.specs.States.{State}
 use Rattle.abstract_router.specs.Tables.{ForwardAlike, TellsChange, look, look_tunnel, table_of, tunnel_table_of}
-use Rattle.label_table.specs.Rows.{AreTableEdits, IsTableOf}
-use Rattle.label_table.specs.TunnelRows.{AreTunnelEdits}
+use Rattle.label_table.specs.Rows.{IsTableOf}
 use Rattle.router_tables.specs.Changes.{IsChange, changed}
 use Rattle.router_tables.specs.declared.change.Change.{Change}
 

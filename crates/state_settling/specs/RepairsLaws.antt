@@ -1,6 +1,6 @@
 -- By these edits exactly what a lost link takes away is repaired.
-use Rattle.std.specs.Prelude.{◌≡◌, ◌&&◌, not, Bool, true, false, if◌then◌else◌, T, List, [], ◌∷◌, ◌++◌, map, Option, Some, None, IfSome}
-use Rattle.std.specs.FinMap.Entries.{find, is_sorted, put, same_entries}
+use Rattle.std.specs.Prelude.{◌≡◌, ◌&&◌, not, Bool, true, false, if◌then◌else◌, T, List, [], ◌∷◌, map, Option, Some, None, IfSome}
+use Rattle.std.specs.FinMap.Entries.{find, is_sorted, same_entries}
 use Rattle.std.specs.List.{AllByRecursion}
 use Rattle.std.specs.Option.{option_and_then, option_or, unwrap_or}
 use Rattle.std.proofs.Common.{refl, sym, ap, arith, subst, ◌∙◌}

@@ -1,4 +1,4 @@
-use Rattle.std.proofs.Common.{Bool, nat_lt, subst}
+use Rattle.std.proofs.Common.{nat_lt, subst}
 use Rattle.abstract_router.specs.Tables.{TellsChange}
 use Rattle.router_tables.specs.States.{RouterState, emptied, state_of}
 use Rattle.router_tables.proofs.Forwarded.{told_by_labels, told_by_tunnels}
