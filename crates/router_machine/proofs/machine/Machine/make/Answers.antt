@@ -1,4 +1,4 @@
-use Rattle.std.proofs.Common.{subst, sym}
+use Rattle.std.proofs.Common.{subst}
 use Rattle.router_events.specs.declared.events.Event.{Event}
 use Rattle.abstract_router.specs.Steps.{Step}
 use Rattle.router_core.specs.States.{RouterState}

@@ -1,0 +1,3 @@
+pub mod Mismatches
+pub mod Reconciled
+pub mod Walks

@@ -1,0 +1,46 @@
+-- Receipts and segments are those of one run.
+use Rattle.std.specs.Prelude.{◌≡◌, ◌++◌, ◌==◌, ℕ, Bool, List, [], ◌∷◌, filter, length}
+use Rattle.lsr_facts.specs.declared.router.Router.{Router}
+use Rattle.abstract_router.specs.States.{State}
+use Rattle.run_journal.specs.Journals.{Stretch}
+use Rattle.run_journal.specs.Marks.{Counts, counted, counted_all, first_counts, receipt_of}
+use Rattle.run_journal.specs.declared.entry.Entry.{Entry}
+use Rattle.run_journal.specs.declared.receipt.Receipt.{Receipt}
+
+-- The receipts that entries call for, one each: its port, place and numbers, what happened, what was answered and sent.
+abbrev pub called_for : Counts → List Entry → List Receipt
+called_for n [] = []
+called_for n (e ∷ es) = receipt_of n e ∷ called_for (counted n e) es
+
+-- Stretches of the journal go on one from the other: each is of the same router, and begins with what the router knew and what
+-- the numbers were where the one before ended.
+abbrev pub AreContinued : Router → State → Counts → List Stretch → Type 0
+AreContinued r s n [] = Unit {0}
+AreContinued r s n (piece ∷ more) =
+    (piece.router ≡ r) × (piece.base ≡ s) × (piece.from ≡ n) × AreContinued r piece.end (counted_all n piece.entries) more
+
+-- They are a whole journal: the first begins where no entry was yet, and the others go on from it.
+abbrev pub AreJoined : List Stretch → Type 0
+AreJoined [] = Unit {0}
+AreJoined (piece ∷ more) =
+    (piece.from ≡ first_counts (length piece.from.marks)) × AreContinued piece.router piece.end (counted_all piece.from piece.entries) more
+
+-- the numbers at their beginning
+abbrev pub counts_at : List Stretch → Counts
+counts_at [] = first_counts 0
+counts_at (piece ∷ more) = piece.from
+
+-- all their entries
+abbrev pub entries_in : List Stretch → List Entry
+entries_in [] = []
+entries_in (piece ∷ more) = piece.entries ++ entries_in more
+
+-- the receipt is this port's
+abbrev pub is_of : ℕ → Receipt → Bool
+is_of port receipt = receipt.mark.port == port
+
+-- Receipts and segments are those of one run: the segments are a whole journal, and of each port the receipts are exactly those
+-- that its entries call for, in their order, each once.
+abbrev pub IsReconciled : List Stretch → List Receipt → Type 0
+IsReconciled pieces receipts =
+    AreJoined pieces × ((port : ℕ) → filter (is_of port) receipts ≡ filter (is_of port) (called_for (counts_at pieces) (entries_in pieces)))

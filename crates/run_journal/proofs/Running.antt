@@ -1,0 +1,20 @@
+-- Entries that record a run, one more, and the steps that they record.
+use Rattle.std.proofs.Common.{◌++◌, ◌∷◌, List, [], refl, subst}
+use Rattle.lsr_facts.specs.declared.router.Router.{Router}
+use Rattle.router_events.specs.declared.events.Made.{Made}
+use Rattle.abstract_router.specs.States.{State}
+use Rattle.abstract_router.specs.Steps.{Run}
+use Rattle.run_journal.specs.Entries.{AreEntriesOf, AreRecorded, Recorded}
+use Rattle.run_journal.specs.declared.entry.Entry.{Entry}
+
+-- one more step is recorded after the others
+pub recorded_push : (r : Router) (es : List Entry) (before between after : State) (e : Entry) → AreRecorded r before es between → Recorded r between e after → AreRecorded r before (es ++ e ∷ []) after
+recorded_push r [] before between after e is one = (after, subst (λ (s : State). Recorded r s e after) is one, refl)
+recorded_push r (first ∷ es) before between after e is one = (is.0, is.1, recorded_push r es is.0 between after e is.2 one)
+
+-- what entries record is a run of the abstract router
+pub run_of : (r : Router) (es : List Entry) (before after : State) → AreRecorded r before es after → (made : List Made) × AreEntriesOf made es × Run r before made after
+run_of r [] before after is = ([], tt, is)
+run_of r (e ∷ es) before after is =
+    let rest = run_of r es is.0 after is.2 in
+    (is.1.made ∷ rest.0, (is.1.entry, rest.1), (is.0, is.1.step, rest.2))

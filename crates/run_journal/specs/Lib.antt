@@ -1,0 +1,3 @@
+pub mod Entries
+pub mod Journals
+pub mod Marks

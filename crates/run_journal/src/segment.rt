@@ -1,0 +1,81 @@
+//! A stretch of the journal.
+
+ghost use Rattle.std.specs.Prelude.{◌≡◌, List};
+ghost use Rattle.router_events.specs.declared.events.Made.{Made};
+ghost use Rattle.abstract_router.specs.Steps.{Run};
+ghost use Rattle.run_journal.specs.Entries.{AreEntriesOf};
+ghost use Rattle.run_journal.specs.Journals.{IsSegment};
+
+use crate::entry::Entry;
+use crate::tally::Tally;
+use lsr_facts::Router;
+use resv_facts::State;
+use std::marker::Model;
+
+/// A stretch of the journal: what the router knew before it, its entries, and what the router knew after it. Contracts see
+/// these; the entries record a run from the one to the other, and both are sound.
+#[derive(Debug, Drop)]
+pub struct Segment {
+    pub(crate) router: Router,
+    pub(crate) base: State,
+    pub(crate) from: Tally,
+    pub(crate) entries: Vec<Entry>,
+    pub(crate) end: State,
+}
+
+impl Model for Segment {
+    ghost use Rattle.run_journal.specs.Journals.{IsSegment, Stretch};
+
+    ghost Value = { Stretch };
+
+    ghost view = { λ s. record { router = s.router; base = s.base; from = s.from; entries = s.entries.items; end = s.end } };
+
+    ghost invariant = { λ s. IsSegment (record { router = s.router; base = s.base; from = s.from; entries = s.entries.items; end = s.end }) };
+}
+
+impl Segment {
+    /// What never changes of the router.
+    pub fn router(&self) -> &Router
+        ensures { result.now ≡ self.now.router }
+    {
+        &self.router
+    }
+
+    /// What the router knew before the first entry.
+    pub fn base(&self) -> &State
+        ensures { result.now ≡ self.now.base }
+    {
+        &self.base
+    }
+
+    /// The numbers before the first entry.
+    pub fn from(&self) -> &Tally
+        ensures { result.now ≡ self.now.from }
+    {
+        &self.from
+    }
+
+    /// The entries.
+    pub fn entries(&self) -> &[Entry]
+        ensures { result.now ≡ self.now.entries }
+    {
+        self.entries.as_slice()
+    }
+
+    /// What the router knew after the last entry.
+    pub fn end(&self) -> &State
+        ensures { result.now ≡ self.now.end }
+    {
+        &self.end
+    }
+
+    /// The entries record a run of the router, from what it knew before to what it knew after, and both are sound. A law: it
+    /// does nothing when it runs.
+    pub fn is_run(&self)
+        ensures segment { IsSegment self.now }
+        ensures steps { (made : List Made) × AreEntriesOf made self.now.entries ×
+            Run self.now.router self.now.base made self.now.end }
+    {
+        let _entries = &self.entries;
+    }
+}
