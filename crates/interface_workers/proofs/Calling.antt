@@ -14,11 +14,6 @@ use Rattle.interface_workers.specs.Reconciled.{AreContinued, AreJoined, called_f
 use Rattle.interface_workers.specs.Mismatches.{IsFirstDifference}
 use Rattle.interface_workers.specs.Walks.{called_in, mine}
 
--- the numbers go on by one entry more
-pub counted_push : (n : Counts) (es : List Entry) (e : Entry) → counted_all n (es ++ e ∷ []) ≡ counted (counted_all n es) e
-counted_push n [] e = refl
-counted_push n (first ∷ es) e = counted_push (counted n first) es e
-
 -- entries call for what some do, and then the others
 pub called_append : (n : Counts) (es more : List Entry) → called_for n (es ++ more) ≡ called_for n es ++ called_for (counted_all n es) more
 called_append n [] more = refl

@@ -12,7 +12,7 @@ use Rattle.interface_workers.specs.Mismatches.{IsFirstGap}
 use Rattle.interface_workers.specs.Reconciled.{AreContinued, AreJoined}
 use Rattle.interface_workers.specs.Walks.{GoesOn, IsAt, IsNext, passed}
 use Rattle.interface_workers.specs.declared.reconciling.Walk.{Walk}
-use Rattle.interface_workers.proofs.Calling.{counted_push}
+use Rattle.run_journal.proofs.Marking.{counted_push}
 use Rattle.interface_workers.proofs.Walking.{at_passed, next_is}
 
 -- a test says no where the fact doesn't hold

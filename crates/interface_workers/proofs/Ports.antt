@@ -12,10 +12,10 @@ use Rattle.interface_workers.specs.declared.reconciling.Mismatch.{Mismatch}
 use Rattle.interface_workers.proofs.Calling.{joined_called, mine_append}
 
 -- what holds of all holds of those behind the first
-All_rest : {X : Type 0} (P : X → Type 0) (x : X) (xs : List X) → All P (x ∷ xs) → All P xs
+pub All_rest : {X : Type 0} (P : X → Type 0) (x : X) (xs : List X) → All P (x ∷ xs) → All P xs
 All_rest P x xs all k d low = all (suc k) d (omega (arith, low))
 
-All_first : {X : Type 0} (P : X → Type 0) (x : X) (xs : List X) → All P (x ∷ xs) → P x
+pub All_first : {X : Type 0} (P : X → Type 0) (x : X) (xs : List X) → All P (x ∷ xs) → P x
 All_first P x xs all = all 0 x (omega arith)
 
 -- where no receipt has so great a port, none is its

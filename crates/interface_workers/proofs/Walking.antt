@@ -6,6 +6,7 @@ use Rattle.run_journal.specs.Marks.{Counts, counted, first_mark, mark_after, one
 use Rattle.run_journal.specs.declared.entry.Entry.{Entry}
 use Rattle.run_journal.specs.declared.mark.Mark.{Mark}
 use Rattle.run_journal.specs.declared.receipt.Receipt.{Receipt}
+use Rattle.run_journal.proofs.Following.{mark_is}
 use Rattle.interface_workers.specs.Walks.{IsAt, IsNext, IsTold, is_moved, passed, place_at}
 use Rattle.interface_workers.specs.declared.reconciling.Walk.{Walk}
 
@@ -55,10 +56,6 @@ at_passed w n e is =
       place = omega (arith, moved, same, is.place);
       marks = is.marks ∙ ap (nat_lt w.index) (sym (length-set n.marks (e.port - 1) (mark_after n e)));
     }
-
--- a mark is known by its numbers
-mark_is : (a b : Mark) → a.port ≡ b.port → a.place ≡ b.place → a.entry ≡ b.entry → a.published ≡ b.published → a ≡ b
-mark_is a b port place entry published = search rules
 
 -- the place of the mark after an entry, by the walk
 after_place : (w : Walk) (n : Counts) (e : Entry) → IsAt w n → w.index ≡ e.port - 1 → (mark_after n e).place ≡ w.place + (w.moves + 1)

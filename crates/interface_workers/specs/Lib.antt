@@ -1,3 +1,5 @@
+pub mod Chains
+pub mod Failing
 pub mod Mismatches
 pub mod Reconciled
 pub mod Walks

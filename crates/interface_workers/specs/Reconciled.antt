@@ -1,8 +1,11 @@
 -- Receipts and segments are those of one run.
 use Rattle.std.specs.Prelude.{◌≡◌, ◌++◌, ◌==◌, ℕ, Bool, List, [], ◌∷◌, filter, length}
 use Rattle.lsr_facts.specs.declared.router.Router.{Router}
+use Rattle.router_events.specs.declared.events.Made.{Made}
 use Rattle.abstract_router.specs.States.{State}
-use Rattle.run_journal.specs.Journals.{Stretch}
+use Rattle.abstract_router.specs.Steps.{Run}
+use Rattle.run_journal.specs.Entries.{AreEntriesOf}
+use Rattle.run_journal.specs.Journals.{IsOpening, Stretch}
 use Rattle.run_journal.specs.Marks.{Counts, counted, counted_all, first_counts, receipt_of}
 use Rattle.run_journal.specs.declared.entry.Entry.{Entry}
 use Rattle.run_journal.specs.declared.receipt.Receipt.{Receipt}
@@ -34,6 +37,18 @@ counts_at (piece ∷ more) = piece.from
 abbrev pub entries_in : List Stretch → List Entry
 entries_in [] = []
 entries_in (piece ∷ more) = piece.entries ++ entries_in more
+
+-- what the router knows at their end
+abbrev pub end_in : State → List Stretch → State
+end_in s [] = s
+end_in s (piece ∷ more) = end_in piece.end more
+
+-- Their entries are those of one run of the abstract router: from the router as it was opened to what it knows at their end.
+abbrev pub AreOneRun : List Stretch → Type 0
+AreOneRun [] = Unit {0}
+AreOneRun (piece ∷ more) =
+    IsOpening piece.router piece.base
+    × (made : List Made) × AreEntriesOf made (entries_in (piece ∷ more)) × Run piece.router piece.base made (end_in piece.end more)
 
 -- the receipt is this port's
 abbrev pub is_of : ℕ → Receipt → Bool

@@ -1,7 +1,21 @@
-//! Whether what those who feed one router were told is one run of it.
+//! A router that many threads feed: its core under a lock, the workers of its links, and whether what those who feed it were
+//! told is one run of it.
 #![tactic(auto)]
 
+mod cores;
+mod equality;
+mod gate;
+mod reading;
 mod reconciling;
+mod wire;
+mod worker;
 
-pub use reconciling::{Mismatch, OneRun, reconcile};
+pub use cores::{Core, Opened, Port, open};
+pub use equality::{is_same_router, is_same_state};
+pub use gate::{Gate, OpenGate};
+pub use lookup_plane::{LookupReader, OpenFault};
+pub use reading::read_by;
+pub use reconciling::{Mismatch, OneRun, reconcile, whole_journals_are_runs};
 pub use run_journal::{Entry, Mark, Receipt, Segment};
+pub use wire::{Wire, WireFault};
+pub use worker::{Work, serve_event, serve_link};

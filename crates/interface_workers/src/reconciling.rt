@@ -1,14 +1,15 @@
 //! Whether receipts and segments are those of one run.
 
 ghost use Rattle.std.specs.Prelude.{◌≡◌, ◌≢◌, ◌+◌, ◌-◌, ◌<◌, ◌≤◌, ◌↔◌, ◌∷◌, ◌++◌, [], All, IfErr, IfOk, IsTrue, List, MatchOption, OnErr, OnOk, length, slice_index_or, take};
+ghost use Rattle.run_journal.specs.Journals.{IsSegment};
 ghost use Rattle.run_journal.specs.Marks.{Counts, counted_all, first_counts, first_mark, first_marks, receipt_of};
 ghost use Rattle.run_journal.specs.declared.receipt.Receipt.{Receipt};
 ghost use Rattle.interface_workers.specs.Mismatches.{IsFirstDifference, IsFirstGap, IsMismatch};
-ghost use Rattle.interface_workers.specs.Reconciled.{AreJoined, IsReconciled, called_for};
+ghost use Rattle.interface_workers.specs.Reconciled.{AreJoined, AreOneRun, IsReconciled, called_for};
 ghost use Rattle.interface_workers.specs.Walks.{GoesOn, HasPorts, IsAt, IsNext, IsTold, IsWithin, called_in, mine, passed, place_at};
 
+use crate::equality::{is_same_router, is_same_state};
 use run_journal::{Entry, Mark, Receipt, Segment, Tally, WrittenFrame};
-use state_equality::{is_same_router, is_same_state};
 use thiserror::Error;
 
 /// Receipts and segments are those of one run.
@@ -390,6 +391,23 @@ fn find_gap(segments: &[Segment]) -> Result<(), u64>
         number += 1;
     }
     Ok(())
+}
+
+/// Each segment's entries record a run. A law: it changes nothing when it runs.
+fn are_segments(segments: &[Segment])
+    ensures { All IsSegment segments.now }
+{
+    for segment in segments {
+        segment.is_run();
+    }
+}
+
+/// Segments that are a whole journal record one run of the abstract router, from the router as it was opened to what it knows
+/// at their end. A law: it changes nothing when it runs.
+pub fn whole_journals_are_runs(segments: &[Segment])
+    ensures { AreJoined segments.now → AreOneRun segments.now }
+{
+    are_segments(segments);
 }
 
 /// Whether receipts and segments are those of one run: the segments are a whole journal, and the receipts of each port are

@@ -1,5 +1,5 @@
-//! The program `lsr`: an operator's words, read from the command line and run over the standard streams and the
-//! files that they name.
+//! The program `lsr`: an operator's words, read from the command line and run over the standard streams, the files that
+//! they name, and sockets of this machine.
 #![tactic(auto)]
 
 use lsr_tool::{run, tell_unread_words};

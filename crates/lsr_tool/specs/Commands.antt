@@ -11,6 +11,7 @@ use Rattle.lsr_explain.specs.Topics.{Explains}
 use Rattle.lsr_explain.specs.declared.explaining.Answer.{Answer}
 use Rattle.lsr_lines.specs.Texts.{Stream}
 use Rattle.lsr_lines.specs.declared.input.InputFault.{InputFault}
+use Rattle.lsr_serve.specs.Told.{Serves}
 use Rattle.lsr_words.specs.Words.{AsksFor, lsr_words}
 use Rattle.lsr_words.specs.declared.words.Asked.{Asked}
 use Rattle.lsr_words.specs.declared.words.Asked.TheVariants as asked
@@ -21,6 +22,7 @@ use Rattle.lsr_tool.specs.declared.endings.RunEnding.{RunEnding}
 -- What was asked for is done, with this status: a run on the router of the file that is named, or without a name on
 -- the built-in router; or a word or the lines of the input are decoded; or a word is explained. What is printed and told
 -- stands behind what the streams held. The input was the first stream, and is the other now: to explain a word it isn't read.
+-- Or links are served: the input isn't read, and 0 is the status of one run alone, of which it was printed.
 abbrev pub Does : {F : Type 0} → (List ℕ → F → Type 0) → (List ℕ → InputFault → Type 0) → (F → Stream) → Asked → Stream → Stream → Option (List ℕ) → Option (List ℕ) → Option (List ℕ) → Option (List ℕ) → ℕ → Type 0
 Does opens fails stream (asked.Step file) input left output printed error told status =
     (ending : RunEnding) × (text : List ℕ) × (status ≡ status_of ending)
@@ -30,6 +32,7 @@ Does opens fails stream (asked.Decode word) input left output printed error told
 Does opens fails stream (asked.Explain word) input left output printed error told status =
     (answer : Answer) × Explains word.now answer × (status ≡ answer_status answer) × (left ≡ input)
     × Appends output printed (shown_text answer) × Appends error told (told_text answer)
+Does opens fails stream (asked.Serve file turns) input left output printed error told status = (left ≡ input) × Serves output printed status
 
 -- The status of words that aren't taken: 0 for help, 1 where memory ran out, else 2.
 abbrev pub words_status : ErrorKind → ℕ

@@ -8,6 +8,7 @@ ghost use Rattle.lsr_tool.specs.Commands.{Does, Runs, words_status};
 
 use crate::endings::FAILED;
 use crate::files::{FilesByName, SystemFiles};
+use crate::serving::{BAD_WORDS, run_serve_of};
 use crate::session::run_step_of;
 use clap::error::{Error, ErrorKind};
 use lsr_decode::run_decode_of;
@@ -19,10 +20,12 @@ use std::alloc::Global;
 use std::convert::AsStr;
 use std::io;
 use std::io::Write;
+use std::net::Net;
 use std::rt::Files;
+use std::sync::Wait;
+use std::thread::Threads;
+use std::time::Clock;
 
-/// The status of words that ask for nothing that there is.
-const BAD_WORDS: u8 = 2;
 /// What is told of words that can't be read.
 const UNREAD_WORDS: &str = "error: a word isn't UTF-8; see lsr --help\n";
 /// What is told where a stream can't be written.
@@ -55,9 +58,16 @@ fn tell_words<W: Write, E: Write>(fault: Error, output: &mut W, error: &mut E) -
     Ok(status)
 }
 
-/// Does what was asked for, and gives the status. The error is that a stream could not be written.
-pub fn run_asked<F: FilesByName, R: ByteStream, W: Write, E: Write>(
+/// Does what was asked for, and gives the status. Links are served by `rt`. The error is that a stream could not be written.
+pub fn run_asked<
+    F: FilesByName,
+    N: Net + Threads + Wait + Clock + Clone + Send + Sync + Drop,
+    R: ByteStream,
+    W: Write,
+    E: Write,
+>(
     files: &F,
+    rt: &N,
     alloc: Global,
     asked: Asked<'_>,
     input: &mut R,
@@ -71,12 +81,23 @@ pub fn run_asked<F: FilesByName, R: ByteStream, W: Write, E: Write>(
         Asked::Step(file) => run_step_of(files, alloc, file, input, output, error),
         Asked::Decode(word) => run_decode_of(alloc, word, input, output, error),
         Asked::Explain(word) => run_explain(word, output, error),
+        Asked::Serve { file, turns } => {
+            run_serve_of(files, rt, alloc, file, turns, output, error)
+        }
     }
 }
 
-/// Does what the words ask for, and gives the status. The error is that a stream could not be written.
-fn run_words<F: FilesByName, S: AsStr, R: ByteStream, W: Write, E: Write>(
+/// Does what the words ask for, and gives the status. Links are served by `rt`. The error is that a stream could not be written.
+fn run_words<
+    F: FilesByName,
+    N: Net + Threads + Wait + Clock + Clone + Send + Sync + Drop,
+    S: AsStr,
+    R: ByteStream,
+    W: Write,
+    E: Write,
+>(
     files: &F,
+    rt: &N,
     alloc: Global,
     words: &[S],
     input: &mut R,
@@ -87,28 +108,27 @@ fn run_words<F: FilesByName, S: AsStr, R: ByteStream, W: Write, E: Write>(
         (R.stream input.old) (R.stream input.new) (W.contents output.old) (W.contents output.new) (E.contents error.old) (E.contents error.new)) }
 {
     match read_words(alloc, words) {
-        Ok(Some(asked)) => run_asked(files, alloc, asked, input, output, error),
+        Ok(Some(asked)) => run_asked(files, rt, alloc, asked, input, output, error),
         Ok(None) => Ok(BAD_WORDS),
         Err(fault) => tell_words(fault, output, error),
     }
 }
 
 /// The program: does what the words ask for, the first of which is its own name, and gives the status: 0; 1
-/// for a refused file, input, line or message, or a stream that could not be written; 2 for bad words. A file that
-/// they name is opened by `files`.
-pub fn run<F: Files, S: AsStr, R: ByteStream, W: Write, E: Write>(
-    files: &F,
-    alloc: Global,
-    words: &[S],
-    input: &mut R,
-    output: &mut W,
-    error: &mut E,
-) -> u8
+/// for a refused file, input, line or message, a stream that could not be written, a socket that can't be had, or a run over
+/// sockets that isn't one; 2 for bad words. Files that they name are opened, and links are served, by `rt`.
+pub fn run<
+    F: Files + Net + Threads + Wait + Clock + Clone + Send + Sync + Drop,
+    S: AsStr,
+    R: ByteStream,
+    W: Write,
+    E: Write,
+>(rt: &F, alloc: Global, words: &[S], input: &mut R, output: &mut W, error: &mut E) -> u8
     ensures { (result ≡ 1) ⊎ Runs (λ _ _. Unit {0}) (λ _ _. Unit {0}) ⟦<F::File as ByteStream>⟧.stream (map S.text words.now)
         (R.stream input.old) (R.stream input.new) (W.contents output.old) (W.contents output.new) (E.contents error.old) (E.contents error.new) result }
 {
-    let files = SystemFiles::new(files);
-    match run_words(&files, alloc, words, input, output, error) {
+    let files = SystemFiles::new(rt);
+    match run_words(&files, rt, alloc, words, input, output, error) {
         Ok(status) => status,
         Err(_) => {
             let _ = error.write_all(UNWRITABLE.as_bytes());

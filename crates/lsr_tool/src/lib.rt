@@ -4,10 +4,12 @@
 mod command;
 mod endings;
 mod files;
+mod serving;
 mod session;
 
 pub use command::{run, run_asked, tell_unread_words};
 pub use endings::RunEnding;
 pub use files::{FilesByName, SystemFiles};
 pub use lsr_decode::run_decode;
+pub use serving::run_serve_of;
 pub use session::{run_step, run_step_of};

@@ -45,6 +45,9 @@ no_word found name given e d none (asked.Decode word) (command, values, f, (is, 
 no_word found name given e d none (asked.Explain word) (command, values, f, (is, text)) =
     let word : codes "decode" ≡ codes "explain" = sym d ∙ same_command name command given values (sym e ∙ f) ∙ is in
     absurd (omega (arith, ap (λ (l : List ℕ). get_or l 0 0) word))
+no_word found name given e d none (asked.Serve file turns) (command, values, f, (is, text, count)) =
+    let word : codes "decode" ≡ codes "serve" = sym d ∙ same_command name command given values (sym e ∙ f) ∙ is in
+    absurd (omega (arith, ap (λ (l : List ℕ). get_or l 0 0) word))
 
 pub no_topic : (found : Option (Text × List Row)) (name : Text) (given : List Row) → found ≡ Some (name, given) → name ≡ codes "explain" → first_of (codes "WHAT") given ≡ None → (other : Asked) → AsksIn found other → ⊥
 no_topic found name given e d none (asked.Step file) (command, values, f, (is, text)) =
@@ -55,6 +58,22 @@ no_topic found name given e d none (asked.Decode word) (command, values, f, (is,
     absurd (omega (arith, ap (λ (l : List ℕ). get_or l 0 0) word))
 no_topic found name given e d none (asked.Explain word) (command, values, f, (is, text)) =
     let t = sym none ∙ ap (first_of (codes "WHAT")) (same_values name command given values (sym e ∙ f)) ∙ text in cc
+no_topic found name given e d none (asked.Serve file turns) (command, values, f, (is, text, count)) =
+    let word : codes "explain" ≡ codes "serve" = sym d ∙ same_command name command given values (sym e ∙ f) ∙ is in
+    absurd (omega (arith, ap (λ (l : List ℕ). get_or l 0 0) word))
+
+pub no_file : (found : Option (Text × List Row)) (name : Text) (given : List Row) → found ≡ Some (name, given) → name ≡ codes "serve" → first_of (codes "FILE") given ≡ None → (other : Asked) → AsksIn found other → ⊥
+no_file found name given e d none (asked.Step file) (command, values, f, (is, text)) =
+    let word : codes "serve" ≡ codes "step" = sym d ∙ same_command name command given values (sym e ∙ f) ∙ is in
+    absurd (omega (arith, ap (λ (l : List ℕ). get_or l 1 0) word))
+no_file found name given e d none (asked.Decode word) (command, values, f, (is, text)) =
+    let word : codes "serve" ≡ codes "decode" = sym d ∙ same_command name command given values (sym e ∙ f) ∙ is in
+    absurd (omega (arith, ap (λ (l : List ℕ). get_or l 0 0) word))
+no_file found name given e d none (asked.Explain word) (command, values, f, (is, text)) =
+    let word : codes "serve" ≡ codes "explain" = sym d ∙ same_command name command given values (sym e ∙ f) ∙ is in
+    absurd (omega (arith, ap (λ (l : List ℕ). get_or l 0 0) word))
+no_file found name given e d none (asked.Serve file turns) (command, values, f, (is, text, count)) =
+    let t = sym none ∙ ap (first_of (codes "FILE")) (same_values name command given values (sym e ∙ f)) ∙ text in cc
 
 -- a command with one more argument
 pub adds_word : (old : Command) (a : Arg) (new : Command) (before : App) (rule : Rule) → AddsArg old a new → rule_of a ≡ rule → a.global ≡ false → app_of old ≡ before → app_of new ≡ with_rule before rule

@@ -29,19 +29,33 @@ topic_word = record (new_rule (codes "WHAT")) { required = true }
 abbrev pub explain_words : App
 explain_words = with_rule (new_app (codes "explain")) topic_word
 
+-- `FILE`
+abbrev pub served_word : Rule
+served_word = record (new_rule (codes "FILE")) { required = true }
+
+-- `--turns N`
+abbrev pub turns_words : Rule
+turns_words = record (new_rule (codes "turns")) { long = Some (codes "turns"); value_names = 1 }
+
+-- `serve FILE [--turns N]`
+abbrev pub serve_words : App
+serve_words = with_rule (with_rule (new_app (codes "serve")) served_word) turns_words
+
 -- the program's name; a command has to follow
 abbrev pub program_words : App
 program_words = on_top (λ top. record top { subcommand_required = true; arg_required_else_help = true }) (new_app (codes "lsr"))
 
--- the program's name, and one of the three
+-- the program's name, and one of the four
 abbrev pub lsr_words : App
-lsr_words = with_subcommand (with_subcommand (with_subcommand program_words step_words.top) decode_words.top) explain_words.top
+lsr_words = with_subcommand (with_subcommand (with_subcommand (with_subcommand program_words step_words.top) decode_words.top) explain_words.top) serve_words.top
 
 -- what a command asks for, with the values that it was given
 abbrev pub Asks : Text → List Row → Asked → Type 0
 Asks command given (asked.Step file) = (command ≡ codes "step") × (option_map (λ f. f.now) file ≡ first_of (codes "config") given)
 Asks command given (asked.Decode word) = (command ≡ codes "decode") × (first_of (codes "HEX") given ≡ Some word.now)
 Asks command given (asked.Explain word) = (command ≡ codes "explain") × (first_of (codes "WHAT") given ≡ Some word.now)
+Asks command given (asked.Serve file turns) =
+    (command ≡ codes "serve") × (first_of (codes "FILE") given ≡ Some file.now) × (option_map (λ n. n.now) turns ≡ first_of (codes "turns") given)
 
 -- what a command asks for that was found with its values
 abbrev pub AsksIn : Option (Text × List Row) → Asked → Type 0

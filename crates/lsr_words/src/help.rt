@@ -2,7 +2,7 @@
 ghost use Rattle.std.specs.Prelude.{◌≡◌, false, IfOk};
 ghost use Rattle.clap.specs.Words.{app_of, rule_of, with_subcommand};
 ghost use Rattle.clap.specs.declared.builder.command.Command.{out-Command};
-ghost use Rattle.lsr_words.specs.Words.{decode_words, digits_word, explain_words, file_words, lsr_words, program_words, step_words, topic_word};
+ghost use Rattle.lsr_words.specs.Words.{decode_words, digits_word, explain_words, file_words, lsr_words, program_words, serve_words, served_word, step_words, topic_word, turns_words};
 
 use clap::{Arg, Command};
 use std::alloc::{AllocError, Global};
@@ -14,6 +14,7 @@ Where to go on:
   lsr step --help     the lines that a router takes, and what it prints for them
   lsr decode --help   what messages are made of
   lsr explain --help  what a refusal, an error or a fault means, and what to do about it
+  lsr serve --help    a router over sockets
 
 Example: the router refuses to tear down a path that it doesn't know.
   echo rx 1 1005b988ff000030001001070a000004000000010a000001000c03010a00000100000001\
@@ -23,10 +24,11 @@ The status is, of each command:
   0                   what was asked for is done, or help was. A line of `step` that the router
                       refuses, or says is an error, is answered: that is 0, too
   1                   a file, the input, a line of `step` or a message to decode wasn't taken;
-                      the output can't be written; or memory ran out
+                      a socket can't be had, or what `serve` was told isn't one run; the output
+                      can't be written; or memory ran out
   2                   the words behind `lsr` aren't taken, and nothing was done: too few, too
-                      many or unknown ones, HEX that isn't hexadecimal digits, or WHAT that asks
-                      for nothing
+                      many or unknown ones, HEX that isn't hexadecimal digits, WHAT that asks
+                      for nothing, or N that isn't a number of turns
 Why it isn't 0 is said on standard error, and by `decode -` in its answers too.
 ";
 
@@ -240,6 +242,50 @@ Example: what to do about `error 24 5`.
   lsr explain 24/5
 ";
 
+const SERVE_ABOUT: &str = "\
+Serves the links of a configuration over UDP sockets of this machine, and says at the end whether
+what was told of each event is one run";
+
+const SERVE_HELP: &str = "\
+Each link of FILE has `listen`, the socket address at which its frames come in, and `send`, to
+which they go: addresses of this machine alone, as 127.0.0.1:5701, and all of one family.
+docs/CONFIGURATION.md has the other keys; begin with copies of examples/serve-head.toml and
+examples/serve-tail.toml.
+
+Each link has a port of its own, 1, 2 and so on in the order of the links' numbers, and makes N
+turns, in each of which it waits 100 milliseconds at most for one frame and serves it. The last
+port is the clock's: N times it waits 100 milliseconds, and feeds the moment 100, 200 and so on.
+So a run lasts N tenths of a second at least, unless a link has a frame waiting in each turn.
+
+What is printed in the end:
+  reconciled M entries     each event that was served is in the journal once, in one order, and
+                           each port's receipts are those of its own; there are M in all
+  mismatch PORT PLACE      they aren't: the first port, and the place among its receipts. The
+                           status is 1 then
+
+On standard error, in lines of a log, a pair for each port, and one for the router:
+  port P: M receipts
+  port P: K frames forwarded
+                           how many events it fed, and how many frames it passed on by their
+                           labels
+  router: A paths, B reservations, C repairs
+                           what it knows at the end
+
+The status is 0; 1 for a mismatch or with one of these on standard error; 2 where the words of the
+command aren't taken, or N isn't 1 to 1000000:
+  link L: socket    the sockets of link L can't be had: an address is taken, isn't this machine's,
+                    or isn't of the family of the first link's. Nothing was started
+  config FAULT KEY  the first fault of FILE, and the key that it is about, as `lsr step` tells it;
+                    `config Missing listen` and `config Missing send` come after all others
+  unreadable        FILE can't be opened or read, isn't UTF-8, or has more than 16777216 bytes
+  memory            there is no memory
+  unwritable        the output or the error stream can't be written
+
+Example: in two terminals, two routers that set up an LSP from the first to the second.
+  lsr serve examples/serve-tail.toml --turns 100
+  lsr serve examples/serve-head.toml --turns 100
+";
+
 const HEX_HELP: &str = "\
 The message's bytes: an even number of hexadecimal digits of either case; or `-` for a message
 in each line of standard input, which is read to its end";
@@ -247,6 +293,12 @@ in each line of standard input, which is read to its end";
 const WHAT_HELP: &str = "\
 A refusal's number or name; an error's code and value as one word, as 24/5, or its name; a
 fault's name; or `list`";
+
+const FILE_HELP: &str =
+    "The file of the router's configuration (TOML); each of its links has `listen` and `send`";
+
+const TURNS_HELP: &str =
+    "How many turns each link makes, of 100 milliseconds at most: 1 to 1000000; without it 1000";
 
 const CONFIG_HELP: &str =
     "The file of the router's configuration (TOML); without it the built-in router serves";
@@ -259,6 +311,12 @@ pub(crate) const STEP: &str = "step";
 pub(crate) const DECODE: &str = "decode";
 /// The name of the command that explains what is told.
 pub(crate) const EXPLAIN: &str = "explain";
+/// The name of the command that serves links over sockets.
+pub(crate) const SERVE: &str = "serve";
+/// The name of the argument of `serve`.
+pub(crate) const FILE: &str = "FILE";
+/// The name of the option of `serve`.
+pub(crate) const TURNS: &str = "turns";
 /// The name of the argument of `explain`.
 pub(crate) const WHAT: &str = "WHAT";
 /// The name of the argument of `decode`.
@@ -291,6 +349,25 @@ fn topic_word<'a>(alloc: Global) -> Arg<'a>
     ensures local { result.global ≡ false }
 {
     Arg::new(alloc, WHAT).required(true).help(WHAT_HELP)
+}
+
+/// `FILE`.
+fn served_file<'a>(alloc: Global) -> Arg<'a>
+    ensures rule { rule_of result ≡ served_word }
+    ensures local { result.global ≡ false }
+{
+    Arg::new(alloc, FILE).required(true).help(FILE_HELP)
+}
+
+/// `--turns N`.
+fn turns_option<'a>(alloc: Global) -> Arg<'a>
+    ensures rule { rule_of result ≡ turns_words }
+    ensures local { result.global ≡ false }
+{
+    Arg::new(alloc, TURNS)
+        .long(TURNS)
+        .value_name("N")
+        .help(TURNS_HELP)
 }
 
 /// `step [--config FILE]`. The only error is that memory ran out.
@@ -326,6 +403,18 @@ fn explain_command<'a>(alloc: Global) -> Result<Command<'a>, AllocError>
         .arg(topic_word(alloc))
 }
 
+/// `serve FILE [--turns N]`. The only error is that memory ran out.
+fn serve_command<'a>(alloc: Global) -> Result<Command<'a>, AllocError>
+    ensures words { IfOk result (λ command. app_of command ≡ serve_words) }
+    ensures local { IfOk result (λ command. (out-Command command).has_globals ≡ false) }
+{
+    let file = Command::new(alloc, SERVE)
+        .about(SERVE_ABOUT)
+        .after_help(SERVE_HELP)
+        .arg(served_file(alloc))?;
+    file.arg(turns_option(alloc))
+}
+
 /// The program's name with `step` behind it. The only error is that memory ran out.
 fn program_with_step<'a>(alloc: Global) -> Result<Command<'a>, AllocError>
     ensures { IfOk result (λ command. app_of command ≡ with_subcommand program_words step_words.top) }
@@ -339,14 +428,16 @@ fn program_with_step<'a>(alloc: Global) -> Result<Command<'a>, AllocError>
         .subcommand(step)
 }
 
-/// The words that `lsr` takes: `step [--config FILE]`, `decode HEX` and `explain WHAT`. The only error is that memory ran
-/// out.
+/// The words that `lsr` takes: `step [--config FILE]`, `decode HEX`, `explain WHAT` and `serve FILE [--turns N]`. The only
+/// error is that memory ran out.
 pub(crate) fn command<'a>(alloc: Global) -> Result<Command<'a>, AllocError>
     ensures { IfOk result (λ command. app_of command ≡ lsr_words) }
 {
     let decode = decode_command(alloc)?;
     let explain = explain_command(alloc)?;
+    let serve = serve_command(alloc)?;
     let with_step = program_with_step(alloc)?;
     let with_decode = with_step.subcommand(decode)?;
-    with_decode.subcommand(explain)
+    let with_explain = with_decode.subcommand(explain)?;
+    with_explain.subcommand(serve)
 }

@@ -37,6 +37,20 @@ fn words_ask_for_a_command(rt: HostRuntime) -> Result<(), Fail> {
             Some(Asked::Explain("24/5")),
         ),
         (["lsr", "decode", "é"].as_slice(), Some(Asked::Decode("é"))),
+        (
+            ["lsr", "serve", "a.toml"].as_slice(),
+            Some(Asked::Serve {
+                file: "a.toml",
+                turns: None,
+            }),
+        ),
+        (
+            ["lsr", "serve", "--turns", "50", "a.toml"].as_slice(),
+            Some(Asked::Serve {
+                file: "a.toml",
+                turns: Some("50"),
+            }),
+        ),
     ];
     for (words, asked) in taken {
         assert_eq!(rt; read_words(rt.alloc(), words)?, asked);
@@ -58,6 +72,10 @@ fn other_words_are_told_on_the_error_stream(rt: HostRuntime) -> Result<(), Fail>
         ["lsr", "decode", "10", "10"].as_slice(),
         ["lsr", "explain"].as_slice(),
         ["lsr", "explain", "bad", "line"].as_slice(),
+        ["lsr", "serve"].as_slice(),
+        ["lsr", "serve", "a.toml", "50"].as_slice(),
+        ["lsr", "serve", "a.toml", "--turns"].as_slice(),
+        ["lsr", "serve", "a.toml", "--config", "b.toml"].as_slice(),
         ["lsr"].as_slice(),
     ];
     for words in others {
@@ -90,6 +108,9 @@ fn help_shows_lines_and_an_example(rt: HostRuntime) -> Result<(), Fail> {
         (["lsr", "help", "step"].as_slice(), "tx LINK HEX"),
         (["lsr", "decode", "--help"].as_slice(), TEAR),
         (["lsr", "explain", "--help"].as_slice(), "CODE/VALUE"),
+        (["lsr", "--help"].as_slice(), "lsr serve --help"),
+        (["lsr", "serve", "--help"].as_slice(), "--turns <N>"),
+        (["lsr", "serve", "--help"].as_slice(), "mismatch PORT PLACE"),
     ];
     for (words, text) in helps {
         assert!(rt; help_has(rt.alloc(), words, text)?);
@@ -111,6 +132,10 @@ fn help_tells_statuses_inputs_and_ranges(rt: HostRuntime) -> Result<(), Fail> {
     let decode = ["lsr", "decode", "--help"];
     for text in ["The status of HEX is 0", "reads standard input to its end"] {
         assert!(rt; help_has(rt.alloc(), decode.as_slice(), text)?);
+    }
+    let serve = ["lsr", "serve", "--help"];
+    for text in ["The status is 0", "1 to 1000000"] {
+        assert!(rt; help_has(rt.alloc(), serve.as_slice(), text)?);
     }
     let explain = ["lsr", "explain", "--help"];
     for text in ["The status is 0", "as one word with a slash"] {

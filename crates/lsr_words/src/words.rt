@@ -5,7 +5,7 @@ ghost use Rattle.clap.specs.Words.{FailsBy, fault_of, kind_of, subcommand_rows_o
 ghost use Rattle.lsr_words.specs.declared.words.Asked.{Asked};
 ghost use Rattle.lsr_words.specs.Words.{AsksFor, AsksIn, lsr_words};
 
-use crate::help::{CONFIG, DECODE, EXPLAIN, HEX, STEP, WHAT, command};
+use crate::help::{CONFIG, DECODE, EXPLAIN, FILE, HEX, SERVE, STEP, TURNS, WHAT, command};
 use clap::ArgMatches;
 use clap::error::{Error, ErrorKind};
 use std::alloc::Global;
@@ -20,6 +20,13 @@ pub enum Asked<'a> {
     Decode(&'a str),
     /// `explain WHAT`: what this word names is explained.
     Explain(&'a str),
+    /// `serve FILE`: the router of the file of this name serves its links over sockets.
+    Serve {
+        /// The file's name.
+        file: &'a str,
+        /// How many turns each link has, as the words give it; none where they give no number.
+        turns: Option<&'a str>,
+    },
 }
 
 /// What the matches of the program's words ask for; none where they name no command.
@@ -36,6 +43,13 @@ fn asked_in<'a>(matches: &ArgMatches<'a>) -> Option<Asked<'a>>
         },
         Some((EXPLAIN, given)) => match given.get_str(WHAT) {
             Some(topic) => Some(Asked::Explain(topic)),
+            None => None,
+        },
+        Some((SERVE, given)) => match given.get_str(FILE) {
+            Some(file) => Some(Asked::Serve {
+                file,
+                turns: given.get_str(TURNS),
+            }),
             None => None,
         },
         _ => None,

@@ -1,6 +1,6 @@
 //! A step that is made ready.
 
-ghost use Rattle.std.specs.Prelude.{◌≡◌, ◌≢◌, ◌||◌, Bool, Err, IfErr, IfOk, OnErr, false, true};
+ghost use Rattle.std.specs.Prelude.{◌≡◌, ◌≢◌, ◌||◌, Bool, Err, IfErr, IfOk, MatchOption, OnErr, false, true};
 ghost use Rattle.lsr_facts.specs.Orders.{key_cmp};
 ghost use Rattle.lsr_facts.specs.declared.key.Key.{Key};
 ghost use Rattle.router_events.specs.declared.events.Event.{Event};
@@ -10,7 +10,7 @@ ghost use Rattle.abstract_paths.specs.Relays.{exceeds_hop_limit};
 ghost use Rattle.abstract_paths.specs.Soundness.{ArePaths};
 ghost use Rattle.abstract_paths.specs.Touched.{is_among};
 ghost use Rattle.abstract_router.specs.Arrivals.{outcome};
-ghost use Rattle.abstract_router.specs.Soundness.{AreLabelled, IsResv};
+ghost use Rattle.abstract_router.specs.Soundness.{AreLabelled, IsResv, IsSound};
 ghost use Rattle.abstract_router.specs.Steps.{IsCommand, IsEvent};
 ghost use Rattle.abstract_router.specs.Tables.{TellsChange};
 ghost use Rattle.abstract_router.specs.Touched.{LeavesOtherLsps};
@@ -18,6 +18,7 @@ ghost use Rattle.router_soundness.specs.Drafted.{IsDrafted};
 ghost use Rattle.router_tables.specs.Below.views.Edits.{edited};
 ghost use Rattle.std.specs.List.{AllByRecursion};
 ghost use Rattle.router_tables.specs.Below.labels.Rows.{AreTableEdits};
+ghost use Rattle.router_tables.specs.Below.labels.TunnelRows.{AreTunnelEdits};
 ghost use Rattle.router_core.specs.Plans.{IsOutFor, IsPlanOf, IsSendingPlan, after_plan, drafted};
 ghost use Rattle.router_core.specs.States.{RouterState};
 
@@ -69,6 +70,21 @@ impl Plan {
         ensures { result.now ≡ self.now.chosen }
     {
         &self.chosen
+    }
+
+    /// What becomes of the actions of labels, and of those of tunnels: of each that has another action after it that one, or
+    /// none. `None` where nothing that the router knows changes.
+    pub fn table_edits(&self) -> Option<(&Table<u32, Option<Action>>, &Table<u16, Option<Action>>)>
+        ensures edits { (s : RouterState) (event : Event) → IsPlanOf s event self.now → MatchOption result
+            (after_plan self.now s.state ≡ s.state)
+            (λ edits. AreTableEdits s.router s.state (after_plan self.now s.state) edits.0.now
+            × AreTunnelEdits s.router s.state (after_plan self.now s.state) edits.1.now
+            × IsSound s.router (after_plan self.now s.state)) }
+    {
+        match &self.change {
+            Some(change) => Some((&change.table, &change.tunnel_table)),
+            None => None,
+        }
     }
 
     /// Whether it changes what is forwarded: the action of a label, or of a tunnel.

@@ -42,9 +42,16 @@ enum Phase {
 }
 
 /// A router, cold or running. Contracts see what it is and knows.
-#[derive(Debug, Drop)]
+#[derive(Debug)]
 pub struct Machine {
     phase: Phase,
+}
+
+/// Written out, so that a crate above drops a machine by one call, and isn't proved anew to drop all that a router holds.
+impl Drop for Machine {
+    fn drop(self) {
+        let Machine { phase: _phase } = self;
+    }
 }
 
 impl Model for Machine {

@@ -22,10 +22,10 @@ within_counted n e few port within =
     All-set (IsWithin (counted n e)) n.marks (e.port - 1) (mark_after n e) (record { place = omega (arith, known.place); entry = omega arith; published = omega arith }) others
 
 -- both tests pass
-left : (a b : Bool) → (a && b) ≡ true → a ≡ true
+pub left : (a b : Bool) → (a && b) ≡ true → a ≡ true
 left true b is = refl
 left false b is = is
 
-right : (a b : Bool) → (a && b) ≡ true → b ≡ true
+pub right : (a b : Bool) → (a && b) ≡ true → b ≡ true
 right true b is = is
 right false b is = cc

@@ -1,3 +1,4 @@
 pub mod Entries
+pub mod Events
 pub mod Journals
 pub mod Marks

@@ -4,7 +4,7 @@ ghost use Rattle.std.specs.Prelude.{◌≡◌, ◌↔◌, IsTrue, []};
 
 use lsr_facts::{Key, Reply};
 use rsvp_bodies::{Kept, Rule};
-use sorted_rows::{Table, TryCopy};
+use sorted_rows::TryCopy;
 use std::alloc::{AllocError, Global};
 use std::marker::Model;
 
@@ -28,36 +28,41 @@ pub struct WrittenFrame {
     pub bytes: Bytes,
 }
 
-/// Frames as they leave, in their order. Contracts see the list.
+/// A list as an entry keeps it. Contracts see the list.
 #[derive(Debug, Drop)]
-pub struct Frames {
-    items: Vec<WrittenFrame>,
+pub struct Listed<T> {
+    items: Vec<T>,
 }
 
-impl Model for Frames {
+impl<T> Model for Listed<T> {
     ghost use Rattle.std.specs.Prelude.{List};
-    ghost use Rattle.run_journal.specs.declared.entry.WrittenFrame.{WrittenFrame};
 
-    ghost Value = { List WrittenFrame };
+    ghost Value = { List T };
 
-    ghost view = { λ f. f.items.items };
+    ghost view = { λ l. l.items.items };
 }
 
-impl Frames {
-    /// These frames. Takes no memory.
-    pub(crate) fn from_vec(items: Vec<WrittenFrame>) -> Frames
+impl<T> Listed<T> {
+    /// These. Takes no memory.
+    pub(crate) fn from_vec(items: Vec<T>) -> Listed<T>
         ensures { result ≡ items.items }
     {
-        Frames { items }
+        Listed { items }
     }
 
-    /// The frames.
-    pub fn as_slice(&self) -> &[WrittenFrame]
+    /// The list.
+    pub fn as_slice(&self) -> &[T]
         ensures { result.now ≡ self.now }
     {
         self.items.as_slice()
     }
 }
+
+/// Frames as they leave, in their order.
+pub type Frames = Listed<WrittenFrame>;
+
+/// The labels that a step chose: of each LSP that is new its own, in the order of the LSPs.
+pub type ChosenLabels = Listed<(Key, u32)>;
 
 /// An entry of the journal: one event, and its step.
 #[derive(Debug, Drop)]
@@ -67,7 +72,7 @@ pub struct Entry {
     /// What happened, as a journal holds it.
     pub event: Bytes,
     /// The labels that were chosen: of each LSP that is new its own.
-    pub chosen: Table<Key, u32>,
+    pub chosen: ChosenLabels,
     /// What was answered.
     pub reply: Reply,
     /// What was sent.
@@ -85,12 +90,12 @@ impl TryCopy for WrittenFrame {
     }
 }
 
-impl TryCopy for Frames {
-    fn try_copy(&self, alloc: Global) -> Result<Frames, AllocError> {
+impl TryCopy for Listed<WrittenFrame> {
+    fn try_copy(&self, alloc: Global) -> Result<Listed<WrittenFrame>, AllocError> {
         let mut items = Vec::with_capacity(alloc, self.items.len())?;
         for frame in &self.items {
             items.push(frame.try_copy(alloc)?)?;
         }
-        Ok(Frames { items })
+        Ok(Listed { items })
     }
 }

@@ -1,15 +1,19 @@
-//! The journal of a router's run: its entries, the numbers of entries and of ports, the receipts that ports have of them, and
-//! stretches of it.
+//! The journal of a router's run: its entries, the numbers of entries and of ports, the receipts that ports have of them,
+//! stretches of it, and the router with its journal as it stands under a lock.
 #![tactic(auto)]
 
 mod entry;
+mod events;
+mod locked;
 mod mark;
 mod receipt;
 mod segment;
 mod tally;
 mod writing;
 
-pub use entry::{AnyRule, Bytes, Entry, Frames, WrittenFrame};
+pub use entry::{AnyRule, Bytes, ChosenLabels, Entry, Frames, Listed, WrittenFrame};
+pub use events::write_event;
+pub use locked::Locked;
 pub use mark::Mark;
 pub use receipt::Receipt;
 pub use segment::Segment;
@@ -18,3 +22,7 @@ pub use writing::{written_event, written_frames};
 
 /// The most ports of a router.
 pub const MAX_PORTS: u16 = 64;
+/// The most entries of a segment.
+pub const MAX_ENTRIES: usize = 4_096;
+/// The most entries since a router was opened: 2^62.
+pub const MAX_NUMBER: u64 = 1 << 62;

@@ -1,11 +1,11 @@
 //! What is written of events and of frames that are sent.
 
 ghost use Rattle.std.specs.Prelude.{◌≡◌, IfOk, map};
-ghost use Rattle.event_writer.specs.Events.{event_bytes};
+ghost use Rattle.run_journal.specs.Events.{event_bytes};
 ghost use Rattle.run_journal.specs.Entries.{written_frame};
 
-use crate::entry::{Bytes, Frames, WrittenFrame};
-use event_writer::write_event;
+use crate::entry::{Bytes, Frames, Listed, WrittenFrame};
+use crate::events::write_event;
 use frame_writer::write_frame;
 use router_events::{Event, Frame, Output};
 use rsvp_bodies::Kept;
@@ -45,5 +45,5 @@ pub fn written_frames(alloc: Global, outputs: &[Output]) -> Result<Frames, Alloc
     for output in outputs {
         frames.push(written_frame(alloc, output)?)?;
     }
-    Ok(Frames::from_vec(frames))
+    Ok(Listed::from_vec(frames))
 }

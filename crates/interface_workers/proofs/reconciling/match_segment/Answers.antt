@@ -8,7 +8,8 @@ use Rattle.interface_workers.specs.Reconciled.{called_for}
 use Rattle.interface_workers.specs.Mismatches.{IsFirstDifference}
 use Rattle.interface_workers.specs.Walks.{IsAt, mine, passed}
 use Rattle.interface_workers.specs.declared.reconciling.Walk.{Walk}
-use Rattle.interface_workers.proofs.Calling.{counted_push, first_difference, mine_next, mine_push, mine_skip}
+use Rattle.run_journal.proofs.Marking.{counted_push}
+use Rattle.interface_workers.proofs.Calling.{first_difference, mine_next, mine_push, mine_skip}
 use Rattle.interface_workers.proofs.Walking.{at_passed}
 use Rattle.interface_workers.proofs.reconciling.match_segment.Goals as goal
 use Rattle.interface_workers.proofs.reconciling.match_segment.Goals.{then-entry-port+in-Some, else-entry-port}

@@ -3,7 +3,7 @@ use Rattle.std.proofs.Common.{rules, ◌∙◌, sym, codes}
 use Rattle.clap.specs.Words.{rows_of}
 use Rattle.clap.specs.Matches.{found_of}
 use Rattle.clap.proofs.WalkLemmas.{first_value-rows}
-use Rattle.lsr_words.proofs.WordLaws.{found_is, no_topic, no_word}
+use Rattle.lsr_words.proofs.WordLaws.{found_is, no_file, no_topic, no_word}
 use Rattle.lsr_words.proofs.words.asked_in.Goals as goal
 
 pub returns-in-Some-step-default : goal.returns-in-Some-step-default
@@ -35,3 +35,15 @@ returns-in-None-get_str c =
     let found = c.in-Some-explain-default in
     let values = rows_of (found_of found.given.now) in
     no_topic _ found.field-0-0.now values (found_is c.args.matches.now found.field-0-0.now values found.ensures.name found.ensures.rows) (search rules) (sym (first_value-rows (found_of found.given.now) (codes "WHAT")) ∙ sym c.in-None-get_str.ensures)
+
+pub returns-in-Some-get_str-2 : goal.returns-in-Some-get_str-2
+returns-in-Some-get_str-2 c =
+    let found = c.in-Some-serve-default in
+    let values = rows_of (found_of found.given.now) in
+    (found.field-0-0.now, values, found_is c.args.matches.now found.field-0-0.now values found.ensures.name found.ensures.rows, (search rules, sym (first_value-rows (found_of found.given.now) (codes "FILE")) ∙ sym c.in-Some-get_str-2.ensures, c.get_str-in-Some-get_str-2.ensures ∙ first_value-rows (found_of found.given.now) (codes "turns")))
+
+pub returns-in-None-get_str-2 : goal.returns-in-None-get_str-2
+returns-in-None-get_str-2 c =
+    let found = c.in-Some-serve-default in
+    let values = rows_of (found_of found.given.now) in
+    no_file _ found.field-0-0.now values (found_is c.args.matches.now found.field-0-0.now values found.ensures.name found.ensures.rows) (search rules) (sym (first_value-rows (found_of found.given.now) (codes "FILE")) ∙ sym c.in-None-get_str-2.ensures)

@@ -1,0 +1,177 @@
+//! A router under its lock, and the ports of those who feed it.
+
+ghost use Rattle.std.specs.Prelude.{◌≡◌, ◌+◌, ◌<◌, ◌≤◌, IfOk, OnErr, OnOk, length, map};
+ghost use Rattle.run_journal.specs.Events.{event_bytes};
+ghost use Rattle.run_journal.specs.Journals.{IsAnswered};
+ghost use Rattle.run_journal.specs.Marks.{Follows, first_marks};
+
+use lookup_plane::{LookupReader, OpenFault};
+use lsr_config::Config;
+use lsr_facts::{Refusal, Router};
+use resv_facts::State;
+use router_events::Event;
+use run_journal::{Locked, Mark, Receipt, Segment};
+use sorted_rows::TryCopy;
+use std::alloc::{AllocError, Global};
+use std::sync::ledger::{Blank, Book, Ledger, Share};
+use std::sync::{Mutex, Wait};
+
+/// A router with its journal, and the book of its ledger: as many entries were made as the ports have in all.
+#[derive(Drop)]
+struct Kept<L: Ledger, R: Wait + Drop> {
+    locked: Locked<R>,
+    calls: Book<L>,
+    ghost counted: { locked.counts.number ≡ calls.total },
+}
+
+/// A router that many threads feed, each by a port of its own. Its name is that of its ledger: no other core has it.
+#[derive(Drop)]
+pub struct Core<L: Ledger, R: Wait + Drop> {
+    lock: Mutex<Kept<L, R>>,
+    router: Router,
+}
+
+/// Who feeds a core: the numbers of its last entry, and its share of the core's ledger, in which it has as many entries as its
+/// mark says.
+#[derive(Drop)]
+pub struct Port<L: Ledger> {
+    mark: Mark,
+    share: Share<L>,
+    ghost counted: { share.amount ≡ mark.place },
+    ghost backed: { 0 < share.parts },
+}
+
+/// A core with its ports, and readers of its label table.
+#[derive(Drop)]
+pub struct Opened<L: Ledger, R: Wait + Drop> {
+    /// The core.
+    pub core: Core<L, R>,
+    /// Its ports, in the order of their numbers.
+    pub ports: Vec<Port<L>>,
+    /// The readers.
+    pub readers: Vec<LookupReader>,
+}
+
+impl<L: Ledger> Port<L> {
+    /// The numbers of its last entry.
+    pub fn mark(&self) -> Mark
+        ensures { result ≡ self.now.mark }
+    {
+        self.mark
+    }
+}
+
+impl<L: Ledger, R: Wait + Drop> Kept<L, R> {
+    /// Applies an event of a port. What is refused changes neither.
+    fn apply(
+        &mut self,
+        alloc: Global,
+        port: &mut Port<L>,
+        event: &Event,
+    ) -> Result<Receipt, Refusal>
+        ensures answered { IsAnswered self.old.locked port.old.mark event.now result self.new.locked }
+        ensures follows { IfOk result (λ receipt. Follows port.old.mark receipt × (port.new.mark ≡ receipt.mark)) }
+        ensures counted { OnOk result (port.new.share.amount ≡ port.old.share.amount + 1) }
+        ensures kept { OnErr result (port.new ≡ port.old) }
+    {
+        let receipt = self.locked.apply(alloc, port.mark, event)?;
+        self.calls.add(&mut port.share, 1);
+        port.mark = receipt.mark();
+        Ok(receipt)
+    }
+}
+
+impl<L: Ledger, R: Wait + Drop> Core<L, R> {
+    /// Feeds an event of a port, and tells the port of its entry: the port's next place, a later entry than its last one, and
+    /// the event that was fed. Waits for others who use the core. It is refused as [`Locked::apply`] refuses it, and then the
+    /// port is as it was.
+    pub fn feed<W: Wait>(
+        &self,
+        rt: &W,
+        alloc: Global,
+        port: &mut Port<L>,
+        event: &Event,
+    ) -> Result<Receipt, Refusal>
+        ensures follows { IfOk result (λ receipt. Follows port.old.mark receipt × (port.new.mark ≡ receipt.mark)) }
+        ensures event { IfOk result (λ receipt. receipt.event ≡ event_bytes event.now) }
+        ensures counted { OnOk result (port.new.share.amount ≡ port.old.share.amount + 1) }
+        ensures kept { OnErr result (port.new ≡ port.old) }
+    {
+        let mut guard = self.lock.lock(rt);
+        guard.apply(alloc, port, event)
+    }
+
+    /// Takes the entries that were made since the last time. Waits for others who use the core; the only error is out of
+    /// memory.
+    pub fn rotate<W: Wait>(&self, rt: &W, alloc: Global) -> Result<Segment, AllocError> {
+        let mut guard = self.lock.lock(rt);
+        guard.locked.rotate(alloc)
+    }
+
+    /// What the router knows: a copy. Waits for others who use the core; the only error is out of memory.
+    pub fn inspect<W: Wait>(&self, rt: &W, alloc: Global) -> Result<State, AllocError> {
+        let guard = self.lock.lock(rt);
+        guard.locked.export(alloc)
+    }
+
+    /// What never changes of the router.
+    pub fn router(&self) -> &Router {
+        &self.router
+    }
+}
+
+/// The ports of the numbers 1 to `ports`, each with a part of what is left of the ledger. The only error is out of memory.
+fn ports_of<L: Ledger>(
+    alloc: Global,
+    rest: &mut Share<L>,
+    ports: u16,
+) -> Result<Vec<Port<L>>, AllocError>
+    requires parts { ports ≤ rest.old.parts }
+    requires amount { rest.old.amount ≡ 0 }
+    ensures { IfOk result (λ all. map (λ port. port.mark) all.items ≡ first_marks ports) }
+{
+    let mut all = Vec::with_capacity(alloc, ports as usize)?;
+    for index in 0..ports {
+        let mark = Mark {
+            port: index + 1,
+            place: 0,
+            entry: 0,
+            published: 0,
+        };
+        let share = rest.split_off(1, 0);
+        all.push(Port { mark, share })?;
+    }
+    Ok(all)
+}
+
+/// Opens the router of a configuration, with ports of the numbers 1 to `ports`, and so many readers of its label table. The blank
+/// names the core, and has a part for each port. The core keeps `rt`, to wait for readers. The fault is that there is too little
+/// memory, or no place for a reader.
+pub fn open<L: Ledger, R: Wait + Drop>(
+    alloc: Global,
+    rt: R,
+    blank: Blank,
+    config: Config,
+    ports: u16,
+    readers: usize,
+) -> Result<Opened<L, R>, OpenFault>
+    requires name { blank.name ≡ L.name }
+    requires parts { blank.parts ≡ L.parts }
+    requires enough { ports ≤ blank.parts }
+    requires readers { readers ≤ 64 }
+    ensures ports { IfOk result (λ opened. map (λ port. port.mark) opened.ports.items ≡ first_marks ports) }
+    ensures readers { IfOk result (λ opened. length opened.readers.items ≡ readers) }
+{
+    let (locked, readers) = Locked::new(alloc, rt, config, ports, readers)?;
+    let router = locked.router().try_copy(alloc)?;
+    let (calls, mut rest) = blank.open::<L>();
+    let ports = ports_of(alloc, &mut rest, ports)?;
+    Ok(Opened {
+        core: Core {
+            lock: Mutex::new(Kept { locked, calls }),
+            router,
+        },
+        ports,
+        readers,
+    })
+}

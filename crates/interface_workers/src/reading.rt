@@ -1,0 +1,53 @@
+//! What a datagram is, by what readers of the label table see.
+
+ghost use Rattle.std.specs.Prelude.{◌≡◌, IfSome};
+ghost use Rattle.forwarding_table.specs.Forwarding.{forward_of};
+ghost use Rattle.datagrams.specs.Datagrams.{IsDatagram};
+ghost use Rattle.lookup_plane.specs.Changes.{StartsWith, look};
+
+use datagrams::{Datagram, Forwards, read_datagram};
+use forwarding_table::Forwarding;
+use label_stacks::Stack;
+use lookup_plane::{LookupReader, Lookups};
+use lsr_facts::{Refusal, Router};
+use std::alloc::Global;
+
+/// The label table, as a reader sees it.
+#[derive(Drop)]
+struct Seen<'a> {
+    lookups: &'a Lookups,
+}
+
+impl<'a> Forwards for Seen<'a> {
+    ghost use Rattle.forwarding_table.specs.Forwarding.{forward_of};
+    ghost use Rattle.lookup_plane.specs.Changes.{look};
+
+    ghost forwarded = { λ s. forward_of (look s.lookups.now.seen) };
+
+    fn forward(&self, stack: &Stack) -> Forwarding {
+        self.lookups.forward(stack)
+    }
+}
+
+/// What a datagram is that came over a link: a labelled frame by the label table that the reader sees, all its labels by one. It
+/// waits for nobody. None where the reader's table isn't shown any more, or not yet what it has learnt. The reader comes back: it has
+/// seen no less.
+pub fn read_by(
+    alloc: Global,
+    router: &Router,
+    reader: LookupReader,
+    link: u16,
+    bytes: &[u8],
+) -> (Option<Result<Datagram, Refusal>>, LookupReader)
+    ensures answer { IfSome result.0 (IsDatagram router.now (forward_of (look result.1.seen)) link bytes.now) }
+    ensures later { StartsWith result.1.seen reader.seen }
+    ensures learnt { result.1.at_least ≡ reader.at_least }
+{
+    match reader.enter() {
+        Ok(lookups) => {
+            let answer = read_datagram(alloc, router, &Seen { lookups: &lookups }, link, bytes);
+            (Some(answer), lookups.leave())
+        }
+        Err(reader) => (None, reader),
+    }
+}

@@ -1,0 +1,4 @@
+pub mod Changes
+pub mod ChangesLaws
+pub mod Published
+pub mod Slots

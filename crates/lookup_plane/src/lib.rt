@@ -1,0 +1,17 @@
+//! The label table that readers see without waiting: one writer publishes changes of it, and each reader looks labels up
+//! in what was published last, by one list of published changes at a time (RFC 3031, 3.10 to 3.13).
+#![tactic(auto)]
+
+mod change;
+mod forwarding;
+pub mod laws;
+mod lookups;
+mod plane;
+mod reader;
+mod rule;
+mod slots;
+
+pub use change::TableChange;
+pub use lookups::Lookups;
+pub use plane::{MAX_LABELS, MAX_READERS, OpenFault, Plane};
+pub use reader::{Closed, LookupReader};

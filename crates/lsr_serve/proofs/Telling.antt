@@ -1,0 +1,11 @@
+-- What a status of 0 says.
+use Rattle.std.proofs.Common.{ℕ, List, Option, inl, inr, subst, arith}
+use Rattle.std.specs.Io.KnownBytes.{Appends}
+use Rattle.run_journal.specs.Journals.{Stretch}
+use Rattle.run_journal.specs.declared.receipt.Receipt.{Receipt}
+use Rattle.lsr_serve.specs.Told.{Serves, TellsRun}
+
+-- what is told of a run is what serving it tells
+pub told_serves : (pieces : List Stretch) (receipts : List Receipt) (output printed : Option (List ℕ)) (text : List ℕ) (status : ℕ) → Appends output printed text → TellsRun pieces receipts text status → Serves output printed status
+told_serves pieces receipts output printed text status appended (inl (one, is, done)) = λ zero. (pieces, receipts, one, subst (Appends output printed) is appended)
+told_serves pieces receipts output printed text status appended (inr (port, place, is, failed)) = λ zero. absurd (omega (arith, zero, failed))

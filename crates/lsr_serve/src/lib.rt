@@ -1,0 +1,16 @@
+//! A router over sockets.
+#![tactic(auto)]
+
+mod run;
+mod serving;
+mod sockets;
+#[cfg(test)]
+mod tests;
+mod turns;
+mod udp_wire;
+
+pub use run::{PortCount, Served, TICK_MS, serve_on};
+pub use serving::{serve_links, tell_run};
+pub use sockets::{LinkSockets, read_sockets};
+pub use turns::{DEFAULT_TURNS, MAX_TURNS, read_turns};
+pub use udp_wire::{LinkWire, OpenFault, UdpWire, open_clock_wire, open_wires};

@@ -1,0 +1,270 @@
+//! A router's run: a thread for each link and one for the clock, over any wires.
+ghost use Rattle.std.specs.Prelude.{◌≡◌, ◌+◌, ◌<◌, ◌≤◌, length, vec_capacity};
+
+use crate::udp_wire::LinkWire;
+use interface_workers::{
+    Core, Gate, LookupReader, OpenFault, Opened, Port, Receipt, Segment, Wire, Work, open,
+    serve_event, serve_link,
+};
+use lsr_config::Config;
+use router_events::Event;
+use std::alloc::{AllocError, Global};
+use std::marker::Brand;
+use std::sync::Wait;
+use std::sync::ledger::{Blank, Ledger};
+use std::thread;
+use std::thread::Threads;
+use std::time::{Clock, Duration};
+
+/// How far apart two moments of the clock are, in milliseconds.
+pub const TICK_MS: u64 = 100;
+
+/// How much a port did.
+#[derive(Clone, Copy, Debug, PartialEq, Eq)]
+pub struct PortCount {
+    /// How many receipts it has.
+    pub receipts: usize,
+    /// How many frames it passed on by their labels.
+    pub forwarded: u64,
+}
+
+/// What a run leaves.
+#[derive(Debug, Drop)]
+pub struct Served {
+    /// How much each port did, in the order of the ports.
+    pub ports: Vec<PortCount>,
+    /// The receipts of all ports, those of each in its order.
+    pub receipts: Vec<Receipt>,
+    /// The journal's segments in their order: by the number at their beginning, an empty one first.
+    pub segments: Vec<Segment>,
+}
+
+/// A link's worker before it starts.
+#[derive(Drop)]
+struct Worker<L: Ledger, W> {
+    port: Port<L>,
+    reader: LookupReader,
+    link: u16,
+    wire: W,
+}
+
+/// A worker's thread: its turns, with what it did.
+fn run_worker<L: Ledger, R: Wait + Drop, T: Wait, W: Wire + Drop, G: Gate>(
+    rt: &T,
+    alloc: Global,
+    core: &Core<L, R>,
+    gate: &G,
+    turns: u32,
+    worker: Worker<L, W>,
+) -> Result<Work, AllocError> {
+    let Worker {
+        mut port,
+        reader,
+        link,
+        mut wire,
+    } = worker;
+    serve_link(
+        rt, alloc, core, &mut port, reader, link, &mut wire, gate, turns,
+    )
+}
+
+/// The clock's turns: each waits for the next moment and feeds it, with what it did.
+fn run_clock<L: Ledger, R: Wait + Drop, T: Wait, C: Clock, W: Wire, G: Gate>(
+    rt: &T,
+    clock: &C,
+    alloc: Global,
+    core: &Core<L, R>,
+    port: &mut Port<L>,
+    wire: &mut W,
+    gate: &G,
+    turns: u32,
+) -> Result<Work, AllocError> {
+    let mut work = Work::new(alloc, turns)?;
+    for turn in 0..turns {
+        thread::sleep(clock, Duration::from_millis(TICK_MS));
+        let moment = (u64::from(turn) + 1) * TICK_MS;
+        serve_event(
+            rt,
+            alloc,
+            core,
+            port,
+            wire,
+            gate,
+            &mut work,
+            &Event::Tick(moment),
+        );
+    }
+    Ok(work)
+}
+
+/// The workers of the links, each with the port of its place.
+fn workers<L: Ledger, W: Drop>(
+    alloc: Global,
+    ports: Vec<Port<L>>,
+    readers: Vec<LookupReader>,
+    links: Vec<LinkWire<W>>,
+) -> Result<Vec<Worker<L, W>>, AllocError> {
+    let mut workers = Vec::with_capacity(alloc, links.len())?;
+    let places = ports.into_iter().zip(readers);
+    for ((port, reader), LinkWire { number, wire }) in places.zip(links) {
+        workers.push(Worker {
+            port,
+            reader,
+            link: number,
+            wire,
+        })?;
+    }
+    Ok(workers)
+}
+
+/// Puts the work of one more port to what the others left. The only error is out of memory.
+fn add_work(served: &mut Served, work: Work) -> Result<(), AllocError> {
+    let Work {
+        mut receipts,
+        mut segments,
+        forwarded,
+    } = work;
+    served.ports.push(PortCount {
+        receipts: receipts.len(),
+        forwarded,
+    })?;
+    served.receipts.append(&mut receipts)?;
+    served.segments.append(&mut segments)?;
+    Ok(())
+}
+
+/// Puts the work of more ports to what the others left. The only error is out of memory.
+fn add_works(served: &mut Served, works: Vec<Result<Work, AllocError>>) -> Result<(), AllocError> {
+    for work in works {
+        add_work(served, work?)?;
+    }
+    Ok(())
+}
+
+/// Puts segments in their order: by the number at their beginning, an empty one first. The only error is out of memory.
+fn sort_segments(segments: &mut Vec<Segment>) -> Result<(), AllocError> {
+    segments.sort_by_key(|segment| (segment.from().number(), segment.entries().len()))?;
+    Ok(())
+}
+
+/// Puts the last segment to the others, all in their order. The only error is out of memory.
+fn add_last(served: &mut Served, last: Segment) -> Result<(), AllocError> {
+    served.segments.push(last)?;
+    sort_segments(&mut served.segments)
+}
+
+/// Puts the work of the clock's port to what the others left, and the last segment. The only error is out of memory.
+fn add_rest(served: &mut Served, clock_work: Work, last: Segment) -> Result<(), AllocError> {
+    match add_work(served, clock_work) {
+        Ok(()) => add_last(served, last),
+        Err(error) => Err(error),
+    }
+}
+
+impl Served {
+    /// Nothing yet.
+    fn new(alloc: Global) -> Served {
+        Served {
+            ports: Vec::new(alloc),
+            receipts: Vec::new(alloc),
+            segments: Vec::new(alloc),
+        }
+    }
+}
+
+/// Puts together what the run left: the work of all ports, and the last segment. The only error is out of memory.
+fn gather(
+    served: &mut Served,
+    works: Vec<Result<Work, AllocError>>,
+    clock_work: Work,
+    last: Segment,
+) -> Result<(), AllocError> {
+    match add_works(served, works) {
+        Ok(()) => add_rest(served, clock_work, last),
+        Err(error) => Err(error),
+    }
+}
+
+/// The run of a router of this name.
+fn serve_named<
+    L: Ledger + Send + Sync,
+    R: Threads + Wait + Clone + Send + Sync + Drop,
+    C: Clock,
+    W: Wire + Send + Drop,
+    G: Gate + Sync,
+>(
+    rt: &R,
+    clock: &C,
+    alloc: Global,
+    blank: Blank,
+    config: Config,
+    links: Vec<LinkWire<W>>,
+    clock_wire: W,
+    gate: &G,
+    turns: u32,
+) -> Result<Served, OpenFault>
+    requires name { blank.name ≡ L.name }
+    requires parts { blank.parts ≡ L.parts }
+    requires ports { (length links.items + 1 ≤ L.parts) × (L.parts ≤ 64) }
+{
+    let count = links.len();
+    let Opened {
+        core,
+        mut ports,
+        readers,
+    } = open::<L, R>(alloc, rt.clone()?, blank, config, count as u16 + 1, count)?;
+    let Some(mut clock_port) = ports.pop() else {
+        return Err(OpenFault::Memory);
+    };
+    let mut clock_wire = clock_wire;
+    let workers = workers(alloc, ports, readers, links)?;
+    let shared = &core;
+    let (works, clock_work) = thread::join(
+        rt,
+        || thread::map_vec(
+            rt,
+            workers,
+            &|worker| run_worker(rt, alloc, shared, gate, turns, worker),
+        ),
+        || run_clock(
+            rt,
+            clock,
+            alloc,
+            shared,
+            &mut clock_port,
+            &mut clock_wire,
+            gate,
+            turns,
+        ),
+    );
+    let mut served = Served::new(alloc);
+    gather(&mut served, works?, clock_work?, core.rotate(rt, alloc)?)?;
+    Ok(served)
+}
+
+/// The run of the router of a configuration. Each link has a port, 1, 2 and so on in their order, and a thread that makes so
+/// many turns on its wire; the last port is the clock's, which feeds as many moments, 100 milliseconds apart, and sends from a
+/// wire of its own. All threads have ended when it returns. Where a thread can't be made, its turns are made after the others'.
+/// The fault is that there is too little memory, or no place for a reader of the label table.
+pub fn serve_on<
+    R: Threads + Wait + Clone + Send + Sync + Drop,
+    C: Clock,
+    W: Wire + Send + Drop,
+    G: Gate + Sync,
+>(
+    rt: &R,
+    clock: &C,
+    alloc: Global,
+    config: Config,
+    links: Vec<LinkWire<W>>,
+    clock_wire: W,
+    gate: &G,
+    turns: u32,
+) -> Result<Served, OpenFault>
+    requires { length links.items < 64 }
+{
+    let blank = Blank::new(links.len() as u64 + 1);
+    serve_named::<Brand, R, C, W, G>(
+        rt, clock, alloc, blank, config, links, clock_wire, gate, turns,
+    )
+}

@@ -1,0 +1,174 @@
+//! Wires over UDP sockets of this machine.
+ghost use Rattle.std.specs.Prelude.{◌≡◌, ◌+◌, ◌<◌, map, take, IfOk};
+
+use crate::sockets::LinkSockets;
+use interface_workers::{Wire, WireFault};
+use sorted_rows::Table;
+use std::alloc::{AllocError, Global};
+use std::io;
+use std::io::ErrorKind;
+use std::net::{IpAddr, Ipv4Addr, Ipv6Addr, Net, SocketAddr, UdpSocket};
+use std::time::Duration;
+use thiserror::Error;
+
+/// How long a wire waits for a frame, in milliseconds.
+const RECEIVE_MS: u64 = 100;
+/// The port of a socket that stands for any that the system has.
+const ANY_PORT: u16 = 0;
+/// The number that stands for the clock's wire, which is no link's.
+const CLOCK: u16 = 0;
+
+/// Why there are no wires.
+#[derive(Clone, Copy, Debug, PartialEq, Eq, Error)]
+pub enum OpenFault {
+    /// The sockets of the link of this number can't be had, or, of number 0, the one from which the clock's port sends.
+    #[error("link {0}: socket")]
+    Socket(u16),
+    /// There is no memory.
+    #[error("memory")]
+    Memory,
+}
+
+/// A link's number, and the wire on which its frames come.
+#[derive(Drop)]
+pub struct LinkWire<W> {
+    /// The link's number.
+    pub number: u16,
+    /// Its wire.
+    pub wire: W,
+}
+
+/// A UDP socket of this machine, on which frames come and from which they go to the neighbours of all links. It isn't known who
+/// sent what came, nor whether what was sent came anywhere.
+#[derive(Drop)]
+pub struct UdpWire<'a> {
+    socket: UdpSocket,
+    links: &'a Table<u16, LinkSockets>,
+    failures: u64,
+}
+
+impl<'a> UdpWire<'a> {
+    /// A wire on which frames come at the address. The error is the system's.
+    fn bind<R: Net>(
+        net: &R,
+        address: SocketAddr,
+        links: &'a Table<u16, LinkSockets>,
+    ) -> io::Result<UdpWire<'a>> {
+        let socket = UdpSocket::bind(net, address)?;
+        socket.set_read_timeout(Some(Duration::from_millis(RECEIVE_MS)))?;
+        Ok(UdpWire {
+            socket,
+            links,
+            failures: 0,
+        })
+    }
+
+    /// One more failure.
+    fn fail(&mut self) -> WireFault
+        requires { self.old.failures < 18446744073709551615 }
+        ensures { self.new.failures ≡ self.old.failures + 1 }
+    {
+        self.failures += 1;
+        WireFault
+    }
+}
+
+/// Whether a receive that ends so has waited for its time, and nothing came.
+fn is_silence(kind: ErrorKind) -> bool {
+    kind == ErrorKind::WouldBlock || kind == ErrorKind::TimedOut
+}
+
+impl<'a> Wire for UdpWire<'a> {
+    ghost failed = { λ wire. wire.failures };
+
+    /// The next frame that came, or none where none came in 100 milliseconds.
+    fn receive(&mut self, buffer: &mut [u8]) -> Result<Option<usize>, WireFault> {
+        match self.socket.recv_from(buffer) {
+            Ok((len, _)) => Ok(Some(len)),
+            Err(fault) if is_silence(fault.kind()) => Ok(None),
+            Err(_) => Err(self.fail()),
+        }
+    }
+
+    /// Sends a frame to the neighbour of the link. A link that isn't there is a fault, and a frame that the socket doesn't take
+    /// whole.
+    fn send(&mut self, link: u16, bytes: &[u8]) -> Result<(), WireFault> {
+        let Some(sockets) = self.links.get(&link) else {
+            return Err(self.fail());
+        };
+        match self.socket.send_to(bytes, sockets.send) {
+            Ok(len) if len == bytes.len() => Ok(()),
+            _ => Err(self.fail()),
+        }
+    }
+
+    fn failures(&self) -> u64 {
+        self.failures
+    }
+}
+
+/// An address of this machine of the family of the first link's, at any port; of IPv4 where there are no links.
+fn any_address(links: &Table<u16, LinkSockets>) -> SocketAddr {
+    match links.as_slice().first() {
+        Some((_, first)) if first.listen.is_ipv6() => {
+            SocketAddr::new(IpAddr::V6(Ipv6Addr::LOCALHOST), ANY_PORT)
+        }
+        _ => SocketAddr::new(IpAddr::V4(Ipv4Addr::LOCALHOST), ANY_PORT),
+    }
+}
+
+/// Whether the address is this machine's alone, and of the family of the other.
+fn is_local(address: SocketAddr, like: SocketAddr) -> bool {
+    address.ip().is_loopback() && address.is_ipv4() == like.is_ipv4()
+}
+
+/// The wire of a link. The fault is that its sockets can't be had.
+fn open_wire<'a, R: Net>(
+    net: &R,
+    links: &'a Table<u16, LinkSockets>,
+    like: SocketAddr,
+    number: u16,
+    sockets: LinkSockets,
+) -> Result<LinkWire<UdpWire<'a>>, OpenFault>
+    ensures { IfOk result (λ opened. opened.number ≡ number) }
+{
+    if !is_local(sockets.listen, like) || !is_local(sockets.send, like) {
+        return Err(OpenFault::Socket(number));
+    }
+    match UdpWire::bind(net, sockets.listen, links) {
+        Ok(wire) => Ok(LinkWire { number, wire }),
+        Err(_) => Err(OpenFault::Socket(number)),
+    }
+}
+
+/// The wire from which the clock's port sends: a socket of its own. The fault is that it can't be had.
+pub fn open_clock_wire<'a, R: Net>(
+    net: &R,
+    links: &'a Table<u16, LinkSockets>,
+) -> Result<UdpWire<'a>, OpenFault> {
+    match UdpWire::bind(net, any_address(links), links) {
+        Ok(wire) => Ok(wire),
+        Err(_) => Err(OpenFault::Socket(CLOCK)),
+    }
+}
+
+/// The wires of the links, in their order. A router of sockets is one of this machine: all addresses have to be its loopback
+/// addresses, and of one family. The first link whose sockets can't be had is the fault; the sockets before it are closed.
+pub fn open_wires<'a, R: Net>(
+    net: &R,
+    alloc: Global,
+    links: &'a Table<u16, LinkSockets>,
+) -> Result<Vec<LinkWire<UdpWire<'a>>>, OpenFault>
+    ensures { IfOk result (λ wires. map (λ wire. wire.number) wires.items ≡ map (λ row. row.0) links.now) }
+{
+    let like = any_address(links);
+    let rows = links.as_slice();
+    let mut wires = Vec::new(alloc);
+    for row in rows {
+        let wire = open_wire(net, links, like, row.0, row.1)?;
+        let Ok(()) = wires.push(wire) else {
+            return Err(OpenFault::Memory);
+        };
+    }
+    Ok(wires)
+}

@@ -1,0 +1,84 @@
+//! `lsr serve` on the router of a configuration.
+ghost use Rattle.std.specs.Prelude.{◌≡◌, ◌<◌, length, IfOk, IfErr};
+ghost use Rattle.lsr_serve.specs.Told.{Serves};
+ghost use Rattle.lsr_tool.specs.Endings.{status_of};
+
+use crate::endings::{RunEnding, status_of, tell_ending};
+use crate::files::FilesByName;
+use lsr_config::Config;
+use lsr_lines::read_text;
+use lsr_serve::{LinkSockets, read_sockets, read_turns, serve_links};
+use sorted_rows::Table;
+use std::alloc::Global;
+use std::io;
+use std::io::Write;
+use std::net::Net;
+use std::sync::Wait;
+use std::thread::Threads;
+use std::time::Clock;
+
+/// The status of words that ask for nothing that there is.
+pub(crate) const BAD_WORDS: u8 = 2;
+/// What is told of a word that is no number of turns.
+const BAD_TURNS: &str = "error: N is a number from 1 to 1000000; see lsr serve --help\n";
+
+/// The configuration that a text says, with the sockets of its links.
+fn configured(alloc: Global, text: &str) -> Result<(Config, Table<u16, LinkSockets>), RunEnding>
+    ensures few { IfOk result (λ ready. length ready.1 < 64) }
+    ensures fault { IfErr result (λ ending. status_of ending ≡ 1) }
+{
+    let config = match Config::read(alloc, text) {
+        Ok(config) => config,
+        Err(fault) => return Err(RunEnding::BadConfig(fault)),
+    };
+    match read_sockets(alloc, text) {
+        Ok(links) => Ok((config, links)),
+        Err(fault) => Err(RunEnding::BadConfig(fault)),
+    }
+}
+
+/// The configuration of the file of this name, with the sockets of its links.
+fn read_served<F: FilesByName>(
+    files: &F,
+    alloc: Global,
+    file: &str,
+) -> Result<(Config, Table<u16, LinkSockets>), RunEnding>
+    ensures few { IfOk result (λ ready. length ready.1 < 64) }
+    ensures fault { IfErr result (λ ending. status_of ending ≡ 1) }
+{
+    let mut stream = files.open(file)?;
+    let text = read_text(alloc, &mut stream)?;
+    configured(alloc, text.as_str())
+}
+
+/// `lsr serve FILE [--turns N]`: the links of the router of the file of this name are served by `rt`, so many turns each, or
+/// without a number 1,000. Prints whether what was told is one run, tells on the error stream why it didn't begin, and gives the status:
+/// 0, 1, or 2 where the word is no number of turns. The error is that a stream could not be written.
+pub fn run_serve_of<
+    F: FilesByName,
+    N: Net + Threads + Wait + Clock + Clone + Send + Sync + Drop,
+    W: Write,
+    E: Write,
+>(
+    files: &F,
+    rt: &N,
+    alloc: Global,
+    file: &str,
+    turns: Option<&str>,
+    output: &mut W,
+    error: &mut E,
+) -> io::Result<u8>
+    ensures { IfOk result (Serves (W.contents output.old) (W.contents output.new)) }
+{
+    let Some(turns) = read_turns(turns) else {
+        error.write_all(BAD_TURNS.as_bytes())?;
+        return Ok(BAD_WORDS);
+    };
+    match read_served(files, alloc, file) {
+        Ok((config, links)) => serve_links(rt, alloc, config, &links, turns, output, error),
+        Err(ending) => {
+            tell_ending(error, &ending)?;
+            Ok(status_of(&ending))
+        }
+    }
+}

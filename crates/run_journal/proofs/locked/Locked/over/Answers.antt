@@ -1,0 +1,36 @@
+-- What was just opened is kept.
+use Rattle.std.proofs.Common.{◌≡◌, ◌≤◌, arith, refl, subst, sym, ◌∙◌}
+use Rattle.run_journal.specs.Journals.{IsKept, IsPlaneOf, Journal, opened_journal}
+use Rattle.run_journal.specs.Marks.{first_counts}
+use Rattle.run_journal.proofs.Keeping.{kept_opened}
+use Rattle.run_journal.proofs.locked.Locked.over.Given.{Over}
+use Rattle.run_journal.proofs.locked.Locked.over.Goals as goal
+
+now : (g : Over) → goal.In_ok-entries g → Journal
+now g c = record {
+  router = c.args.machine.router;
+  base = c.in_ok-base.base;
+  from = c.in_ok-from.from;
+  entries = c.in_ok-entries.entries.items;
+  state = c.args.machine.state;
+  counts = c.in_ok-tally.tally;
+  shown = c.args.plane.published;
+}
+
+now_is : (g : Over) (c : goal.In_ok-entries g) → now g c ≡ opened_journal c.args.machine (first_counts c.args.ports)
+unfolding now
+now_is g c =
+    let from = c.in_ok-from.ensures ∙ c.in_ok-tally.ensures in
+    λ i. record { router = c.args.machine.router; base = c.in_ok-base.ensures i; from = from i; entries = c.in_ok-entries.ensures.items i; state = c.args.machine.state; counts = c.in_ok-tally.ensures i; shown = (c.requires.plane i).published }
+
+pub invariant_of-result : goal.invariant_of-result
+unfolding now
+invariant_of-result g c = (
+  subst IsKept (sym (now_is g c)) (kept_opened c.args.machine.router c.args.machine.state c.args.ports c.soundness.ensures.router c.soundness.ensures.sound c.requires.opening),
+  omega (arith, c.in_ok-entries.ensures.capacity),
+  subst (IsPlaneOf c.args.machine.router) (sym c.requires.plane) (record { first = refl; last = refl; settled = refl }),
+)
+
+pub returns : goal.returns
+unfolding now
+returns g c = now_is g c

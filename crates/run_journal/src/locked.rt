@@ -1,0 +1,310 @@
+//! A router with its journal, as it stands under a lock.
+
+ghost use Rattle.std.specs.Prelude.{◌≡◌, ◌<◌, ◌≤◌, ◌-◌, ◌+◌, ◌^◌, ◌++◌, ◌∷◌, [], All, IfOk, MatchResult, None, OnErr, OnOk, false, length};
+ghost use Rattle.abstract_router.specs.Tables.{forwarded};
+ghost use Rattle.datagrams.specs.Datagrams.{IsDatagram};
+ghost use Rattle.router_machine.specs.States.{opened};
+ghost use Rattle.router_machine.specs.Readies.{IsReady};
+ghost use Rattle.lookup_plane.specs.Changes.{IsChangeOf};
+ghost use Rattle.lookup_plane.specs.declared.change.TableChange.{TableChange};
+ghost use Rattle.run_journal.specs.Journals.{IsAnnounced, IsAnswered, IsChangeFor, IsEntered, IsEntryFor, IsKept, IsOpening, early_refusal, opened_journal, rotated, router_in, stretch_of};
+ghost use Rattle.run_journal.specs.Marks.{Follows, first_counts};
+
+use crate::entry::{Entry, Listed};
+use crate::mark::Mark;
+use crate::receipt::Receipt;
+use crate::segment::Segment;
+use crate::tally::Tally;
+use crate::writing::{written_event, written_frames};
+use crate::{MAX_ENTRIES, MAX_NUMBER};
+use lookup_plane::{LookupReader, OpenFault, Plane, TableChange};
+use lsr_config::Config;
+use lsr_facts::{Refusal, Router};
+use resv_facts::State;
+use router_events::Event;
+use router_machine::{Datagram, Machine, Ready};
+use sorted_rows::{Table, TryCopy};
+use std::alloc::{AllocError, Global};
+use std::marker::Model;
+use std::mem;
+use std::sync::Wait;
+
+/// A router with its journal, as it stands under a lock. Contracts see the router, what it knew at the base, the entries since,
+/// and what it knows now. At any moment the entries record a run from the base to what the router knows, both are sound, and
+/// the numbers are what the entries make of those at the base.
+#[derive(Drop)]
+pub struct Locked<R: Wait + Drop> {
+    machine: Machine,
+    base: State,
+    from: Tally,
+    entries: Vec<Entry>,
+    tally: Tally,
+    plane: Plane<R>,
+}
+
+impl<R: Wait + Drop> Model for Locked<R> {
+    ghost use Rattle.std.specs.Prelude.{◌≤◌, vec_capacity};
+    ghost use Rattle.run_journal.specs.Journals.{IsKept, IsPlaneOf, Journal};
+
+    ghost Value = { Journal };
+
+    ghost view = { λ l. record {
+      router = l.machine.router;
+      base = l.base;
+      from = l.from;
+      entries = l.entries.items;
+      state = l.machine.state;
+      counts = l.tally;
+      shown = l.plane.published;
+    } };
+
+    ghost invariant = { λ l. IsKept (record {
+      router = l.machine.router;
+      base = l.base;
+      from = l.from;
+      entries = l.entries.items;
+      state = l.machine.state;
+      counts = l.tally;
+      shown = l.plane.published;
+    }) × (4096 ≤ vec_capacity l.entries) × IsPlaneOf l.machine.router l.plane };
+}
+
+/// The entry of a step that is made ready. The only error is out of memory.
+fn entry_of(alloc: Global, port: u16, event: &Event, ready: &Ready) -> Result<Entry, AllocError>
+    ensures { IfOk result (IsEntryFor port event.now ready.now) }
+{
+    Ok(Entry {
+        port,
+        event: written_event(alloc, event)?,
+        chosen: Listed::from_vec(Vec::from_slice(alloc, ready.chosen())?),
+        reply: ready.reply(),
+        outputs: written_frames(alloc, ready.outputs())?,
+        changes_table: ready.changes_table(),
+    })
+}
+
+/// No change of the label table.
+fn no_change(alloc: Global) -> TableChange
+    ensures { result ≡ record { cleared = false; labels = []; tunnels = [] } }
+{
+    TableChange {
+        cleared: false,
+        labels: Table::new(alloc),
+        tunnels: Table::new(alloc),
+    }
+}
+
+/// The change of the label table that a step makes which is made ready. The only error is out of memory.
+fn table_change(alloc: Global, ready: &Ready) -> Result<TableChange, AllocError>
+    ensures { IfOk result (IsChangeFor ready.now) }
+{
+    match ready {
+        Ready::Plan(plan) => match plan.table_edits() {
+            Some((labels, tunnels)) => TableChange::of_edits(alloc, labels, tunnels),
+            None => Ok(no_change(alloc)),
+        },
+        Ready::Start => Ok(no_change(alloc)),
+        Ready::Restart { .. } => Ok(TableChange::restart(alloc)),
+    }
+}
+
+/// Announces the change of a step to the plane, where it changes the label table: readers see it once it is published. It asks
+/// for a step of a router that is sound before and after it. The only error is out of memory, and then nothing changed.
+fn announce<R: Wait + Drop>(
+    alloc: Global,
+    plane: &mut Plane<R>,
+    ready: &Ready,
+    changes_table: bool,
+) -> Result<(), AllocError>
+    requires { (change : TableChange) → IsChangeFor ready.now change → IsChangeOf plane.old.first_label plane.old.last_label change }
+    ensures { MatchResult result
+        (λ _. IsAnnounced changes_table ready.now plane.old plane.new)
+        (λ _. plane.new ≡ plane.old) }
+{
+    if !changes_table {
+        return Ok(());
+    }
+    match plane.append(table_change(alloc, ready)?) {
+        Ok(()) => Ok(()),
+        Err(_) => Err(AllocError),
+    }
+}
+
+/// Shows readers what was announced, where the label table changes. Waits for readers that look at the table just now.
+fn show<R: Wait + Drop>(plane: &mut Plane<R>, changes_table: bool)
+    requires few { length plane.old.published + length plane.old.pending < 2 ^ 64 }
+    requires none { changes_table ≡ false → plane.old.pending ≡ [] }
+    ensures { plane.new ≡ record plane.old { published = plane.old.published ++ plane.old.pending; pending = [] } }
+{
+    if changes_table {
+        plane.publish();
+    }
+}
+
+impl<R: Wait + Drop> Locked<R> {
+    /// The router of a configuration as it is opened, with ports of the numbers 1 to `ports`, no entry, and so many readers of its
+    /// label table. It reserves the memory of all LSPs that the router may ever know, of the entries of a segment, and of the table. It
+    /// keeps `rt`, to wait for readers. The fault is that there is too little memory, or no place for a reader.
+    pub fn new(
+        alloc: Global,
+        rt: R,
+        config: Config,
+        ports: u16,
+        readers: usize,
+    ) -> Result<(Locked<R>, Vec<LookupReader>), OpenFault>
+        requires { readers ≤ 64 }
+        ensures locked { IfOk result (λ made. made.0 ≡ opened_journal (opened config) (first_counts ports)) }
+        ensures readers { IfOk result (λ made. (length made.1.items ≡ readers) × All (λ reader. reader ≡ record { seen = []; at_least = 0 }) made.1.items) }
+    {
+        let machine = Machine::open(alloc, config)?;
+        machine.soundness();
+        let labels = machine.router().labels;
+        let (plane, all) = Plane::new(alloc, rt, labels.first, labels.last, readers)?;
+        let locked = Locked::over(alloc, machine, ports, plane)?;
+        Ok((locked, all))
+    }
+
+    /// A router that was just opened, with no entry, and with a plane that shows nothing yet. The only error is out of memory.
+    fn over(
+        alloc: Global,
+        machine: Machine,
+        ports: u16,
+        plane: Plane<R>,
+    ) -> Result<Locked<R>, AllocError>
+        requires opening { IsOpening machine.router machine.state }
+        requires plane { plane ≡ record { first_label = machine.router.labels.first; last_label = machine.router.labels.last; published = []; pending = [] } }
+        ensures { IfOk result (λ locked. locked ≡ opened_journal machine (first_counts ports)) }
+    {
+        machine.soundness();
+        let base = machine.export(alloc)?;
+        let tally = Tally::new(alloc, ports)?;
+        let from = tally.try_copy(alloc)?;
+        let entries = Vec::with_capacity(alloc, MAX_ENTRIES)?;
+        Ok(Locked {
+            machine,
+            base,
+            from,
+            entries,
+            tally,
+            plane,
+        })
+    }
+
+    /// Why an event of a port is refused before it is looked at, if it is: its mark isn't the port's
+    /// ([`Refusal::WrongPort`]); the router is cold, and it is no start ([`Refusal::IsCold`]); the journal is full
+    /// ([`Refusal::JournalFull`]).
+    fn early_refusal(&self, mark: Mark, event: &Event) -> Option<Refusal>
+        ensures { result ≡ early_refusal self.now mark event.now }
+    {
+        if !self.tally.is_known(mark) {
+            return Some(Refusal::WrongPort);
+        }
+        if self.machine.is_cold() && !matches!(event, Event::Start) {
+            return Some(Refusal::IsCold);
+        }
+        if self.entries.len() >= MAX_ENTRIES || self.tally.number() >= MAX_NUMBER {
+            return Some(Refusal::JournalFull);
+        }
+        None
+    }
+
+    /// Makes a step that is made ready, puts its entry to the others, and shows readers what it changes of the label table. It
+    /// asks for a step of this router as it stands, for the entry of that step, and for room. The only error is out of memory,
+    /// and then nothing changed.
+    fn record(
+        &mut self,
+        alloc: Global,
+        event: &Event,
+        ready: Ready,
+        entry: Entry,
+    ) -> Result<(), AllocError>
+        requires ready { IsReady (router_in self.old) event.now ready }
+        requires entry { IsEntryFor entry.port event.now ready entry }
+        requires port { entry.port - 1 < length self.old.counts.marks }
+        requires room { length self.old.entries < 4096 }
+        requires low { self.old.counts.number < 2 ^ 62 }
+        ensures entered { OnOk result (IsEntered self.old entry self.new) }
+        ensures kept { OnErr result (self.new ≡ self.old) }
+    {
+        self.soundness();
+        announce(alloc, &mut self.plane, &ready, entry.changes_table)?;
+        self.machine.make(alloc, ready);
+        self.machine.soundness();
+        show(&mut self.plane, entry.changes_table);
+        self.tally.count(&entry);
+        self.entries.push_reserved(entry);
+        Ok(())
+    }
+
+    /// Applies an event of a port, and tells the port of its entry. It is refused, in this order, where the mark isn't the
+    /// one that the journal has for its port ([`Refusal::WrongPort`]); where the router is cold, and it is no start
+    /// ([`Refusal::IsCold`]); where the segment has 4,096 entries, or there were 2^62 in all ([`Refusal::JournalFull`]); and
+    /// where it is a message for another router whose limit ran out ([`Refusal::HopLimit`]). Else the only error is
+    /// [`Refusal::NoMemory`]. What is refused changes nothing. Where the label table changes it waits for readers that look at it just
+    /// now.
+    pub fn apply(&mut self, alloc: Global, mark: Mark, event: &Event) -> Result<Receipt, Refusal>
+        ensures answered { IsAnswered self.old mark event.now result self.new }
+        ensures follows { IfOk result (Follows mark) }
+    {
+        self.soundness();
+        if let Some(refusal) = self.early_refusal(mark, event) {
+            return Err(refusal);
+        }
+        let ready = self.machine.ready(alloc, event)?;
+        let entry = entry_of(alloc, mark.port, event, &ready)?;
+        let receipt = self.tally.receipt(alloc, &entry)?;
+        self.record(alloc, event, ready, entry)?;
+        Ok(receipt)
+    }
+
+    /// Takes the entries away as a segment; what the router knows now is the new base. The memory of the next segment's
+    /// entries is reserved; the only error is out of memory, and then nothing changed.
+    pub fn rotate(&mut self, alloc: Global) -> Result<Segment, AllocError>
+        ensures segment { IfOk result (λ segment. segment ≡ stretch_of self.old) }
+        ensures rotated { IfOk result (λ segment. self.new ≡ rotated self.old) }
+        ensures kept { OnErr result (self.new ≡ self.old) }
+    {
+        self.soundness();
+        let router = self.machine.router().try_copy(alloc)?;
+        let end = self.machine.export(alloc)?;
+        let base = end.try_copy(alloc)?;
+        let from = self.tally.try_copy(alloc)?;
+        let entries = Vec::with_capacity(alloc, MAX_ENTRIES)?;
+        Ok(Segment {
+            router,
+            base: mem::replace(&mut self.base, base),
+            from: mem::replace(&mut self.from, from),
+            entries: mem::replace(&mut self.entries, entries),
+            end,
+        })
+    }
+
+    /// What a datagram is that came over a link, by what the router knows now. It changes nothing.
+    pub fn read(&self, alloc: Global, link: u16, bytes: &[u8]) -> Result<Datagram, Refusal>
+        ensures { IsDatagram self.now.router (forwarded self.now.router self.now.state) link bytes.now result }
+    {
+        self.machine.read(alloc, link, bytes)
+    }
+
+    /// What the router knows, as a value: a copy. The only error is out of memory.
+    pub fn export(&self, alloc: Global) -> Result<State, AllocError>
+        ensures { IfOk result (λ state. state ≡ self.now.state) }
+    {
+        self.machine.export(alloc)
+    }
+
+    /// What never changes of the router.
+    pub fn router(&self) -> &Router
+        ensures { result.now ≡ self.now.router }
+    {
+        self.machine.router()
+    }
+
+    /// The entries record a run of the router from the base to what it knows, both are sound, and the numbers are theirs. A
+    /// law: it does nothing when it runs.
+    pub fn soundness(&self)
+        ensures { IsKept self.now }
+    {
+        let _entries = &self.entries;
+    }
+}
