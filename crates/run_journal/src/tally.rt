@@ -103,7 +103,7 @@ impl Tally {
     }
 
     /// What an entry's port is told of it. The only error is out of memory.
-    pub fn receipt(&self, alloc: Global, entry: &Entry) -> Result<Receipt, AllocError>
+    pub(crate) fn receipt(&self, alloc: Global, entry: &Entry) -> Result<Receipt, AllocError>
         requires port { entry.now.port - 1 < length self.now.marks }
         requires low { self.now.number < 2 ^ 62 }
         requires published { self.now.published ≤ self.now.number }
