@@ -1,10 +1,12 @@
-ghost use Rattle.std.specs.Prelude.{◌≡◌, ◌≤◌, ◌<◌, ◌∷◌, ◌++◌, [], All, length};
+ghost use Rattle.std.specs.Prelude.{◌≡◌, ◌≤◌, ◌<◌, ◌∷◌, ◌++◌, [], ℕ, All, IfSome, Option, length};
 ghost use Rattle.arrayvec.specs.ArrayVec.{array_vec_len};
 ghost use Rattle.label_stacks.specs.Entries.{IsEntry};
+ghost use Rattle.forwarding_table.specs.Actions.{WritesLabels};
 ghost use Rattle.forwarding_table.specs.Labels.{IsLabel};
-ghost use Rattle.forwarding_table.specs.Forwarding.{passed_on, written_for};
+ghost use Rattle.forwarding_table.specs.Forwarding.{action_at, forward_of, passed_on, written_for};
+ghost use Rattle.forwarding_table.specs.declared.action.Action.{Action};
 
-use crate::action::IMPLICIT_NULL;
+use crate::action::{Action, EXPLICIT_NULL, IMPLICIT_NULL};
 use arrayvec::ArrayVec;
 use label_stacks::{Stack, StackEntry};
 
@@ -55,12 +57,7 @@ fn write_label(entries: &mut Entries, label: u32, last: &StackEntry)
 
 /// Sends a stack over a link with these labels, the first of them on top, in place of the last entry that was looked
 /// at, and with the entries below it as they came.
-pub(crate) fn pass_on(
-    labels: &[u32],
-    link: u16,
-    last: &StackEntry,
-    below: &[StackEntry],
-) -> Forwarding
+fn pass_on(labels: &[u32], link: u16, last: &StackEntry, below: &[StackEntry]) -> Forwarding
     requires few { length labels.now ≤ 2 }
     requires labels { All IsLabel labels.now }
     requires last { IsEntry last.now }
@@ -81,4 +78,45 @@ pub(crate) fn pass_on(
         },
         Err(_) => Forwarding::Drop(Fault::TooLong),
     }
+}
+
+/// Whatever says what is done with labels (RFC 3031, 3.10 and 3.11).
+pub trait LabelActions {
+    ghost look: { Self → ℕ → Option Action };
+
+    /// What is done with a label, or `None` where nothing is. What the action writes for labels are labels.
+    fn action_of(&self, label: u32) -> Option<Action>
+        ensures found { result ≡ look self.now label }
+        ensures labels { IfSome result WritesLabels };
+}
+
+/// The action of an entry: explicit null is popped, and any other label is looked up.
+fn action_at<L: LabelActions>(labels: &L, entry: &StackEntry) -> Option<Action>
+    ensures action { result ≡ action_at (L.look labels.now) entry.now }
+    ensures labels { IfSome result WritesLabels }
+{
+    if entry.label == EXPLICIT_NULL {
+        Some(Action::Pop)
+    } else {
+        labels.action_of(entry.label)
+    }
+}
+
+/// What becomes of a stack of labels by what is done with each (RFC 3031, 3.13; RFC 3032, 2.1 and 2.4.1). It is dropped
+/// for the first of its faults in the order of [`Fault`]. Takes no memory.
+pub fn forward<L: LabelActions>(labels: &L, stack: &Stack) -> Forwarding
+    ensures { result ≡ forward_of (L.look labels.now) stack.now }
+{
+    let mut rest = stack.as_slice();
+    while let [last, below @ ..] = rest {
+        match action_at(labels, last) {
+            Some(Action::Pop) => rest = below,
+            Some(Action::Swap { label, link }) => return pass_on(&[label], link, last, below),
+            Some(Action::SwapPush { inner, outer, link }) => {
+                return pass_on(&[outer, inner], link, last, below);
+            }
+            Some(Action::PushHead { .. }) | None => return Forwarding::Drop(Fault::NoLabel),
+        }
+    }
+    Forwarding::Deliver
 }

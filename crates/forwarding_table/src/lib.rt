@@ -8,5 +8,5 @@ pub mod laws;
 mod table;
 
 pub use action::{Action, EXPLICIT_NULL, FIRST_LABEL, IMPLICIT_NULL, LAST_LABEL, is_label};
-pub use forwarding::{Fault, Forwarding};
+pub use forwarding::{Fault, Forwarding, LabelActions, forward};
 pub use table::{ForwardingTable, MAX_LABEL_ROWS, MAX_TUNNEL_ROWS};

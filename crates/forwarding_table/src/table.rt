@@ -4,11 +4,11 @@ ghost use Rattle.std.specs.Ordering.{nat_cmp};
 ghost use Rattle.std.specs.Prelude.{◌≡◌, ◌≤◌, T, [], All, IfOk, IfSome, length, slice_get};
 ghost use Rattle.sorted_rows.specs.Edits.{at_key, edited};
 ghost use Rattle.forwarding_table.specs.Actions.{AllWriteLabels, WritesLabels};
-ghost use Rattle.forwarding_table.specs.Forwarding.{action_at, forward_of};
+ghost use Rattle.forwarding_table.specs.Forwarding.{forward_of};
 
-use crate::action::{Action, EXPLICIT_NULL};
-use crate::forwarding::{Fault, Forwarding, pass_on};
-use label_stacks::{Stack, StackEntry};
+use crate::action::Action;
+use crate::forwarding::{Forwarding, LabelActions, forward};
+use label_stacks::Stack;
 use sorted_rows::{ReservedTable, Table, TryCopy, copy_plain_rows, make_edits};
 use std::alloc::{AllocError, Global};
 use std::marker::Model;
@@ -167,35 +167,20 @@ impl ForwardingTable {
         self.tunnels.clear();
     }
 
-    /// The action of an entry: explicit null is popped, and any other label is looked up.
-    fn action_at(&self, entry: &StackEntry) -> Option<Action>
-        ensures action { result ≡ action_at (λ label. find nat_cmp label self.now.labels) entry.now }
-        ensures labels { IfSome result WritesLabels }
-    {
-        if entry.label == EXPLICIT_NULL {
-            Some(Action::Pop)
-        } else {
-            self.look(entry.label)
-        }
-    }
-
     /// What becomes of a stack of labels by the actions of its labels (RFC 3031, 3.13; RFC 3032, 2.1 and 2.4.1). It
     /// is dropped for the first of its faults in the order of [`Fault`]. Takes no memory.
     pub fn forward(&self, stack: &Stack) -> Forwarding
         ensures { result ≡ forward_of (λ label. find nat_cmp label self.now.labels) stack.now }
     {
-        let mut rest = stack.as_slice();
-        while let [last, below @ ..] = rest {
-            match self.action_at(last) {
-                Some(Action::Pop) => rest = below,
-                Some(Action::Swap { label, link }) => return pass_on(&[label], link, last, below),
-                Some(Action::SwapPush { inner, outer, link }) => {
-                    return pass_on(&[outer, inner], link, last, below);
-                }
-                Some(Action::PushHead { .. }) | None => return Forwarding::Drop(Fault::NoLabel),
-            }
-        }
-        Forwarding::Deliver
+        forward(self, stack)
+    }
+}
+
+impl LabelActions for ForwardingTable {
+    ghost look = { λ t label. find nat_cmp label t.labels };
+
+    fn action_of(&self, label: u32) -> Option<Action> {
+        self.look(label)
     }
 }
 

@@ -28,7 +28,7 @@ fn kind_of(alloc: Global, reading: &Reading) -> Result<String, AllocError> {
 }
 
 /// The message that was read.
-fn message_in(reading: Reading) -> Message {
+fn message_in(reading: &Reading) -> &Message {
     match reading {
         Reading::Whole(message) => message,
         Reading::Unknown(message, _, _) => message,
@@ -48,15 +48,23 @@ fn told(
     format!(in alloc; "{kind} {:?}", message.content())
 }
 
+/// How the message was read, with what it says where that is asked for, and how it is written.
+fn spoken(alloc: Global, reading: &Reading, is_shown: bool) -> Result<Answer, AllocError> {
+    let message = message_in(reading);
+    let mut written = Vec::new(alloc);
+    write_message(message, &mut written)?;
+    let kind = kind_of(alloc, reading)?;
+    let said = told(alloc, kind, message, is_shown)?;
+    Ok((said, Some(written)))
+}
+
 /// How the message is read, with what it says where that is asked for, and how it is written.
 fn message(alloc: Global, bytes: &[u8], is_shown: bool) -> Result<Answer> {
-    let reading = read_message(alloc, bytes).map_err(refusal)?;
-    let kind = kind_of(alloc, &reading)?;
-    let message = message_in(reading);
-    let said = told(alloc, kind, &message, is_shown)?;
-    let mut written = Vec::new(alloc);
-    write_message(&message, &mut written)?;
-    Ok((said, Some(written)))
+    let answer = match read_message(alloc, bytes) {
+        Ok(reading) => spoken(alloc, &reading, is_shown),
+        Err(fault) => return Err(refusal(fault)),
+    };
+    Ok(answer?)
 }
 
 /// How the frame was read.

@@ -41,9 +41,16 @@ impl Outcome {
     /// How they are read as a message.
     fn of_message(alloc: Global, bytes: &[u8]) -> Outcome {
         match read_message(alloc, bytes) {
-            Ok(Reading::Whole(_)) => Outcome::Whole,
-            Ok(Reading::Unknown(..)) => Outcome::Unknown,
+            Ok(reading) => Outcome::read(&reading),
             Err(fault) => Outcome::Refused(fault),
+        }
+    }
+
+    /// How this message was read.
+    fn read(reading: &Reading) -> Outcome {
+        match reading {
+            Reading::Whole(_) => Outcome::Whole,
+            Reading::Unknown(..) => Outcome::Unknown,
         }
     }
 
@@ -58,8 +65,7 @@ impl Outcome {
     /// What this frame was read as.
     fn said(frame: &Frame) -> Outcome {
         match frame {
-            Frame::Hop(Reading::Whole(_)) => Outcome::Whole,
-            Frame::Hop(Reading::Unknown(..)) => Outcome::Unknown,
+            Frame::Hop(reading) => Outcome::read(reading),
             Frame::Labelled(stack, Payload::Bytes(_)) => Outcome::Bytes(stack.as_slice().len()),
             Frame::Labelled(stack, _) => Outcome::Message(stack.as_slice().len()),
             Frame::Routed { .. } | Frame::Relayed { .. } => Outcome::Routed,

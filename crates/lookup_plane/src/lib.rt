@@ -3,7 +3,6 @@
 #![tactic(auto)]
 
 mod change;
-mod forwarding;
 pub mod laws;
 mod lookups;
 mod plane;

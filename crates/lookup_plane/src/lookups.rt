@@ -1,13 +1,13 @@
 //! Look-ups by one list of changes.
 
-ghost use Rattle.std.specs.Prelude.{◌≡◌, ◌≤◌, MatchResult, length};
+ghost use Rattle.std.specs.Prelude.{◌≡◌, ◌≤◌, IfSome, MatchResult, length};
+ghost use Rattle.forwarding_table.specs.Actions.{WritesLabels};
 ghost use Rattle.forwarding_table.specs.Forwarding.{forward_of};
 ghost use Rattle.left_right.specs.Sides.{view};
 ghost use Rattle.lookup_plane.specs.Changes.{StartsWith, look, look_tunnel};
 
-use crate::forwarding::forward;
 use crate::rule::{Look, TableReader, TableReading};
-use forwarding_table::{Action, Forwarding};
+use forwarding_table::{Action, Forwarding, LabelActions, forward};
 use label_stacks::Stack;
 use std::marker::Model;
 
@@ -57,7 +57,8 @@ pub(crate) fn begin(reader: TableReader, at_least: u64) -> Result<Lookups, Table
 impl Lookups {
     /// What is done with a label, or `None` where nothing is.
     pub fn look(&self, label: u32) -> Option<Action>
-        ensures { result ≡ look self.now.seen label }
+        ensures found { result ≡ look self.now.seen label }
+        ensures labels { IfSome result WritesLabels }
     {
         self.reading.get().look(label)
     }
@@ -73,7 +74,7 @@ impl Lookups {
     pub fn forward(&self, stack: &Stack) -> Forwarding
         ensures { result ≡ forward_of (look self.now.seen) stack.now }
     {
-        forward(self.reading.get(), stack)
+        forward(self, stack)
     }
 
     /// Ends to read, and gives the reader back with how many changes it has learnt that there are.
@@ -82,5 +83,13 @@ impl Lookups {
     {
         let Self { reading, at_least } = self;
         (reading.leave(), at_least)
+    }
+}
+
+impl LabelActions for Lookups {
+    ghost look = { λ lookups. look lookups.seen };
+
+    fn action_of(&self, label: u32) -> Option<Action> {
+        self.look(label)
     }
 }

@@ -10,7 +10,7 @@ ghost use Rattle.message_writer.specs.Parts.{IsSpelled, path_sender, path_start,
 use crate::flows::{put_error_descriptors, put_filters, put_flow_descriptors};
 use crate::parts::*;
 use rsvp_contents::{Path, PathErr, PathTear, Resv, ResvErr, ResvTear};
-use rsvp_objects::{Object, write_object, write_tspec};
+use rsvp_objects::{Object, write_tspec};
 use std::alloc::AllocError;
 
 /// Appends SESSION, RSVP_HOP and TIME_VALUES.
@@ -19,9 +19,9 @@ fn put_path_start(path: &Path, out: &mut Vec<u8>) -> Result<(), AllocError>
     ensures spelled { OnOk result (All IsSpelled (path_start path.now)) }
     ensures err { OnErr result (take (length out.old.items) out.new.items ≡ out.old.items) }
 {
-    write_object(&Object::Session(path.session), out)?;
-    write_object(&Object::Hop(path.hop), out)?;
-    write_object(&Object::TimeValues(path.time), out)
+    write_object(Object::Session(path.session), out)?;
+    write_object(Object::Hop(path.hop), out)?;
+    write_object(Object::TimeValues(path.time), out)
 }
 
 /// Appends EXPLICIT_ROUTE, LABEL_REQUEST, SESSION_ATTRIBUTE and FAST_REROUTE.
@@ -31,7 +31,7 @@ fn put_path_wish(path: &Path, out: &mut Vec<u8>) -> Result<(), AllocError>
     ensures err { OnErr result (take (length out.old.items) out.new.items ≡ out.old.items) }
 {
     put_route(&path.route, out)?;
-    write_object(&Object::LabelRequest(path.label_request), out)?;
+    write_object(Object::LabelRequest(path.label_request), out)?;
     put_attr(&path.attr, out)?;
     put_fast_reroute(path.fast_reroute, out)
 }
@@ -42,7 +42,7 @@ fn put_path_sender(path: &Path, out: &mut Vec<u8>) -> Result<(), AllocError>
     ensures spelled { OnOk result (All IsSpelled (path_sender path.now)) }
     ensures err { OnErr result (take (length out.old.items) out.new.items ≡ out.old.items) }
 {
-    write_object(&Object::SenderTemplate(path.sender), out)?;
+    write_object(Object::SenderTemplate(path.sender), out)?;
     write_tspec(&path.tspec, out)?;
     put_adspec(path.passing.as_slice(), out)?;
     put_record(&path.recorded, out)
@@ -66,9 +66,9 @@ pub(crate) fn put_path_err(error: &PathErr, out: &mut Vec<u8>) -> Result<(), All
     ensures spelled { OnOk result (All IsSpelled (path_err_objects error.now)) }
     ensures err { OnErr result (take (length out.old.items) out.new.items ≡ out.old.items) }
 {
-    write_object(&Object::Session(error.session), out)?;
-    write_object(&Object::ErrorSpec(error.error), out)?;
-    write_object(&Object::SenderTemplate(error.sender), out)?;
+    write_object(Object::Session(error.session), out)?;
+    write_object(Object::ErrorSpec(error.error), out)?;
+    write_object(Object::SenderTemplate(error.sender), out)?;
     put_tspec(&error.tspec, out)
 }
 
@@ -78,9 +78,9 @@ pub(crate) fn put_path_tear(tear: &PathTear, out: &mut Vec<u8>) -> Result<(), Al
     ensures spelled { OnOk result (All IsSpelled (path_tear_objects tear.now)) }
     ensures err { OnErr result (take (length out.old.items) out.new.items ≡ out.old.items) }
 {
-    write_object(&Object::Session(tear.session), out)?;
-    write_object(&Object::Hop(tear.hop), out)?;
-    write_object(&Object::SenderTemplate(tear.sender), out)
+    write_object(Object::Session(tear.session), out)?;
+    write_object(Object::Hop(tear.hop), out)?;
+    write_object(Object::SenderTemplate(tear.sender), out)
 }
 
 /// Appends the objects of a Resv (RFC 2205, 3.1.4; RFC 3209, 3.2).
@@ -89,11 +89,11 @@ pub(crate) fn put_resv(resv: &Resv, out: &mut Vec<u8>) -> Result<(), AllocError>
     ensures spelled { OnOk result (All IsSpelled (resv_objects resv.now)) }
     ensures err { OnErr result (take (length out.old.items) out.new.items ≡ out.old.items) }
 {
-    write_object(&Object::Session(resv.session), out)?;
-    write_object(&Object::Hop(resv.hop), out)?;
-    write_object(&Object::TimeValues(resv.time), out)?;
+    write_object(Object::Session(resv.session), out)?;
+    write_object(Object::Hop(resv.hop), out)?;
+    write_object(Object::TimeValues(resv.time), out)?;
     put_passing(resv.passing.as_slice(), out)?;
-    write_object(&Object::Style(resv.style), out)?;
+    write_object(Object::Style(resv.style), out)?;
     put_flow_descriptors(resv.descriptors.as_slice(), out)
 }
 
@@ -103,10 +103,10 @@ pub(crate) fn put_resv_err(error: &ResvErr, out: &mut Vec<u8>) -> Result<(), All
     ensures spelled { OnOk result (All IsSpelled (resv_err_objects error.now)) }
     ensures err { OnErr result (take (length out.old.items) out.new.items ≡ out.old.items) }
 {
-    write_object(&Object::Session(error.session), out)?;
-    write_object(&Object::Hop(error.hop), out)?;
-    write_object(&Object::ErrorSpec(error.error), out)?;
-    write_object(&Object::Style(error.style), out)?;
+    write_object(Object::Session(error.session), out)?;
+    write_object(Object::Hop(error.hop), out)?;
+    write_object(Object::ErrorSpec(error.error), out)?;
+    write_object(Object::Style(error.style), out)?;
     put_error_descriptors(error.descriptors.as_slice(), out)
 }
 
@@ -116,8 +116,8 @@ pub(crate) fn put_resv_tear(tear: &ResvTear, out: &mut Vec<u8>) -> Result<(), Al
     ensures spelled { OnOk result (All IsSpelled (resv_tear_objects tear.now)) }
     ensures err { OnErr result (take (length out.old.items) out.new.items ≡ out.old.items) }
 {
-    write_object(&Object::Session(tear.session), out)?;
-    write_object(&Object::Hop(tear.hop), out)?;
-    write_object(&Object::Style(tear.style), out)?;
+    write_object(Object::Session(tear.session), out)?;
+    write_object(Object::Hop(tear.hop), out)?;
+    write_object(Object::Style(tear.style), out)?;
     put_filters(tear.filters.as_slice(), out)
 }

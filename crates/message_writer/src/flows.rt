@@ -8,9 +8,9 @@ ghost use Rattle.rsvp_flows.specs.Errors.{error_objects};
 ghost use Rattle.rsvp_flows.specs.Flows.{flow_objects, flowspec_objects};
 ghost use Rattle.message_writer.specs.Parts.{IsSpelled};
 
-use crate::parts::put_record;
+use crate::parts::{put_record, write_object};
 use rsvp_flows::{ErrorDescriptor, FlowDescriptor};
-use rsvp_objects::{Object, Template, write_flowspec, write_object};
+use rsvp_objects::{Object, Template, write_flowspec};
 use rsvp_traffic::Flowspec;
 use std::alloc::AllocError;
 
@@ -41,8 +41,8 @@ fn put_flow_descriptor(
     ensures err { OnErr result (take (length out.old.items) out.new.items ≡ out.old.items) }
 {
     put_flowspec(before, &descriptor.flowspec, out)?;
-    write_object(&Object::FilterSpec(descriptor.filter), out)?;
-    write_object(&Object::Label(descriptor.label), out)?;
+    write_object(Object::FilterSpec(descriptor.filter), out)?;
+    write_object(Object::Label(descriptor.label), out)?;
     put_record(&descriptor.recorded, out)
 }
 
@@ -76,7 +76,7 @@ fn put_error_descriptor(
     if let Some(flowspec) = &descriptor.flowspec {
         put_flowspec(before, flowspec, out)?;
     }
-    write_object(&Object::FilterSpec(descriptor.filter), out)
+    write_object(Object::FilterSpec(descriptor.filter), out)
 }
 
 /// Appends error flow descriptors.
@@ -103,7 +103,7 @@ pub(crate) fn put_filters(filters: &[Template], out: &mut Vec<u8>) -> Result<(),
     ensures err { OnErr result (take (length out.old.items) out.new.items ≡ out.old.items) }
 {
     for filter in filters {
-        write_object(&Object::FilterSpec(*filter), out)?;
+        write_object(Object::FilterSpec(*filter), out)?;
     }
     Ok(())
 }

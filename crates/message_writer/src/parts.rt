@@ -8,12 +8,21 @@ ghost use Rattle.message_writer.specs.Parts.{IsSpelled};
 
 use rsvp_objects::numbers::CLASS_ADSPEC;
 use rsvp_objects::{
-    Attr, FastReroute, Object, Opaque, write_explicit_route, write_object, write_opaque,
-    write_record_route, write_session_attribute, write_tspec,
+    Attr, FastReroute, Object, Opaque, write_explicit_route, write_opaque, write_record_route,
+    write_session_attribute, write_tspec,
 };
 use rsvp_routes::{Record, Route};
 use rsvp_traffic::Tspec;
 use std::alloc::AllocError;
+
+/// Appends an object, as [`rsvp_objects::write_object`] does, and lets it go: in one place, for all messages.
+pub(crate) fn write_object(object: Object, out: &mut Vec<u8>) -> Result<(), AllocError>
+    ensures ok { OnOk result (out.new.items ≡ out.old.items ++ spelling object) }
+    ensures again { OnOk result (IsSpelled object) }
+    ensures err { OnErr result (out.new.items ≡ out.old.items) }
+{
+    rsvp_objects::write_object(&object, out)
+}
 
 /// Appends an EXPLICIT_ROUTE, where there is one.
 pub(crate) fn put_route(route: &Option<Route>, out: &mut Vec<u8>) -> Result<(), AllocError>
@@ -49,7 +58,7 @@ pub(crate) fn put_fast_reroute(
     ensures err { OnErr result (out.new.items ≡ out.old.items) }
 {
     match request {
-        Some(request) => write_object(&Object::FastReroute(request), out),
+        Some(request) => write_object(Object::FastReroute(request), out),
         None => Ok(()),
     }
 }

@@ -157,11 +157,14 @@ impl TryCopy for Outputs {
 
 impl TryCopy for Made {
     fn try_copy(&self, alloc: Global) -> Result<Made, AllocError> {
+        let labels = self.labels.try_copy(alloc)?;
+        let outputs = self.outputs.try_copy(alloc)?;
+        let event = self.event.try_copy(alloc)?;
         Ok(Made {
-            event: self.event.try_copy(alloc)?,
-            labels: self.labels.try_copy(alloc)?,
+            event,
+            labels,
             reply: self.reply,
-            outputs: self.outputs.try_copy(alloc)?,
+            outputs,
         })
     }
 }

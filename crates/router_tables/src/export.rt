@@ -11,24 +11,42 @@ use resv_facts::State;
 use sorted_rows::TryCopy;
 use std::alloc::{AllocError, Global};
 
+/// A copy of the facts that rows say. The only error is out of memory.
+fn facts_of(alloc: Global, rows: &Rows) -> Result<Facts, AllocError>
+    ensures { IfOk result (λ facts. facts ≡ (state_of rows.now).facts) }
+{
+    let up = rows.up.try_copy(alloc)?;
+    let routes = rows.routes.try_copy(alloc)?;
+    let bypasses = rows.bypasses.try_copy(alloc)?;
+    let sent = rows.timers.copied(alloc)?;
+    let tunnels = tunnels_copied(alloc, &rows.tunnels)?;
+    let paths = rows.paths.copied(alloc)?;
+    Ok(Facts {
+        cold: false,
+        moment: rows.moment,
+        up,
+        routes,
+        tunnels,
+        bypasses,
+        paths,
+        sent,
+    })
+}
+
 /// A copy of all that rows say. The only error is out of memory.
 pub(crate) fn export(alloc: Global, rows: &Rows) -> Result<State, AllocError>
     ensures { IfOk result (λ state. state ≡ state_of rows.now) }
 {
+    let labels = rows.labels.copied(alloc)?;
+    let sent_upstream = rows.upstream.copied(alloc)?;
+    let resvs = rows.bandwidth.resvs_copied(alloc)?;
+    let repairs = repairs_copied(alloc, &rows.repairs)?;
+    let facts = facts_of(alloc, rows)?;
     Ok(State {
-        facts: Facts {
-            cold: false,
-            moment: rows.moment,
-            up: rows.up.try_copy(alloc)?,
-            routes: rows.routes.try_copy(alloc)?,
-            tunnels: tunnels_copied(alloc, &rows.tunnels)?,
-            bypasses: rows.bypasses.try_copy(alloc)?,
-            paths: rows.paths.copied(alloc)?,
-            sent: rows.timers.copied(alloc)?,
-        },
-        resvs: rows.bandwidth.resvs_copied(alloc)?,
-        repairs: repairs_copied(alloc, &rows.repairs)?,
-        labels: rows.labels.copied(alloc)?,
-        sent_upstream: rows.upstream.copied(alloc)?,
+        facts,
+        resvs,
+        repairs,
+        labels,
+        sent_upstream,
     })
 }
