@@ -1,9 +1,10 @@
--- Receipts of one port, each after the other.
-use Rattle.std.specs.Prelude.{◌≡◌, List, [], ◌∷◌, Result, Ok, Err}
+-- Receipts of one port, each after the other, and a worker's work.
+use Rattle.std.specs.Prelude.{◌≡◌, ◌+◌, ◌<◌, ◌≤◌, List, [], ◌∷◌, Result, Ok, Err, length, vec_capacity}
 use Rattle.lsr_facts.specs.declared.refusal.Refusal.{Refusal}
 use Rattle.run_journal.specs.Marks.{Follows}
 use Rattle.run_journal.specs.declared.mark.Mark.{Mark}
 use Rattle.run_journal.specs.declared.receipt.Receipt.{Receipt}
+use Rattle.interface_workers.specs.declared.worker.Work.{Work}
 
 -- The receipts follow on the first mark, each on the one before, and the last mark is that of the last of them.
 abbrev pub IsChain : Mark → List Receipt → Mark → Type 0
@@ -14,3 +15,16 @@ IsChain first (receipt ∷ receipts) last = Follows first receipt × IsChain rec
 abbrev pub IsFed : Mark → Result Receipt Refusal → Mark → Type 0
 IsFed before (Ok receipt) after = Follows before receipt × (after ≡ receipt.mark)
 IsFed before (Err refusal) after = after ≡ before
+
+-- there is room for one receipt and one segment more
+abbrev pub HasRoom : Work → Type 0
+HasRoom work = (length work.receipts.items < vec_capacity work.receipts) × (length work.segments.items < vec_capacity work.segments)
+
+-- Work goes on as the port's mark does: receipts that were a chain up to the mark are one up to the new mark, with at most one receipt
+-- and one segment more, in the same room.
+pub record WorkGoesOn (before : Work) (mark : Mark) (after : Work) (new_mark : Mark) : Type 0 where
+  pub chain : (first : Mark) → IsChain first before.receipts.items mark → IsChain first after.receipts.items new_mark
+  pub receipts : length after.receipts.items ≤ length before.receipts.items + 1
+  pub segments : length after.segments.items ≤ length before.segments.items + 1
+  pub receipts_room : vec_capacity after.receipts ≡ vec_capacity before.receipts
+  pub segments_room : vec_capacity after.segments ≡ vec_capacity before.segments

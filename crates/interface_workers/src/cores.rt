@@ -1,11 +1,12 @@
 //! A router under its lock, and the ports of those who feed it.
 
-ghost use Rattle.std.specs.Prelude.{◌≡◌, ◌+◌, ◌<◌, ◌≤◌, IfOk, OnErr, OnOk, length, map};
+ghost use Rattle.std.specs.Prelude.{◌≡◌, ◌+◌, ◌<◌, ◌≤◌, [], All, IfOk, OnErr, OnOk, length, map};
 ghost use Rattle.run_journal.specs.Events.{event_bytes};
 ghost use Rattle.run_journal.specs.Journals.{IsAnswered};
 ghost use Rattle.run_journal.specs.Marks.{Follows, first_marks};
 
-use lookup_plane::{LookupReader, OpenFault};
+use crate::readers::{CoreReader, named_readers};
+use lookup_plane::OpenFault;
 use lsr_config::Config;
 use lsr_facts::{Refusal, Router};
 use resv_facts::State;
@@ -48,8 +49,8 @@ pub struct Opened<L: Ledger, R: Wait + Drop> {
     pub core: Core<L, R>,
     /// Its ports, in the order of their numbers.
     pub ports: Vec<Port<L>>,
-    /// The readers.
-    pub readers: Vec<LookupReader>,
+    /// The readers, with the name of the core.
+    pub readers: Vec<CoreReader<L>>,
 }
 
 impl<L: Ledger> Port<L> {
@@ -161,9 +162,11 @@ pub fn open<L: Ledger, R: Wait + Drop>(
     requires readers { readers ≤ 64 }
     ensures ports { IfOk result (λ opened. map (λ port. port.mark) opened.ports.items ≡ first_marks ports) }
     ensures readers { IfOk result (λ opened. length opened.readers.items ≡ readers) }
+    ensures fresh { IfOk result (λ opened. All (λ reader. reader ≡ record { seen = []; at_least = 0 }) opened.readers.items) }
 {
     let (locked, readers) = Locked::new(alloc, rt, config, ports, readers)?;
     let router = locked.router().try_copy(alloc)?;
+    let readers = named_readers(alloc, readers)?;
     let (calls, mut rest) = blank.open::<L>();
     let ports = ports_of(alloc, &mut rest, ports)?;
     Ok(Opened {

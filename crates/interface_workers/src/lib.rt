@@ -5,6 +5,7 @@
 mod cores;
 mod equality;
 mod gate;
+mod readers;
 mod reading;
 mod reconciling;
 mod wire;
@@ -13,7 +14,8 @@ mod worker;
 pub use cores::{Core, Opened, Port, open};
 pub use equality::{is_same_router, is_same_state};
 pub use gate::{Gate, OpenGate};
-pub use lookup_plane::{LookupReader, OpenFault};
+pub use lookup_plane::{Closed, OpenFault};
+pub use readers::CoreReader;
 pub use reading::read_by;
 pub use reconciling::{Mismatch, OneRun, reconcile, whole_journals_are_runs};
 pub use run_journal::{Entry, Mark, Receipt, Segment};

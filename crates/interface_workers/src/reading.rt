@@ -5,12 +5,14 @@ ghost use Rattle.forwarding_table.specs.Forwarding.{forward_of};
 ghost use Rattle.datagrams.specs.Datagrams.{IsDatagram};
 ghost use Rattle.lookup_plane.specs.Changes.{StartsWith, look};
 
+use crate::readers::CoreReader;
 use datagrams::{Datagram, Forwards, read_datagram};
 use forwarding_table::Forwarding;
 use label_stacks::Stack;
-use lookup_plane::{LookupReader, Lookups};
+use lookup_plane::Lookups;
 use lsr_facts::{Refusal, Router};
 use std::alloc::Global;
+use std::sync::ledger::Ledger;
 
 /// The label table, as a reader sees it.
 #[derive(Drop)]
@@ -32,13 +34,13 @@ impl<'a> Forwards for Seen<'a> {
 /// What a datagram is that came over a link: a labelled frame by the label table that the reader sees, all its labels by one. It
 /// waits for nobody. None where the reader's table isn't shown any more, or not yet what it has learnt. The reader comes back: it has
 /// seen no less.
-pub fn read_by(
+pub fn read_by<L: Ledger>(
     alloc: Global,
     router: &Router,
-    reader: LookupReader,
+    reader: CoreReader<L>,
     link: u16,
     bytes: &[u8],
-) -> (Option<Result<Datagram, Refusal>>, LookupReader)
+) -> (Option<Result<Datagram, Refusal>>, CoreReader<L>)
     ensures answer { IfSome result.0 (IsDatagram router.now (forward_of (look result.1.seen)) link bytes.now) }
     ensures later { StartsWith result.1.seen reader.seen }
     ensures learnt { result.1.at_least ≡ reader.at_least }
@@ -46,7 +48,7 @@ pub fn read_by(
     match reader.enter() {
         Ok(lookups) => {
             let answer = read_datagram(alloc, router, &Seen { lookups: &lookups }, link, bytes);
-            (Some(answer), lookups.leave())
+            (Some(answer), CoreReader::leave(lookups))
         }
         Err(reader) => (None, reader),
     }

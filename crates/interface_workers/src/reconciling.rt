@@ -1,6 +1,6 @@
 //! Whether receipts and segments are those of one run.
 
-ghost use Rattle.std.specs.Prelude.{◌≡◌, ◌≢◌, ◌+◌, ◌-◌, ◌<◌, ◌≤◌, ◌↔◌, ◌∷◌, ◌++◌, [], All, IfErr, IfOk, IsTrue, List, MatchOption, OnErr, OnOk, length, slice_index_or, take};
+ghost use Rattle.std.specs.Prelude.{◌≡◌, ◌≢◌, ◌+◌, ◌-◌, ◌^◌, ◌<◌, ◌≤◌, ◌↔◌, ◌∷◌, ◌++◌, [], All, IfErr, IfOk, IsTrue, List, MatchOption, OnErr, OnOk, length, slice_index_or, take};
 ghost use Rattle.run_journal.specs.Journals.{IsSegment};
 ghost use Rattle.run_journal.specs.Marks.{Counts, counted_all, first_counts, first_mark, first_marks, receipt_of};
 ghost use Rattle.run_journal.specs.declared.receipt.Receipt.{Receipt};
@@ -97,7 +97,7 @@ impl Walk {
     /// Whether this is the mark after the entry.
     fn is_next(self, mark: Mark, entry: &Entry) -> bool
         requires few { IsWithin self }
-        requires room { self.entries < 18446744073709551615 }
+        requires room { self.entries < 2 ^ 64 - 1 }
         ensures { IsTrue result ↔ IsNext self entry.now mark }
     {
         mark.port == entry.port
@@ -113,7 +113,7 @@ impl Walk {
     /// Goes on by an entry.
     fn pass(&mut self, entry: &Entry)
         requires few { IsWithin self.old }
-        requires room { self.old.entries < 18446744073709551615 }
+        requires room { self.old.entries < 2 ^ 64 - 1 }
         ensures passed { self.new ≡ passed self.old entry.now }
         ensures few { IsWithin self.new }
     {
@@ -149,7 +149,7 @@ fn are_same_frames(frames: &[WrittenFrame], others: &[WrittenFrame]) -> bool
 /// Whether the receipt is what the port is told of the entry that comes next.
 fn is_told(receipt: &Receipt, walk: Walk, entry: &Entry) -> bool
     requires few { IsWithin walk }
-    requires room { walk.entries < 18446744073709551615 }
+    requires room { walk.entries < 2 ^ 64 - 1 }
     ensures { IsTrue result ↔ IsTold walk entry.now receipt.now }
 {
     walk.is_next(receipt.mark(), entry)
@@ -179,7 +179,7 @@ fn take_told<'a>(
 ) -> Option<&'a [Receipt]>
     requires port { (entry.now.port ≡ port) × (walk.index ≡ port - 1) }
     requires few { IsWithin walk }
-    requires room { walk.entries < 18446744073709551615 }
+    requires room { walk.entries < 2 ^ 64 - 1 }
     ensures { (n : Counts) → IsAt walk n → MatchOption result
         (take 1 (mine port receipts.now) ≢ receipt_of n entry.now ∷ [])
         (λ more. mine port receipts.now ≡ receipt_of n entry.now ∷ mine port more.now) }

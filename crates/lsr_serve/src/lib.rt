@@ -13,4 +13,4 @@ pub use run::{PortCount, Served, TICK_MS, serve_on};
 pub use serving::{serve_links, tell_run};
 pub use sockets::{LinkSockets, read_sockets};
 pub use turns::{DEFAULT_TURNS, MAX_TURNS, read_turns};
-pub use udp_wire::{LinkWire, OpenFault, UdpWire, open_clock_wire, open_wires};
+pub use udp_wire::{LinkWire, ServeFault, UdpWire, open_clock_wire, open_wires};

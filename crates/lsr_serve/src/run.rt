@@ -3,7 +3,7 @@ ghost use Rattle.std.specs.Prelude.{◌≡◌, ◌+◌, ◌<◌, ◌≤◌, leng
 
 use crate::udp_wire::LinkWire;
 use interface_workers::{
-    Core, Gate, LookupReader, OpenFault, Opened, Port, Receipt, Segment, Wire, Work, open,
+    Core, CoreReader, Gate, OpenFault, Opened, Port, Receipt, Segment, Wire, Work, open,
     serve_event, serve_link,
 };
 use lsr_config::Config;
@@ -43,7 +43,7 @@ pub struct Served {
 #[derive(Drop)]
 struct Worker<L: Ledger, W> {
     port: Port<L>,
-    reader: LookupReader,
+    reader: CoreReader<L>,
     link: u16,
     wire: W,
 }
@@ -101,7 +101,7 @@ fn run_clock<L: Ledger, R: Wait + Drop, T: Wait, C: Clock, W: Wire, G: Gate>(
 fn workers<L: Ledger, W: Drop>(
     alloc: Global,
     ports: Vec<Port<L>>,
-    readers: Vec<LookupReader>,
+    readers: Vec<CoreReader<L>>,
     links: Vec<LinkWire<W>>,
 ) -> Result<Vec<Worker<L, W>>, AllocError> {
     let mut workers = Vec::with_capacity(alloc, links.len())?;

@@ -5,7 +5,7 @@ ghost use Rattle.lsr_serve.specs.Told.{Serves, TellsRun};
 
 use crate::run::{PortCount, Served, serve_on};
 use crate::sockets::LinkSockets;
-use crate::udp_wire::{LinkWire, OpenFault, UdpWire, open_clock_wire, open_wires};
+use crate::udp_wire::{LinkWire, ServeFault, UdpWire, open_clock_wire, open_wires};
 use interface_workers::{Mismatch, OpenGate, Receipt, Segment, reconcile};
 use log::sink::Writer;
 use log::{Log, info};
@@ -71,7 +71,7 @@ fn open_all<'a, R: Net>(
     net: &R,
     alloc: Global,
     links: &'a Table<u16, LinkSockets>,
-) -> Result<(Vec<LinkWire<UdpWire<'a>>>, UdpWire<'a>), OpenFault>
+) -> Result<(Vec<LinkWire<UdpWire<'a>>>, UdpWire<'a>), ServeFault>
     ensures { IfOk result (λ wires. length wires.0.items ≡ length links.now) }
 {
     let wires = open_wires(net, alloc, links)?;
@@ -87,13 +87,13 @@ fn served<R: Net + Threads + Wait + Clock + Clone + Send + Sync + Drop>(
     config: Config,
     links: &Table<u16, LinkSockets>,
     turns: u32,
-) -> Result<Served, OpenFault>
+) -> Result<Served, ServeFault>
     requires { length links.now < 64 }
 {
     let (wires, clock_wire) = open_all(rt, alloc, links)?;
     match serve_on(rt, rt, alloc, config, wires, clock_wire, &OpenGate, turns) {
         Ok(served) => Ok(served),
-        Err(_) => Err(OpenFault::Memory),
+        Err(_) => Err(ServeFault::Memory),
     }
 }
 

@@ -1,7 +1,7 @@
 //! A run over wires of its own, frames over sockets, and words and texts that are read.
 
 use crate::{
-    LinkSockets, LinkWire, OpenFault, UdpWire, open_wires, read_sockets, read_turns, serve_on,
+    LinkSockets, LinkWire, ServeFault, UdpWire, open_wires, read_sockets, read_turns, serve_on,
     tell_run,
 };
 use interface_workers::{Gate, OpenGate, Wire, WireFault, reconcile};
@@ -114,7 +114,7 @@ fn one_link<R: Net>(
     net: &R,
     alloc: Global,
     links: &Table<u16, LinkSockets>,
-) -> Result<usize, OpenFault> {
+) -> Result<usize, ServeFault> {
     Ok(open_wires(net, alloc, links)?.len())
 }
 
@@ -157,7 +157,10 @@ fn a_frame_comes_to_the_other_end(rt: HostRuntime) -> Result<(), Fail> {
     let mut near_wires = open_wires(&rt, rt.alloc(), &near)?;
     let mut far_wires = open_wires(&rt, rt.alloc(), &far)?;
     // The address is taken now.
-    assert_eq!(rt; one_link(&rt, rt.alloc(), &near), Err(OpenFault::Socket(1)));
+    assert_eq!(rt;
+        one_link(&rt, rt.alloc(), &near),
+        Err(ServeFault::Socket(1))
+    );
     let (near_wire, far_wire) = (&mut near_wires[0].wire, &mut far_wires[0].wire);
     assert!(rt; put(near_wire, 1));
     assert!(rt; !put(near_wire, 2));
@@ -177,7 +180,7 @@ fn other_addresses_are_no_sockets(rt: HostRuntime) -> Result<(), Fail> {
         links.set(3, LinkSockets { listen: here, send })?;
         assert_eq!(rt;
             one_link(&rt, rt.alloc(), &links),
-            Err(OpenFault::Socket(3))
+            Err(ServeFault::Socket(3))
         );
     }
     Ok(())

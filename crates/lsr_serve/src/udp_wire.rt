@@ -1,5 +1,5 @@
 //! Wires over UDP sockets of this machine.
-ghost use Rattle.std.specs.Prelude.{◌≡◌, ◌+◌, ◌<◌, map, take, IfOk};
+ghost use Rattle.std.specs.Prelude.{◌≡◌, ◌+◌, ◌-◌, ◌^◌, ◌<◌, map, take, IfOk};
 
 use crate::sockets::LinkSockets;
 use interface_workers::{Wire, WireFault};
@@ -20,7 +20,7 @@ const CLOCK: u16 = 0;
 
 /// Why there are no wires.
 #[derive(Clone, Copy, Debug, PartialEq, Eq, Error)]
-pub enum OpenFault {
+pub enum ServeFault {
     /// The sockets of the link of this number can't be had, or, of number 0, the one from which the clock's port sends.
     #[error("link {0}: socket")]
     Socket(u16),
@@ -65,7 +65,7 @@ impl<'a> UdpWire<'a> {
 
     /// One more failure.
     fn fail(&mut self) -> WireFault
-        requires { self.old.failures < 18446744073709551615 }
+        requires { self.old.failures < 2 ^ 64 - 1 }
         ensures { self.new.failures ≡ self.old.failures + 1 }
     {
         self.failures += 1;
@@ -129,15 +129,15 @@ fn open_wire<'a, R: Net>(
     like: SocketAddr,
     number: u16,
     sockets: LinkSockets,
-) -> Result<LinkWire<UdpWire<'a>>, OpenFault>
+) -> Result<LinkWire<UdpWire<'a>>, ServeFault>
     ensures { IfOk result (λ opened. opened.number ≡ number) }
 {
     if !is_local(sockets.listen, like) || !is_local(sockets.send, like) {
-        return Err(OpenFault::Socket(number));
+        return Err(ServeFault::Socket(number));
     }
     match UdpWire::bind(net, sockets.listen, links) {
         Ok(wire) => Ok(LinkWire { number, wire }),
-        Err(_) => Err(OpenFault::Socket(number)),
+        Err(_) => Err(ServeFault::Socket(number)),
     }
 }
 
@@ -145,10 +145,10 @@ fn open_wire<'a, R: Net>(
 pub fn open_clock_wire<'a, R: Net>(
     net: &R,
     links: &'a Table<u16, LinkSockets>,
-) -> Result<UdpWire<'a>, OpenFault> {
+) -> Result<UdpWire<'a>, ServeFault> {
     match UdpWire::bind(net, any_address(links), links) {
         Ok(wire) => Ok(wire),
-        Err(_) => Err(OpenFault::Socket(CLOCK)),
+        Err(_) => Err(ServeFault::Socket(CLOCK)),
     }
 }
 
@@ -158,7 +158,7 @@ pub fn open_wires<'a, R: Net>(
     net: &R,
     alloc: Global,
     links: &'a Table<u16, LinkSockets>,
-) -> Result<Vec<LinkWire<UdpWire<'a>>>, OpenFault>
+) -> Result<Vec<LinkWire<UdpWire<'a>>>, ServeFault>
     ensures { IfOk result (λ wires. map (λ wire. wire.number) wires.items ≡ map (λ row. row.0) links.now) }
 {
     let like = any_address(links);
@@ -167,7 +167,7 @@ pub fn open_wires<'a, R: Net>(
     for row in rows {
         let wire = open_wire(net, links, like, row.0, row.1)?;
         let Ok(()) = wires.push(wire) else {
-            return Err(OpenFault::Memory);
+            return Err(ServeFault::Memory);
         };
     }
     Ok(wires)

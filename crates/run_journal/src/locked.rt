@@ -1,13 +1,11 @@
 //! A router with its journal, as it stands under a lock.
 
 ghost use Rattle.std.specs.Prelude.{◌≡◌, ◌<◌, ◌≤◌, ◌-◌, ◌+◌, ◌^◌, ◌++◌, ◌∷◌, [], All, IfOk, MatchResult, None, OnErr, OnOk, false, length};
-ghost use Rattle.abstract_router.specs.Tables.{forwarded};
-ghost use Rattle.datagrams.specs.Datagrams.{IsDatagram};
 ghost use Rattle.router_machine.specs.States.{opened};
 ghost use Rattle.router_machine.specs.Readies.{IsReady};
 ghost use Rattle.lookup_plane.specs.Changes.{IsChangeOf};
 ghost use Rattle.lookup_plane.specs.declared.change.TableChange.{TableChange};
-ghost use Rattle.run_journal.specs.Journals.{IsAnnounced, IsAnswered, IsChangeFor, IsEntered, IsEntryFor, IsKept, IsOpening, early_refusal, opened_journal, rotated, router_in, stretch_of};
+ghost use Rattle.run_journal.specs.Journals.{IsAnnounced, IsAnswered, IsChangeFor, IsEntered, IsEntryFor, IsKept, IsOpening, LeadToTable, early_refusal, opened_journal, rotated, router_in, stretch_of};
 ghost use Rattle.run_journal.specs.Marks.{Follows, first_counts};
 
 use crate::entry::{Entry, Listed};
@@ -22,7 +20,7 @@ use lsr_config::Config;
 use lsr_facts::{Refusal, Router};
 use resv_facts::State;
 use router_events::Event;
-use router_machine::{Datagram, Machine, Ready};
+use router_machine::{Machine, Ready};
 use sorted_rows::{Table, TryCopy};
 use std::alloc::{AllocError, Global};
 use std::marker::Model;
@@ -130,8 +128,10 @@ fn announce<R: Wait + Drop>(
     }
 }
 
-/// Shows readers what was announced, where the label table changes. Waits for readers that look at the table just now.
-fn show<R: Wait + Drop>(plane: &mut Plane<R>, changes_table: bool)
+/// Shows readers what was announced, where the label table changes. It asks that this leads to the label table of the router as
+/// it stands: so nothing is shown before its step is made. Waits for readers that look at the table just now.
+fn show<R: Wait + Drop>(plane: &mut Plane<R>, machine: &Machine, changes_table: bool)
+    requires made { LeadToTable machine.now.router machine.now.state (plane.old.published ++ plane.old.pending) }
     requires few { length plane.old.published + length plane.old.pending < 2 ^ 64 }
     requires none { changes_table ≡ false → plane.old.pending ≡ [] }
     ensures { plane.new ≡ record plane.old { published = plane.old.published ++ plane.old.pending; pending = [] } }
@@ -230,7 +230,7 @@ impl<R: Wait + Drop> Locked<R> {
         announce(alloc, &mut self.plane, &ready, entry.changes_table)?;
         self.machine.make(alloc, ready);
         self.machine.soundness();
-        show(&mut self.plane, entry.changes_table);
+        show(&mut self.plane, &self.machine, entry.changes_table);
         self.tally.count(&entry);
         self.entries.push_reserved(entry);
         Ok(())
@@ -277,13 +277,6 @@ impl<R: Wait + Drop> Locked<R> {
             entries: mem::replace(&mut self.entries, entries),
             end,
         })
-    }
-
-    /// What a datagram is that came over a link, by what the router knows now. It changes nothing.
-    pub fn read(&self, alloc: Global, link: u16, bytes: &[u8]) -> Result<Datagram, Refusal>
-        ensures { IsDatagram self.now.router (forwarded self.now.router self.now.state) link bytes.now result }
-    {
-        self.machine.read(alloc, link, bytes)
     }
 
     /// What the router knows, as a value: a copy. The only error is out of memory.

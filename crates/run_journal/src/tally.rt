@@ -35,7 +35,7 @@ fn index_of(port: u16) -> usize
 
 impl Tally {
     /// The numbers as a router with so many ports is opened. The only error is out of memory.
-    pub fn new(alloc: Global, ports: u16) -> Result<Tally, AllocError>
+    pub(crate) fn new(alloc: Global, ports: u16) -> Result<Tally, AllocError>
         ensures { IfOk result (λ tally. tally ≡ first_counts ports) }
     {
         let mut marks = Vec::with_capacity(alloc, ports as usize)?;
@@ -119,7 +119,7 @@ impl Tally {
     }
 
     /// Counts an entry.
-    pub fn count(&mut self, entry: &Entry)
+    pub(crate) fn count(&mut self, entry: &Entry)
         requires port { entry.now.port - 1 < length self.old.marks }
         requires low { self.old.number < 2 ^ 62 }
         requires published { self.old.published ≤ self.old.number }

@@ -1,5 +1,5 @@
 -- A segment more calls for more of the port's receipts, or differs.
-use Rattle.std.proofs.Common.{◌≡◌, ◌+◌, ◌<◌, ◌++◌, ℕ, List, length, take, arith, ap, subst, sym, ◌∙◌}
+use Rattle.std.proofs.Common.{◌≡◌, ◌+◌, ◌-◌, ◌^◌, ◌<◌, ◌++◌, ℕ, List, length, take, arith, ap, subst, sym, ◌∙◌}
 use Rattle.std.proofs.lemmas.List.{append_assoc, length-append}
 use Rattle.run_journal.specs.Journals.{Stretch}
 use Rattle.run_journal.specs.declared.receipt.Receipt.{Receipt}
@@ -14,7 +14,7 @@ overflow_add-count c =
     let port = c.args.port in
     let before = mine port (called_in (take c.loop-segment.segment-index c.args.segments.now)) in
     let called = mine port (called_for c.segment-item.result.from c.segment-item.result.entries) in
-    let few : length c.args.receipts.now < 18446744073709551615 = omega (arith, c.well_formed.1.0.1) in
+    let few : length c.args.receipts.now < 2 ^ 64 - 1 = omega (arith, c.well_formed.1.0.1) in
     omega (
       arith,
       few,

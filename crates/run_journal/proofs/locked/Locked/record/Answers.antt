@@ -124,6 +124,17 @@ announce-requires g c = λ change is.
     subst (λ (first : ℕ). IsChangeOf first c.self.inside.plane.last_label change) (sym c.self.invariant.2.first)
     (subst (λ (last : ℕ). IsChangeOf c.self.inside.machine.router.labels.first last change) (sym c.self.invariant.2.last) own)
 
+-- what is shown leads to the table of the step that was made
+pub show-requires-clause-made : goal.show-requires-clause-made
+show-requires-clause-made g c =
+    let ready : IsReady c.self.inside.machine c.args.event.now c.args.ready =
+    subst (λ (j : Journal). IsReady (router_in j) c.args.event.now c.args.ready) (sym c.self.view_is) c.requires.ready in
+    let parts = announced_parts c.args.entry.changes_table c.args.ready c.self.inside.plane c.announce.new.plane c.in_ok-announce.ensures c.self.invariant.2.settled in
+    let led = announced_leads c.args.entry.changes_table c.args.ready c.self.inside.plane c.announce.new.plane c.self.inside.machine c.args.event.now c.in_ok-announce.ensures c.self.invariant.2.settled ready
+    (c.requires.entry.told c.self.inside.machine ready) c.self.invariant.0.table in
+    subst (λ (shown : List TableChange). LeadToTable c.make.new.self.router c.make.new.self.state (shown ++ c.announce.new.plane.pending)) (sym parts.0)
+    (subst (λ (s : RouterState). LeadToTable s.router s.state (c.self.inside.plane.published ++ c.announce.new.plane.pending)) (sym c.make.ensures.after) led.0)
+
 pub show-requires-clause-few : goal.show-requires-clause-few
 show-requires-clause-few g c =
     let parts = announced_parts c.args.entry.changes_table c.args.ready c.self.inside.plane c.announce.new.plane c.in_ok-announce.ensures c.self.invariant.2.settled in
