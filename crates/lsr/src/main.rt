@@ -2,7 +2,7 @@
 //! they name, and sockets of this machine.
 #![tactic(auto)]
 
-use lsr_tool::{run, tell_unread_words};
+use lsr_tool::{end, run, tell_unread_words};
 use std::process::ExitCode;
 use std::{env, io};
 
@@ -13,14 +13,17 @@ fn read_args(rt: &HostRuntime) -> io::Result<Vec<String>> {
 
 fn main(rt: HostRuntime) -> ExitCode {
     let status = match read_args(&rt) {
-        Ok(words) => run(
-            &rt,
-            rt.alloc(),
-            words.as_slice(),
-            &mut rt.stdin(),
-            &mut rt.stdout(),
-            &mut rt.stderr(),
-        ),
+        Ok(words) => {
+            let ran = run(
+                &rt,
+                rt.alloc(),
+                words.as_slice(),
+                &mut rt.stdin(),
+                &mut rt.stdout(),
+                &mut rt.stderr(),
+            );
+            end(ran, &mut rt.stderr())
+        }
         Err(fault) => tell_unread_words(&fault, &mut rt.stderr()),
     };
     ExitCode::from(status)

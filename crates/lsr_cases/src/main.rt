@@ -7,10 +7,18 @@
 //! - `many.txt` names the runs over many LSPs, on the built-in router. A line `FIRST-LAST LINE` of NAME.many is LINE for
 //!   each number from FIRST to LAST, which stands in four hexadecimal digits in place of its `#`. A line `COUNT TEXT` of
 //!   NAME.counts says how many lines that begin with TEXT are printed; there are no others.
+//! - `runs.txt` names the runs of `lsr` itself: NAME.words has the status that it ends with, and below that its words, one
+//!   in each line. It reads NAME.in, nothing where there is no such file, prints NAME.out and tells NAME.err.
+//! - A line `WORDS => STATUS STREAM TEXT` of `says.txt` says how the program ends on these words and no input: with this status,
+//!   with TEXT on the stream, `output` or `error`, and nothing on the other.
 //! - Each line of `bad-lines.txt`, alone, is a bad line of `lsr step`.
 //! - A line `NAME: FAULT` or `NAME: good` of `config/answers.txt` says what is told of the configuration
 //!   config/NAME.toml.
+//! - Inputs and outputs that fail are of its own.
 #![tactic(auto)]
+
+mod runs;
+mod streams;
 
 use lsr_tool::{run_decode, run_step};
 use std::alloc::Global;
@@ -27,8 +35,8 @@ const MESSAGES: &str = "messages.txt";
 const MANY: &str = "many.txt";
 /// The lines that are none.
 const BAD_LINES: &str = "bad-lines.txt";
-/// What is told of a first line that is none.
-const BAD_LINE: &str = "bad line 1\n";
+/// What the configuration is called.
+const CONFIG: &str = "configuration";
 /// What is told of each configuration.
 const ANSWERS: &str = "config/answers.txt";
 /// The answer to a configuration that has no fault.
@@ -50,7 +58,15 @@ fn run<C: Read + Drop>(alloc: Global, config: Option<C>, input: &[u8]) -> io::Re
     let mut lines = input;
     let mut output = Vec::new(alloc);
     let mut error = Vec::new(alloc);
-    let status = run_step(alloc, config, &mut lines, &mut output, &mut error)?;
+    let status = run_step(
+        alloc,
+        CONFIG,
+        config,
+        false,
+        &mut lines,
+        &mut output,
+        &mut error,
+    )?;
     Ok(Ran {
         status,
         output,
@@ -58,10 +74,15 @@ fn run<C: Read + Drop>(alloc: Global, config: Option<C>, input: &[u8]) -> io::Re
     })
 }
 
+/// Whether the run printed this, told that, and ended with this status.
+fn is_all_as_wanted(ran: &Ran, status: u8, output: &[u8], error: &[u8]) -> bool {
+    ran.status == status && ran.output.as_slice() == output && ran.error.as_slice() == error
+}
+
 /// Whether the run printed this, told that, and ended as is wanted then.
 fn is_as_wanted(ran: &Ran, output: &[u8], error: &[u8]) -> bool {
     let status = if error.is_empty() { 0 } else { 1 };
-    ran.status == status && ran.output.as_slice() == output && ran.error.as_slice() == error
+    is_all_as_wanted(ran, status, output, error)
 }
 
 /// The bytes of the file, none where it isn't there.
@@ -167,11 +188,12 @@ fn many_agree<R: Files + AllocGlobal>(rt: &R, name: &str) -> io::Result<bool> {
     Ok(ran.status == 0 && counts_agree(counts.as_str(), printed.as_str()))
 }
 
-/// Whether the line, alone, is told as a bad one.
+/// Whether the line, alone, is told as a bad one, and stands behind that.
 fn is_bad_line(alloc: Global, line: &str) -> io::Result<bool> {
     let input = format!(in alloc; "{line}\n")?;
+    let told = format!(in alloc; "bad line 1\n  {line}\n  expected ")?;
     let ran = run(alloc, NO_CONFIG, input.as_bytes())?;
-    Ok(is_as_wanted(&ran, &[], BAD_LINE.as_bytes()))
+    Ok(ran.status == 1 && ran.output.is_empty() && ran.error.starts_with(told.as_bytes()))
 }
 
 /// Whether the configuration is taken where its answer is [`GOOD`], and else refused with its answer.
@@ -242,6 +264,9 @@ fn main(rt: HostRuntime) -> io::Result<()> {
     tell_runs(&rt)?;
     tell_messages(&rt)?;
     tell_many(&rt)?;
+    runs::tell_runs(&rt, &mut rt.stdout())?;
     tell_bad_lines(&rt)?;
-    tell_configs(&rt)
+    tell_configs(&rt)?;
+    runs::tell_sayings(&rt, &mut rt.stdout())?;
+    streams::tell_streams(&rt)
 }

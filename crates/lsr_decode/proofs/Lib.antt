@@ -1,2 +1,3 @@
 mod Showing
 mod Capturing
+mod FileLaws

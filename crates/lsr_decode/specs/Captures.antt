@@ -27,6 +27,7 @@ abbrev pub answer_text : ℕ → Decoded → List ℕ
 answer_text number (answers.Shown text) = string_bytes text ++ codes "\n"
 answer_text number (answers.Refused fault) = codes "line " ++ (decimal number ++ (codes ": " ++ (refusal_line (Unread fault) ++ codes "\n")))
 answer_text number answers.NoDigits = codes "line " ++ (decimal number ++ codes ": no hexadecimal digits\n\n")
+answer_text number answers.OddDigits = codes "line " ++ (decimal number ++ codes ": an odd number of hexadecimal digits\n\n")
 answer_text number answers.Memory = codes "line " ++ (decimal number ++ codes ": refused 40 NoMemory\n\n")
 
 -- all answers but a message's lines are refusals
@@ -34,6 +35,7 @@ abbrev pub is_refused : Decoded → Bool
 is_refused (answers.Shown text) = false
 is_refused (answers.Refused fault) = true
 is_refused answers.NoDigits = true
+is_refused answers.OddDigits = true
 is_refused answers.Memory = true
 
 -- These lines, the newest first, were answered in their order, and so much was printed; whether any was refused. Each has at
@@ -176,7 +178,7 @@ TurnsTo first now before after line reads (turns.Over ending) = (printed : List 
 -- what is told on the error stream
 abbrev pub ending_text : Ending → List ℕ
 ending_text (endings.Done refused) = []
-ending_text endings.Unreadable = codes "unreadable\n"
+ending_text endings.Unreadable = codes "unreadable\n  standard input broke, or its next line has more than 16777216 bytes: look at where it comes from\n"
 ending_text endings.Memory = codes "memory\n"
 
 -- the status: 1 where a line was refused, or the run ended before the last line

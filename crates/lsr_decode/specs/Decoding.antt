@@ -1,5 +1,7 @@
 -- What `decode` prints for a message.
-use Rattle.std.specs.Prelude.{◌≡◌, ℕ, ◌%◌, List, [], ◌∷◌, ◌++◌, None, length, drop, codes, flat_map, Ok, string_bytes}
+use Rattle.std.specs.Prelude.{◌≡◌, ℕ, ◌%◌, List, [], ◌∷◌, ◌++◌, None, false, true, length, drop, codes, flat_map, Ok, string_bytes}
+use Rattle.std.specs.Char.{is_ascii_hexdigit}
+use Rattle.std.specs.List.{list_all}
 use Rattle.std.specs.Fmt.{decimal}
 use Rattle.hex.specs.Hex.{encode_lower, decode_of}
 use Rattle.rsvp_objects.specs.Raw.{Raw, object_bytes}
@@ -57,12 +59,17 @@ abbrev pub RefusesMessage : List ℕ → Dropped → Type 0
 RefusesMessage bytes NoMemory = header_fault bytes ≡ None
 RefusesMessage bytes fault = IsFirstFault bytes fault
 
--- What a word is decoded as, where it is the bytes of a message in hexadecimal digits, or isn't. Memory runs out for no word
--- with an odd number of bytes.
+-- a word that isn't bytes in hexadecimal digits
+abbrev pub IsNotHex : List ℕ → Type 0
+IsNotHex word = (bytes : List ℕ) → decode_of word ≡ Ok bytes → ⊥
+
+-- What a word is decoded as, where it is the bytes of a message in hexadecimal digits; and else whether all of it are digits,
+-- of which there is then an odd number. Memory runs out for no word with an odd number of bytes.
 abbrev pub Decodes : List ℕ → Decoded → Type 0
 Decodes word (answers.Shown text) = (bytes : List ℕ) × (decode_of word ≡ Ok bytes) × ShowsMessage bytes (string_bytes text)
 Decodes word (answers.Refused fault) = (bytes : List ℕ) × (decode_of word ≡ Ok bytes) × RefusesMessage bytes fault
-Decodes word answers.NoDigits = (bytes : List ℕ) → decode_of word ≡ Ok bytes → ⊥
+Decodes word answers.NoDigits = IsNotHex word × (list_all is_ascii_hexdigit word ≡ false)
+Decodes word answers.OddDigits = IsNotHex word × (list_all is_ascii_hexdigit word ≡ true)
 Decodes word answers.Memory = length word % 2 ≡ 0
 
 -- what is printed on the output
@@ -70,6 +77,7 @@ abbrev pub shown_text : Decoded → List ℕ
 shown_text (answers.Shown text) = string_bytes text
 shown_text (answers.Refused fault) = []
 shown_text answers.NoDigits = []
+shown_text answers.OddDigits = []
 shown_text answers.Memory = []
 
 -- what is told on the error stream
@@ -77,6 +85,7 @@ abbrev pub told_text : Decoded → List ℕ
 told_text (answers.Shown text) = []
 told_text (answers.Refused fault) = refusal_line (Unread fault)
 told_text answers.NoDigits = codes "error: HEX is an even number of hexadecimal digits; see lsr decode --help\n"
+told_text answers.OddDigits = codes "error: HEX is an even number of hexadecimal digits; see lsr decode --help\n"
 told_text answers.Memory = codes "memory\n"
 
 -- the status: 2 where the word is none
@@ -84,4 +93,5 @@ abbrev pub decoded_status : Decoded → ℕ
 decoded_status (answers.Shown text) = 0
 decoded_status (answers.Refused fault) = 1
 decoded_status answers.NoDigits = 2
+decoded_status answers.OddDigits = 2
 decoded_status answers.Memory = 1

@@ -21,7 +21,10 @@ const INPUT: &str = "-";
 /// How many bytes a read asks for.
 const CHUNK_LEN: usize = 65_536;
 /// What is told of an input that broke, or that has a line of too many bytes.
-const UNREADABLE: &str = "unreadable";
+const UNREADABLE: &str = "\
+unreadable
+  standard input broke, or its next line has more than 16777216 bytes: look at where it comes from
+";
 
 /// How a run over a capture ends.
 #[derive(Clone, Copy, Debug, PartialEq, Eq)]
@@ -70,7 +73,7 @@ fn is_refused(decoded: &Decoded) -> bool
 {
     match decoded {
         Decoded::Shown(_) => false,
-        Decoded::Refused(_) | Decoded::NoDigits | Decoded::Memory => true,
+        Decoded::Refused(_) | Decoded::NoDigits | Decoded::OddDigits | Decoded::Memory => true,
     }
 }
 
@@ -87,6 +90,10 @@ fn put_answer<W: Write>(output: &mut W, number: u64, decoded: &Decoded) -> io::R
             write!(output, "line {number}: refused {kind} {name}\n\n")
         }
         Decoded::NoDigits => write!(output, "line {number}: no hexadecimal digits\n\n"),
+        Decoded::OddDigits => write!(
+            output,
+            "line {number}: an odd number of hexadecimal digits\n\n"
+        ),
         Decoded::Memory => write!(output, "line {number}: refused 40 NoMemory\n\n"),
     }
 }
@@ -285,7 +292,7 @@ fn tell_ending<E: Write>(ending: Ending, error: &mut E) -> io::Result<u8>
         Ending::Done(false) => Ok(0),
         Ending::Done(true) => Ok(1),
         Ending::Unreadable => {
-            write!(error, "{UNREADABLE}\n")?;
+            error.write_all(UNREADABLE.as_bytes())?;
             Ok(1)
         }
         Ending::Memory => {

@@ -8,6 +8,7 @@ ghost use Rattle.lsr_decode.specs.Decoding.{Decodes, RefusesMessage, ShowsMessag
 
 use hex::FromHexError;
 use lsr_facts::Refusal;
+use lsr_lines::are_hex_digits;
 use lsr_text::{OUT_OF_MEMORY, push_refusal};
 use rsvp_contents::Dropped;
 use rsvp_messages::{Content, Message, Reading, read_message};
@@ -113,14 +114,16 @@ pub enum Decoded {
     Shown(String),
     /// It is no message, or there was no memory to read it.
     Refused(Dropped),
-    /// It isn't an even number of hexadecimal digits.
+    /// It has another character than a hexadecimal digit.
     NoDigits,
+    /// It is an odd number of hexadecimal digits.
+    OddDigits,
     /// There was no memory for its bytes.
     Memory,
 }
 
 /// The lines of the message that the bytes are: `KIND LENGTH`, and one for each object.
-fn message_text(alloc: Global, bytes: &[u8]) -> Result<String, Dropped>
+pub(crate) fn message_text(alloc: Global, bytes: &[u8]) -> Result<String, Dropped>
     ensures text { IfOk result (λ text. ShowsMessage bytes.now (string_bytes text)) }
     ensures fault { IfErr result (λ fault. RefusesMessage bytes.now fault) }
 {
@@ -151,7 +154,11 @@ pub(crate) fn decode_digits(alloc: Global, digits: &[u8]) -> Decoded
             if error == FromHexError::OutOfMemory {
                 return Decoded::Memory;
             }
-            Decoded::NoDigits
+            if are_hex_digits(digits) {
+                Decoded::OddDigits
+            } else {
+                Decoded::NoDigits
+            }
         }
     }
 }
@@ -185,7 +192,7 @@ fn tell_decoded<W: Write, E: Write>(
             error.write_all(line.as_bytes())?;
             Ok(1)
         }
-        Decoded::NoDigits => {
+        Decoded::NoDigits | Decoded::OddDigits => {
             error.write_all(NO_DIGITS.as_bytes())?;
             Ok(2)
         }

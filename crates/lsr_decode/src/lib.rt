@@ -3,7 +3,9 @@
 
 mod capture;
 mod decoding;
+mod files;
 mod newline;
 
 pub use capture::{Ending, run_decode_lines, run_decode_of};
 pub use decoding::{Decoded, decode_word, run_decode};
+pub use files::{FileEnding, is_file_name, run_decode_file};

@@ -1,3 +1,4 @@
 mod Values
 mod TopicLaws
 mod Printing
+mod Nearness

@@ -7,3 +7,6 @@ use Rattle.std.proofs.KnownBytes.{Appends-trans}
 pub appends_after : {T E : Type 0} (r : Result T E) (a b c : Option (List ℕ)) (x y : List ℕ) → Appends a b x → OnOk r (Appends b c y) → OnOk r (Appends a c (x ++ y))
 appends_after (Ok t) a b c x y h k = Appends-trans a b c x y h k
 appends_after (Err e) a b c x y h k = tt
+
+pub appends_last : {T E : Type 0} (r : Result T E) (a b c d : Option (List ℕ)) (x y z : List ℕ) → Appends a b x → Appends b c y → OnOk r (Appends c d z) → OnOk r (Appends a d (x ++ (y ++ z)))
+appends_last r a b c d x y z first second third = appends_after r a b d x (y ++ z) first (appends_after r b c d y z second third)

@@ -1,8 +1,10 @@
 -- What is printed for what a word asks for.
-use Rattle.std.specs.Prelude.{ℕ, ◌/◌, ◌%◌, if◌then◌else◌, List, [], ◌∷◌, ◌++◌, codes, flat_map}
+use Rattle.std.specs.Prelude.{◌≡◌, ℕ, ◌/◌, ◌%◌, if◌then◌else◌, List, [], ◌∷◌, ◌++◌, codes, flat_map}
 use Rattle.std.specs.Fmt.{decimal}
 use Rattle.lsr_lines.specs.Lines.{lines_of}
+use Rattle.lsr_explain.specs.Nearest.{IsRanking}
 use Rattle.lsr_explain.specs.Topics.{is_indented, text_of}
+use Rattle.lsr_explain.specs.declared.nearest.Near.{Near}
 use Rattle.lsr_explain.specs.declared.topics.Kind.{Kind}
 use Rattle.lsr_explain.specs.declared.topics.Kind.TheVariants as kinds
 use Rattle.lsr_explain.specs.declared.topics.Topic.{Topic}
@@ -58,9 +60,19 @@ faults_text =
 abbrev pub topics_text : List ℕ
 topics_text = answers_text ++ faults_text
 
--- what is told of a word that asks for nothing
-abbrev pub unknown_text : List ℕ
-unknown_text = codes "error: no refusal, error or fault has this number or name\n" ++ topics_text
+-- a heading behind the word that it is told with
+abbrev pub near_text : Near → List ℕ
+near_text near = codes "  " ++ (told_word near.kind ++ (near.heading.now ++ codes "\n"))
+
+-- the first three headings
+abbrev pub nearest_text : List Near → List ℕ
+nearest_text (first ∷ second ∷ third ∷ others) = near_text first ++ (near_text second ++ near_text third)
+nearest_text few = []
+
+-- what is told of a word that asks for nothing: the three headings that come closest to it
+abbrev pub unknown_text : List Near → List ℕ
+unknown_text ranked =
+    codes "error: no refusal, error or fault has this number or name\n" ++ (nearest_text ranked ++ codes "  these come closest to it; `lsr explain list` has all\n")
 
 -- what is printed on the output
 abbrev pub shown_text : Answer → List ℕ
@@ -69,12 +81,12 @@ shown_text (answers.Object topic value) = topic_text topic ++ object_line value
 shown_text answers.List = topics_text
 shown_text answers.Unknown = []
 
--- what is told on the error stream
-abbrev pub told_text : Answer → List ℕ
-told_text (answers.Topic topic) = []
-told_text (answers.Object topic value) = []
-told_text answers.List = []
-told_text answers.Unknown = unknown_text
+-- what is told on the error stream of a word and its answer
+abbrev pub IsTold : List ℕ → Answer → List ℕ → Type 0
+IsTold word (answers.Topic topic) told = told ≡ []
+IsTold word (answers.Object topic value) told = told ≡ []
+IsTold word answers.List told = told ≡ []
+IsTold word answers.Unknown told = (ranked : List Near) × IsRanking word ranked × (told ≡ unknown_text ranked)
 
 -- the status: 2 where the word asks for nothing
 abbrev pub answer_status : Answer → ℕ

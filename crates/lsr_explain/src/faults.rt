@@ -47,16 +47,21 @@ Memory
 /// means, in lines that begin with spaces. `N` stands for a number.
 pub const ENDINGS: &str = "\
 bad line N
-  Line N has none of the forms that `lsr step --help` tells. It ended the run; what the
-  lines before it asked for is done.
+  Line N has none of the forms that `lsr step --help` tells. It stands behind that, and the form
+  of lines that begin as it does. It ended the run; what the lines before it asked for is done.
   What to do: fix the line, and run the whole again.
   See: README.md (A short tour)
 unreadable
-  The file or the input can't be opened or read, isn't UTF-8, or has more than 16777216
-  bytes. Of `lsr decode -`: the input broke, or a line has more than 16777216 bytes; the
-  lines before that are answered.
+  The file or the input can't be opened or read, isn't UTF-8 where it has to be text, or has more
+  than 16777216 bytes; which of them it is and why stands behind that. Of `lsr decode -`: the
+  input broke, or a line has more than 16777216 bytes; the lines before that are answered.
   What to do: look at its name and its permissions; give it as text.
   See: docs/CONFIGURATION.md (Faults); docs/PROGRAM.md (`lsr decode`: what messages are made of)
+damaged
+  The capture file breaks at the byte that stands behind that, and is no capture file where that is
+  byte 0. What `lsr decode` printed is all that stands before that byte.
+  What to do: copy the file again, or let its capture end first; convert other files to pcap.
+  See: docs/PROGRAM.md (`lsr decode`: capture files)
 memory
   There is no memory. What was printed before is done.
   What to do: free some memory and try again.

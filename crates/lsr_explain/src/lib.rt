@@ -4,10 +4,12 @@
 mod errors;
 mod explaining;
 mod faults;
+mod nearest;
 mod refusals;
 mod telling;
 mod topics;
 
 pub use explaining::{Answer, explain};
+pub use nearest::Near;
 pub use telling::run_explain;
 pub use topics::{Kind, Topic, find_topic};

@@ -164,10 +164,10 @@ pub const REFUSALS: &str = "\
   What to do: free some memory and try again; neighbours repeat their messages by themselves.
   See: README.md (What is promised)
 41 JournalFull
-  The journal has all the entries that it can hold. Nothing changed.
-  This version keeps no journal yet, and never says so.
-  What to do: rotate the journal and try again.
-  See: docs/CRATES.md (Still to come)
+  The journal has all the entries that it can hold. Nothing changed. `lsr step` keeps no
+  journal, and the workers of `lsr serve` take its entries away before: neither says so.
+  What to do: of a router that you embed, rotate the journal and try again.
+  See: docs/PROGRAM.md (`lsr serve`: a router over sockets); docs/CRATES.md (To embed the router)
 42 IsCold
   The router was restarted, and lost what messages had set up in it. Until it is started it
   takes no message, no moment, no command, and no link that comes up or goes down.
@@ -176,10 +176,10 @@ pub const REFUSALS: &str = "\
   See: docs/ROUTER.md (A restart)
 43 WrongPort
   The port isn't the one that the router knows by its number, or isn't at the entry
-  that the router gave it last. Nothing changed.
-  This version has no ports yet, and never says so.
-  What to do: feed events by the port that the router was opened with.
-  See: docs/CRATES.md (Still to come)
+  that the router gave it last. Nothing changed. `lsr step` has no ports, and each worker of
+  `lsr serve` keeps to its own: neither says so.
+  What to do: of a router that you embed, feed events by the port that it was opened with.
+  See: docs/PROGRAM.md (`lsr serve`: a router over sockets); docs/CRATES.md (To embed the router)
 50 NoFrame
   No frame of this number was sent, or the link that it was sent over leads nowhere.
   This version runs one router alone, and never says so.

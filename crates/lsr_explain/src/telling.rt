@@ -1,14 +1,16 @@
 //! What is printed for what a word asks for.
-ghost use Rattle.std.specs.Prelude.{◌≡◌, ◌++◌, codes, IfOk, OnOk};
+ghost use Rattle.std.specs.Prelude.{◌≡◌, ◌++◌, ℕ, List, codes, IfOk, OnOk};
 ghost use Rattle.std.specs.Io.KnownBytes.{Appends};
 ghost use Rattle.lsr_lines.specs.Lines.{lines_of};
 ghost use Rattle.lsr_explain.specs.declared.explaining.Answer.{Answer};
 ghost use Rattle.lsr_explain.specs.Topics.{Explains};
-ghost use Rattle.lsr_explain.specs.Answers.{answer_status, answers_text, explained, faults_text, heading_line, headings_text, object_line, section_text, shown_text, told_text, told_word, topic_text, topics_text, unknown_text};
+ghost use Rattle.lsr_explain.specs.Answers.{IsTold, answer_status, answers_text, explained, faults_text, heading_line, headings_text, near_text, nearest_text, object_line, section_text, shown_text, told_word, topic_text, topics_text, unknown_text};
 
 use crate::explaining::{Answer, explain};
+use crate::nearest::{Near, rank};
 use crate::topics::{Kind, Topic, is_indented};
 use lsr_lines::next_line;
+use std::alloc::Global;
 use std::io;
 use std::io::Write;
 
@@ -18,6 +20,8 @@ const BAD_WORDS: u8 = 2;
 const CLASS_UNIT: u16 = 256;
 /// What is told of a word that asks for nothing.
 const UNKNOWN: &str = "error: no refusal, error or fault has this number or name\n";
+/// What is told behind the topics that come closest.
+const CLOSEST: &str = "  these come closest to it; `lsr explain list` has all\n";
 /// What stands over the topics.
 const OF_REFUSALS: &str = "Refusals (refused N NAME), by number or name:\n";
 
@@ -147,19 +151,48 @@ fn put_object_topic<W: Write>(output: &mut W, topic: &Topic, value: u16) -> io::
     put_object(output, value)
 }
 
-/// Tells that the word asks for nothing, and what can be asked. The error is the stream's.
-fn put_unknown<E: Write>(error: &mut E) -> io::Result<()>
-    ensures { OnOk result (Appends (E.contents error.old) (E.contents error.new) unknown_text) }
+/// Tells a heading. The error is the stream's.
+fn put_near<E: Write>(error: &mut E, near: &Near) -> io::Result<()>
+    ensures { OnOk result (Appends (E.contents error.old) (E.contents error.new) (near_text near.now)) }
 {
-    error.write_all(UNKNOWN.as_bytes())?;
-    put_topics(error)
+    let word = told_word(near.kind);
+    let heading = near.heading;
+    write!(error, "  {word}{heading}\n")
 }
 
-/// Prints what a word is answered, and gives the status. The error is a stream's.
-fn tell_answer<W: Write, E: Write>(answer: &Answer, output: &mut W, error: &mut E) -> io::Result<u8>
+/// Tells the first three headings. The error is the stream's.
+fn put_nearest<E: Write>(error: &mut E, ranked: &[Near]) -> io::Result<()>
+    ensures { OnOk result (Appends (E.contents error.old) (E.contents error.new) (nearest_text ranked.now)) }
+{
+    let [first, second, third, ..] = ranked else {
+        return Ok(());
+    };
+    put_near(error, first)?;
+    put_near(error, second)?;
+    put_near(error, third)
+}
+
+/// Tells that a word asks for nothing, and the three headings that come closest to it, of headings of which the nearest come
+/// first. The error is the stream's.
+fn put_unknown<E: Write>(error: &mut E, ranked: &[Near]) -> io::Result<()>
+    ensures { OnOk result (Appends (E.contents error.old) (E.contents error.new) (unknown_text ranked.now)) }
+{
+    error.write_all(UNKNOWN.as_bytes())?;
+    put_nearest(error, ranked)?;
+    error.write_all(CLOSEST.as_bytes())
+}
+
+/// Prints what the word is answered, and gives the status. The error is a stream's, or that memory ran out.
+fn tell_answer<W: Write, E: Write>(
+    alloc: Global,
+    word: &str,
+    answer: &Answer,
+    output: &mut W,
+    error: &mut E,
+) -> io::Result<u8>
     ensures status { IfOk result (λ status. status ≡ answer_status answer.now) }
     ensures shown { OnOk result (Appends (W.contents output.old) (W.contents output.new) (shown_text answer.now)) }
-    ensures told { OnOk result (Appends (E.contents error.old) (E.contents error.new) (told_text answer.now)) }
+    ensures told { OnOk result ((told : List ℕ) × IsTold word.now answer.now told × Appends (E.contents error.old) (E.contents error.new) told) }
 {
     match answer {
         Answer::Topic(topic) => {
@@ -175,20 +208,26 @@ fn tell_answer<W: Write, E: Write>(answer: &Answer, output: &mut W, error: &mut 
             Ok(0)
         }
         Answer::Unknown => {
-            put_unknown(error)?;
+            let ranked = rank(alloc, word)?;
+            put_unknown(error, ranked.as_slice())?;
             Ok(BAD_WORDS)
         }
     }
 }
 
 /// `lsr explain WHAT`: prints what the refusal, the error or the fault means that the word asks for, or tells on the error
-/// stream what can be asked, and gives the status: 0, or 2 for a word that asks for nothing. The error is that a stream
-/// could not be written.
-pub fn run_explain<W: Write, E: Write>(word: &str, output: &mut W, error: &mut E) -> io::Result<u8>
-    ensures { IfOk result (λ status. (answer : Answer) × Explains word.now answer × (status ≡ answer_status answer)
+/// stream which three come closest to it, and gives the status: 0, or 2 for a word that asks for nothing. The error is that a
+/// stream could not be written, or that memory ran out.
+pub fn run_explain<W: Write, E: Write>(
+    alloc: Global,
+    word: &str,
+    output: &mut W,
+    error: &mut E,
+) -> io::Result<u8>
+    ensures { IfOk result (λ status. (answer : Answer) × (told : List ℕ) × Explains word.now answer × (status ≡ answer_status answer)
         × Appends (W.contents output.old) (W.contents output.new) (shown_text answer)
-        × Appends (E.contents error.old) (E.contents error.new) (told_text answer)) }
+        × IsTold word.now answer told × Appends (E.contents error.old) (E.contents error.new) told) }
 {
     let answer = explain(word);
-    tell_answer(&answer, output, error)
+    tell_answer(alloc, word, &answer, output, error)
 }

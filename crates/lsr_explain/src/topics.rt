@@ -34,7 +34,7 @@ impl Kind {
     }
 
     /// Whether a name stands behind the first word of each heading of this kind.
-    fn has_names(self) -> bool
+    pub(crate) fn has_names(self) -> bool
         ensures { result ≡ has_names self }
     {
         match self {

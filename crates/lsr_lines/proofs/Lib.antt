@@ -1,3 +1,4 @@
+mod FormLaws
 mod LineLaws
 mod Stepping
 mod WordLaws

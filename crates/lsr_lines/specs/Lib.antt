@@ -3,3 +3,4 @@ pub mod Numbers
 pub mod Commands
 pub mod Lines
 pub mod Steps
+pub mod Forms

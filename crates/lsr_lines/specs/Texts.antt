@@ -1,7 +1,9 @@
 -- What an input is that is read as text, and which can't be.
-use Rattle.std.specs.Prelude.{◌≡◌, ◌≤◌, ◌⊎◌, ℕ, List, Option, Some, None, Bool, true, length, ⊤}
+use Rattle.std.specs.Prelude.{◌≡◌, ◌≤◌, ◌<◌, ℕ, List, ◌++◌, Option, Bool, true, codes, length, ⊤}
 use Rattle.std.specs.Option.{IfSome}
 use Rattle.std.specs.Str.{IsUtf8}
+use Rattle.lsr_lines.specs.declared.input.InputFault.{InputFault}
+use Rattle.lsr_lines.specs.declared.input.InputFault.TheVariants as faults
 
 -- What is known of a stream: the bytes that it has left, where they are known; and whether it may break, so that not
 -- all of them come.
@@ -19,11 +21,19 @@ pub record IsTextOf (stream : Stream) (text : List ℕ) : Type 0 where
   pub known : IfSome stream.bytes (λ bytes. text ≡ bytes)
   pub taken : IsText text
 
--- bytes that are no text; of unknown bytes nobody can say
-abbrev pub IsNoText : Option (List ℕ) → Type 0
-IsNoText None = ⊤
-IsNoText (Some bytes) = IsText bytes → ⊥
+-- Why a stream isn't read as text: it may break, it has too many bytes, they aren't UTF-8, or memory ran out; of bytes that
+-- aren't known nobody can say.
+abbrev pub IsUnread : Stream → InputFault → Type 0
+IsUnread stream faults.Unopened = ⊥
+IsUnread stream faults.Broken = stream.may_break ≡ true
+IsUnread stream faults.TooLong = IfSome stream.bytes (λ bytes. 16777216 < length bytes)
+IsUnread stream faults.NotText = IfSome stream.bytes (λ bytes. IsUtf8 bytes → ⊥)
+IsUnread stream faults.Memory = ⊤
 
--- A stream that can't be read as text: it may break, or its bytes are no text.
-abbrev pub IsUnreadable : Stream → Type 0
-IsUnreadable stream = (stream.may_break ≡ true) ⊎ IsNoText stream.bytes
+-- what is told of an input of this name that wasn't taken: where it is and what to do stands in a line of its own
+abbrev pub input_fault_text : List ℕ → InputFault → List ℕ
+input_fault_text name faults.Unopened = codes "unreadable\n  " ++ (name ++ codes " can't be opened: look at its name and its permissions\n")
+input_fault_text name faults.Broken = codes "unreadable\n  " ++ (name ++ codes " can't be read to its end: look at where it comes from\n")
+input_fault_text name faults.TooLong = codes "unreadable\n  " ++ (name ++ codes " has more than 16777216 bytes: give it in parts\n")
+input_fault_text name faults.NotText = codes "unreadable\n  " ++ (name ++ codes " isn't UTF-8: give it as text\n")
+input_fault_text name faults.Memory = codes "memory\n"

@@ -1,11 +1,14 @@
-//! Reads the whole of an input, which has to be text.
+//! Reads the whole of an input, as bytes or as text, and tells why it wasn't taken.
 ghost use Rattle.std.specs.Prelude.{◌≡◌, ◌≤◌, ◌<◌, ◌++◌, ◌⊎◌, ℕ, List, true, false, Ok, IfOk, OnOk, IfErr, IfSome, length, string_bytes};
 ghost use Rattle.std.specs.Io.KnownBytes.{Consumes, IsAtEnd};
-ghost use Rattle.lsr_lines.specs.declared.input.InputFault.TheVariants.{Memory, Unreadable};
-ghost use Rattle.lsr_lines.specs.Texts.{IsTextOf, IsUnreadable};
+ghost use Rattle.std.specs.Io.KnownBytes.{Appends};
+ghost use Rattle.lsr_lines.specs.declared.input.InputFault.TheVariants.{Broken, Memory, TooLong};
+ghost use Rattle.lsr_lines.specs.Texts.{IsTextOf, IsUnread, input_fault_text};
 
 use crate::stream::ByteStream;
 use std::alloc::{AllocError, Global};
+use std::io;
+use std::io::Write;
 
 /// The longest input that is taken, in bytes.
 pub const MAX_INPUT_LEN: usize = 16_777_216;
@@ -15,8 +18,14 @@ const CHUNK_LEN: usize = 65_536;
 /// Why an input wasn't taken.
 #[derive(Clone, Copy, Debug, PartialEq, Eq)]
 pub enum InputFault {
-    /// It could not be read, isn't UTF-8, or has more than [`MAX_INPUT_LEN`] bytes.
-    Unreadable,
+    /// There is no such file, or it may not be opened.
+    Unopened,
+    /// It could not be read to its end.
+    Broken,
+    /// It has more than [`MAX_INPUT_LEN`] bytes.
+    TooLong,
+    /// It isn't UTF-8.
+    NotText,
     /// There is no memory for it.
     Memory,
 }
@@ -42,15 +51,15 @@ fn read_more<S: ByteStream>(
     ensures end { result ≡ Ok true → IsAtEnd (S.stream input.new).bytes }
     ensures more { result ≡ Ok false → length bytes.old.items < length bytes.new.items }
     ensures breaks { (S.stream input.new).may_break ≡ true → (S.stream input.old).may_break ≡ true }
-    ensures unreadable { IfErr result (λ fault. fault ≡ Unreadable → ((S.stream input.old).may_break ≡ true)
-        ⊎ ((more : List ℕ) × Consumes (S.stream input.old).bytes (S.stream input.new).bytes more × (MAX_INPUT_LEN < length (bytes.old.items ++ more)))) }
+    ensures fault { IfErr result (λ fault. (fault ≡ Memory) ⊎ (((fault ≡ Broken) × ((S.stream input.old).may_break ≡ true))
+        ⊎ ((fault ≡ TooLong) × (more : List ℕ) × Consumes (S.stream input.old).bytes (S.stream input.new).bytes more × (MAX_INPUT_LEN < length (bytes.old.items ++ more))))) }
 {
     let count = match input.read_next(chunk) {
         Ok(count) => count,
-        Err(_) => return Err(InputFault::Unreadable),
+        Err(_) => return Err(InputFault::Broken),
     };
     if count > MAX_INPUT_LEN - bytes.len() {
-        return Err(InputFault::Unreadable);
+        return Err(InputFault::TooLong);
     }
     bytes.extend_from_slice(&chunk[..count])?;
     Ok(count == 0)
@@ -63,11 +72,11 @@ fn room_for(alloc: Global, len: usize) -> Result<Vec<u8>, AllocError>
     vec![in alloc; 0u8; len]
 }
 
-/// All the bytes of the input.
-fn read_bytes<S: ByteStream>(alloc: Global, input: &mut S) -> Result<Vec<u8>, InputFault>
+/// All the bytes of the input, where they are at most [`MAX_INPUT_LEN`].
+pub fn read_bytes<S: ByteStream>(alloc: Global, input: &mut S) -> Result<Vec<u8>, InputFault>
     ensures length { IfOk result (λ bytes. length bytes.items ≤ MAX_INPUT_LEN) }
     ensures bytes { IfOk result (λ bytes. IfSome (S.stream input.old).bytes (λ all. bytes.items ≡ all)) }
-    ensures unreadable { IfErr result (λ fault. fault ≡ Unreadable → IsUnreadable (S.stream input.old)) }
+    ensures fault { IfErr result (IsUnread (S.stream input.old)) }
 {
     let mut bytes = Vec::new(alloc);
     let mut chunk = room_for(alloc, CHUNK_LEN)?;
@@ -77,17 +86,38 @@ fn read_bytes<S: ByteStream>(alloc: Global, input: &mut S) -> Result<Vec<u8>, In
             return Ok(bytes);
         }
     }
-    Err(InputFault::Unreadable)
+    Err(InputFault::TooLong)
 }
 
-/// The text of an input: all its bytes, where they are UTF-8 and at most [`MAX_INPUT_LEN`]. It is unreadable only where
-/// they aren't, or where the stream may break.
+/// The text of an input: all its bytes, where they are UTF-8 and at most [`MAX_INPUT_LEN`].
 pub fn read_text<S: ByteStream>(alloc: Global, input: &mut S) -> Result<String, InputFault>
     ensures text { IfOk result (λ text. IsTextOf (S.stream input.old) (string_bytes text)) }
-    ensures unreadable { IfErr result (λ fault. fault ≡ Unreadable → IsUnreadable (S.stream input.old)) }
+    ensures fault { IfErr result (IsUnread (S.stream input.old)) }
 {
     match String::from_utf8(read_bytes(alloc, input)?) {
         Ok(text) => Ok(text),
-        Err(_) => Err(InputFault::Unreadable),
+        Err(_) => Err(InputFault::NotText),
+    }
+}
+
+/// Tells why the input of this name wasn't taken, and what to do. The error is the stream's.
+pub fn tell_input_fault<E: Write>(error: &mut E, name: &str, fault: InputFault) -> io::Result<()>
+    ensures { OnOk result (Appends (E.contents error.old) (E.contents error.new) (input_fault_text name.now fault)) }
+{
+    match fault {
+        InputFault::Unopened => write!(
+            error,
+            "unreadable\n  {name} can't be opened: look at its name and its permissions\n"
+        ),
+        InputFault::Broken => write!(
+            error,
+            "unreadable\n  {name} can't be read to its end: look at where it comes from\n"
+        ),
+        InputFault::TooLong => write!(
+            error,
+            "unreadable\n  {name} has more than 16777216 bytes: give it in parts\n"
+        ),
+        InputFault::NotText => write!(error, "unreadable\n  {name} isn't UTF-8: give it as text\n"),
+        InputFault::Memory => write!(error, "memory\n"),
     }
 }

@@ -3,17 +3,17 @@
 #![tactic(auto)]
 
 mod commands;
+mod forms;
 mod input;
 mod lines;
 mod numbers;
 mod step;
 mod stream;
-#[cfg(test)]
-mod tests;
 mod words;
 
 pub use commands::{BypassRequest, ChangeRequest, CommandRequest, TunnelRequest};
-pub use input::{InputFault, MAX_INPUT_LEN, read_text};
-pub use lines::{Arrival, Request, next_line, read_request};
+pub use forms::expected_form;
+pub use input::{InputFault, MAX_INPUT_LEN, read_bytes, read_text, tell_input_fault};
+pub use lines::{Arrival, Request, are_hex_digits, next_line, read_request};
 pub use step::{Answers, Ending, step_lines};
 pub use stream::ByteStream;

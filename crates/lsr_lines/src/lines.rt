@@ -187,7 +187,7 @@ fn read_number(line: &str) -> Option<Request>
 }
 
 /// Whether all are hexadecimal digits, of either case.
-fn are_hex_digits(digits: &[u8]) -> bool
+pub fn are_hex_digits(digits: &[u8]) -> bool
     ensures { result ≡ list_all is_ascii_hexdigit digits.now }
 {
     digits.iter().all(|digit| digit.is_ascii_hexdigit())

@@ -1,9 +1,9 @@
 //! The lines of a text, answered one after the other.
-ghost use Rattle.std.specs.Prelude.{ℕ, List, IfOk, OnErr, string_bytes};
+ghost use Rattle.std.specs.Prelude.{◌≡◌, ℕ, List, IfOk, OnOk, OnErr, string_bytes};
 ghost use Rattle.std.specs.Io.KnownBytes.{Appends};
 ghost use Rattle.lsr_lines.specs.declared.lines.Request.{Request};
 ghost use Rattle.lsr_lines.specs.Lines.{lines_of};
-ghost use Rattle.lsr_lines.specs.Steps.{Becomes, Ends, IsUntold};
+ghost use Rattle.lsr_lines.specs.Steps.{Becomes, Ends, IsUntold, echo_text, is_passed, is_remark};
 
 use crate::lines::{Request, next_line, read_request};
 use std::alloc::{AllocError, Global};
@@ -23,11 +23,11 @@ pub trait Answers: Drop {
 
 /// How a run over lines ends.
 #[derive(Clone, Copy, Debug, PartialEq, Eq)]
-pub enum Ending {
+pub enum Ending<'a> {
     /// Every line was served.
     Done,
     /// The line of this number, from 1, asks for nothing that there is. The lines before it were served.
-    BadLine(usize),
+    BadLine(usize, &'a str),
     /// There was no memory for a line that asks for something: for its message, or to answer it. The lines before it
     /// were served.
     Memory,
@@ -36,12 +36,36 @@ pub enum Ending {
 /// What became of one line.
 #[derive(Clone, Copy, Debug, PartialEq, Eq)]
 enum Served {
-    /// It was served, and its answer printed.
-    Printed,
+    /// It was served: its answer was printed, or it was passed over.
+    Done,
     /// It asks for nothing that there is.
     NoRequest,
     /// There was no memory for its message, or to answer it.
     Memory,
+}
+
+/// Whether the line is a remark: it is empty, or begins with #.
+fn is_remark(line: &str) -> bool
+    ensures { result ≡ is_remark line.now }
+{
+    matches!(line.as_bytes(), [] | [b'#', ..])
+}
+
+/// Whether the line is passed over: where lines are echoed a remark is.
+fn is_passed(echo: bool, line: &str) -> bool
+    ensures { result ≡ is_passed echo line.now }
+{
+    echo && is_remark(line)
+}
+
+/// Prints the line, where lines are echoed. The error is the output's.
+fn put_echo<W: Write>(echo: bool, line: &str, output: &mut W) -> io::Result<()>
+    ensures { OnOk result (Appends (W.contents output.old) (W.contents output.new) (echo_text echo line.now)) }
+{
+    if echo {
+        return write!(output, "{line}\n");
+    }
+    Ok(())
 }
 
 /// Answers the line, and prints the answer: the session as it is then. A line that asks for nothing leaves it as it
@@ -50,12 +74,16 @@ enum Served {
 fn step_line<A: Answers, W: Write>(
     alloc: Global,
     session: A,
+    echo: bool,
     line: &str,
     output: &mut W,
 ) -> io::Result<(A, Served)>
     ensures { IfOk result (λ r. (printed : List ℕ) × Appends (W.contents output.old) (W.contents output.new) printed
-        × Becomes A.answers session line.now printed r.1 r.0) }
+        × Becomes A.answers echo session line.now printed r.1 r.0) }
 {
+    if is_passed(echo, line) {
+        return Ok((session, Served::Done));
+    }
     let request = match read_request(alloc, line) {
         Ok(Some(request)) => request,
         Ok(None) => return Ok((session, Served::NoRequest)),
@@ -63,34 +91,36 @@ fn step_line<A: Answers, W: Write>(
     };
     match session.answer(alloc, &request) {
         (session, Ok(text)) => {
+            put_echo(echo, line, output)?;
             output.write_all(text.as_bytes())?;
-            Ok((session, Served::Printed))
+            Ok((session, Served::Done))
         }
         (session, Err(_)) => Ok((session, Served::Memory)),
     }
 }
 
-/// Answers the lines of the text, one after the other, up to the first that asks for nothing. The error is the
-/// output's.
-pub fn step_lines<A: Answers, W: Write>(
+/// Answers the lines of the text, one after the other, up to the first that asks for nothing. With `echo` each is printed
+/// before its answer, and empty lines and lines that begin with # are passed over. The error is the output's.
+pub fn step_lines<'a, A: Answers, W: Write>(
     alloc: Global,
     session: A,
-    text: &str,
+    echo: bool,
+    text: &'a str,
     output: &mut W,
-) -> io::Result<Ending>
+) -> io::Result<Ending<'a>>
     ensures { IfOk result (λ ending. (printed : List ℕ) × Appends (W.contents output.old) (W.contents output.new) printed
-        × Ends A.answers session (lines_of text.now) printed ending) }
+        × Ends A.answers echo session (lines_of text.now) printed ending) }
 {
     let mut session = session;
     let mut rest = text;
     let mut number = 0usize;
     while let Some((line, behind)) = next_line(rest) {
         number += 1;
-        let (next, served) = step_line(alloc, session, line, output)?;
+        let (next, served) = step_line(alloc, session, echo, line, output)?;
         session = next;
         match served {
-            Served::Printed => {}
-            Served::NoRequest => return Ok(Ending::BadLine(number)),
+            Served::Done => {}
+            Served::NoRequest => return Ok(Ending::BadLine(number, line)),
             Served::Memory => return Ok(Ending::Memory),
         }
         rest = behind;

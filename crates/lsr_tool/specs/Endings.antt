@@ -2,10 +2,12 @@
 use Rattle.std.specs.Prelude.{ℕ, List, [], ◌++◌, codes, Option, Some, None}
 use Rattle.std.specs.Fmt.{decimal}
 use Rattle.lsr_config.specs.Faults.{fault_name, fault_word}
-use Rattle.lsr_lines.specs.declared.input.InputFault.{InputFault}
-use Rattle.lsr_lines.specs.declared.input.InputFault.TheVariants as faults
+use Rattle.lsr_lines.specs.Forms.{expected_form}
+use Rattle.lsr_lines.specs.Texts.{input_fault_text}
 use Rattle.lsr_lines.specs.declared.step.Ending.{Ending}
 use Rattle.lsr_lines.specs.declared.step.Ending.TheVariants as lines
+use Rattle.lsr_tool.specs.declared.endings.Source.{Source}
+use Rattle.lsr_tool.specs.declared.endings.Source.TheVariants as sources
 use Rattle.lsr_tool.specs.declared.endings.RunEnding.{RunEnding}
 use Rattle.lsr_tool.specs.declared.endings.RunEnding.TheVariants as endings
 
@@ -14,27 +16,35 @@ abbrev pub next_word : Option (List ℕ) → List ℕ
 next_word None = []
 next_word (Some word) = codes " " ++ word
 
--- why a text wasn't read
-abbrev pub input_fault_text : InputFault → List ℕ
-input_fault_text faults.Unreadable = codes "unreadable\n"
-input_fault_text faults.Memory = codes "memory\n"
+-- what a text is called, where the configuration has this name
+abbrev pub source_name : List ℕ → Source → List ℕ
+source_name config sources.Config = config
+source_name config sources.Input = codes "standard input"
+
+-- a line that asks for nothing, and what was expected
+abbrev pub bad_line_text : ℕ → List ℕ → List ℕ
+bad_line_text number line =
+    codes "bad line " ++ (decimal number ++ (codes "\n  " ++ (line ++ (codes "\n  expected " ++ (expected_form line ++ codes "\n")))))
 
 -- why lines weren't all answered
 abbrev pub lines_ending_text : Ending → List ℕ
 lines_ending_text lines.Done = []
-lines_ending_text (lines.BadLine number) = codes "bad line " ++ (decimal number ++ codes "\n")
+lines_ending_text (lines.BadLine number line) = bad_line_text number line.now
 lines_ending_text lines.Memory = codes "memory\n"
 
--- what is told on the error stream; of a configuration's fault `config FAULT NAME`, or without a name `config FAULT`
-abbrev pub ending_text : RunEnding → List ℕ
-ending_text (endings.Ran ending) = lines_ending_text ending
-ending_text (endings.Unread fault) = input_fault_text fault
-ending_text (endings.BadConfig fault) = codes "config " ++ (fault_word fault ++ (next_word (fault_name fault) ++ codes "\n"))
+-- what is told on the error stream of a run on the configuration of this name; of the configuration's fault `config FAULT
+-- KEY`, or without a key `config FAULT`
+abbrev pub ending_text : List ℕ → RunEnding → List ℕ
+ending_text config (endings.Ran ending) = lines_ending_text ending
+ending_text config (endings.Unread source fault) = input_fault_text (source_name config source) fault
+ending_text config endings.Memory = codes "memory\n"
+ending_text config (endings.BadConfig fault) = codes "config " ++ (fault_word fault ++ (next_word (fault_name fault) ++ codes "\n"))
 
 -- the status: 1 wherever something is told
 abbrev pub status_of : RunEnding → ℕ
 status_of (endings.Ran lines.Done) = 0
-status_of (endings.Ran (lines.BadLine number)) = 1
+status_of (endings.Ran (lines.BadLine number line)) = 1
 status_of (endings.Ran lines.Memory) = 1
-status_of (endings.Unread fault) = 1
+status_of (endings.Unread source fault) = 1
+status_of endings.Memory = 1
 status_of (endings.BadConfig fault) = 1

@@ -1,3 +1,4 @@
 pub mod Endings
 pub mod Sessions
+pub mod Decoding
 pub mod Commands

@@ -1,5 +1,5 @@
 -- What `step` prints, and how it ends, on the router that it is given.
-use Rattle.std.specs.Prelude.{◌≡◌, ℕ, List, [], Option, Some, None, Ok, Err, ◌⊎◌}
+use Rattle.std.specs.Prelude.{◌≡◌, ℕ, List, [], Option, Some, None, Ok, Err, Bool, ◌⊎◌}
 use Rattle.lsr_config.specs.Configs.{Setup}
 use Rattle.lsr_config.specs.Reading.{IsRead}
 use Rattle.lsr_config.specs.declared.config.TheConstants.{BUILT_IN}
@@ -8,10 +8,11 @@ use Rattle.lsr_session.specs.States.{opened}
 use Rattle.lsr_lines.specs.Lines.{lines_of}
 use Rattle.lsr_session.specs.Requests.{PrintsAnswer, SessionState}
 use Rattle.lsr_lines.specs.Steps.{Ends}
-use Rattle.lsr_lines.specs.Texts.{IsTextOf, IsUnreadable, Stream}
+use Rattle.lsr_lines.specs.Texts.{IsTextOf, IsUnread, Stream}
 use Rattle.lsr_lines.specs.declared.input.InputFault.{InputFault}
-use Rattle.lsr_lines.specs.declared.input.InputFault.TheVariants as faults
 use Rattle.lsr_lines.specs.declared.step.Ending.{Ending}
+use Rattle.lsr_tool.specs.declared.endings.Source.{Source}
+use Rattle.lsr_tool.specs.declared.endings.Source.TheVariants as sources
 use Rattle.lsr_tool.specs.declared.endings.RunEnding.{RunEnding}
 use Rattle.lsr_tool.specs.declared.endings.RunEnding.TheVariants as endings
 
@@ -32,7 +33,7 @@ begun config = record { router = opened config; recent = [] }
 -- why no run begins: the fault of its configuration; or memory ran out
 abbrev pub CannotBegin : List ℕ → RunEnding → Type 0
 CannotBegin configured (endings.BadConfig fault) = IsRead configured (Err fault)
-CannotBegin configured (endings.Unread faults.Memory) = Unit {0}
+CannotBegin configured endings.Memory = Unit {0}
 CannotBegin configured ending = ⊥
 
 -- The texts of the configuration and of the input are read, and a session begins on the router that the first says.
@@ -45,11 +46,11 @@ pub record IsReady (stream : Option Stream) (input : Stream) (session : SessionS
   pub begins : session ≡ begun config
 
 -- A session began, and gave answers to the lines of the input, one after the other, up to this ending.
-pub record RanLines (stream : Option Stream) (input : Stream) (printed : List ℕ) (ending : Ending) : Type 0 where
+pub record RanLines (echo : Bool) (stream : Option Stream) (input : Stream) (printed : List ℕ) (ending : Ending) : Type 0 where
   pub session : SessionState
   pub text : List ℕ
   pub ready : IsReady stream input session text
-  pub ends : Ends PrintsAnswer session (lines_of text) printed ending
+  pub ends : Ends PrintsAnswer echo session (lines_of text) printed ending
 
 -- Both texts were read, and that of the configuration gives no router, for this fault.
 pub record IsRefusedFor (stream : Option Stream) (input : Stream) (fault : ConfigFault) : Type 0 where
@@ -59,27 +60,33 @@ pub record IsRefusedFor (stream : Option Stream) (input : Stream) (fault : Confi
   pub input_read : IsTextOf input text
   pub misconfigured : IsRead configured (Err fault)
 
--- a configuration's stream that can't be read as text; the built-in router needs none
-abbrev pub IsUnreadableConfig : Option Stream → Type 0
-IsUnreadableConfig None = ⊥
-IsUnreadableConfig (Some stream) = IsUnreadable stream
+-- why a configuration's stream isn't read as text; the built-in router needs none
+abbrev pub IsUnreadConfig : Option Stream → InputFault → Type 0
+IsUnreadConfig None fault = ⊥
+IsUnreadConfig (Some stream) fault = IsUnread stream fault
 
--- why a run has no text: one of its streams can't be read as text; or memory ran out
-abbrev pub IsUnreadFor : Option Stream → Stream → InputFault → Type 0
-IsUnreadFor stream input faults.Unreadable = IsUnreadableConfig stream ⊎ IsUnreadable input
-IsUnreadFor stream input faults.Memory = Unit {0}
+-- why a run has no text of this source
+abbrev pub IsUnreadFor : Option Stream → Stream → Source → InputFault → Type 0
+IsUnreadFor stream input sources.Config fault = IsUnreadConfig stream fault
+IsUnreadFor stream input sources.Input fault = IsUnread input fault
 
--- A run. The texts of the configuration and of the input are read before all else. Nothing is printed where one of
--- them can't be read, where the first gives no router, or where there is no memory to begin.
-abbrev pub Steps : Option Stream → Stream → List ℕ → RunEnding → Type 0
-Steps stream input printed (endings.Ran ending) = RanLines stream input printed ending
-Steps stream input printed (endings.Unread fault) = (printed ≡ []) × IsUnreadFor stream input fault
-Steps stream input printed (endings.BadConfig fault) = (printed ≡ []) × IsRefusedFor stream input fault
+-- A run, in which lines are echoed or aren't. The texts of the configuration and of the input are read before all else.
+-- Nothing is printed where one of them can't be read, where the first gives no router, or where there is no memory to begin.
+abbrev pub Steps : Bool → Option Stream → Stream → List ℕ → RunEnding → Type 0
+Steps echo stream input printed (endings.Ran ending) = RanLines echo stream input printed ending
+Steps echo stream input printed (endings.Unread source fault) = (printed ≡ []) × IsUnreadFor stream input source fault
+Steps echo stream input printed endings.Memory = printed ≡ []
+Steps echo stream input printed (endings.BadConfig fault) = (printed ≡ []) × IsRefusedFor stream input fault
+
+-- the name of a run's file; without one there is none
+abbrev pub name_of : Option (List ℕ) → List ℕ
+name_of None = []
+name_of (Some name) = name
 
 -- A run on the router of the file of this name, or without one on the built-in router. `opens` says which file a
 -- name opens, `fails` why it may open none, `stream` what a file is read as. A file that isn't opened is unread.
-abbrev pub StepsOnFile : {F : Type 0} → (List ℕ → F → Type 0) → (List ℕ → InputFault → Type 0) → (F → Stream) → Option (List ℕ) → Stream → List ℕ → RunEnding → Type 0
-StepsOnFile opens fails stream None input printed ending = Steps None input printed ending
-StepsOnFile {F} opens fails stream (Some name) input printed ending =
-    ((file : F) × opens name file × Steps (Some (stream file)) input printed ending)
-    ⊎ ((fault : InputFault) × fails name fault × (printed ≡ []) × (ending ≡ endings.Unread fault))
+abbrev pub StepsOnFile : {F : Type 0} → (List ℕ → F → Type 0) → (List ℕ → InputFault → Type 0) → (F → Stream) → Bool → Option (List ℕ) → Stream → List ℕ → RunEnding → Type 0
+StepsOnFile opens fails stream echo None input printed ending = Steps echo None input printed ending
+StepsOnFile {F} opens fails stream echo (Some name) input printed ending =
+    ((file : F) × opens name file × Steps echo (Some (stream file)) input printed ending)
+    ⊎ ((fault : InputFault) × fails name fault × (printed ≡ []) × (ending ≡ endings.Unread sources.Config fault))

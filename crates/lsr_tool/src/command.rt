@@ -1,17 +1,17 @@
 //! What the words of the command line ask for, done.
-ghost use Rattle.std.specs.Prelude.{◌≡◌, ◌≢◌, ◌⊎◌, IfOk, OnOk, map};
+ghost use Rattle.std.specs.Prelude.{◌≡◌, ◌≢◌, IfOk, OnErr, OnOk, map};
 ghost use Rattle.std.specs.Io.KnownBytes.{Appends};
 ghost use Rattle.std.specs.IoError.{error_kind};
 ghost use Rattle.std.specs.declared.io.ErrorKind.TheVariants.{OutOfMemory};
 ghost use Rattle.clap.specs.Words.{kind_of};
 ghost use Rattle.lsr_tool.specs.Commands.{Does, Runs, words_status};
 
+use crate::decoding::run_decode_on;
 use crate::endings::FAILED;
 use crate::files::{FilesByName, SystemFiles};
 use crate::serving::{BAD_WORDS, run_serve_of};
 use crate::session::run_step_of;
 use clap::error::{Error, ErrorKind};
-use lsr_decode::run_decode_of;
 use lsr_explain::run_explain;
 use lsr_lines::ByteStream;
 use lsr_text::OUT_OF_MEMORY;
@@ -29,7 +29,10 @@ use std::time::Clock;
 /// What is told of words that can't be read.
 const UNREAD_WORDS: &str = "error: a word isn't UTF-8; see lsr --help\n";
 /// What is told where a stream can't be written.
-const UNWRITABLE: &str = "unwritable\n";
+const UNWRITABLE: &str = "\
+unwritable
+  the output or the error stream can't be written: look at where they go
+";
 
 /// The status of words that aren't taken: 0 where they ask for help, 1 where memory ran out, else 2.
 fn words_status(kind: ErrorKind) -> u8
@@ -78,9 +81,11 @@ pub fn run_asked<
         (R.stream input.old) (R.stream input.new) (W.contents output.old) (W.contents output.new) (E.contents error.old) (E.contents error.new)) }
 {
     match asked {
-        Asked::Step(file) => run_step_of(files, alloc, file, input, output, error),
-        Asked::Decode(word) => run_decode_of(alloc, word, input, output, error),
-        Asked::Explain(word) => run_explain(word, output, error),
+        Asked::Step { file, echo } => {
+            run_step_of(files, alloc, file, echo, input, output, error)
+        }
+        Asked::Decode(word) => run_decode_on(files, alloc, word, input, output, error),
+        Asked::Explain(word) => run_explain(alloc, word, output, error),
         Asked::Serve { file, turns } => {
             run_serve_of(files, rt, alloc, file, turns, output, error)
         }
@@ -115,23 +120,44 @@ fn run_words<
 }
 
 /// The program: does what the words ask for, the first of which is its own name, and gives the status: 0; 1
-/// for a refused file, input, line or message, a stream that could not be written, a socket that can't be had, or a run over
-/// sockets that isn't one; 2 for bad words. Files that they name are opened, and links are served, by `rt`.
+/// for a refused file, input, line or message, a socket that can't be had, or a run over sockets that isn't one; 2 for bad
+/// words. Files that they name are opened, and links are served, by `rt`. The error is that a stream could not be written, or
+/// that memory ran out.
 pub fn run<
     F: Files + Net + Threads + Wait + Clock + Clone + Send + Sync + Drop,
     S: AsStr,
     R: ByteStream,
     W: Write,
     E: Write,
->(rt: &F, alloc: Global, words: &[S], input: &mut R, output: &mut W, error: &mut E) -> u8
-    ensures { (result ≡ 1) ⊎ Runs (λ _ _. Unit {0}) (λ _ _. Unit {0}) ⟦<F::File as ByteStream>⟧.stream (map S.text words.now)
-        (R.stream input.old) (R.stream input.new) (W.contents output.old) (W.contents output.new) (E.contents error.old) (E.contents error.new) result }
+>(
+    rt: &F,
+    alloc: Global,
+    words: &[S],
+    input: &mut R,
+    output: &mut W,
+    error: &mut E,
+) -> io::Result<u8>
+    ensures { IfOk result (Runs (λ _ _. Unit {0}) (λ _ _. Unit {0}) ⟦<F::File as ByteStream>⟧.stream (map S.text words.now)
+        (R.stream input.old) (R.stream input.new) (W.contents output.old) (W.contents output.new) (E.contents error.old) (E.contents error.new)) }
 {
     let files = SystemFiles::new(rt);
-    match run_words(&files, rt, alloc, words, input, output, error) {
+    run_words(&files, rt, alloc, words, input, output, error)
+}
+
+/// The status of a run that is over: the one that it gave; or 1 where a stream could not be written or memory ran out, which
+/// is told.
+pub fn end<E: Write>(ran: io::Result<u8>, error: &mut E) -> u8
+    ensures status { IfOk ran (λ status. result ≡ status) }
+    ensures failed { OnErr ran (result ≡ 1) }
+{
+    match ran {
         Ok(status) => status,
-        Err(_) => {
-            let _ = error.write_all(UNWRITABLE.as_bytes());
+        Err(fault) => {
+            let _ = if fault.kind() == io::ErrorKind::OutOfMemory {
+                write!(error, "{OUT_OF_MEMORY}\n")
+            } else {
+                error.write_all(UNWRITABLE.as_bytes())
+            };
             FAILED
         }
     }

@@ -51,7 +51,7 @@ impl<'a, F: Files> FilesByName for SystemFiles<'a, F> {
             Err(fault) => Err(if fault.kind() == ErrorKind::OutOfMemory {
                 InputFault::Memory
             } else {
-                InputFault::Unreadable
+                InputFault::Unopened
             }),
         }
     }

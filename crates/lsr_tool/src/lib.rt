@@ -2,13 +2,15 @@
 #![tactic(auto)]
 
 mod command;
+mod decoding;
 mod endings;
 mod files;
 mod serving;
 mod session;
 
-pub use command::{run, run_asked, tell_unread_words};
-pub use endings::RunEnding;
+pub use command::{end, run, run_asked, tell_unread_words};
+pub use decoding::run_decode_on;
+pub use endings::{RunEnding, Source};
 pub use files::{FilesByName, SystemFiles};
 pub use lsr_decode::run_decode;
 pub use serving::run_serve_of;

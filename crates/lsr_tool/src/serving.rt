@@ -3,7 +3,7 @@ ghost use Rattle.std.specs.Prelude.{◌≡◌, ◌<◌, length, IfOk, IfErr};
 ghost use Rattle.lsr_serve.specs.Told.{Serves};
 ghost use Rattle.lsr_tool.specs.Endings.{status_of};
 
-use crate::endings::{RunEnding, status_of, tell_ending};
+use crate::endings::{RunEnding, Source, status_of, tell_ending};
 use crate::files::FilesByName;
 use lsr_config::Config;
 use lsr_lines::read_text;
@@ -23,7 +23,10 @@ pub(crate) const BAD_WORDS: u8 = 2;
 const BAD_TURNS: &str = "error: N is a number from 1 to 1000000; see lsr serve --help\n";
 
 /// The configuration that a text says, with the sockets of its links.
-fn configured(alloc: Global, text: &str) -> Result<(Config, Table<u16, LinkSockets>), RunEnding>
+fn configured<'a>(
+    alloc: Global,
+    text: &str,
+) -> Result<(Config, Table<u16, LinkSockets>), RunEnding<'a>>
     ensures few { IfOk result (λ ready. length ready.1 < 64) }
     ensures fault { IfErr result (λ ending. status_of ending ≡ 1) }
 {
@@ -38,17 +41,22 @@ fn configured(alloc: Global, text: &str) -> Result<(Config, Table<u16, LinkSocke
 }
 
 /// The configuration of the file of this name, with the sockets of its links.
-fn read_served<F: FilesByName>(
+fn read_served<'a, F: FilesByName>(
     files: &F,
     alloc: Global,
     file: &str,
-) -> Result<(Config, Table<u16, LinkSockets>), RunEnding>
+) -> Result<(Config, Table<u16, LinkSockets>), RunEnding<'a>>
     ensures few { IfOk result (λ ready. length ready.1 < 64) }
     ensures fault { IfErr result (λ ending. status_of ending ≡ 1) }
 {
-    let mut stream = files.open(file)?;
-    let text = read_text(alloc, &mut stream)?;
-    configured(alloc, text.as_str())
+    let mut stream = match files.open(file) {
+        Ok(stream) => stream,
+        Err(fault) => return Err(RunEnding::Unread(Source::Config, fault)),
+    };
+    match read_text(alloc, &mut stream) {
+        Ok(text) => configured(alloc, text.as_str()),
+        Err(fault) => Err(RunEnding::Unread(Source::Config, fault)),
+    }
 }
 
 /// `lsr serve FILE [--turns N]`: the links of the router of the file of this name are served by `rt`, so many turns each, or
@@ -77,7 +85,7 @@ pub fn run_serve_of<
     match read_served(files, alloc, file) {
         Ok((config, links)) => serve_links(rt, alloc, config, &links, turns, output, error),
         Err(ending) => {
-            tell_ending(error, &ending)?;
+            tell_ending(error, file, &ending)?;
             Ok(status_of(&ending))
         }
     }

@@ -37,7 +37,7 @@ same_values name command given values e = ap (λ (o : Option (Text × List Row))
 
 -- a command without its word asks for nothing
 pub no_word : (found : Option (Text × List Row)) (name : Text) (given : List Row) → found ≡ Some (name, given) → name ≡ codes "decode" → first_of (codes "HEX") given ≡ None → (other : Asked) → AsksIn found other → ⊥
-no_word found name given e d none (asked.Step file) (command, values, f, (is, text)) =
+no_word found name given e d none (asked.Step file echo) (command, values, f, (is, text, said)) =
     let word : codes "decode" ≡ codes "step" = sym d ∙ same_command name command given values (sym e ∙ f) ∙ is in
     absurd (omega (arith, ap (λ (l : List ℕ). get_or l 0 0) word))
 no_word found name given e d none (asked.Decode word) (command, values, f, (is, text)) =
@@ -50,7 +50,7 @@ no_word found name given e d none (asked.Serve file turns) (command, values, f, 
     absurd (omega (arith, ap (λ (l : List ℕ). get_or l 0 0) word))
 
 pub no_topic : (found : Option (Text × List Row)) (name : Text) (given : List Row) → found ≡ Some (name, given) → name ≡ codes "explain" → first_of (codes "WHAT") given ≡ None → (other : Asked) → AsksIn found other → ⊥
-no_topic found name given e d none (asked.Step file) (command, values, f, (is, text)) =
+no_topic found name given e d none (asked.Step file echo) (command, values, f, (is, text, said)) =
     let word : codes "explain" ≡ codes "step" = sym d ∙ same_command name command given values (sym e ∙ f) ∙ is in
     absurd (omega (arith, ap (λ (l : List ℕ). get_or l 0 0) word))
 no_topic found name given e d none (asked.Decode word) (command, values, f, (is, text)) =
@@ -63,7 +63,7 @@ no_topic found name given e d none (asked.Serve file turns) (command, values, f,
     absurd (omega (arith, ap (λ (l : List ℕ). get_or l 0 0) word))
 
 pub no_file : (found : Option (Text × List Row)) (name : Text) (given : List Row) → found ≡ Some (name, given) → name ≡ codes "serve" → first_of (codes "FILE") given ≡ None → (other : Asked) → AsksIn found other → ⊥
-no_file found name given e d none (asked.Step file) (command, values, f, (is, text)) =
+no_file found name given e d none (asked.Step file echo) (command, values, f, (is, text, said)) =
     let word : codes "serve" ≡ codes "step" = sym d ∙ same_command name command given values (sym e ∙ f) ∙ is in
     absurd (omega (arith, ap (λ (l : List ℕ). get_or l 1 0) word))
 no_file found name given e d none (asked.Decode word) (command, values, f, (is, text)) =

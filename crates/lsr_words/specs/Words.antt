@@ -1,7 +1,8 @@
 -- Which words ask for what.
-use Rattle.std.specs.Prelude.{◌≡◌, List, Option, Some, true, codes, option_map}
+use Rattle.std.specs.Prelude.{◌≡◌, ℕ, List, Option, Some, None, Bool, true, false, bytes_eq, codes, option_map}
 use Rattle.clap.specs.Words.{App, Row, Rule, Text, first_of, new_app, new_rule, subcommand_of, with_rule, with_subcommand}
 use Rattle.clap.specs.Simple.{on_top}
+use Rattle.clap.specs.declared.builder.action.ArgAction.TheVariants.{SetTrue}
 use Rattle.lsr_words.specs.declared.words.Asked.{Asked}
 use Rattle.lsr_words.specs.declared.words.Asked.TheVariants as asked
 
@@ -13,9 +14,13 @@ file_words = record (new_rule (codes "config")) { long = Some (codes "config"); 
 abbrev pub digits_word : Rule
 digits_word = record (new_rule (codes "HEX")) { required = true }
 
--- `step [--config FILE]`
+-- `--echo`
+abbrev pub echo_word : Rule
+echo_word = record (new_rule (codes "echo")) { long = Some (codes "echo"); action = Some SetTrue }
+
+-- `step [--config FILE] [--echo]`
 abbrev pub step_words : App
-step_words = with_rule (new_app (codes "step")) file_words
+step_words = with_rule (with_rule (new_app (codes "step")) file_words) echo_word
 
 -- `decode HEX`
 abbrev pub decode_words : App
@@ -41,17 +46,23 @@ turns_words = record (new_rule (codes "turns")) { long = Some (codes "turns"); v
 abbrev pub serve_words : App
 serve_words = with_rule (with_rule (new_app (codes "serve")) served_word) turns_words
 
--- the program's name; a command has to follow
+-- the program's name; a command has to follow, or `--version`
 abbrev pub program_words : App
-program_words = on_top (λ top. record top { subcommand_required = true; arg_required_else_help = true }) (new_app (codes "lsr"))
+program_words = on_top (λ top. record top { has_version = true; subcommand_required = true; arg_required_else_help = true }) (new_app (codes "lsr"))
 
 -- the program's name, and one of the four
 abbrev pub lsr_words : App
 lsr_words = with_subcommand (with_subcommand (with_subcommand (with_subcommand program_words step_words.top) decode_words.top) explain_words.top) serve_words.top
 
+-- whether an option without a value is given: what was found of it is `true`
+abbrev pub is_given : Option (List ℕ) → Bool
+is_given None = false
+is_given (Some word) = bytes_eq word (codes "true")
+
 -- what a command asks for, with the values that it was given
 abbrev pub Asks : Text → List Row → Asked → Type 0
-Asks command given (asked.Step file) = (command ≡ codes "step") × (option_map (λ f. f.now) file ≡ first_of (codes "config") given)
+Asks command given (asked.Step file echo) =
+    (command ≡ codes "step") × (option_map (λ f. f.now) file ≡ first_of (codes "config") given) × (echo ≡ is_given (first_of (codes "echo") given))
 Asks command given (asked.Decode word) = (command ≡ codes "decode") × (first_of (codes "HEX") given ≡ Some word.now)
 Asks command given (asked.Explain word) = (command ≡ codes "explain") × (first_of (codes "WHAT") given ≡ Some word.now)
 Asks command given (asked.Serve file turns) =

@@ -2,10 +2,18 @@
 ghost use Rattle.std.specs.Prelude.{◌≡◌, false, IfOk};
 ghost use Rattle.clap.specs.Words.{app_of, rule_of, with_subcommand};
 ghost use Rattle.clap.specs.declared.builder.command.Command.{out-Command};
-ghost use Rattle.lsr_words.specs.Words.{decode_words, digits_word, explain_words, file_words, lsr_words, program_words, serve_words, served_word, step_words, topic_word, turns_words};
+ghost use Rattle.lsr_words.specs.Words.{decode_words, digits_word, echo_word, explain_words, file_words, lsr_words, program_words, serve_words, served_word, step_words, topic_word, turns_words};
 
-use clap::{Arg, Command};
+use clap::{Arg, ArgAction, Command};
 use std::alloc::{AllocError, Global};
+
+/// What stands behind the program's name in `lsr --version`: the number, and what is proved.
+const VERSION: &str = "\
+0.1.0
+  Proved with rattle-kit-13f, logic dac8208d650f15bf (`rt version`): each function meets its
+  contract, is safe and ends; README.md (What is promised) says what that covers.
+  That is said of the sources: `./lsr --prove` proves them and builds the program from them,
+  and a program that `./lsr` built without it checks itself as it runs";
 
 const ABOUT: &str = "The control plane of an MPLS label switching router, in an operator's hands.";
 
@@ -15,6 +23,7 @@ Where to go on:
   lsr decode --help   what messages are made of
   lsr explain --help  what a refusal, an error or a fault means, and what to do about it
   lsr serve --help    a router over sockets
+  lsr --version       the version, and what is proved
 
 Example: the router refuses to tear down a path that it doesn't know.
   echo rx 1 1005b988ff000030001001070a000004000000010a000001000c03010a00000100000001\
@@ -24,12 +33,14 @@ The status is, of each command:
   0                   what was asked for is done, or help was. A line of `step` that the router
                       refuses, or says is an error, is answered: that is 0, too
   1                   a file, the input, a line of `step` or a message to decode wasn't taken;
-                      a socket can't be had, or what `serve` was told isn't one run; the output
-                      can't be written; or memory ran out
+                      a capture is damaged; a socket can't be had, or what `serve` was told
+                      isn't one run; the output can't be written; or memory ran out
   2                   the words behind `lsr` aren't taken, and nothing was done: too few, too
                       many or unknown ones, HEX that isn't hexadecimal digits, WHAT that asks
                       for nothing, or N that isn't a number of turns
-Why it isn't 0 is said on standard error, and by `decode -` in its answers too.
+Why it isn't 0 is said on standard error, and by `decode` of lines or a file in its answers too.
+The first line says what it is, and `lsr explain` knows its first word; lines behind it that begin
+with two spaces say where it is and what to do.
 ";
 
 const STEP_ABOUT: &str = "\
@@ -81,6 +92,9 @@ newline at the very end begins no further line. Each line is one of these:
 Words are parted by one space, and nothing else stands in a line: no sign, no blank before or
 behind, no carriage return. Numbers are decimal; zeros may stand before them. An empty line is
 a bad line.
+
+With --echo each line is printed before its answers, and empty lines and lines that begin with #
+are passed over: they are counted and do nothing.
 
 What is printed for each of them but `show`:
   done              it was done
@@ -150,12 +164,12 @@ of examples/middle.toml), or without it the built-in one: 10.0.0.2, link 1 to 10
 The status is 0 where each line was answered, whatever the answers are; 1 with one of these on
 standard error; 2 where the words of the command aren't taken:
   bad line N        line N, counted from 1, has none of the forms above, and ends the run;
-                    what the lines before it asked for is done. Fix it, and run the whole
-                    again
+                    what the lines before it asked for is done. The line and the form of its
+                    first word stand behind. Fix it, and run the whole again
   config FAULT KEY  the first fault of FILE, and the key that it is about (none for Text
                     and Memory); fix that, and run again for the next. docs/CONFIGURATION.md says what each FAULT is
   unreadable        FILE or the input can't be opened or read, isn't UTF-8, or has more than
-                    16777216 bytes
+                    16777216 bytes; which of them it is and why stands behind
   memory            there is no memory; what was printed before is done
   unwritable        the output or the error stream can't be written
 
@@ -164,11 +178,13 @@ Example: a tear of a path that isn't there prints `refused 10 NoMatch`.
 000c0b070a00000100000001 | lsr step
 ";
 
-const DECODE_ABOUT: &str = "Prints the objects of one message, or of each message of a capture";
+const DECODE_ABOUT: &str =
+    "Prints the objects of one message, of each message of many lines, or of a capture file";
 
 const DECODE_HELP: &str = "\
 HEX is one word, the bytes of one message in hexadecimal digits of either case, two for each,
-with no blanks; or it is `-`, which reads standard input to its end.
+with no blanks; or it is `-`, which reads standard input to its end; or a word with `.` or `/` in
+it, which is the name of a capture file.
 
 What is printed:
   KIND LENGTH       the message's type (Path, Resv, PathErr, ResvErr, PathTear or ResvTear)
@@ -201,12 +217,31 @@ line has its answer on standard output at once, and an empty line behind it: wha
 above, or for a line that is refused, which doesn't end the run:
   line N: refused M NAME
   line N: no hexadecimal digits
+  line N: an odd number of hexadecimal digits
 N counts lines from 1.
+
+A file is a classic pcap or a pcapng file of at most 16777216 bytes. Messages are what IPv4
+packets of protocol 46 carry, and UDP datagrams whose payload is a Hop frame of this router: a
+byte 01, and behind it a message of version 1. Packets are looked for in Ethernet, with or without
+tags, in raw IP, and in Linux's cooked packets. Each message is printed so, with an empty line
+behind it:
+  packet N TIME     the packet's number in the file, from 1, and when it was captured, in
+                    seconds since the beginning of 1970 with nine decimals, or `unknown`;
+                    behind it what is printed above, or `refused M NAME`
+and then, in the end:
+  messages A        how many packets have a message; and how many have none that is read:
+  fragments B       fragments of packets of protocol 46 or 17, which aren't put together,
+  cut C             such packets of which not all bytes were captured,
+  others D          and all others
 
 The status of HEX is 0; 1 where the message is refused; 2 where it isn't an even number of
 hexadecimal digits. That of `-` is 0; 1 where a line was refused or is no hexadecimal digits;
-and 1 where the run ends before the last line, with one of these on standard error:
-  unreadable        the input broke, or a line has more than 16777216 bytes
+and 1 where the run ends before the last line. That of a file is 0; 1 where a message was
+refused, or the file can't be read to its end. Then one of these stands on standard error:
+  unreadable        the input broke, or a line has more than 16777216 bytes; or the file can't
+                    be opened or read, or has more than 16777216 bytes
+  damaged           the file breaks at the byte that stands behind it; what stands before
+                    that place is printed
   memory            there is no memory
   unwritable        the output or the error stream can't be written
 
@@ -217,6 +252,9 @@ Example: this PathTear prints `PathTear 48`, `1 7 0a000004000000010a000001`,
 
 Example: the messages that a router sent, decoded.
   lsr step < lines | sed -n 's/^tx [0-9]* //p' | lsr decode -
+
+Example: the messages of a capture.
+  lsr decode examples/first-path.pcap
 ";
 
 const EXPLAIN_ABOUT: &str = "\
@@ -231,12 +269,12 @@ WHAT is one word, in upper and lower case as it was told:
                     times the object's class, plus its C-Type, and both are told. 13/N and
                     14/N tell of all such errors
   FAULT             a fault of a configuration: of `config BadValue limit` BadValue
-  bad               of `bad line N`; unreadable, memory and unwritable, too: what else ends
-                    a run
+  bad               of `bad line N`; unreadable, damaged, memory and unwritable, too: what
+                    else ends a run
   list              all that can be asked
 
-The status is 0; 2 for any other word, which prints that list on standard error, and for more
-words than one; 1 where the output can't be written.
+The status is 0; 2 for any other word, which prints the three that come closest to it on standard
+error, and for more words than one; 1 where the output can't be written.
 
 Example: what to do about `error 24 5`.
   lsr explain 24/5
@@ -287,8 +325,9 @@ Example: in two terminals, two routers that set up an LSP from the first to the 
 ";
 
 const HEX_HELP: &str = "\
-The message's bytes: an even number of hexadecimal digits of either case; or `-` for a message
-in each line of standard input, which is read to its end";
+The message's bytes: an even number of hexadecimal digits of either case; `-` for a message in
+each line of standard input, which is read to its end; or the name of a capture file, a word with
+`.` or `/` in it";
 
 const WHAT_HELP: &str = "\
 A refusal's number or name; an error's code and value as one word, as 24/5, or its name; a
@@ -302,6 +341,9 @@ const TURNS_HELP: &str =
 
 const CONFIG_HELP: &str =
     "The file of the router's configuration (TOML); without it the built-in router serves";
+
+const ECHO_HELP: &str = "\
+Prints each line before its answers, and passes over empty lines and lines that begin with #";
 
 /// The program's name.
 const PROGRAM: &str = "lsr";
@@ -321,8 +363,10 @@ pub(crate) const TURNS: &str = "turns";
 pub(crate) const WHAT: &str = "WHAT";
 /// The name of the argument of `decode`.
 pub(crate) const HEX: &str = "HEX";
-/// The name of the option of `step`.
+/// The name of the option of `step` that takes a file.
 pub(crate) const CONFIG: &str = "config";
+/// The name of the option of `step` that prints lines, too.
+pub(crate) const ECHO: &str = "echo";
 
 /// `--config FILE`.
 fn config_option<'a>(alloc: Global) -> Arg<'a>
@@ -333,6 +377,17 @@ fn config_option<'a>(alloc: Global) -> Arg<'a>
         .long(CONFIG)
         .value_name("FILE")
         .help(CONFIG_HELP)
+}
+
+/// `--echo`.
+fn echo_option<'a>(alloc: Global) -> Arg<'a>
+    ensures rule { rule_of result ≡ echo_word }
+    ensures local { result.global ≡ false }
+{
+    Arg::new(alloc, ECHO)
+        .long(ECHO)
+        .action(ArgAction::SetTrue)
+        .help(ECHO_HELP)
 }
 
 /// `HEX`.
@@ -370,15 +425,16 @@ fn turns_option<'a>(alloc: Global) -> Arg<'a>
         .help(TURNS_HELP)
 }
 
-/// `step [--config FILE]`. The only error is that memory ran out.
+/// `step [--config FILE] [--echo]`. The only error is that memory ran out.
 fn step_command<'a>(alloc: Global) -> Result<Command<'a>, AllocError>
     ensures words { IfOk result (λ command. app_of command ≡ step_words) }
     ensures local { IfOk result (λ command. (out-Command command).has_globals ≡ false) }
 {
-    Command::new(alloc, STEP)
+    let config = Command::new(alloc, STEP)
         .about(STEP_ABOUT)
         .after_help(STEP_HELP)
-        .arg(config_option(alloc))
+        .arg(config_option(alloc))?;
+    config.arg(echo_option(alloc))
 }
 
 /// `decode HEX`. The only error is that memory ran out.
@@ -422,22 +478,38 @@ fn program_with_step<'a>(alloc: Global) -> Result<Command<'a>, AllocError>
     let step = step_command(alloc)?;
     Command::new(alloc, PROGRAM)
         .about(ABOUT)
+        .version(VERSION)
         .after_help(HELP)
         .subcommand_required(true)
         .arg_required_else_help(true)
         .subcommand(step)
 }
 
-/// The words that `lsr` takes: `step [--config FILE]`, `decode HEX`, `explain WHAT` and `serve FILE [--turns N]`. The only
+/// The program with its first two commands. The only error is that memory ran out.
+fn program_with_decode<'a>(alloc: Global) -> Result<Command<'a>, AllocError>
+    ensures { IfOk result (λ command. app_of command ≡ with_subcommand (with_subcommand program_words step_words.top) decode_words.top) }
+{
+    let decode = decode_command(alloc)?;
+    let program = program_with_step(alloc)?;
+    program.subcommand(decode)
+}
+
+/// The program with its first three commands. The only error is that memory ran out.
+fn program_with_explain<'a>(alloc: Global) -> Result<Command<'a>, AllocError>
+    ensures { IfOk result (λ command. app_of command
+        ≡ with_subcommand (with_subcommand (with_subcommand program_words step_words.top) decode_words.top) explain_words.top) }
+{
+    let explain = explain_command(alloc)?;
+    let program = program_with_decode(alloc)?;
+    program.subcommand(explain)
+}
+
+/// The words that `lsr` takes: `--version`, `step [--config FILE] [--echo]`, `decode HEX`, `explain WHAT` and `serve FILE [--turns N]`. The only
 /// error is that memory ran out.
 pub(crate) fn command<'a>(alloc: Global) -> Result<Command<'a>, AllocError>
     ensures { IfOk result (λ command. app_of command ≡ lsr_words) }
 {
-    let decode = decode_command(alloc)?;
-    let explain = explain_command(alloc)?;
     let serve = serve_command(alloc)?;
-    let with_step = program_with_step(alloc)?;
-    let with_decode = with_step.subcommand(decode)?;
-    let with_explain = with_decode.subcommand(explain)?;
-    with_explain.subcommand(serve)
+    let program = program_with_explain(alloc)?;
+    program.subcommand(serve)
 }

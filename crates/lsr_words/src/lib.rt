@@ -2,8 +2,6 @@
 #![tactic(auto)]
 
 mod help;
-#[cfg(test)]
-mod tests;
 mod words;
 
 pub use words::{Asked, read_words};

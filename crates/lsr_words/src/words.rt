@@ -1,11 +1,11 @@
 //! Reads the words of the command line.
-ghost use Rattle.std.specs.Prelude.{◌≡◌, true, map, IfOk, IfErr};
+ghost use Rattle.std.specs.Prelude.{◌≡◌, true, map, option_map, IfOk, IfErr};
 ghost use Rattle.std.specs.Option.{MatchOption};
 ghost use Rattle.clap.specs.Words.{FailsBy, fault_of, kind_of, subcommand_rows_of, takes};
 ghost use Rattle.lsr_words.specs.declared.words.Asked.{Asked};
-ghost use Rattle.lsr_words.specs.Words.{AsksFor, AsksIn, lsr_words};
+ghost use Rattle.lsr_words.specs.Words.{AsksFor, AsksIn, is_given, lsr_words};
 
-use crate::help::{CONFIG, DECODE, EXPLAIN, FILE, HEX, SERVE, STEP, TURNS, WHAT, command};
+use crate::help::{CONFIG, DECODE, ECHO, EXPLAIN, FILE, HEX, SERVE, STEP, TURNS, WHAT, command};
 use clap::ArgMatches;
 use clap::error::{Error, ErrorKind};
 use std::alloc::Global;
@@ -14,9 +14,15 @@ use std::convert::AsStr;
 /// What the words ask for.
 #[derive(Clone, Copy, Debug, PartialEq, Eq)]
 pub enum Asked<'a> {
-    /// `step`: lines are answered by the router of the file of this name, or without one by the built-in router.
-    Step(Option<&'a str>),
-    /// `decode HEX`: the word is decoded; `-` stands for the lines of the input.
+    /// `step`: lines are answered by a router.
+    Step {
+        /// The name of the router's file; without one the built-in router answers.
+        file: Option<&'a str>,
+        /// Whether each line is printed before its answers, and comments and empty lines are passed over.
+        echo: bool,
+    },
+    /// `decode HEX`: the word is decoded; `-` stands for the lines of the input, and a word with `.` or `/` in it for a
+    /// capture file.
     Decode(&'a str),
     /// `explain WHAT`: what this word names is explained.
     Explain(&'a str),
@@ -29,6 +35,19 @@ pub enum Asked<'a> {
     },
 }
 
+/// What an option without a value is given as, where it is given.
+const GIVEN: &str = "true";
+
+/// Whether an option without a value is given.
+fn is_given(found: Option<&str>) -> bool
+    ensures { result ≡ is_given (option_map (λ f. f.now) found.entry) }
+{
+    match found {
+        Some(word) => word == GIVEN,
+        None => false,
+    }
+}
+
 /// What the matches of the program's words ask for; none where they name no command.
 fn asked_in<'a>(matches: &ArgMatches<'a>) -> Option<Asked<'a>>
     ensures { MatchOption result
@@ -36,7 +55,10 @@ fn asked_in<'a>(matches: &ArgMatches<'a>) -> Option<Asked<'a>>
         (AsksIn (subcommand_rows_of matches.now)) }
 {
     match matches.subcommand() {
-        Some((STEP, given)) => Some(Asked::Step(given.get_str(CONFIG))),
+        Some((STEP, given)) => Some(Asked::Step {
+            file: given.get_str(CONFIG),
+            echo: is_given(given.get_str(ECHO)),
+        }),
         Some((DECODE, given)) => match given.get_str(HEX) {
             Some(word) => Some(Asked::Decode(word)),
             None => None,

@@ -5,7 +5,7 @@ use Rattle.lsr_lines.proofs.step.step_lines.Given as goal
 
 abbrev pub invariant-loop-line : goal.invariant-loop-line
 invariant-loop-line g l =
-    IsSteppedTo g.A.Answers.answers l.fn.session l.text (g.W.Write.contents l.fn.output) (g.W.Write.contents l.output) l.rest l.number l.session
+    IsSteppedTo g.A.Answers.answers l.fn.echo l.fn.session l.text (g.W.Write.contents l.fn.output) (g.W.Write.contents l.output) l.rest l.number l.session
 
 abbrev pub decreases-loop-line : goal.decreases-loop-line
 decreases-loop-line g l = length l.rest

@@ -8,16 +8,16 @@ use Rattle.lsr_tool.proofs.session.prepare.Goals as goal
 
 pub returns-in_err-session-clause-fault : goal.returns-in_err-session-clause-fault
 returns-in_err-session-clause-fault g c =
-    let p = err_from_is_err_and c.from_residual-in_err-session.result c.from_residual-in_err-session.ensures.1 in
-    rw (p.1, p.2) (cannot_begin (option_map g.C.ByteStream.stream c.args.config) (g.R.ByteStream.stream c.args.input.now) _ _ _ c.in_ok-config_text.ensures.text c.in_ok-text.ensures.text c.in_err-session.ensures.fault)
+    let p = err_from_is_err_and c.from_residual.result c.from_residual.ensures.1 in
+    rw (p.1, p.2) (λ echo. cannot_begin echo (option_map g.C.ByteStream.stream c.args.config) (g.R.ByteStream.stream c.args.input.now) _ _ _ c.in-Ok.ensures.text c.in-Ok-read_text.ensures.text c.in_err-session.ensures.fault)
 
 pub returns-clause-ready : goal.returns-clause-ready
 returns-clause-ready g c =
     record {
-      configured = said_by (option_map string_bytes c.in_ok-config_text.config_text);
+      configured = said_by (option_map string_bytes c.in-Ok.text);
       config = c.in_ok-session.ensures.begun.0;
-      config_read = c.in_ok-config_text.ensures.text;
-      input_read = c.in_ok-text.ensures.text;
+      config_read = c.in-Ok.ensures.text;
+      input_read = c.in-Ok-read_text.ensures.text;
       says = c.in_ok-session.ensures.begun.1;
       begins = c.in_ok-session.ensures.begun.2;
     }

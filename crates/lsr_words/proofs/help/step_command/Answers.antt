@@ -1,10 +1,12 @@
--- The command adds its word.
-use Rattle.std.proofs.Common.{rules, codes}
+-- The command adds its two words.
+use Rattle.std.proofs.Common.{rules, codes, ◌≡◌}
 use Rattle.std.proofs.lemmas.Result.{IfOk-weaker}
-use Rattle.clap.specs.Words.{new_app}
-use Rattle.lsr_words.specs.Words.{file_words}
+use Rattle.clap.specs.Words.{app_of, new_app, with_rule}
+use Rattle.lsr_words.specs.Words.{echo_word, file_words}
 use Rattle.lsr_words.proofs.WordLaws.{adds_word}
 use Rattle.lsr_words.proofs.help.step_command.Goals as goal
 
 pub returns-clause-words : goal.returns-clause-words
-returns-clause-words c = IfOk-weaker c.arg.result _ _ (λ new a. adds_word _ _ new (new_app (codes "step")) file_words a c.config_option.ensures.rule c.config_option.ensures.local (search rules)) c.arg.ensures
+returns-clause-words c =
+    let first : app_of c.in_ok-config.config ≡ with_rule (new_app (codes "step")) file_words = adds_word _ _ c.in_ok-config.config (new_app (codes "step")) file_words c.in_ok-config.ensures c.config_option.ensures.rule c.config_option.ensures.local (search rules) in
+    IfOk-weaker c.arg-2.result _ _ (λ new a. adds_word _ _ new (with_rule (new_app (codes "step")) file_words) echo_word a c.echo_option.ensures.rule c.echo_option.ensures.local first) c.arg-2.ensures

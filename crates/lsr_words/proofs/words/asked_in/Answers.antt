@@ -1,16 +1,25 @@
 -- The command that was found has its name and its values.
-use Rattle.std.proofs.Common.{rules, ◌∙◌, sym, codes}
+use Rattle.std.proofs.Common.{rules, ◌∙◌, ap, sym, codes}
 use Rattle.clap.specs.Words.{rows_of}
 use Rattle.clap.specs.Matches.{found_of}
 use Rattle.clap.proofs.WalkLemmas.{first_value-rows}
+use Rattle.lsr_words.specs.Words.{is_given}
 use Rattle.lsr_words.proofs.WordLaws.{found_is, no_file, no_topic, no_word}
 use Rattle.lsr_words.proofs.words.asked_in.Goals as goal
 
 pub returns-in-Some-step-default : goal.returns-in-Some-step-default
 returns-in-Some-step-default c =
     let found = c.in-Some-step-default in
-    let values = rows_of (found_of found.given.now) in
-    (found.field-0-0.now, values, found_is c.args.matches.now found.field-0-0.now values found.ensures.name found.ensures.rows, (search rules, c.get_str.ensures ∙ first_value-rows (found_of found.given.now) (codes "config")))
+    let values = rows_of (found_of found.given.now) in (
+      found.field-0-0.now,
+      values,
+      found_is c.args.matches.now found.field-0-0.now values found.ensures.name found.ensures.rows,
+      (
+        search rules,
+        c.get_str.ensures ∙ first_value-rows (found_of found.given.now) (codes "config"),
+        c.is_given.ensures ∙ ap is_given (c.get_str-in-Some-step-default.ensures ∙ first_value-rows (found_of found.given.now) (codes "echo")),
+      ),
+    )
 
 pub returns-in-Some : goal.returns-in-Some
 returns-in-Some c =

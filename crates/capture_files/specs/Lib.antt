@@ -1,0 +1,11 @@
+pub mod Blocks
+pub mod Bodies
+pub mod Captures
+pub mod Datagrams
+pub mod Files
+pub mod Links
+pub mod Numbers
+pub mod Options
+pub mod Packets
+pub mod Records
+pub mod Times

@@ -1,0 +1,117 @@
+//! The program run on words and an input.
+use crate::{Ran, is_all_as_wanted, read_or_empty, word};
+use lsr_tool::run;
+use std::io::Write;
+use std::net::Net;
+use std::rt::Files;
+use std::sync::Wait;
+use std::thread::Threads;
+use std::time::Clock;
+use std::{fmt, fs, io};
+
+/// The names of the runs.
+const RUNS: &str = "runs.txt";
+/// Words, and a text that the program says to them.
+const SAYINGS: &str = "says.txt";
+/// What parts the words from what is said to them.
+const ARROW: &str = " => ";
+/// The name of the standard output in what is said.
+const OUTPUT: &str = "output";
+
+/// Runs the program on these words, one in each line, and on this input.
+fn run_lines<R: Files + Net + Threads + Wait + Clock + Clone + Send + Sync + Drop + AllocGlobal>(
+    rt: &R,
+    words: &str,
+    input: &[u8],
+) -> io::Result<Ran> {
+    let alloc = rt.alloc();
+    let mut all = Vec::new(alloc);
+    for word in words.lines() {
+        all.push(word)?;
+    }
+    let mut input = input;
+    let mut output = Vec::new(alloc);
+    let mut error = Vec::new(alloc);
+    let status = run(
+        rt,
+        alloc,
+        all.as_slice(),
+        &mut input,
+        &mut output,
+        &mut error,
+    )?;
+    Ok(Ran {
+        status,
+        output,
+        error,
+    })
+}
+
+/// Whether the run of this name agrees with its files.
+fn run_agrees<R: Files + Net + Threads + Wait + Clock + Clone + Send + Sync + Drop + AllocGlobal>(
+    rt: &R,
+    name: &str,
+) -> io::Result<bool> {
+    let alloc = rt.alloc();
+    let text = fs::read_to_string(rt, format!(in alloc; "{name}.words")?)?;
+    let (status, words) = text.split_once('\n').unwrap_or((text.as_str(), ""));
+    let input = read_or_empty(rt, format!(in alloc; "{name}.in")?.as_str())?;
+    let output = read_or_empty(rt, format!(in alloc; "{name}.out")?.as_str())?;
+    let error = read_or_empty(rt, format!(in alloc; "{name}.err")?.as_str())?;
+    let ran = run_lines(rt, words, input.as_slice())?;
+    let status = status.parse::<u8>().unwrap_or(u8::MAX);
+    Ok(is_all_as_wanted(&ran, status, output.as_slice(), error.as_slice()))
+}
+
+/// Tells of each run whether it agrees.
+pub fn tell_runs<
+    R: Files + Net + Threads + Wait + Clock + Clone + Send + Sync + Drop + AllocGlobal,
+    W: Write,
+>(rt: &R, output: &mut W) -> io::Result<()> {
+    for name in fs::read_to_string(rt, RUNS)?.lines() {
+        let word = word(run_agrees(rt, name)?);
+        write!(output, "{name} {word}\n")?;
+    }
+    Ok(())
+}
+
+/// Whether the program ends so on these words, parted by single blanks, as `STATUS STREAM TEXT` says.
+fn saying_agrees<
+    R: Files + Net + Threads + Wait + Clock + Clone + Send + Sync + Drop + AllocGlobal,
+>(rt: &R, words: &str, answer: &str) -> io::Result<bool> {
+    let alloc = rt.alloc();
+    let (status, rest) = answer.split_once(' ').unwrap_or((answer, ""));
+    let (stream, text) = rest.split_once(' ').unwrap_or((rest, ""));
+    let mut lines = format!(in alloc; "lsr\n")?;
+    for word in words.split(' ') {
+        lines.push_str(word)?;
+        lines.push_str("\n")?;
+    }
+    let lines = if words.is_empty() {
+        "lsr"
+    } else {
+        lines.as_str()
+    };
+    let ran = run_lines(rt, lines, &[])?;
+    let (told, other) = if stream == OUTPUT {
+        (ran.output, ran.error)
+    } else {
+        (ran.error, ran.output)
+    };
+    let told = String::from_utf8(told).unwrap_or(String::new(alloc));
+    let is_status = status.parse::<u8>() == Ok(ran.status);
+    Ok(is_status && other.is_empty() && told.as_str().contains(text))
+}
+
+/// Tells of each line of words whether the program says to them what it should.
+pub fn tell_sayings<
+    R: Files + Net + Threads + Wait + Clock + Clone + Send + Sync + Drop + AllocGlobal,
+    W: Write,
+>(rt: &R, output: &mut W) -> io::Result<()> {
+    for line in fs::read_to_string(rt, SAYINGS)?.lines() {
+        let (words, answer) = line.split_once(ARROW).unwrap_or((line, ""));
+        let word = word(saying_agrees(rt, words, answer)?);
+        write!(output, "lsr {words} {word}\n")?;
+    }
+    Ok(())
+}

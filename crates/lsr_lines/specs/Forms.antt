@@ -1,0 +1,28 @@
+-- Which form a line should have that asks for nothing.
+use Rattle.std.specs.Prelude.{ℕ, List, [], ◌∷◌, Bool, false, bytes_eq, if◌then◌else◌}
+use Rattle.lsr_lines.specs.Commands.{words_of}
+use Rattle.lsr_lines.specs.Lines.{lines_of}
+use Rattle.lsr_lines.specs.declared.forms.TheConstants.{FORMS, OTHER}
+
+-- whether a word is the first of these
+abbrev pub is_first : List ℕ → List (List ℕ) → Bool
+is_first word [] = false
+is_first word (first ∷ words) = bytes_eq first word
+
+-- whether a form is that of lines that begin with a word
+abbrev pub is_form_of : List ℕ → List ℕ → Bool
+is_form_of form word = is_first word (words_of form)
+
+-- the first of the forms that begins with a word
+unfoldable pub form_in : List ℕ → List (List ℕ) → List ℕ
+form_in word [] = OTHER.now
+form_in word (form ∷ forms) = if is_form_of form word then form else form_in word forms
+
+-- the form of lines whose words begin as these do
+abbrev pub form_for : List (List ℕ) → List ℕ
+form_for [] = OTHER.now
+form_for (word ∷ words) = form_in word (lines_of FORMS.now)
+
+-- the form that a line should have, by its first word
+abbrev pub expected_form : List ℕ → List ℕ
+expected_form line = form_for (words_of line)

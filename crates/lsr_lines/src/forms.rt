@@ -1,0 +1,65 @@
+//! Which form a line should have that asks for nothing.
+ghost use Rattle.std.specs.Prelude.{◌≡◌};
+ghost use Rattle.lsr_lines.specs.Forms.{expected_form, form_in, is_form_of};
+ghost use Rattle.lsr_lines.specs.Lines.{lines_of};
+
+use crate::lines::next_line;
+use crate::words::next_word;
+
+/// The forms of lines, one in each line: its word first.
+const FORMS: &str = "\
+rx LINK HEX, with LINK 1 to 65535 and HEX an even number of hexadecimal digits, or none
+frame LINK HEX, with LINK 1 to 65535 and HEX an even number of hexadecimal digits, or none
+tick N, with N 0 to 18446744073709551615
+up LINK, with LINK 1 to 65535
+down LINK, with LINK 1 to 65535
+restart alone
+start alone
+tunnel N ENDPOINT RATE SETUP HOLD FLAGS NAME [ROUTE..], as tunnel 5 10.0.0.4 47f42400 3 3 04 t5 10.0.0.3/32
+change N RATE [ROUTE..], as change 5 47f42400 ~10.0.0.4/32
+cancel N, with N 0 to 65535
+drop N, with N 0 to 65535
+bypass N TUNNEL LINK, with N and TUNNEL 0 to 65535 and LINK 1 to 65535
+unbypass N, with N 0 to 65535
+route PREFIX LINK, as route 10.9.0.0/16 2
+unroute PREFIX, as unroute 10.9.0.0/16
+show paths, resvs, table, links, tunnels, bypasses or recent
+";
+
+/// What is expected of a line with another first word.
+const OTHER: &str =
+    "rx, frame, tick, up, down, restart, start, tunnel, change, cancel, drop, bypass, unbypass, route, unroute or show first";
+
+/// Whether this is the form of lines that begin so.
+fn is_form_of(form: &str, word: &str) -> bool
+    ensures { result ≡ is_form_of form.now word.now }
+{
+    match next_word(Some(form)) {
+        Some((first, _)) => first == word,
+        None => false,
+    }
+}
+
+/// The form of lines that begin with the word.
+fn form_for(word: &str) -> &'static str
+    ensures { result.now ≡ form_in word.now (lines_of FORMS.now) }
+{
+    let mut rest = FORMS;
+    while let Some((form, behind)) = next_line(rest) {
+        if is_form_of(form, word) {
+            return form;
+        }
+        rest = behind;
+    }
+    OTHER
+}
+
+/// The form that the line should have, by its first word.
+pub fn expected_form(line: &str) -> &'static str
+    ensures { result.now ≡ expected_form line.now }
+{
+    match next_word(Some(line)) {
+        Some((word, _)) => form_for(word),
+        None => OTHER,
+    }
+}
