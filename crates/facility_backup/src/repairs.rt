@@ -29,15 +29,14 @@ pub struct Repaired {
 pub fn repair(held: Held, choice: Selected) -> Repaired
     ensures { result ≡ record { key = held.key; repair = repair_with held.resv choice } }
 {
+    let mut resv = held.resv;
+    resv.label = choice.label;
     Repaired {
         key: held.key,
         repair: Repair {
             bypass: choice.bypass,
             is_later: choice.is_later,
-            resv: ResvFact {
-                label: choice.label,
-                ..held.resv
-            },
+            resv,
         },
     }
 }

@@ -26,10 +26,19 @@ struct Kept<L: Ledger, R: Wait + Drop> {
 }
 
 /// A router that many threads feed, each by a port of its own. Its name is that of its ledger: no other core has it.
-#[derive(Drop)]
 pub struct Core<L: Ledger, R: Wait + Drop> {
     lock: Mutex<Kept<L, R>>,
     router: Router,
+}
+
+/// Written out, so that it is dropped by one call, whatever it holds.
+impl<L: Ledger, R: Wait + Drop> Drop for Core<L, R> {
+    fn drop(self) {
+        let Core {
+            lock: _lock,
+            router: _router,
+        } = self;
+    }
 }
 
 /// Who feeds a core: the numbers of its last entry, and its share of the core's ledger, in which it has as many entries as its

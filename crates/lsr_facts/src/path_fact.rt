@@ -63,7 +63,7 @@ pub struct Origin {
 }
 
 /// What the router knows of one LSP's path: path state (RFC 2205, 2.3; RFC 3209, 2).
-#[derive(Debug, Drop)]
+#[derive(Debug)]
 pub struct PathFact {
     /// What the router is on the way.
     pub role: Role,
@@ -87,6 +87,25 @@ pub struct PathFact {
     pub fast_reroute: Option<FastReroute>,
     /// Objects that are passed on unread.
     pub passing: Passing,
+}
+
+/// Written out, so that it is dropped by one call, whatever it holds.
+impl Drop for PathFact {
+    fn drop(self) {
+        let PathFact {
+            role: _role,
+            origins: _origins,
+            out_link: _out_link,
+            given: _given,
+            rest: _rest,
+            recorded: _recorded,
+            label_request: _label_request,
+            tspec: _tspec,
+            attr: _attr,
+            fast_reroute: _fast_reroute,
+            passing: _passing,
+        } = self;
+    }
 }
 
 /// Whether these are the same origins, but for when they expire.

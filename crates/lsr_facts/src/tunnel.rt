@@ -16,6 +16,21 @@ pub struct TunnelLsp {
     pub tspec: Tspec,
 }
 
+/// Written out, so that it is dropped by one call, whatever it holds.
+impl Drop for Tunnel {
+    fn drop(self) {
+        let Tunnel {
+            endpoint: _endpoint,
+            attr: _attr,
+            fast_reroute: _fast_reroute,
+            current: _current,
+            pending: _pending,
+            last: _last,
+            noted: _noted,
+        } = self;
+    }
+}
+
 /// An error that came for one of a tunnel's LSPs (RFC 2205, 3.1.7 and A.5).
 #[derive(Clone, Copy, Debug, PartialEq, Eq)]
 pub struct Noted {
@@ -29,7 +44,7 @@ pub struct Noted {
 
 /// A tunnel that begins here (RFC 3209, 2.1): the LSP that carries its traffic, and the one that is to take its place, if
 /// the tunnel is being changed (RFC 3209, 2.5).
-#[derive(Debug, Drop)]
+#[derive(Debug)]
 pub struct Tunnel {
     /// Where it ends.
     pub endpoint: Ipv4Addr,

@@ -48,8 +48,8 @@ fn path_err_of(parts: Parts) -> Option<Content>
 }
 
 /// The PathTear that the parts make (RFC 2205, 3.1.5).
-fn path_tear_of(parts: Parts) -> Option<Content>
-    ensures { result ≡ path_tear_of parts }
+fn path_tear_of(parts: &Parts) -> Option<Content>
+    ensures { result ≡ path_tear_of parts.now }
 {
     Some(Content::PathTear(PathTear {
         session: parts.session?,
@@ -76,12 +76,12 @@ fn placed_flows(
 /// The Resv that the parts make (RFC 2205, 3.1.4; RFC 3209, 3.2).
 fn resv_of(
     alloc: Global,
-    parts: Parts,
+    parts: &Parts,
     passing: Passing,
     misplaced: bool,
     flows: &[Object],
 ) -> Result<Option<Content>, AllocError>
-    ensures { IfOk result (λ found. found ≡ resv_of parts passing misplaced flows.now) }
+    ensures { IfOk result (λ found. found ≡ resv_of parts.now passing misplaced flows.now) }
 {
     let (Some(session), Some(hop), Some(time), Some(style)) = (
         parts.session,
@@ -105,8 +105,12 @@ fn resv_of(
 }
 
 /// The ResvErr that the parts make (RFC 2205, 3.1.8).
-fn resv_err_of(alloc: Global, parts: Parts, flows: &[Object]) -> Result<Option<Content>, AllocError>
-    ensures { IfOk result (λ found. found ≡ resv_err_of parts flows.now) }
+fn resv_err_of(
+    alloc: Global,
+    parts: &Parts,
+    flows: &[Object],
+) -> Result<Option<Content>, AllocError>
+    ensures { IfOk result (λ found. found ≡ resv_err_of parts.now flows.now) }
 {
     let (Some(session), Some(hop), Some(error), Some(style)) = (
         parts.session,
@@ -128,10 +132,10 @@ fn resv_err_of(alloc: Global, parts: Parts, flows: &[Object]) -> Result<Option<C
 /// The ResvTear that the parts make (RFC 2205, 3.1.6).
 fn resv_tear_of(
     alloc: Global,
-    parts: Parts,
+    parts: &Parts,
     flows: &[Object],
 ) -> Result<Option<Content>, AllocError>
-    ensures { IfOk result (λ found. found ≡ resv_tear_of parts flows.now) }
+    ensures { IfOk result (λ found. found ≡ resv_tear_of parts.now flows.now) }
 {
     let (Some(session), Some(hop), Some(style)) = (parts.session, parts.hop, parts.style) else {
         return Ok(None);
@@ -185,11 +189,11 @@ pub fn content_of(
 {
     match kind {
         TYPE_PATH => Ok(path_of(parts, passing)),
-        TYPE_RESV => resv_of(alloc, parts, passing, misplaced, flows),
+        TYPE_RESV => resv_of(alloc, &parts, passing, misplaced, flows),
         TYPE_PATH_ERR => Ok(path_err_of(parts)),
-        TYPE_RESV_ERR => resv_err_of(alloc, parts, flows),
-        TYPE_PATH_TEAR => Ok(path_tear_of(parts)),
-        TYPE_RESV_TEAR => resv_tear_of(alloc, parts, flows),
+        TYPE_RESV_ERR => resv_err_of(alloc, &parts, flows),
+        TYPE_PATH_TEAR => Ok(path_tear_of(&parts)),
+        TYPE_RESV_TEAR => resv_tear_of(alloc, &parts, flows),
         _ => Ok(None),
     }
 }

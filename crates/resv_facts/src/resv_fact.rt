@@ -64,7 +64,7 @@ pub fn is_same_style(style: ResvStyle, other: ResvStyle) -> bool
 }
 
 /// What the router knows of one LSP's reservation: reservation state (RFC 2205, 2.3; RFC 3209, 2).
-#[derive(Debug, Drop)]
+#[derive(Debug)]
 pub struct ResvFact {
     /// The number of the link that it is on: the one that its path leaves by.
     pub link: u16,
@@ -80,6 +80,21 @@ pub struct ResvFact {
     pub passing: Passing,
     /// The moment in milliseconds at which it counts no more, unless it is refreshed before.
     pub expiry: u64,
+}
+
+/// Written out, so that it is dropped by one call, whatever it holds.
+impl Drop for ResvFact {
+    fn drop(self) {
+        let ResvFact {
+            link: _link,
+            style: _style,
+            flowspec: _flowspec,
+            label: _label,
+            recorded: _recorded,
+            passing: _passing,
+            expiry: _expiry,
+        } = self;
+    }
 }
 
 impl ResvFact {

@@ -12,7 +12,7 @@ use std::alloc::{AllocError, Global};
 use std::marker::Model;
 
 /// What happens to a router.
-#[derive(Debug, Drop)]
+#[derive(Debug)]
 pub enum Event {
     /// A message for this router came.
     Arrive(Arrive),
@@ -32,13 +32,39 @@ pub enum Event {
     Start,
 }
 
+/// Written out, so that an event is dropped by one call, whatever happened.
+impl Drop for Event {
+    fn drop(self) {
+        match self {
+            Event::Arrive(_arrive) => {}
+            Event::Relay(_relay) => {}
+            Event::Command(_command) => {}
+            Event::Tick(_)
+            | Event::LinkUp(_)
+            | Event::LinkDown(_)
+            | Event::Restart
+            | Event::Start => {}
+        }
+    }
+}
+
 /// A frame that the router sends.
-#[derive(Debug, Drop)]
+#[derive(Debug)]
 pub struct Output {
     /// The number of the link that it leaves by.
     pub link: u16,
     /// The frame.
     pub frame: Frame,
+}
+
+/// Written out, so that an output is dropped by one call, whatever it sends.
+impl Drop for Output {
+    fn drop(self) {
+        let Output {
+            link: _link,
+            frame: _frame,
+        } = self;
+    }
 }
 
 /// Frames that the router sends, in their order. Contracts see the list.

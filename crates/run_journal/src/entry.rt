@@ -65,7 +65,7 @@ pub type Frames = Listed<WrittenFrame>;
 pub type ChosenLabels = Listed<(Key, u32)>;
 
 /// An entry of the journal: one event, and its step.
-#[derive(Debug, Drop)]
+#[derive(Debug)]
 pub struct Entry {
     /// The number of the port that it came from, 1 to [`crate::MAX_PORTS`].
     pub port: u16,
@@ -79,6 +79,20 @@ pub struct Entry {
     pub outputs: Frames,
     /// Whether what is forwarded changed: the action of a label, or of a tunnel.
     pub changes_table: bool,
+}
+
+/// Written out, so that it is dropped by one call, whatever it holds.
+impl Drop for Entry {
+    fn drop(self) {
+        let Entry {
+            port: _port,
+            event: _event,
+            chosen: _chosen,
+            reply: _reply,
+            outputs: _outputs,
+            changes_table: _changes_table,
+        } = self;
+    }
 }
 
 impl TryCopy for WrittenFrame {

@@ -30,7 +30,6 @@ use std::sync::Wait;
 /// A router with its journal, as it stands under a lock. Contracts see the router, what it knew at the base, the entries since,
 /// and what it knows now. At any moment the entries record a run from the base to what the router knows, both are sound, and
 /// the numbers are what the entries make of those at the base.
-#[derive(Drop)]
 pub struct Locked<R: Wait + Drop> {
     machine: Machine,
     base: State,
@@ -38,6 +37,20 @@ pub struct Locked<R: Wait + Drop> {
     entries: Vec<Entry>,
     tally: Tally,
     plane: Plane<R>,
+}
+
+/// Written out, so that it is dropped by one call, whatever it holds.
+impl<R: Wait + Drop> Drop for Locked<R> {
+    fn drop(self) {
+        let Locked {
+            machine: _machine,
+            base: _base,
+            from: _from,
+            entries: _entries,
+            tally: _tally,
+            plane: _plane,
+        } = self;
+    }
 }
 
 impl<R: Wait + Drop> Model for Locked<R> {

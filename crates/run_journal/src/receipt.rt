@@ -7,7 +7,7 @@ use crate::mark::Mark;
 use lsr_facts::Reply;
 
 /// What a port is told of its entry.
-#[derive(Debug, Drop)]
+#[derive(Debug)]
 pub struct Receipt {
     /// The port and its numbers after the entry.
     pub(crate) mark: Mark,
@@ -17,6 +17,18 @@ pub struct Receipt {
     pub(crate) reply: Reply,
     /// What is to be sent.
     pub(crate) outputs: Frames,
+}
+
+/// Written out, so that it is dropped by one call, whatever it holds.
+impl Drop for Receipt {
+    fn drop(self) {
+        let Receipt {
+            mark: _mark,
+            event: _event,
+            reply: _reply,
+            outputs: _outputs,
+        } = self;
+    }
 }
 
 impl Receipt {

@@ -14,13 +14,26 @@ use std::marker::Model;
 
 /// A stretch of the journal: what the router knew before it, its entries, and what the router knew after it. Contracts see
 /// these; the entries record a run from the one to the other, and both are sound.
-#[derive(Debug, Drop)]
+#[derive(Debug)]
 pub struct Segment {
     pub(crate) router: Router,
     pub(crate) base: State,
     pub(crate) from: Tally,
     pub(crate) entries: Vec<Entry>,
     pub(crate) end: State,
+}
+
+/// Written out, so that it is dropped by one call, whatever it holds.
+impl Drop for Segment {
+    fn drop(self) {
+        let Segment {
+            router: _router,
+            base: _base,
+            from: _from,
+            entries: _entries,
+            end: _end,
+        } = self;
+    }
 }
 
 impl Model for Segment {

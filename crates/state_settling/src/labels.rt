@@ -120,7 +120,7 @@ pub(crate) fn labelled<V: StateView>(
     alloc: Global,
     view: &V,
     chosen: &Table<Key, u32>,
-    edits: Edits,
+    mut edits: Edits,
 ) -> Result<Edits, AllocError>
     requires order { T (is_sorted key_cmp (V.state view.now).facts.paths) }
     requires held { keys_of (V.state view.now).labels ≡ labelled_keys (V.state view.now).facts.paths }
@@ -128,6 +128,6 @@ pub(crate) fn labelled<V: StateView>(
     ensures { IfOk result (λ e. edited e (V.state view.now)
         ≡ labelled chosen.now (edited edits (V.state view.now))) }
 {
-    let labels = label_edits(alloc, view, chosen, edits.paths.as_slice())?;
-    Ok(Edits { labels, ..edits })
+    edits.labels = label_edits(alloc, view, chosen, edits.paths.as_slice())?;
+    Ok(edits)
 }

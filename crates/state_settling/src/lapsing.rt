@@ -15,8 +15,10 @@ use facility_backup::{is_same_around, over_at};
 use lsr_facts::Key;
 use message_rules::leaves_by;
 use resv_facts::Repair;
+use sorted_rows::Table;
 use state_views::{Changed, Edits, StateView, WholeState, without_rows};
 use std::alloc::{AllocError, Global};
+use std::mem;
 
 /// Whether a repair stands: its bypass is up, and its path leaves by the link that this protects.
 fn repair_stands<V: StateView>(view: &V, key: &Key, repair: &Repair) -> bool
@@ -109,7 +111,7 @@ fn lapsed<V: WholeState>(alloc: Global, view: &V, edits: &Edits) -> Result<Vec<K
 pub(crate) fn repairs_left<V: WholeState>(
     alloc: Global,
     view: &V,
-    edits: Edits,
+    mut edits: Edits,
 ) -> Result<Edits, AllocError>
     requires order { T (is_sorted key_cmp (V.state view.now).repairs) }
     requires stood { AllByRecursion (λ repair. repair_stands (V.router view.now) (V.state view.now) repair ≡ true)
@@ -118,8 +120,7 @@ pub(crate) fn repairs_left<V: WholeState>(
         ≡ repairs_left (V.router view.now) (edited edits (V.state view.now))) }
 {
     let gone = lapsed(alloc, view, &edits)?;
-    Ok(Edits {
-        repairs: without_rows(edits.repairs, &gone)?,
-        ..edits
-    })
+    let repairs = mem::replace(&mut edits.repairs, Table::new(alloc));
+    edits.repairs = without_rows(repairs, &gone)?;
+    Ok(edits)
 }

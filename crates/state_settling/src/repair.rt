@@ -25,6 +25,7 @@ use resv_facts::{Repair, ResvFact, Selected};
 use sorted_rows::{Table, TryCopy};
 use state_views::{Changed, Edits, Outputs, StateView, WholeState, joined_rows, node_of};
 use std::alloc::{AllocError, Global};
+use std::mem;
 
 /// The bypass over which an LSP is repaired that has this reservation: the one that is selected, where its path leaves by
 /// the link of the reservation, which is down.
@@ -243,9 +244,8 @@ pub(crate) fn repaired<V: WholeState>(
         edits: &edits,
     };
     let told = told_of_all(alloc, &after, repairs.as_slice())?;
-    let edits = Edits {
-        repairs: with_put(alloc, edits.repairs, repairs)?,
-        ..edits
-    };
+    let mut edits = edits;
+    let was = mem::replace(&mut edits.repairs, Table::new(alloc));
+    edits.repairs = with_put(alloc, was, repairs)?;
     Ok((edits, told))
 }

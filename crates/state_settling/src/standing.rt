@@ -14,8 +14,10 @@ ghost use Rattle.state_settling.specs.Falling.{fallen_key, has_fallen};
 use lsr_facts::Key;
 use message_rules::{is_up, leaves_by};
 use resv_facts::ResvFact;
+use sorted_rows::Table;
 use state_views::{Changed, Edits, StateView, WholeState, node_of, without_rows};
 use std::alloc::{AllocError, Global};
+use std::mem;
 
 /// Whether a reservation stands on its path: on the link that this leaves by, which is up.
 fn stands<V: StateView>(view: &V, key: &Key, resv: &ResvFact) -> bool
@@ -107,15 +109,14 @@ fn fallen<V: WholeState>(alloc: Global, view: &V, edits: &Edits) -> Result<Vec<K
 pub(crate) fn resvs_left<V: WholeState>(
     alloc: Global,
     view: &V,
-    edits: Edits,
+    mut edits: Edits,
 ) -> Result<Edits, AllocError>
     requires order { T (is_sorted key_cmp (V.state view.now).resvs) }
     requires stood { AllByRecursion (λ resv. stands (V.state view.now).facts resv ≡ true) (V.state view.now).resvs }
     ensures { IfOk result (λ e. edited e (V.state view.now) ≡ resvs_left (edited edits (V.state view.now))) }
 {
     let gone = fallen(alloc, view, &edits)?;
-    Ok(Edits {
-        resvs: without_rows(edits.resvs, &gone)?,
-        ..edits
-    })
+    let resvs = mem::replace(&mut edits.resvs, Table::new(alloc));
+    edits.resvs = without_rows(resvs, &gone)?;
+    Ok(edits)
 }

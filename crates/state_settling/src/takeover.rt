@@ -80,22 +80,16 @@ fn ready_tunnels<V: WholeState>(
 /// is out of memory.
 fn with_switched(
     router: &Router,
-    edits: Edits,
+    mut edits: Edits,
     number: u16,
     mut tunnel: Tunnel,
 ) -> Result<Edits, AllocError>
     ensures { IfOk result (λ e. e ≡ with_switched router.now (number, tunnel) edits) }
 {
-    let mut paths = edits.paths;
-    paths.set(current_key(router, number, &tunnel), None)?;
+    edits.paths.set(current_key(router, number, &tunnel), None)?;
     switch(&mut tunnel);
-    let mut tunnels = edits.tunnels;
-    tunnels.set(number, Some(tunnel))?;
-    Ok(Edits {
-        paths,
-        tunnels,
-        ..edits
-    })
+    edits.tunnels.set(number, Some(tunnel))?;
+    Ok(edits)
 }
 
 /// And so of all these. Takes no memory where there is none; the only error is out of memory.
