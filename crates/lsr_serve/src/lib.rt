@@ -4,8 +4,6 @@
 mod run;
 mod serving;
 mod sockets;
-#[cfg(test)]
-mod tests;
 mod turns;
 mod udp_wire;
 

@@ -1,0 +1,128 @@
+//! Two threads feed one router.
+ghost use Rattle.std.specs.Prelude.{◌≡◌};
+
+use crate::fault::Fault;
+use crate::routers::{Left, open_router};
+use crate::wires::Silent;
+use interface_workers::{Core, OpenGate, Opened, Port, Work, serve_event};
+use lsr_config::BUILT_IN;
+use router_events::Event;
+use std::alloc::{AllocError, Global};
+use std::marker::Brand;
+use std::sync::Wait;
+use std::sync::ledger::{Blank, Ledger};
+use std::thread;
+use std::thread::Threads;
+
+/// How many moments each thread feeds.
+const MOMENTS: u32 = 3_000;
+
+/// Feeds so many moments, and takes the entries where the journal is full. The only error is out of memory.
+fn feed_moments<L: Ledger, R: Wait + Drop>(
+    rt: &R,
+    alloc: Global,
+    core: &Core<L, R>,
+    port: Port<L>,
+    count: u32,
+) -> Result<Work, AllocError> {
+    let mut port = port;
+    let mut work = Work::new(alloc, count)?;
+    for turn in 0..count {
+        let event = Event::Tick(u64::from(turn));
+        serve_event(
+            rt,
+            alloc,
+            core,
+            &mut port,
+            &mut Silent,
+            &OpenGate,
+            &mut work,
+            &event,
+        );
+    }
+    Ok(work)
+}
+
+/// A thread for each port feeds the router; what they leave is added. The fault is out of memory.
+fn feed_all<L: Ledger + Send + Sync, R: Threads + Wait + Send + Sync + Drop>(
+    rt: &R,
+    alloc: Global,
+    core: &Core<L, R>,
+    ports: Vec<Port<L>>,
+    left: &mut Left,
+) -> Result<(), AllocError> {
+    let works = thread::map_vec(
+        rt,
+        ports,
+        &|port| feed_moments(rt, alloc, core, port, MOMENTS),
+    )?;
+    left.add_all(works)?;
+    left.close(rt, alloc, core)
+}
+
+/// Prints whether what the threads left is one run, and whether the router knows what it ends with.
+fn tell_left<L: Ledger, R: Wait + Print + Drop>(
+    rt: &R,
+    alloc: Global,
+    core: &Core<L, R>,
+    left: &Left,
+) -> Result<(), Fault> {
+    let run = if left.is_one_run() {
+        "reconciled"
+    } else {
+        "not one run of"
+    };
+    let end = if left.ends_as(rt, alloc, core)? {
+        "the router's"
+    } else {
+        "another"
+    };
+    let entries = left.receipts.len();
+    println!(rt; "two threads: {run} {entries} entries; the end of the last segment is {end}")?;
+    Ok(())
+}
+
+/// Feeds this router, and prints what came.
+fn feed_and_tell<L: Ledger + Send + Sync, R: Threads + Wait + Print + Send + Sync + Drop>(
+    rt: &R,
+    alloc: Global,
+    core: &Core<L, R>,
+    ports: Vec<Port<L>>,
+    left: &mut Left,
+) -> Result<(), Fault> {
+    feed_all(rt, alloc, core, ports, left)?;
+    tell_left(rt, alloc, core, left)
+}
+
+/// The case, over a router of this name.
+fn run_named<L: Ledger + Send + Sync, R: Threads + Wait + Print + Clone + Send + Sync + Drop>(
+    rt: &R,
+    alloc: Global,
+    blank: Blank,
+    left: &mut Left,
+) -> Result<(), Fault>
+    requires name { blank.name ≡ L.name }
+    requires parts { blank.parts ≡ L.parts }
+    requires two { blank.parts ≡ 2 }
+{
+    match open_router::<L, R>(alloc, rt.clone()?, blank, BUILT_IN, 2) {
+        Ok(
+            Opened {
+                core,
+                ports,
+                readers: _readers,
+            },
+        ) => feed_and_tell(rt, alloc, &core, ports, left),
+        Err(fault) => Err(fault),
+    }
+}
+
+/// Two threads feed one router 3,000 moments each, each by its own port, and take its entries where the journal is full: prints
+/// whether all that they were told is one run.
+pub fn run<R: Threads + Wait + Print + Clone + Send + Sync + Drop>(
+    rt: &R,
+    alloc: Global,
+) -> Result<(), Fault> {
+    let mut left = Left::new(alloc);
+    run_named::<Brand, R>(rt, alloc, Blank::new(2), &mut left)
+}

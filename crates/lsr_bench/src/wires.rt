@@ -1,0 +1,69 @@
+//! Wires in memory, and a clock that never waits.
+
+use interface_workers::{Wire, WireFault};
+use std::io;
+use std::time::{Clock, Duration};
+
+/// A wire on which nothing comes.
+#[derive(Clone, Copy)]
+pub struct Silent;
+
+impl Wire for Silent {
+    ghost failed = { λ _. 0 };
+
+    fn receive(&mut self, _buffer: &mut [u8]) -> Result<Option<usize>, WireFault> {
+        Ok(None)
+    }
+
+    fn send(&mut self, _link: u16, _bytes: &[u8]) -> Result<(), WireFault> {
+        Ok(())
+    }
+
+    fn failures(&self) -> u64 {
+        0
+    }
+}
+
+/// A wire on which one frame comes, where it has one.
+#[derive(Clone, Copy)]
+pub struct OneFrame {
+    /// The frame, until it came.
+    pub frame: Option<&'static [u8]>,
+}
+
+impl Wire for OneFrame {
+    ghost failed = { λ _. 0 };
+
+    /// The frame, where it hasn't come yet and the buffer has room for it.
+    fn receive(&mut self, buffer: &mut [u8]) -> Result<Option<usize>, WireFault> {
+        match self.frame.take() {
+            Some(frame) if frame.len() <= buffer.len() => {
+                buffer[..frame.len()].copy_from_slice(frame);
+                Ok(Some(frame.len()))
+            }
+            _ => Ok(None),
+        }
+    }
+
+    fn send(&mut self, _link: u16, _bytes: &[u8]) -> Result<(), WireFault> {
+        Ok(())
+    }
+
+    fn failures(&self) -> u64 {
+        0
+    }
+}
+
+/// A clock that never waits.
+#[derive(Clone, Copy)]
+pub struct Hasty;
+
+impl Clock for Hasty {
+    fn monotonic(&self) -> io::Result<Duration> {
+        Ok(Duration::from_millis(0))
+    }
+
+    fn since_1970(&self) -> io::Result<Duration> {
+        Ok(Duration::from_millis(0))
+    }
+}
