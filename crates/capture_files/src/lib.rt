@@ -14,8 +14,6 @@ mod link;
 mod options;
 mod packet;
 mod record;
-#[cfg(test)]
-mod tests;
 mod times;
 mod whole;
 

@@ -11,12 +11,14 @@
 //!   in each line. It reads NAME.in, nothing where there is no such file, prints NAME.out and tells NAME.err.
 //! - A line `WORDS => STATUS STREAM TEXT` of `says.txt` says how the program ends on these words and no input: with this status,
 //!   with TEXT on the stream, `output` or `error`, and nothing on the other.
+//! - A line `FILE => TEXT` of `captures.txt` says what a reader of capture files gives of FILE, packet by packet.
 //! - Each line of `bad-lines.txt`, alone, is a bad line of `lsr step`.
 //! - A line `NAME: FAULT` or `NAME: good` of `config/answers.txt` says what is told of the configuration
 //!   config/NAME.toml.
 //! - Inputs and outputs that fail are of its own.
 #![tactic(auto)]
 
+mod captures;
 mod runs;
 mod streams;
 
@@ -132,7 +134,7 @@ fn message_agrees<R: Files + AllocGlobal>(rt: &R, name: &str) -> io::Result<bool
     let text = fs::read_to_string(rt, format!(in alloc; "{name}.hex")?)?;
     let mut output = Vec::new(alloc);
     let mut error = Vec::new(alloc);
-    let status = run_decode(alloc, text.trim(), &mut output, &mut error)?;
+    let status = run_decode(alloc, false, text.trim(), &mut output, &mut error)?;
     let ran = Ran {
         status,
         output,
@@ -268,5 +270,6 @@ fn main(rt: HostRuntime) -> io::Result<()> {
     tell_bad_lines(&rt)?;
     tell_configs(&rt)?;
     runs::tell_sayings(&rt, &mut rt.stdout())?;
+    captures::tell_captures(&rt, &mut rt.stdout())?;
     streams::tell_streams(&rt)
 }

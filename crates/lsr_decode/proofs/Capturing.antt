@@ -82,17 +82,17 @@ length_onto [] lines = omega arith
 length_onto (line ∷ served) lines = omega (arith, length_onto served (line ∷ lines))
 
 -- so no more lines were answered than bytes were read
-pub served_count : (read printed line : List ℕ) (count : ℕ) (refused : Bool) → IsCaptured read printed line count refused → count ≤ length read
+pub served_count : {fields : Bool} (read printed line : List ℕ) (count : ℕ) (refused : Bool) → IsCaptured fields read printed line count refused → count ≤ length read
 served_count read printed line count refused c =
     omega (arith, c.counted, lines_count (read ++ []), ap length (c.lines []), length_onto c.served (lines_of (line ++ [])), ap length (append-nil read))
 
 -- at first nothing was read
-pub captured_none : IsCaptured [] [] [] 0 false
+pub captured_none : {fields : Bool} → IsCaptured fields [] [] [] 0 false
 captured_none = record { served = []; lines = λ more. refl; answered = (refl, refl); counted = refl; one = none_here; short = omega arith }
 
 -- bytes without a newline are more of the last line
-pub captured_part : (read printed line bytes : List ℕ) (count : ℕ) (refused : Bool) → IsCaptured read printed line count refused → IsOneLine bytes → length (line ++ bytes) ≤ 16777216
-    → IsCaptured (read ++ bytes) printed (line ++ bytes) count refused
+pub captured_part : {fields : Bool} (read printed line bytes : List ℕ) (count : ℕ) (refused : Bool) → IsCaptured fields read printed line count refused → IsOneLine bytes → length (line ++ bytes) ≤ 16777216
+    → IsCaptured fields (read ++ bytes) printed (line ++ bytes) count refused
 captured_part read printed line bytes count refused c h short =
     record {
       served = c.served;
@@ -104,8 +104,8 @@ captured_part read printed line bytes count refused c h short =
     }
 
 -- a newline ends the last line, which is answered
-pub captured_line : (read printed line answer : List ℕ) (count number : ℕ) (refused bad : Bool) (decoded : Decoded) → IsCaptured read printed line count refused → number ≡ count + 1 → Decodes line decoded
-    → answer ≡ answer_text number decoded → bad ≡ is_refused decoded → IsCaptured (read ++ (10 ∷ [])) (printed ++ answer) [] number (refused || bad)
+pub captured_line : {fields : Bool} (read printed line answer : List ℕ) (count number : ℕ) (refused bad : Bool) (decoded : Decoded) → IsCaptured fields read printed line count refused → number ≡ count + 1 → Decodes fields line decoded
+    → answer ≡ answer_text number decoded → bad ≡ is_refused decoded → IsCaptured fields (read ++ (10 ∷ [])) (printed ++ answer) [] number (refused || bad)
 captured_line read printed line answer count number refused bad decoded c n d a b =
     let counted : number ≡ length c.served + 1 = n ∙ ap (λ m. m + 1) c.counted in
     record {
@@ -118,7 +118,7 @@ captured_line read printed line answer count number refused bad decoded c n d a 
     }
 
 -- the lines that were answered are the first ones, whatever stands behind
-pub captured_some : (read printed line bytes : List ℕ) (count : ℕ) (refused : Bool) → IsCaptured read printed line count refused → AnswersSome (read ++ bytes) printed
+pub captured_some : {fields : Bool} (read printed line bytes : List ℕ) (count : ℕ) (refused : Bool) → IsCaptured fields read printed line count refused → AnswersSome fields (read ++ bytes) printed
 captured_some read printed line bytes count refused c =
     record {
       served = c.served;
@@ -128,7 +128,7 @@ captured_some read printed line bytes count refused c =
     }
 
 -- where no line has begun all were answered
-pub captured_all : (read printed line : List ℕ) (count : ℕ) (refused : Bool) → IsCaptured read printed line count refused → line ≡ [] → AnswersAll read printed refused
+pub captured_all : {fields : Bool} (read printed line : List ℕ) (count : ℕ) (refused : Bool) → IsCaptured fields read printed line count refused → line ≡ [] → AnswersAll fields read printed refused
 captured_all read printed line count refused c e =
     record {
       served = c.served;
@@ -137,9 +137,9 @@ captured_all read printed line count refused c e =
     }
 
 -- where the next line can't be counted, there are too many bytes
-pub captured_many : (read printed line : List ℕ) (count : ℕ) (refused : Bool) → IsCaptured read printed line count refused → 2 ^ 64 ≤ count + 1 → StopsAtCount read printed
-captured_many read printed line count refused c many =
-    (subst (λ l. AnswersSome l printed) (append-nil read) (captured_some read printed line [] count refused c), omega (arith, many, served_count read printed line count refused c))
+pub captured_many : {fields : Bool} (read printed line : List ℕ) (count : ℕ) (refused : Bool) → IsCaptured fields read printed line count refused → 2 ^ 64 ≤ count + 1 → StopsAtCount fields read printed
+captured_many {fields = fields} read printed line count refused c many =
+    (subst (λ l. AnswersSome fields l printed) (append-nil read) (captured_some read printed line [] count refused c), omega (arith, many, served_count read printed line count refused c))
 
 not_both : true ≡ false → ⊥
 not_both t = cc
@@ -157,8 +157,8 @@ last_line [] low h = absurd (omega (arith, low))
 last_line (b ∷ line) low h = ap lines_of (append-nil (b ∷ line)) ∙ lines_last b line h
 
 -- else the last line is answered too
-pub captured_last : (read printed line answer : List ℕ) (count number : ℕ) (refused bad : Bool) (decoded : Decoded) → IsCaptured read printed line count refused → number ≡ count + 1 → Decodes line decoded
-    → answer ≡ answer_text number decoded → bad ≡ is_refused decoded → 1 ≤ length line → AnswersAll read (printed ++ answer) (refused || bad)
+pub captured_last : {fields : Bool} (read printed line answer : List ℕ) (count number : ℕ) (refused bad : Bool) (decoded : Decoded) → IsCaptured fields read printed line count refused → number ≡ count + 1 → Decodes fields line decoded
+    → answer ≡ answer_text number decoded → bad ≡ is_refused decoded → 1 ≤ length line → AnswersAll fields read (printed ++ answer) (refused || bad)
 captured_last read printed line answer count number refused bad decoded c n d a b low =
     let counted : number ≡ length c.served + 1 = n ∙ ap (λ m. m + 1) c.counted in
     record {
@@ -168,28 +168,28 @@ captured_last read printed line answer count number refused bad decoded c n d a 
     }
 
 -- Of the bytes these were taken so far.
-pub record IsTakenTo (read printed bytes : List ℕ) (old new : Option (List ℕ)) (rest line : List ℕ) (count : ℕ) (refused : Bool) : Type 0 where
+pub record IsTakenTo (fields : Bool) (read printed bytes : List ℕ) (old new : Option (List ℕ)) (rest line : List ℕ) (count : ℕ) (refused : Bool) : Type 0 where
   pub front : List ℕ
   pub more : List ℕ
   pub parts : bytes ≡ front ++ rest
   pub told : Appends old new more
-  pub captured : IsCaptured (read ++ front) (printed ++ more) line count refused
+  pub captured : IsCaptured fields (read ++ front) (printed ++ more) line count refused
 
-pub taken_none : (read printed bytes line : List ℕ) (now : Option (List ℕ)) (count : ℕ) (refused : Bool) → IsCaptured read printed line count refused → IsTakenTo read printed bytes now now bytes line count refused
-taken_none read printed bytes line now count refused c =
+pub taken_none : {fields : Bool} (read printed bytes line : List ℕ) (now : Option (List ℕ)) (count : ℕ) (refused : Bool) → IsCaptured fields read printed line count refused → IsTakenTo fields read printed bytes now now bytes line count refused
+taken_none {fields = fields} read printed bytes line now count refused c =
     record {
       front = [];
       more = [];
       parts = refl;
       told = Appends-nil now;
-      captured = subst (λ l. IsCaptured l (printed ++ []) line count refused) (sym (append-nil read)) (subst (λ l. IsCaptured read l line count refused) (sym (append-nil printed)) c);
+      captured = subst (λ l. IsCaptured fields l (printed ++ []) line count refused) (sym (append-nil read)) (subst (λ l. IsCaptured fields read l line count refused) (sym (append-nil printed)) c);
     }
 
-pub taken_more : (read printed bytes : List ℕ) (old mid new : Option (List ℕ)) (rest front behind line whole answer : List ℕ) (count number : ℕ) (refused bad : Bool) (decoded : Decoded)
-    → IsTakenTo read printed bytes old mid rest line count refused → IsOneLine front → rest ≡ front ++ (10 ∷ behind) → whole ≡ line ++ front → length whole ≤ 16777216 → number ≡ count + 1 → Decodes whole decoded
-    → Appends mid new answer → answer ≡ answer_text number decoded → bad ≡ is_refused decoded → IsTakenTo read printed bytes old new behind [] number (refused || bad)
-taken_more read printed bytes old mid new rest front behind line whole answer count number refused bad decoded t one parts w short n d told a b =
-    let grown = subst (λ l. IsCaptured ((read ++ t.front) ++ front) (printed ++ t.more) l count refused) (sym w) (captured_part (read ++ t.front) (printed ++ t.more) line front count refused t.captured one (subst (λ l. length l ≤ 16777216) w short)) in
+pub taken_more : {fields : Bool} (read printed bytes : List ℕ) (old mid new : Option (List ℕ)) (rest front behind line whole answer : List ℕ) (count number : ℕ) (refused bad : Bool) (decoded : Decoded)
+    → IsTakenTo fields read printed bytes old mid rest line count refused → IsOneLine front → rest ≡ front ++ (10 ∷ behind) → whole ≡ line ++ front → length whole ≤ 16777216 → number ≡ count + 1 → Decodes fields whole decoded
+    → Appends mid new answer → answer ≡ answer_text number decoded → bad ≡ is_refused decoded → IsTakenTo fields read printed bytes old new behind [] number (refused || bad)
+taken_more {fields = fields} read printed bytes old mid new rest front behind line whole answer count number refused bad decoded t one parts w short n d told a b =
+    let grown = subst (λ l. IsCaptured fields ((read ++ t.front) ++ front) (printed ++ t.more) l count refused) (sym w) (captured_part (read ++ t.front) (printed ++ t.more) line front count refused t.captured one (subst (λ l. length l ≤ 16777216) w short)) in
     let ended = captured_line ((read ++ t.front) ++ front) (printed ++ t.more) whole answer count number refused bad decoded grown n d a b in
     let where_read : ((read ++ t.front) ++ front) ++ (10 ∷ []) ≡ read ++ (t.front ++ (front ++ (10 ∷ []))) = simp append_assoc in
     record {
@@ -197,22 +197,22 @@ taken_more read printed bytes old mid new rest front behind line whole answer co
       more = t.more ++ answer;
       parts = t.parts ∙ ap (λ l. t.front ++ l) (parts ∙ sym (append_assoc front (10 ∷ []) behind)) ∙ sym (append_assoc t.front (front ++ (10 ∷ [])) behind);
       told = Appends-trans _ _ _ _ _ t.told told;
-      captured = subst (λ l. IsCaptured l (printed ++ (t.more ++ answer)) [] number (refused || bad)) where_read
-          (subst (λ l. IsCaptured (((read ++ t.front) ++ front) ++ (10 ∷ [])) l [] number (refused || bad)) (append_assoc printed t.more answer) ended);
+      captured = subst (λ l. IsCaptured fields l (printed ++ (t.more ++ answer)) [] number (refused || bad)) where_read
+          (subst (λ l. IsCaptured fields (((read ++ t.front) ++ front) ++ (10 ∷ [])) l [] number (refused || bad)) (append_assoc printed t.more answer) ended);
     }
 
 -- what is left out of the bytes is left out
-pub taken_some : (read printed bytes : List ℕ) (old new : Option (List ℕ)) (rest line : List ℕ) (count : ℕ) (refused : Bool) → IsTakenTo read printed bytes old new rest line count refused
-    → (more : List ℕ) × Appends old new more × AnswersSome (read ++ bytes) (printed ++ more)
-taken_some read printed bytes old new rest line count refused t = (
+pub taken_some : {fields : Bool} (read printed bytes : List ℕ) (old new : Option (List ℕ)) (rest line : List ℕ) (count : ℕ) (refused : Bool) → IsTakenTo fields read printed bytes old new rest line count refused
+    → (more : List ℕ) × Appends old new more × AnswersSome fields (read ++ bytes) (printed ++ more)
+taken_some {fields = fields} read printed bytes old new rest line count refused t = (
   t.more,
   t.told,
-  subst (λ l. AnswersSome l (printed ++ t.more)) (append_assoc read t.front rest ∙ ap (λ l. read ++ l) (sym t.parts)) (captured_some (read ++ t.front) (printed ++ t.more) line rest count refused t.captured),
+  subst (λ l. AnswersSome fields l (printed ++ t.more)) (append_assoc read t.front rest ∙ ap (λ l. read ++ l) (sym t.parts)) (captured_some (read ++ t.front) (printed ++ t.more) line rest count refused t.captured),
 )
 
 -- where a part of the rest makes the line longer than is taken, the lines before it are answered alone
-taken_long : (read printed bytes : List ℕ) (old new : Option (List ℕ)) (rest line part tail : List ℕ) (count : ℕ) (refused : Bool) → IsTakenTo read printed bytes old new rest line count refused → IsOneLine part → rest ≡ part ++ tail
-    → 16777216 < length (line ++ part) → (more : List ℕ) × Appends old new more × StopsAtLongLine (read ++ bytes) (printed ++ more)
+taken_long : {fields : Bool} (read printed bytes : List ℕ) (old new : Option (List ℕ)) (rest line part tail : List ℕ) (count : ℕ) (refused : Bool) → IsTakenTo fields read printed bytes old new rest line count refused → IsOneLine part → rest ≡ part ++ tail
+    → 16777216 < length (line ++ part) → (more : List ℕ) × Appends old new more × StopsAtLongLine fields (read ++ bytes) (printed ++ more)
 taken_long read printed bytes old new rest line part tail count refused t one parts long = (
   t.more,
   t.told,
@@ -234,8 +234,8 @@ taken_long read printed bytes old new rest line part tail count refused t one pa
 )
 
 -- and where the next line can't be counted, there are too many bytes
-pub taken_many : (read printed bytes : List ℕ) (old new : Option (List ℕ)) (rest line : List ℕ) (count : ℕ) (refused : Bool) → IsTakenTo read printed bytes old new rest line count refused → 2 ^ 64 ≤ count + 1
-    → (more : List ℕ) × Appends old new more × StopsAtCount (read ++ bytes) (printed ++ more)
+pub taken_many : {fields : Bool} (read printed bytes : List ℕ) (old new : Option (List ℕ)) (rest line : List ℕ) (count : ℕ) (refused : Bool) → IsTakenTo fields read printed bytes old new rest line count refused → 2 ^ 64 ≤ count + 1
+    → (more : List ℕ) × Appends old new more × StopsAtCount fields (read ++ bytes) (printed ++ more)
 taken_many read printed bytes old new rest line count refused t many =
     let some = taken_some read printed bytes old new rest line count refused t in
     let served = served_count (read ++ t.front) (printed ++ t.more) line count refused t.captured in
@@ -247,8 +247,8 @@ short_next [] tail one short (inl none) = subst (λ l. IsFirstShort l) (sym (ap 
 short_next (b ∷ line) tail one short (inl none) = subst (λ l. IsFirstShort l) (sym (ap (λ t. lines_of ((b ∷ line) ++ t)) none ∙ ap lines_of (append-nil (b ∷ line)) ∙ lines_last b line one)) short
 short_next line tail one short (inr more) = subst (λ l. IsFirstShort l) (sym (ap (λ t. lines_of (line ++ t)) more.1 ∙ lines_cut line more.0 one)) short
 
-taken_memory : (read printed bytes : List ℕ) (old new : Option (List ℕ)) (rest line part tail : List ℕ) (count : ℕ) (refused : Bool) → IsTakenTo read printed bytes old new rest line count refused → IsOneLine part
-    → rest ≡ part ++ tail → (tail ≡ []) ⊎ ((behind : List ℕ) × (tail ≡ 10 ∷ behind)) → length (line ++ part) ≤ 16777216 → (more : List ℕ) × Appends old new more × StopsAtMemory (length bytes) (read ++ bytes) (printed ++ more)
+taken_memory : {fields : Bool} (read printed bytes : List ℕ) (old new : Option (List ℕ)) (rest line part tail : List ℕ) (count : ℕ) (refused : Bool) → IsTakenTo fields read printed bytes old new rest line count refused → IsOneLine part
+    → rest ≡ part ++ tail → (tail ≡ []) ⊎ ((behind : List ℕ) × (tail ≡ 10 ∷ behind)) → length (line ++ part) ≤ 16777216 → (more : List ℕ) × Appends old new more × StopsAtMemory fields (length bytes) (read ++ bytes) (printed ++ more)
 taken_memory read printed bytes old new rest line part tail count refused t one parts ends short = (
   t.more,
   t.told,
@@ -271,28 +271,28 @@ taken_memory read printed bytes old new rest line part tail count refused t one 
 )
 
 -- whatever stops the line from growing
-pub taken_stopped : (stop : Stop) (read printed bytes : List ℕ) (old new : Option (List ℕ)) (rest line part tail : List ℕ) (count : ℕ) (refused : Bool) → IsTakenTo read printed bytes old new rest line count refused → IsOneLine part
-    → rest ≡ part ++ tail → (tail ≡ []) ⊎ ((behind : List ℕ) × (tail ≡ 10 ∷ behind)) → Overfills line part stop → (more : List ℕ) × Appends old new more × StopsFor stop (length bytes) (read ++ bytes) (printed ++ more)
+pub taken_stopped : {fields : Bool} (stop : Stop) (read printed bytes : List ℕ) (old new : Option (List ℕ)) (rest line part tail : List ℕ) (count : ℕ) (refused : Bool) → IsTakenTo fields read printed bytes old new rest line count refused → IsOneLine part
+    → rest ≡ part ++ tail → (tail ≡ []) ⊎ ((behind : List ℕ) × (tail ≡ 10 ∷ behind)) → Overfills line part stop → (more : List ℕ) × Appends old new more × StopsFor fields stop (length bytes) (read ++ bytes) (printed ++ more)
 taken_stopped stops.TooLong read printed bytes old new rest line part tail count refused t one parts ends over = taken_long read printed bytes old new rest line part tail count refused t one parts over
 taken_stopped stops.TooMany read printed bytes old new rest line part tail count refused t one parts ends over = absurd over
 taken_stopped stops.Memory read printed bytes old new rest line part tail count refused t one parts ends over = taken_memory read printed bytes old new rest line part tail count refused t one parts ends over
 
 -- and where the rest is a part of a line, all is taken
-pub taken_all : (read printed bytes : List ℕ) (old new : Option (List ℕ)) (rest line whole : List ℕ) (count : ℕ) (refused : Bool) → IsTakenTo read printed bytes old new rest line count refused → IsOneLine rest → whole ≡ line ++ rest → length whole ≤ 16777216
-    → TakesBytes read printed bytes old new whole (lots.Whole count refused)
-taken_all read printed bytes old new rest line whole count refused t one w short = (
+pub taken_all : {fields : Bool} (read printed bytes : List ℕ) (old new : Option (List ℕ)) (rest line whole : List ℕ) (count : ℕ) (refused : Bool) → IsTakenTo fields read printed bytes old new rest line count refused → IsOneLine rest → whole ≡ line ++ rest → length whole ≤ 16777216
+    → TakesBytes fields read printed bytes old new whole (lots.Whole count refused)
+taken_all {fields = fields} read printed bytes old new rest line whole count refused t one w short = (
   t.more,
   t.told,
-  subst (λ l. IsCaptured l (printed ++ t.more) whole count refused) (append_assoc read t.front rest ∙ ap (λ l. read ++ l) (sym t.parts))
-      (subst (λ l. IsCaptured ((read ++ t.front) ++ rest) (printed ++ t.more) l count refused) (sym w) (captured_part (read ++ t.front) (printed ++ t.more) line rest count refused t.captured one (subst (λ l. length l ≤ 16777216) w short))),
+  subst (λ l. IsCaptured fields l (printed ++ t.more) whole count refused) (append_assoc read t.front rest ∙ ap (λ l. read ++ l) (sym t.parts))
+      (subst (λ l. IsCaptured fields ((read ++ t.front) ++ rest) (printed ++ t.more) l count refused) (sym w) (captured_part (read ++ t.front) (printed ++ t.more) line rest count refused t.captured one (subst (λ l. length l ≤ 16777216) w short))),
 )
 
-pub read_none : (first : Stream) (old : Option (List ℕ)) → IsReadTo first first old old [] 0 0 false
+pub read_none : {fields : Bool} (first : Stream) (old : Option (List ℕ)) → IsReadTo fields first first old old [] 0 0 false
 read_none first old =
     record { read = []; printed = []; consumed = Consumes-nil first.bytes; breaks = λ b. b; told = Appends-nil old; captured = captured_none; many = omega arith }
 
-pub read_more : (first mid now : Stream) (old was new : Option (List ℕ)) (line bytes after : List ℕ) (count number reads : ℕ) (refused bad : Bool) → (r : IsReadTo first mid old was line count reads refused) → Consumes mid.bytes now.bytes bytes
-    → (now.may_break ≡ true → mid.may_break ≡ true) → 1 ≤ length bytes → TakesBytes r.read r.printed bytes was new after (lots.Whole number bad) → IsReadTo first now old new after number (reads + 1) bad
+pub read_more : {fields : Bool} (first mid now : Stream) (old was new : Option (List ℕ)) (line bytes after : List ℕ) (count number reads : ℕ) (refused bad : Bool) → (r : IsReadTo fields first mid old was line count reads refused) → Consumes mid.bytes now.bytes bytes
+    → (now.may_break ≡ true → mid.may_break ≡ true) → 1 ≤ length bytes → TakesBytes fields r.read r.printed bytes was new after (lots.Whole number bad) → IsReadTo fields first now old new after number (reads + 1) bad
 read_more first mid now old was new line bytes after count number reads refused bad r consumed breaks some t =
     record {
       read = r.read ++ bytes;
@@ -304,10 +304,10 @@ read_more first mid now old was new line bytes after count number reads refused 
       many = omega (arith, some, r.many, length-append r.read bytes);
     }
 
-captured_so_far : (read printed line : List ℕ) (count : ℕ) (refused : Bool) → IsCaptured read printed line count refused → AnswersSome read printed
-captured_so_far read printed line count refused c = subst (λ l. AnswersSome l printed) (append-nil read) (captured_some read printed line [] count refused c)
+captured_so_far : {fields : Bool} (read printed line : List ℕ) (count : ℕ) (refused : Bool) → IsCaptured fields read printed line count refused → AnswersSome fields read printed
+captured_so_far {fields = fields} read printed line count refused c = subst (λ l. AnswersSome fields l printed) (append-nil read) (captured_some read printed line [] count refused c)
 
-captured_whole : (read printed line : List ℕ) (count : ℕ) (refused : Bool) → IsCaptured read printed line count refused → AnswersWhole read printed
+captured_whole : {fields : Bool} (read printed line : List ℕ) (count : ℕ) (refused : Bool) → IsCaptured fields read printed line count refused → AnswersWhole fields read printed
 captured_whole read printed line count refused c =
     record {
       served = c.served;
@@ -320,18 +320,18 @@ captured_whole read printed line count refused c =
     }
 
 -- where the stream breaks the run ends
-pub broken_at : (first mid now : Stream) (old new : Option (List ℕ)) (line : List ℕ) (count reads : ℕ) (refused : Bool) → IsReadTo first mid old new line count reads refused → mid.may_break ≡ true → Keeps mid.bytes now.bytes
-    → (printed : List ℕ) × Appends old new printed × DecodesLines first now printed endings.Unreadable
+pub broken_at : {fields : Bool} (first mid now : Stream) (old new : Option (List ℕ)) (line : List ℕ) (count reads : ℕ) (refused : Bool) → IsReadTo fields first mid old new line count reads refused → mid.may_break ≡ true → Keeps mid.bytes now.bytes
+    → (printed : List ℕ) × Appends old new printed × DecodesLines fields first now printed endings.Unreadable
 broken_at first mid now old new line count reads refused r broke kept =
     (r.printed, r.told, (r.read, Consumes-kept _ _ _ _ r.consumed kept, inl (r.breaks broke, captured_whole r.read r.printed line count refused r.captured)))
 
 -- and after more reads than can be counted
-pub endless_at : (first now : Stream) (old new : Option (List ℕ)) (line : List ℕ) (count reads : ℕ) (refused : Bool) → IsReadTo first now old new line count reads refused → 2 ^ 64 ≤ reads + 1
-    → (printed : List ℕ) × Appends old new printed × DecodesLines first now printed endings.Unreadable
+pub endless_at : {fields : Bool} (first now : Stream) (old new : Option (List ℕ)) (line : List ℕ) (count reads : ℕ) (refused : Bool) → IsReadTo fields first now old new line count reads refused → 2 ^ 64 ≤ reads + 1
+    → (printed : List ℕ) × Appends old new printed × DecodesLines fields first now printed endings.Unreadable
 endless_at first now old new line count reads refused r many =
     (r.printed, r.told, (r.read, r.consumed, inr (inr (captured_so_far r.read r.printed line count refused r.captured, omega (arith, many, r.many)))))
 
-memory_later : (came limit : ℕ) (text printed : List ℕ) → came ≤ limit → StopsAtMemory came text printed → StopsAtMemory limit text printed
+memory_later : {fields : Bool} (came limit : ℕ) (text printed : List ℕ) → came ≤ limit → StopsAtMemory fields came text printed → StopsAtMemory fields limit text printed
 memory_later came limit text printed low s =
     record {
       served = s.served;
@@ -344,9 +344,9 @@ memory_later came limit text printed low s =
     }
 
 -- and where no line is answered any more
-pub stopped : (stop : Stop) (first mid now : Stream) (old was new : Option (List ℕ)) (line bytes : List ℕ) (count reads : ℕ) (refused : Bool) → (r : IsReadTo first mid old was line count reads refused) → Consumes mid.bytes now.bytes bytes
-    → length bytes ≤ 65536 → (more : List ℕ) × Appends was new more × StopsFor stop (length bytes) (r.read ++ bytes) (r.printed ++ more)
-    → (printed : List ℕ) × Appends old new printed × DecodesLines first now printed (ending_of stop)
+pub stopped : {fields : Bool} (stop : Stop) (first mid now : Stream) (old was new : Option (List ℕ)) (line bytes : List ℕ) (count reads : ℕ) (refused : Bool) → (r : IsReadTo fields first mid old was line count reads refused) → Consumes mid.bytes now.bytes bytes
+    → length bytes ≤ 65536 → (more : List ℕ) × Appends was new more × StopsFor fields stop (length bytes) (r.read ++ bytes) (r.printed ++ more)
+    → (printed : List ℕ) × Appends old new printed × DecodesLines fields first now printed (ending_of stop)
 stopped stops.TooLong first mid now old was new line bytes count reads refused r consumed low t =
     (r.printed ++ t.0, Appends-trans _ _ _ _ _ r.told t.1, (r.read ++ bytes, Consumes-trans _ _ _ _ _ r.consumed consumed, inr (inl t.2)))
 stopped stops.TooMany first mid now old was new line bytes count reads refused r consumed low t =
@@ -362,8 +362,8 @@ all_read : (first mid now : Option (List ℕ)) (read room : List ℕ) (len : ℕ
 all_read first mid now read room len c d e = subst (Consumes first now) (ap (λ n. read ++ take n room) e ∙ ap (λ l. read ++ l) (take_none room) ∙ append-nil read) (Consumes-trans _ _ _ _ _ c d)
 
 -- what is left once all was read ends the run
-pub finished : (first mid now : Stream) (old was new : Option (List ℕ)) (line room : List ℕ) (count reads len : ℕ) (refused : Bool) (ending : Ending) → (r : IsReadTo first mid old was line count reads refused)
-    → Consumes mid.bytes now.bytes (take len room) → IsAtEnd now.bytes → len ≡ 0 → Finishes r.read r.printed was new ending → (printed : List ℕ) × Appends old new printed × DecodesLines first now printed ending
+pub finished : {fields : Bool} (first mid now : Stream) (old was new : Option (List ℕ)) (line room : List ℕ) (count reads len : ℕ) (refused : Bool) (ending : Ending) → (r : IsReadTo fields first mid old was line count reads refused)
+    → Consumes mid.bytes now.bytes (take len room) → IsAtEnd now.bytes → len ≡ 0 → Finishes fields r.read r.printed was new ending → (printed : List ℕ) × Appends old new printed × DecodesLines fields first now printed ending
 finished first mid now old was new line room count reads len refused (endings.Done any) r c end none f =
     (r.printed ++ f.0, Appends-trans _ _ _ _ _ r.told f.1, (r.read, all_read _ _ _ r.read room len r.consumed c none, end, f.2))
 finished first mid now old was new line room count reads len refused endings.Unreadable r c end none f =
@@ -379,7 +379,7 @@ when_no P None none h = h
 when_no P (Some x) none h = absurd (none x refl)
 
 -- before anything was read nothing was answered
-pub memory_at_first : (first : Stream) (old : Option (List ℕ)) → (printed : List ℕ) × Appends old old printed × DecodesLines first first printed endings.Memory
+pub memory_at_first : {fields : Bool} (first : Stream) (old : Option (List ℕ)) → (printed : List ℕ) × Appends old old printed × DecodesLines fields first first printed endings.Memory
 memory_at_first first old = (
   [],
   Appends-nil old,

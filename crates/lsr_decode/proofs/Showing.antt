@@ -8,19 +8,24 @@ use Rattle.rsvp_contents.specs.declared.message.Reading.{Reading}
 use Rattle.rsvp_contents.specs.Answers.{IsTold}
 use Rattle.std.specs.List.{flat_map}
 use Rattle.std.proofs.lemmas.List.Concat.{flat_map-append}
-use Rattle.rsvp_objects.specs.Raw.{Raw, object_bytes}
+use Rattle.rsvp_objects.specs.Raw.{Raw}
+use Rattle.rsvp_objects.specs.declared.object.Object.{Object}
 use Rattle.rsvp_contents.specs.Spelling.{IsFirstFault, SpellsReading, header_fault}
-use Rattle.lsr_decode.specs.Decoding.{RefusesMessage, object_line}
+use Rattle.lsr_decode.specs.Decoding.{RefusesMessage, bytes_of, object_lines}
 
 flat_push : {A : Type 0} (f : A → List ℕ) (xs : List A) (x : A) → flat_map f (xs ++ (x ∷ [])) ≡ flat_map f xs ++ f x
 flat_push f xs x = flat_map-append f xs (x ∷ []) ∙ ap (λ l. flat_map f xs ++ l) (append-nil (f x))
 
-pub parts_push : (bytes rest left : List ℕ) (raws : List Raw) (raw : Raw) → bytes ≡ flat_map object_bytes raws ++ rest → rest ≡ object_bytes raw ++ left → bytes ≡ flat_map object_bytes (raws ++ (raw ∷ [])) ++ left
-parts_push bytes rest left raws raw e f =
-    e ∙ ap (λ l. flat_map object_bytes raws ++ l) f ∙ sym (append_assoc (flat_map object_bytes raws) (object_bytes raw) left) ∙ ap (λ l. l ++ left) (sym (flat_push object_bytes raws raw))
+pub parts_push : (bytes rest left : List ℕ) (objects : List (Raw × Object)) (o : Raw × Object) → bytes ≡ flat_map bytes_of objects ++ rest → rest ≡ bytes_of o ++ left → bytes ≡ flat_map bytes_of (objects ++ (o ∷ [])) ++ left
+parts_push bytes rest left objects o e f =
+    e ∙ ap (λ l. flat_map bytes_of objects ++ l) f ∙ sym (append_assoc (flat_map bytes_of objects) (bytes_of o) left) ∙ ap (λ l. l ++ left) (sym (flat_push bytes_of objects o))
 
-pub lines_push : (old new : List ℕ) (raws : List Raw) (raw : Raw) → old ≡ flat_map object_line raws → new ≡ old ++ object_line raw → new ≡ flat_map object_line (raws ++ (raw ∷ []))
-lines_push old new raws raw e f = f ∙ ap (λ l. l ++ object_line raw) e ∙ sym (flat_push object_line raws raw)
+pub lines_push : (fields : Bool) (old new : List ℕ) (objects : List (Raw × Object)) (o : Raw × Object) → old ≡ flat_map (object_lines fields) objects → new ≡ old ++ object_lines fields o → new ≡ flat_map (object_lines fields) (objects ++ (o ∷ []))
+lines_push fields old new objects o e f = f ∙ ap (λ l. l ++ object_lines fields o) e ∙ sym (flat_push (object_lines fields) objects o)
+
+-- where nothing is left they are all
+pub all_parts : (bytes rest parts : List ℕ) → bytes ≡ parts ++ rest → rest ≡ [] → bytes ≡ parts
+all_parts bytes rest parts e none = e ∙ ap (λ l. parts ++ l) none ∙ append-nil parts
 
 not_short : (b : Bool) (fault : Dropped) (rest : Option Dropped) → (if b then Some fault else rest) ≡ None → b ≡ false
 not_short true fault rest h = let t = h in cc

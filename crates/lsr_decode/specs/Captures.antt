@@ -40,10 +40,10 @@ is_refused answers.Memory = true
 
 -- These lines, the newest first, were answered in their order, and so much was printed; whether any was refused. Each has at
 -- most 16,777,216 bytes.
-abbrev pub Answered : List (List ℕ) → List ℕ → Bool → Type 0
-Answered [] printed refused = (printed ≡ []) × (refused ≡ false)
-Answered (line ∷ earlier) printed refused =
-    (before : List ℕ) × (was : Bool) × (decoded : Decoded) × Answered earlier before was × Decodes line decoded
+abbrev pub Answered : Bool → List (List ℕ) → List ℕ → Bool → Type 0
+Answered fields [] printed refused = (printed ≡ []) × (refused ≡ false)
+Answered fields (line ∷ earlier) printed refused =
+    (before : List ℕ) × (was : Bool) × (decoded : Decoded) × Answered fields earlier before was × Decodes fields line decoded
     × (printed ≡ before ++ answer_text (length earlier + 1) decoded) × (refused ≡ (was || is_refused decoded))
     × (length line ≤ 16777216)
 
@@ -53,38 +53,38 @@ onto [] lines = lines
 onto (line ∷ earlier) lines = onto earlier (line ∷ lines)
 
 -- All lines of a text were answered.
-pub record AnswersAll (text printed : List ℕ) (refused : Bool) : Type 0 where
+pub record AnswersAll (fields : Bool) (text printed : List ℕ) (refused : Bool) : Type 0 where
   pub served : List (List ℕ)
   pub lines : lines_of text ≡ onto served []
-  pub answered : Answered served printed refused
+  pub answered : Answered fields served printed refused
 
 -- The first lines of a text were answered, whatever stands behind the text.
-pub record AnswersSome (text printed : List ℕ) : Type 0 where
+pub record AnswersSome (fields : Bool) (text printed : List ℕ) : Type 0 where
   pub served : List (List ℕ)
   pub refused : Bool
   pub lines : (more : List ℕ) → (behind : List (List ℕ)) × (lines_of (text ++ more) ≡ onto served behind)
-  pub answered : Answered served printed refused
+  pub answered : Answered fields served printed refused
 
 -- All lines of a text that are over were answered, and this is the last one, as far as the text goes.
-pub record AnswersWhole (text printed : List ℕ) : Type 0 where
+pub record AnswersWhole (fields : Bool) (text printed : List ℕ) : Type 0 where
   pub served : List (List ℕ)
   pub refused : Bool
   pub last : List ℕ
   pub lines : (more : List ℕ) → lines_of (text ++ more) ≡ onto served (lines_of (last ++ more))
   pub one : IsOneLine last
   pub short : length last ≤ 16777216
-  pub answered : Answered served printed refused
+  pub answered : Answered fields served printed refused
 
 -- The first lines of a text were answered, and the next one has more than 16,777,216 bytes, whatever stands behind the text.
-pub record StopsAtLongLine (text printed : List ℕ) : Type 0 where
+pub record StopsAtLongLine (fields : Bool) (text printed : List ℕ) : Type 0 where
   pub served : List (List ℕ)
   pub refused : Bool
   pub lines : (more : List ℕ) → (line : List ℕ) × (behind : List (List ℕ)) × (lines_of (text ++ more) ≡ onto served (line ∷ behind)) × (16777216 < length line)
-  pub answered : Answered served printed refused
+  pub answered : Answered fields served printed refused
 
 -- The first lines of a text were answered, and it has 2^64 - 1 bytes or more, so that not all can be counted.
-abbrev pub StopsAtCount : List ℕ → List ℕ → Type 0
-StopsAtCount text printed = AnswersSome text printed × (2 ^ 64 ≤ length text + 1)
+abbrev pub StopsAtCount : Bool → List ℕ → List ℕ → Type 0
+StopsAtCount fields text printed = AnswersSome fields text printed × (2 ^ 64 ≤ length text + 1)
 
 -- the first of lines, if there is one, has at most 16,777,216 bytes
 abbrev pub IsFirstShort : List (List ℕ) → Type 0
@@ -93,20 +93,20 @@ IsFirstShort (line ∷ lines) = length line ≤ 16777216
 
 -- The first lines of a text were answered, whatever stands behind the text, and the next one, as far as the text goes, has at
 -- most 16,777,216 bytes. What of the text isn't answered has at most that many bytes and these, which came last.
-pub record StopsAtMemory (came : ℕ) (text printed : List ℕ) : Type 0 where
+pub record StopsAtMemory (fields : Bool) (came : ℕ) (text printed : List ℕ) : Type 0 where
   pub served : List (List ℕ)
   pub refused : Bool
   pub rest : List ℕ
   pub lines : (more : List ℕ) → lines_of (text ++ more) ≡ onto served (lines_of (rest ++ more))
-  pub answered : Answered served printed refused
+  pub answered : Answered fields served printed refused
   pub short : IsFirstShort (lines_of rest)
   pub late : length rest ≤ 16777216 + came
 
 -- why no line of a text is answered any more, of which so many bytes came last
-abbrev pub StopsFor : Stop → ℕ → List ℕ → List ℕ → Type 0
-StopsFor stops.TooLong came text printed = StopsAtLongLine text printed
-StopsFor stops.TooMany came text printed = StopsAtCount text printed
-StopsFor stops.Memory came text printed = StopsAtMemory came text printed
+abbrev pub StopsFor : Bool → Stop → ℕ → List ℕ → List ℕ → Type 0
+StopsFor fields stops.TooLong came text printed = StopsAtLongLine fields text printed
+StopsFor fields stops.TooMany came text printed = StopsAtCount fields text printed
+StopsFor fields stops.Memory came text printed = StopsAtMemory fields came text printed
 
 -- why bytes aren't appended to a line: it would have more than 16,777,216, or it wouldn't and there is no memory for them
 abbrev pub Overfills : List ℕ → List ℕ → Stop → Type 0
@@ -115,36 +115,36 @@ Overfills line bytes stops.TooMany = ⊥
 Overfills line bytes stops.Memory = length (line ++ bytes) ≤ 16777216
 
 -- So far was read: the lines that are over were answered, and this is the last one, as far as it goes.
-pub record IsCaptured (read printed line : List ℕ) (count : ℕ) (refused : Bool) : Type 0 where
+pub record IsCaptured (fields : Bool) (read printed line : List ℕ) (count : ℕ) (refused : Bool) : Type 0 where
   pub served : List (List ℕ)
   pub lines : (more : List ℕ) → lines_of (read ++ more) ≡ onto served (lines_of (line ++ more))
-  pub answered : Answered served printed refused
+  pub answered : Answered fields served printed refused
   pub counted : count ≡ length served
   pub one : IsOneLine line
   pub short : length line ≤ 16777216
 
 -- what becomes of bytes that are read next
-abbrev pub TakesBytes : List ℕ → List ℕ → List ℕ → Option (List ℕ) → Option (List ℕ) → List ℕ → Taken → Type 0
-TakesBytes read printed bytes old new line (lots.Whole count refused) =
-    (more : List ℕ) × Appends old new more × IsCaptured (read ++ bytes) (printed ++ more) line count refused
-TakesBytes read printed bytes old new line (lots.Stopped stop) =
-    (more : List ℕ) × Appends old new more × StopsFor stop (length bytes) (read ++ bytes) (printed ++ more)
+abbrev pub TakesBytes : Bool → List ℕ → List ℕ → List ℕ → Option (List ℕ) → Option (List ℕ) → List ℕ → Taken → Type 0
+TakesBytes fields read printed bytes old new line (lots.Whole count refused) =
+    (more : List ℕ) × Appends old new more × IsCaptured fields (read ++ bytes) (printed ++ more) line count refused
+TakesBytes fields read printed bytes old new line (lots.Stopped stop) =
+    (more : List ℕ) × Appends old new more × StopsFor fields stop (length bytes) (read ++ bytes) (printed ++ more)
 
 -- how a run ends once all was read
-abbrev pub Finishes : List ℕ → List ℕ → Option (List ℕ) → Option (List ℕ) → Ending → Type 0
-Finishes read printed old new (endings.Done refused) = (more : List ℕ) × Appends old new more × AnswersAll read (printed ++ more) refused
-Finishes read printed old new endings.Unreadable = (more : List ℕ) × Appends old new more × StopsAtCount read (printed ++ more)
-Finishes read printed old new endings.Memory = ⊥
+abbrev pub Finishes : Bool → List ℕ → List ℕ → Option (List ℕ) → Option (List ℕ) → Ending → Type 0
+Finishes fields read printed old new (endings.Done refused) = (more : List ℕ) × Appends old new more × AnswersAll fields read (printed ++ more) refused
+Finishes fields read printed old new endings.Unreadable = (more : List ℕ) × Appends old new more × StopsAtCount fields read (printed ++ more)
+Finishes fields read printed old new endings.Memory = ⊥
 
 -- So far was read of a stream, which was the first one and is the other now, by so many reads that each gave a byte or more;
 -- so much was printed.
-pub record IsReadTo (first now : Stream) (before after : Option (List ℕ)) (line : List ℕ) (count reads : ℕ) (refused : Bool) : Type 0 where
+pub record IsReadTo (fields : Bool) (first now : Stream) (before after : Option (List ℕ)) (line : List ℕ) (count reads : ℕ) (refused : Bool) : Type 0 where
   pub read : List ℕ
   pub printed : List ℕ
   pub consumed : Consumes first.bytes now.bytes read
   pub breaks : now.may_break ≡ true → first.may_break ≡ true
   pub told : Appends before after printed
-  pub captured : IsCaptured read printed line count refused
+  pub captured : IsCaptured fields read printed line count refused
   pub many : reads ≤ length read
 
 -- how a run ends that answers no line any more
@@ -155,25 +155,25 @@ ending_of stops.Memory = endings.Memory
 
 -- Why an input is unreadable behind the lines of the text that was read of it: its stream may break, and all lines that were
 -- read whole were answered; or the next line has more than 16,777,216 bytes; or the text has 2^64 - 1 bytes or more.
-abbrev pub IsUnreadable : Bool → List ℕ → List ℕ → Type 0
-IsUnreadable may_break text printed =
-    ((may_break ≡ true) × AnswersWhole text printed) ⊎ (StopsAtLongLine text printed ⊎ StopsAtCount text printed)
+abbrev pub IsUnreadable : Bool → Bool → List ℕ → List ℕ → Type 0
+IsUnreadable fields may_break text printed =
+    ((may_break ≡ true) × AnswersWhole fields text printed) ⊎ (StopsAtLongLine fields text printed ⊎ StopsAtCount fields text printed)
 
 -- What is printed for a stream, which was the first one and is the other now, so that a text was read of it: where it is at its
 -- end the answers to all lines of that text, none of which has more than 16,777,216 bytes; or to the first ones, where the
 -- stream is unreadable, or where memory ran out before the next was found to be too long: then what isn't answered is that
 -- line, as far as it was read, and what came with the last read, which has at most 65,536 bytes.
-abbrev pub DecodesLines : Stream → Stream → List ℕ → Ending → Type 0
-DecodesLines first now printed (endings.Done refused) =
-    (text : List ℕ) × Consumes first.bytes now.bytes text × IsAtEnd now.bytes × AnswersAll text printed refused
-DecodesLines first now printed endings.Unreadable =
-    (text : List ℕ) × Consumes first.bytes now.bytes text × IsUnreadable first.may_break text printed
-DecodesLines first now printed endings.Memory = (text : List ℕ) × Consumes first.bytes now.bytes text × StopsAtMemory 65536 text printed
+abbrev pub DecodesLines : Bool → Stream → Stream → List ℕ → Ending → Type 0
+DecodesLines fields first now printed (endings.Done refused) =
+    (text : List ℕ) × Consumes first.bytes now.bytes text × IsAtEnd now.bytes × AnswersAll fields text printed refused
+DecodesLines fields first now printed endings.Unreadable =
+    (text : List ℕ) × Consumes first.bytes now.bytes text × IsUnreadable fields first.may_break text printed
+DecodesLines fields first now printed endings.Memory = (text : List ℕ) × Consumes first.bytes now.bytes text × StopsAtMemory fields 65536 text printed
 
 -- what becomes of one more read
-abbrev pub TurnsTo : Stream → Stream → Option (List ℕ) → Option (List ℕ) → List ℕ → ℕ → Turn → Type 0
-TurnsTo first now before after line reads (turns.More count refused) = IsReadTo first now before after line count reads refused
-TurnsTo first now before after line reads (turns.Over ending) = (printed : List ℕ) × Appends before after printed × DecodesLines first now printed ending
+abbrev pub TurnsTo : Bool → Stream → Stream → Option (List ℕ) → Option (List ℕ) → List ℕ → ℕ → Turn → Type 0
+TurnsTo fields first now before after line reads (turns.More count refused) = IsReadTo fields first now before after line count reads refused
+TurnsTo fields first now before after line reads (turns.Over ending) = (printed : List ℕ) × Appends before after printed × DecodesLines fields first now printed ending
 
 -- what is told on the error stream
 abbrev pub ending_text : Ending → List ℕ
@@ -190,9 +190,9 @@ ending_status endings.Memory = 1
 
 -- What becomes of a word: `-` stands for the lines of the input, each of which is answered; any other word is decoded, and
 -- the input isn't read.
-abbrev pub DecodesWord : List ℕ → Stream → Stream → Option (List ℕ) → Option (List ℕ) → Option (List ℕ) → Option (List ℕ) → ℕ → Type 0
-DecodesWord word input left output printed error told status =
-    ((word ≡ codes "-") × ((ending : Ending) × (text : List ℕ) × (status ≡ ending_status ending) × DecodesLines input left text ending
+abbrev pub DecodesWord : Bool → List ℕ → Stream → Stream → Option (List ℕ) → Option (List ℕ) → Option (List ℕ) → Option (List ℕ) → ℕ → Type 0
+DecodesWord fields word input left output printed error told status =
+    ((word ≡ codes "-") × ((ending : Ending) × (text : List ℕ) × (status ≡ ending_status ending) × DecodesLines fields input left text ending
     × Appends output printed text × Appends error told (ending_text ending)))
-    ⊎ ((word ≢ codes "-") × ((decoded : Decoded) × Decodes word decoded × (status ≡ decoded_status decoded) × (left ≡ input)
+    ⊎ ((word ≢ codes "-") × ((decoded : Decoded) × Decodes fields word decoded × (status ≡ decoded_status decoded) × (left ≡ input)
     × Appends output printed (shown_text decoded) × Appends error told (told_text decoded)))

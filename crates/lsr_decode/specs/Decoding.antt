@@ -1,10 +1,13 @@
 -- What `decode` prints for a message.
-use Rattle.std.specs.Prelude.{◌≡◌, ℕ, ◌%◌, List, [], ◌∷◌, ◌++◌, None, false, true, length, drop, codes, flat_map, Ok, string_bytes}
+use Rattle.std.specs.Prelude.{◌≡◌, ℕ, ◌%◌, List, [], ◌∷◌, ◌++◌, None, Bool, false, true, length, drop, codes, flat_map, Ok, string_bytes, if◌then◌else◌}
 use Rattle.std.specs.Char.{is_ascii_hexdigit}
-use Rattle.std.specs.List.{list_all}
+use Rattle.std.specs.List.{All, list_all}
 use Rattle.std.specs.Fmt.{decimal}
 use Rattle.hex.specs.Hex.{encode_lower, decode_of}
+use Rattle.rsvp_objects.specs.Objects.{SpellsObject}
 use Rattle.rsvp_objects.specs.Raw.{Raw, object_bytes}
+use Rattle.rsvp_objects.specs.declared.object.Object.{Object}
+use Rattle.object_text.specs.Fields.{fields_text}
 use Rattle.rsvp_contents.specs.declared.dropped.Dropped.{Dropped}
 use Rattle.rsvp_contents.specs.declared.dropped.Dropped.TheVariants.{NoMemory}
 use Rattle.rsvp_contents.specs.declared.message.Reading.{Reading}
@@ -39,18 +42,33 @@ object_line raw = decimal raw.class ++ (codes " " ++ (decimal raw.ctype ++ (body
 abbrev pub message_lines : Content → ℕ → List ℕ → List ℕ
 message_lines content size lines = kind_of content ++ (codes " " ++ (decimal size ++ (codes "\n" ++ lines)))
 
--- The objects stand behind the message's header of eight bytes, one behind the other; each has its line.
-pub record ShowsObjects (bytes printed : List ℕ) : Type 0 where
-  pub raws : List Raw
-  pub parts : bytes ≡ flat_map object_bytes raws
-  pub lines : printed ≡ flat_map object_line raws
+-- the lines of an object: that of its class, its C-Type and its body; and with fields those of what it says
+abbrev pub fields_lines : Bool → Object → List ℕ
+fields_lines fields object = if fields then fields_text object else []
+
+abbrev pub object_lines : Bool → Raw × Object → List ℕ
+object_lines fields o = object_line o.0 ++ fields_lines fields o.1
+
+abbrev pub bytes_of : Raw × Object → List ℕ
+bytes_of o = object_bytes o.0
+
+-- the bytes of an object say this
+abbrev pub IsSpelled : Raw × Object → Type 0
+IsSpelled o = SpellsObject (bytes_of o) o.1
+
+-- The objects stand behind the message's header of eight bytes, one behind the other; each has its lines.
+pub record ShowsObjects (fields : Bool) (bytes printed : List ℕ) : Type 0 where
+  pub objects : List (Raw × Object)
+  pub spelled : All IsSpelled objects
+  pub parts : bytes ≡ flat_map bytes_of objects
+  pub lines : printed ≡ flat_map (object_lines fields) objects
 
 -- The bytes are read as a message: the line of its type, and behind it those of its objects.
-pub record ShowsMessage (bytes printed : List ℕ) : Type 0 where
+pub record ShowsMessage (fields : Bool) (bytes printed : List ℕ) : Type 0 where
   pub reading : Reading
   pub spelled : SpellsReading bytes reading
   pub lines : List ℕ
-  pub objects : ShowsObjects (drop 8 bytes) lines
+  pub objects : ShowsObjects fields (drop 8 bytes) lines
   pub shown : printed ≡ message_lines (content_in reading) (length bytes) lines
 
 -- the bytes are read as no message, for this first fault; or their common header has no fault, and there was no memory to
@@ -65,12 +83,12 @@ IsNotHex word = (bytes : List ℕ) → decode_of word ≡ Ok bytes → ⊥
 
 -- What a word is decoded as, where it is the bytes of a message in hexadecimal digits; and else whether all of it are digits,
 -- of which there is then an odd number. Memory runs out for no word with an odd number of bytes.
-abbrev pub Decodes : List ℕ → Decoded → Type 0
-Decodes word (answers.Shown text) = (bytes : List ℕ) × (decode_of word ≡ Ok bytes) × ShowsMessage bytes (string_bytes text)
-Decodes word (answers.Refused fault) = (bytes : List ℕ) × (decode_of word ≡ Ok bytes) × RefusesMessage bytes fault
-Decodes word answers.NoDigits = IsNotHex word × (list_all is_ascii_hexdigit word ≡ false)
-Decodes word answers.OddDigits = IsNotHex word × (list_all is_ascii_hexdigit word ≡ true)
-Decodes word answers.Memory = length word % 2 ≡ 0
+abbrev pub Decodes : Bool → List ℕ → Decoded → Type 0
+Decodes fields word (answers.Shown text) = (bytes : List ℕ) × (decode_of word ≡ Ok bytes) × ShowsMessage fields bytes (string_bytes text)
+Decodes fields word (answers.Refused fault) = (bytes : List ℕ) × (decode_of word ≡ Ok bytes) × RefusesMessage bytes fault
+Decodes fields word answers.NoDigits = IsNotHex word × (list_all is_ascii_hexdigit word ≡ false)
+Decodes fields word answers.OddDigits = IsNotHex word × (list_all is_ascii_hexdigit word ≡ true)
+Decodes fields word answers.Memory = length word % 2 ≡ 0
 
 -- what is printed on the output
 abbrev pub shown_text : Decoded → List ℕ

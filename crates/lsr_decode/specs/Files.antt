@@ -88,44 +88,44 @@ abbrev pub heading_text : Packet → List ℕ
 heading_text packet = codes "packet " ++ (decimal packet.number ++ (codes " " ++ (time_text (option_map as_nanos packet.time) ++ codes "\n")))
 
 -- A packet's message under its heading, or why it is refused; and an empty line.
-abbrev pub IsBlock : Packet → List ℕ → List ℕ → Bool → Type 0
-IsBlock packet message block refused =
-    ((refused ≡ false) × (text : List ℕ) × ShowsMessage message text × (block ≡ heading_text packet ++ (text ++ codes "\n")))
+abbrev pub IsBlock : Bool → Packet → List ℕ → List ℕ → Bool → Type 0
+IsBlock fields packet message block refused =
+    ((refused ≡ false) × (text : List ℕ) × ShowsMessage fields message text × (block ≡ heading_text packet ++ (text ++ codes "\n")))
     ⊎ ((refused ≡ true) × (fault : Dropped) × RefusesMessage message fault × (block ≡ heading_text packet ++ (refusal_line (Unread fault) ++ codes "\n")))
 
 -- what is printed for a packet, by its message
-abbrev pub ShowsFound : Packet → Option (List ℕ) → List ℕ → Bool → Type 0
-ShowsFound packet None block refused = (block ≡ []) × (refused ≡ false)
-ShowsFound packet (Some message) block refused = IsBlock packet message block refused
+abbrev pub ShowsFound : Bool → Packet → Option (List ℕ) → List ℕ → Bool → Type 0
+ShowsFound fields packet None block refused = (block ≡ []) × (refused ≡ false)
+ShowsFound fields packet (Some message) block refused = IsBlock fields packet message block refused
 
-abbrev pub ShowsPacket : Packet → List ℕ → Bool → Type 0
-ShowsPacket packet block refused = ShowsFound packet (message_of packet) block refused
+abbrev pub ShowsPacket : Bool → Packet → List ℕ → Bool → Type 0
+ShowsPacket fields packet block refused = ShowsFound fields packet (message_of packet) block refused
 
 -- what is printed for packets, one behind the other, and whether a message is refused
-abbrev pub ShowsPackets : List Packet → List ℕ → Bool → Type 0
-ShowsPackets [] printed refused = (printed ≡ []) × (refused ≡ false)
-ShowsPackets (packet ∷ packets) printed refused =
+abbrev pub ShowsPackets : Bool → List Packet → List ℕ → Bool → Type 0
+ShowsPackets fields [] printed refused = (printed ≡ []) × (refused ≡ false)
+ShowsPackets fields (packet ∷ packets) printed refused =
     (block : List ℕ) × (rest : List ℕ) × (bad : Bool) × (later : Bool) × (printed ≡ block ++ rest) × (refused ≡ (bad || later))
-    × ShowsPacket packet block bad × ShowsPackets packets rest later
+    × ShowsPacket fields packet block bad × ShowsPackets fields packets rest later
 
 -- The messages of packets are printed, and behind them how many packets there are of each kind.
-pub record ShowsFile (packets : List Packet) (printed : List ℕ) (refused : Bool) : Type 0 where
+pub record ShowsFile (fields : Bool) (packets : List Packet) (printed : List ℕ) (refused : Bool) : Type 0 where
   pub blocks : List ℕ
-  pub messages : ShowsPackets packets blocks refused
+  pub messages : ShowsPackets fields packets blocks refused
   pub shown : printed ≡ blocks ++ counts_text packets
 
 -- What is printed for the bytes of a file: where they are a whole capture file all its messages, and else those of the
 -- packets that stand before the place where it breaks.
-abbrev pub DecodesBytes : List ℕ → List ℕ → FileEnding → Type 0
-DecodesBytes file printed (endings.Whole refused) = (packets : List Packet) × HasPackets file packets None × ShowsFile packets printed refused
-DecodesBytes file printed (endings.Damaged fault) =
-    (packets : List Packet) × (refused : Bool) × HasPackets file packets (Some fault) × ShowsFile packets printed refused
-DecodesBytes file printed (endings.Unread fault) = (printed ≡ []) × (fault ≡ Memory)
+abbrev pub DecodesBytes : Bool → List ℕ → List ℕ → FileEnding → Type 0
+DecodesBytes fields file printed (endings.Whole refused) = (packets : List Packet) × HasPackets file packets None × ShowsFile fields packets printed refused
+DecodesBytes fields file printed (endings.Damaged fault) =
+    (packets : List Packet) × (refused : Bool) × HasPackets file packets (Some fault) × ShowsFile fields packets printed refused
+DecodesBytes fields file printed (endings.Unread fault) = (printed ≡ []) × (fault ≡ Memory)
 
 -- what is printed for a file's stream, all of whose bytes are read first
-abbrev pub DecodesFile : Stream → List ℕ → FileEnding → Type 0
-DecodesFile stream printed (endings.Unread fault) = (printed ≡ []) × IsUnread stream fault
-DecodesFile stream printed ending = (file : List ℕ) × IfSome stream.bytes (λ all. file ≡ all) × DecodesBytes file printed ending
+abbrev pub DecodesFile : Bool → Stream → List ℕ → FileEnding → Type 0
+DecodesFile fields stream printed (endings.Unread fault) = (printed ≡ []) × IsUnread stream fault
+DecodesFile fields stream printed ending = (file : List ℕ) × IfSome stream.bytes (λ all. file ≡ all) × DecodesBytes fields file printed ending
 
 -- what is wrong with a capture file, and what to do
 abbrev pub advice_of : Damage → List ℕ

@@ -101,14 +101,15 @@ fn put_answer<W: Write>(output: &mut W, number: u64, decoded: &Decoded) -> io::R
 /// Answers the line of this number: whether it was refused. The error is the output's.
 fn answer_line<W: Write>(
     alloc: Global,
+    fields: bool,
     number: u64,
     line: &[u8],
     output: &mut W,
 ) -> io::Result<bool>
-    ensures { IfOk result (λ refused. (decoded : Decoded) × Decodes line.now decoded
+    ensures { IfOk result (λ refused. (decoded : Decoded) × Decodes fields line.now decoded
         × Appends (W.contents output.old) (W.contents output.new) (answer_text number decoded) × (refused ≡ is_refused decoded)) }
 {
-    let decoded = decode_digits(alloc, line);
+    let decoded = decode_digits(alloc, fields, line);
     put_answer(output, number, &decoded)?;
     Ok(is_refused(&decoded))
 }
@@ -131,14 +132,15 @@ fn extend(line: &mut Vec<u8>, bytes: &[u8]) -> Result<(), Stop>
 /// Answers the lines that end in the bytes; `line` is the last line, as far as it was read. The error is the output's.
 fn answer_bytes<W: Write>(
     alloc: Global,
+    fields: bool,
     line: &mut Vec<u8>,
     count: u64,
     refused: bool,
     bytes: &[u8],
     output: &mut W,
 ) -> io::Result<Taken>
-    ensures { IfOk result (λ taken. (read printed : List ℕ) → IsCaptured read printed line.old.items count refused
-        → TakesBytes read printed bytes.now (W.contents output.old) (W.contents output.new) line.new.items taken) }
+    ensures { IfOk result (λ taken. (read printed : List ℕ) → IsCaptured fields read printed line.old.items count refused
+        → TakesBytes fields read printed bytes.now (W.contents output.old) (W.contents output.new) line.new.items taken) }
 {
     let mut answered = count;
     let mut any = refused;
@@ -150,7 +152,7 @@ fn answer_bytes<W: Write>(
         let Some(number) = answered.checked_add(1) else {
             return Ok(Taken::Stopped(Stop::TooMany));
         };
-        let is_bad = answer_line(alloc, number, line.as_slice(), output)?;
+        let is_bad = answer_line(alloc, fields, number, line.as_slice(), output)?;
         line.clear();
         answered = number;
         any = any | is_bad;
@@ -165,13 +167,14 @@ fn answer_bytes<W: Write>(
 /// Answers what stands behind the last newline, if that is anything. The error is the output's.
 fn finish<W: Write>(
     alloc: Global,
+    fields: bool,
     line: &[u8],
     count: u64,
     refused: bool,
     output: &mut W,
 ) -> io::Result<Ending>
-    ensures { IfOk result (λ ending. (read printed : List ℕ) → IsCaptured read printed line.now count refused
-        → Finishes read printed (W.contents output.old) (W.contents output.new) ending) }
+    ensures { IfOk result (λ ending. (read printed : List ℕ) → IsCaptured fields read printed line.now count refused
+        → Finishes fields read printed (W.contents output.old) (W.contents output.new) ending) }
 {
     if line.is_empty() {
         return Ok(Ending::Done(refused));
@@ -179,7 +182,7 @@ fn finish<W: Write>(
     let Some(number) = count.checked_add(1) else {
         return Ok(Ending::Unreadable);
     };
-    let is_bad = answer_line(alloc, number, line, output)?;
+    let is_bad = answer_line(alloc, fields, number, line, output)?;
     Ok(Ending::Done(refused | is_bad))
 }
 
@@ -219,6 +222,7 @@ fn room_for(alloc: Global, len: usize) -> Result<Vec<u8>, AllocError>
 /// Reads once and answers the lines that end in what came. The error is the output's.
 fn take_turn<S: ByteStream, W: Write>(
     alloc: Global,
+    fields: bool,
     input: &mut S,
     room: &mut [u8],
     line: &mut Vec<u8>,
@@ -229,20 +233,20 @@ fn take_turn<S: ByteStream, W: Write>(
     requires { 1 ≤ length room.old }
     ensures { IfOk result (λ turn. (first : Stream) (before : Option (List ℕ)) (reads : ℕ)
         → length room.old ≤ CHUNK_LEN
-        → IsReadTo first (S.stream input.old) before (W.contents output.old) line.old.items count reads refused
-        → TurnsTo first (S.stream input.new) before (W.contents output.new) line.new.items (reads + 1) turn) }
+        → IsReadTo fields first (S.stream input.old) before (W.contents output.old) line.old.items count reads refused
+        → TurnsTo fields first (S.stream input.new) before (W.contents output.new) line.new.items (reads + 1) turn) }
 {
     let Some(len) = read_some(input, room) else {
         return Ok(Turn::Over(Ending::Unreadable));
     };
     if len == 0 {
-        return match finish(alloc, line.as_slice(), count, refused, output) {
+        return match finish(alloc, fields, line.as_slice(), count, refused, output) {
             Ok(ending) => Ok(Turn::Over(ending)),
             Err(error) => Err(error),
         };
     }
     let (bytes, _) = room.split_at(len);
-    match answer_bytes(alloc, line, count, refused, bytes, output)? {
+    match answer_bytes(alloc, fields, line, count, refused, bytes, output)? {
         Taken::Whole(answered, any) => Ok(Turn::More(answered, any)),
         Taken::Stopped(stop) => Ok(Turn::Over(ending_of(stop))),
     }
@@ -251,11 +255,12 @@ fn take_turn<S: ByteStream, W: Write>(
 /// Answers the lines of the input, one after the other. The error is the output's.
 fn decode_lines<S: ByteStream, W: Write>(
     alloc: Global,
+    fields: bool,
     input: &mut S,
     output: &mut W,
 ) -> io::Result<Ending>
     ensures { IfOk result (λ ending. (printed : List ℕ) × Appends (W.contents output.old) (W.contents output.new) printed
-        × DecodesLines (S.stream input.old) (S.stream input.new) printed ending) }
+        × DecodesLines fields (S.stream input.old) (S.stream input.new) printed ending) }
 {
     let Ok(mut room) = room_for(alloc, CHUNK_LEN) else {
         return Ok(Ending::Memory);
@@ -266,6 +271,7 @@ fn decode_lines<S: ByteStream, W: Write>(
     'reads: for _ in 0..u64::MAX {
         match take_turn(
             alloc,
+            fields,
             input,
             room.as_mut_slice(),
             &mut line,
@@ -302,38 +308,40 @@ fn tell_ending<E: Write>(ending: Ending, error: &mut E) -> io::Result<u8>
     }
 }
 
-/// `lsr decode -`: answers each line of the input, the hexadecimal digits of one message, with the message's lines or with
+/// `lsr decode - [--fields]`: answers each line of the input, the hexadecimal digits of one message, with the message's lines or with
 /// why it is refused and its number, and an empty line behind that. Gives the status: 0, or 1 where a line was refused or
 /// the input could not be read to its end. The error is that a stream could not be written.
 pub fn run_decode_lines<S: ByteStream, W: Write, E: Write>(
     alloc: Global,
+    fields: bool,
     input: &mut S,
     output: &mut W,
     error: &mut E,
 ) -> io::Result<u8>
     ensures { IfOk result (λ status. (ending : Ending) × (printed : List ℕ) × (status ≡ ending_status ending)
-        × DecodesLines (S.stream input.old) (S.stream input.new) printed ending
+        × DecodesLines fields (S.stream input.old) (S.stream input.new) printed ending
         × Appends (W.contents output.old) (W.contents output.new) printed
         × Appends (E.contents error.old) (E.contents error.new) (ending_text ending)) }
 {
-    let ending = decode_lines(alloc, input, output)?;
+    let ending = decode_lines(alloc, fields, input, output)?;
     tell_ending(ending, error)
 }
 
-/// `lsr decode HEX`: as [`run_decode`], or as [`run_decode_lines`] where the word is `-`. The error is that a stream could
+/// `lsr decode HEX [--fields]`: as [`run_decode`], or as [`run_decode_lines`] where the word is `-`. The error is that a stream could
 /// not be written.
 pub fn run_decode_of<S: ByteStream, W: Write, E: Write>(
     alloc: Global,
+    fields: bool,
     word: &str,
     input: &mut S,
     output: &mut W,
     error: &mut E,
 ) -> io::Result<u8>
-    ensures { IfOk result (DecodesWord word.now (S.stream input.old) (S.stream input.new)
+    ensures { IfOk result (DecodesWord fields word.now (S.stream input.old) (S.stream input.new)
         (W.contents output.old) (W.contents output.new) (E.contents error.old) (E.contents error.new)) }
 {
     if word == INPUT {
-        return run_decode_lines(alloc, input, output, error);
+        return run_decode_lines(alloc, fields, input, output, error);
     }
-    run_decode(alloc, word, output, error)
+    run_decode(alloc, fields, word, output, error)
 }

@@ -1,18 +1,21 @@
 //! `lsr decode`: one message, and its objects line by line.
-ghost use Rattle.std.specs.Prelude.{◌≡◌, ◌++◌, ◌<◌, IfOk, IfErr, OnOk, length, string_bytes};
+ghost use Rattle.std.specs.Prelude.{◌≡◌, ◌++◌, ◌<◌, ◌≤◌, IfOk, IfErr, OnOk, length, string_bytes};
+ghost use Rattle.rsvp_objects.specs.Objects.{SpellsObject};
 ghost use Rattle.rsvp_objects.specs.Raw.{Raw, object_bytes};
+ghost use Rattle.rsvp_objects.specs.declared.object.Object.{Object};
 ghost use Rattle.std.specs.Io.KnownBytes.{Appends};
 ghost use Rattle.rsvp_contents.specs.Picking.{content_in};
 ghost use Rattle.lsr_decode.specs.declared.decoding.Decoded.{Decoded};
-ghost use Rattle.lsr_decode.specs.Decoding.{Decodes, RefusesMessage, ShowsMessage, ShowsObjects, body_word, decoded_status, kind_of, object_line, shown_text, told_text};
+ghost use Rattle.lsr_decode.specs.Decoding.{Decodes, IsSpelled, RefusesMessage, ShowsMessage, ShowsObjects, body_word, bytes_of, decoded_status, fields_lines, kind_of, object_line, object_lines, shown_text, told_text};
 
 use hex::FromHexError;
 use lsr_facts::Refusal;
 use lsr_lines::are_hex_digits;
 use lsr_text::{OUT_OF_MEMORY, push_refusal};
+use object_text::push_fields;
 use rsvp_contents::Dropped;
 use rsvp_messages::{Content, Message, Reading, read_message};
-use rsvp_objects::{ObjectFault, read_object};
+use rsvp_objects::{Object, ObjectFault, read_object};
 use std::alloc::{AllocError, Global};
 use std::fmt::Write as _;
 use std::io;
@@ -76,33 +79,70 @@ fn push_object(
     text.push_str("\n")
 }
 
-/// Appends the line of the first object of the bytes, and gives what stands behind it.
-fn push_first<'a>(
+/// Appends what the object says, where fields are asked for.
+fn push_named(
     alloc: Global,
     text: &mut String,
-    bytes: &'a [u8],
-) -> Result<&'a [u8], ObjectFault>
-    ensures found { IfOk result (λ rest. (raw : Raw) × (bytes.entry.now ≡ object_bytes raw ++ rest.now)
-        × (string_bytes text.new ≡ string_bytes text.old ++ object_line raw)) }
-    ensures shorter { IfOk result (λ rest. length rest.now < length bytes.entry.now) }
+    fields: bool,
+    object: &Object,
+) -> Result<(), AllocError>
+    ensures { OnOk result (string_bytes text.new ≡ string_bytes text.old ++ fields_lines fields object.now) }
 {
-    let (_object, len) = read_object(alloc, bytes)?;
-    let (first, rest) = bytes.split_at(len);
-    let [_, _, class, ctype, body @ ..] = first else {
+    if fields {
+        push_fields(alloc, text, object)
+    } else {
+        Ok(())
+    }
+}
+
+/// Appends the lines of the object that the bytes spell.
+fn push_lines(
+    alloc: Global,
+    text: &mut String,
+    fields: bool,
+    bytes: &[u8],
+    object: &Object,
+) -> Result<(), ObjectFault>
+    requires { SpellsObject bytes.now object.now }
+    ensures lines { OnOk result ((raw : Raw) × (bytes.now ≡ object_bytes raw) × IsSpelled (raw, object.now)
+        × (string_bytes text.new ≡ string_bytes text.old ++ object_lines fields (raw, object.now))) }
+    ensures some { OnOk result (1 ≤ length bytes.now) }
+{
+    let [_, _, class, ctype, body @ ..] = bytes else {
         return Err(ObjectFault::Length);
     };
     push_object(alloc, text, *class, *ctype, body)?;
-    Ok(rest)
+    push_named(alloc, text, fields, object)?;
+    Ok(())
+}
+
+/// Appends the lines of the first object of the bytes, and gives what stands behind it.
+fn push_first<'a>(
+    alloc: Global,
+    text: &mut String,
+    fields: bool,
+    bytes: &'a [u8],
+) -> Result<&'a [u8], ObjectFault>
+    ensures found { IfOk result (λ rest. (o : Raw × Object) × (bytes.entry.now ≡ bytes_of o ++ rest.now) × IsSpelled o
+        × (string_bytes text.new ≡ string_bytes text.old ++ object_lines fields o)) }
+    ensures shorter { IfOk result (λ rest. length rest.now < length bytes.entry.now) }
+{
+    let (object, len) = read_object(alloc, bytes)?;
+    let (first, rest) = bytes.split_at(len);
+    match push_lines(alloc, text, fields, first, &object) {
+        Ok(()) => Ok(rest),
+        Err(fault) => Err(fault),
+    }
 }
 
 /// The lines of the objects that the bytes are.
-fn object_lines(alloc: Global, bytes: &[u8]) -> Result<String, ObjectFault>
-    ensures { IfOk result (λ text. ShowsObjects bytes.now (string_bytes text)) }
+fn object_lines(alloc: Global, fields: bool, bytes: &[u8]) -> Result<String, ObjectFault>
+    ensures { IfOk result (λ text. ShowsObjects fields bytes.now (string_bytes text)) }
 {
     let mut text = String::new(alloc);
     let mut rest = bytes;
     while !rest.is_empty() {
-        rest = push_first(alloc, &mut text, rest)?;
+        rest = push_first(alloc, &mut text, fields, rest)?;
     }
     Ok(text)
 }
@@ -122,9 +162,9 @@ pub enum Decoded {
     Memory,
 }
 
-/// The lines of the message that the bytes are: `KIND LENGTH`, and one for each object.
-pub(crate) fn message_text(alloc: Global, bytes: &[u8]) -> Result<String, Dropped>
-    ensures text { IfOk result (λ text. ShowsMessage bytes.now (string_bytes text)) }
+/// The lines of the message that the bytes are: `KIND LENGTH`, and one for each object; with fields also what it says.
+pub(crate) fn message_text(alloc: Global, fields: bool, bytes: &[u8]) -> Result<String, Dropped>
+    ensures text { IfOk result (λ text. ShowsMessage fields bytes.now (string_bytes text)) }
     ensures fault { IfErr result (λ fault. RefusesMessage bytes.now fault) }
 {
     let reading = read_message(alloc, bytes)?;
@@ -132,7 +172,7 @@ pub(crate) fn message_text(alloc: Global, bytes: &[u8]) -> Result<String, Droppe
     let kind = kind_of(message_read(&reading).content());
     let len = bytes.len();
     // The objects were read before, so that all that can go wrong is that memory runs out.
-    let Ok(lines) = object_lines(alloc, objects) else {
+    let Ok(lines) = object_lines(alloc, fields, objects) else {
         return Err(Dropped::NoMemory);
     };
     match format!(in alloc; "{kind} {len}\n{lines}") {
@@ -142,11 +182,11 @@ pub(crate) fn message_text(alloc: Global, bytes: &[u8]) -> Result<String, Droppe
 }
 
 /// What the digits are decoded as: the bytes of one message in hexadecimal digits of either case.
-pub(crate) fn decode_digits(alloc: Global, digits: &[u8]) -> Decoded
-    ensures { Decodes digits.now result }
+pub(crate) fn decode_digits(alloc: Global, fields: bool, digits: &[u8]) -> Decoded
+    ensures { Decodes fields digits.now result }
 {
     match hex::decode(alloc, digits) {
-        Ok(bytes) => match message_text(alloc, bytes.as_slice()) {
+        Ok(bytes) => match message_text(alloc, fields, bytes.as_slice()) {
             Ok(text) => Decoded::Shown(text),
             Err(fault) => Decoded::Refused(fault),
         },
@@ -164,10 +204,10 @@ pub(crate) fn decode_digits(alloc: Global, digits: &[u8]) -> Decoded
 }
 
 /// What the word is decoded as: the bytes of one message in hexadecimal digits of either case.
-pub fn decode_word(alloc: Global, word: &str) -> Decoded
-    ensures { Decodes word.now result }
+pub fn decode_word(alloc: Global, fields: bool, word: &str) -> Decoded
+    ensures { Decodes fields word.now result }
 {
-    decode_digits(alloc, word.as_bytes())
+    decode_digits(alloc, fields, word.as_bytes())
 }
 
 /// Prints what a word was decoded as, and gives the status. The error is a stream's.
@@ -203,19 +243,20 @@ fn tell_decoded<W: Write, E: Write>(
     }
 }
 
-/// `lsr decode HEX`: prints the message's lines, or on the error stream why there are none, and gives the
+/// `lsr decode HEX [--fields]`: prints the message's lines, or on the error stream why there are none, and gives the
 /// status: 0, 1 for a refused message, 2 for a word that isn't an even number of hexadecimal digits. The
 /// error is that a stream could not be written.
 pub fn run_decode<W: Write, E: Write>(
     alloc: Global,
+    fields: bool,
     word: &str,
     output: &mut W,
     error: &mut E,
 ) -> io::Result<u8>
-    ensures { IfOk result (λ status. (decoded : Decoded) × Decodes word.now decoded × (status ≡ decoded_status decoded)
+    ensures { IfOk result (λ status. (decoded : Decoded) × Decodes fields word.now decoded × (status ≡ decoded_status decoded)
         × Appends (W.contents output.old) (W.contents output.new) (shown_text decoded)
         × Appends (E.contents error.old) (E.contents error.new) (told_text decoded)) }
 {
-    let decoded = decode_word(alloc, word);
+    let decoded = decode_word(alloc, fields, word);
     tell_decoded(alloc, &decoded, output, error)
 }

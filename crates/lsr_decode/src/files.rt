@@ -196,15 +196,16 @@ fn put_refused<W: Write>(fault: Dropped, output: &mut W) -> io::Result<()>
 /// output's.
 fn put_block<W: Write>(
     alloc: Global,
+    fields: bool,
     packet: &Packet,
     message: &[u8],
     output: &mut W,
 ) -> io::Result<bool>
     ensures { IfOk result (λ refused. (block : List ℕ) × Appends (W.contents output.old) (W.contents output.new) block
-        × IsBlock packet.now message.now block refused) }
+        × IsBlock fields packet.now message.now block refused) }
 {
     put_heading(packet, output)?;
-    match message_text(alloc, message) {
+    match message_text(alloc, fields, message) {
         Ok(text) => {
             write!(output, "{text}\n")?;
             Ok(false)
@@ -217,38 +218,53 @@ fn put_block<W: Write>(
 }
 
 /// Prints the packet's message, if it carries one: whether it is refused. The error is the output's.
-fn put_packet<W: Write>(alloc: Global, packet: &Packet, output: &mut W) -> io::Result<bool>
+fn put_packet<W: Write>(
+    alloc: Global,
+    fields: bool,
+    packet: &Packet,
+    output: &mut W,
+) -> io::Result<bool>
     ensures { IfOk result (λ refused. (block : List ℕ) × Appends (W.contents output.old) (W.contents output.new) block
-        × ShowsPacket packet.now block refused) }
+        × ShowsPacket fields packet.now block refused) }
 {
     match message_of(packet) {
-        Some(message) => put_block(alloc, packet, message, output),
+        Some(message) => put_block(alloc, fields, packet, message, output),
         None => Ok(false),
     }
 }
 
 /// Prints the messages of the packets: whether one is refused. The error is the output's.
-fn put_packets<W: Write>(alloc: Global, packets: &[Packet], output: &mut W) -> io::Result<bool>
+fn put_packets<W: Write>(
+    alloc: Global,
+    fields: bool,
+    packets: &[Packet],
+    output: &mut W,
+) -> io::Result<bool>
     ensures { IfOk result (λ refused. (blocks : List ℕ) × Appends (W.contents output.old) (W.contents output.new) blocks
-        × ShowsPackets packets.now blocks refused) }
+        × ShowsPackets fields packets.now blocks refused) }
 {
     let mut refused = false;
     for packet in packets {
-        let is_bad = put_packet(alloc, packet, output)?;
+        let is_bad = put_packet(alloc, fields, packet, output)?;
         refused = refused | is_bad;
     }
     Ok(refused)
 }
 
 /// Prints the messages of the file's packets, and counts the packets. The error is the output's.
-fn decode_bytes<W: Write>(alloc: Global, file: &[u8], output: &mut W) -> io::Result<FileEnding>
+fn decode_bytes<W: Write>(
+    alloc: Global,
+    fields: bool,
+    file: &[u8],
+    output: &mut W,
+) -> io::Result<FileEnding>
     ensures { IfOk result (λ ending. (printed : List ℕ) × Appends (W.contents output.old) (W.contents output.new) printed
-        × DecodesBytes file.now printed ending) }
+        × DecodesBytes fields file.now printed ending) }
 {
     let Ok(read) = read_packets(alloc, file) else {
         return Ok(FileEnding::Unread(InputFault::Memory));
     };
-    let refused = put_packets(alloc, read.packets.as_slice(), output)?;
+    let refused = put_packets(alloc, fields, read.packets.as_slice(), output)?;
     put_counts(read.packets.as_slice(), output)?;
     match read.fault {
         None => Ok(FileEnding::Whole(refused)),
@@ -259,14 +275,15 @@ fn decode_bytes<W: Write>(alloc: Global, file: &[u8], output: &mut W) -> io::Res
 /// Prints the messages of a capture file, and counts its packets. The error is the output's.
 fn decode_file<S: ByteStream, W: Write>(
     alloc: Global,
+    fields: bool,
     input: &mut S,
     output: &mut W,
 ) -> io::Result<FileEnding>
     ensures { IfOk result (λ ending. (printed : List ℕ) × Appends (W.contents output.old) (W.contents output.new) printed
-        × DecodesFile (S.stream input.old) printed ending) }
+        × DecodesFile fields (S.stream input.old) printed ending) }
 {
     match read_bytes(alloc, input) {
-        Ok(file) => decode_bytes(alloc, file.as_slice(), output),
+        Ok(file) => decode_bytes(alloc, fields, file.as_slice(), output),
         Err(fault) => Ok(FileEnding::Unread(fault)),
     }
 }
@@ -314,22 +331,23 @@ fn tell_file_ending<E: Write>(error: &mut E, name: &str, ending: &FileEnding) ->
     }
 }
 
-/// `lsr decode FILE`: prints the messages of the capture file of this name, each under its packet's number and time, and
+/// `lsr decode FILE [--fields]`: prints the messages of the capture file of this name, each under its packet's number and time, and
 /// then how many packets carry one and how many don't. Tells on the error stream why the file wasn't read to its end, and
 /// gives the status: 0, or 1 where a message is refused or the file wasn't read to its end. The error is that a stream
 /// could not be written.
 pub fn run_decode_file<S: ByteStream, W: Write, E: Write>(
     alloc: Global,
+    fields: bool,
     name: &str,
     input: &mut S,
     output: &mut W,
     error: &mut E,
 ) -> io::Result<u8>
     ensures { IfOk result (λ status. (ending : FileEnding) × (printed : List ℕ) × (status ≡ file_status ending)
-        × DecodesFile (S.stream input.old) printed ending
+        × DecodesFile fields (S.stream input.old) printed ending
         × Appends (W.contents output.old) (W.contents output.new) printed
         × Appends (E.contents error.old) (E.contents error.new) (file_ending_text name.now ending)) }
 {
-    let ending = decode_file(alloc, input, output)?;
+    let ending = decode_file(alloc, fields, input, output)?;
     tell_file_ending(error, name, &ending)
 }

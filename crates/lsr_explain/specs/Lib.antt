@@ -1,3 +1,4 @@
 pub mod Topics
 pub mod Nearest
 pub mod Answers
+pub mod Headings

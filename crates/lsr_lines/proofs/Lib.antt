@@ -1,4 +1,5 @@
 mod FormLaws
 mod LineLaws
+mod PartLaws
 mod Stepping
 mod WordLaws

@@ -4,6 +4,7 @@ use Rattle.std.specs.List.{onto_first}
 use Rattle.hex.specs.Hex.{decode_of}
 use Rattle.lsr_lines.specs.Numbers.{NamesLink, NamesMoment}
 use Rattle.lsr_lines.specs.Commands.{words_of, BringsTunnel, SaysCommand}
+use Rattle.lsr_lines.specs.Lsps.{AsksAbout}
 use Rattle.lsr_lines.specs.declared.lines.Request.{Request}
 use Rattle.lsr_lines.specs.declared.lines.Request.TheVariants as requests
 
@@ -43,7 +44,7 @@ pub record AsksOf (Names : List ℕ → ℕ → Type 0) (word line : List ℕ) (
   pub names : Names digits number
 
 -- What a line asks for: `rx LINK HEX`, `frame LINK HEX`, `tick N`, `up LINK`, `down LINK`, `restart`, `start`, a command
--- about a tunnel, a bypass or a static route, or `show` with what is shown.
+-- about a tunnel, a bypass or a static route, `show` with what is shown, or `show path KEY` or `show resv KEY` with an LSP.
 abbrev pub AsksFor : List ℕ → Request → Type 0
 AsksFor line (requests.Receive arrival) = AsksToTake (codes "rx ") line arrival.link arrival.bytes.items
 AsksFor line (requests.Frame arrival) = AsksToTake (codes "frame ") line arrival.link arrival.bytes.items
@@ -60,3 +61,6 @@ AsksFor line requests.ShowLinks = line ≡ codes "show links"
 AsksFor line requests.ShowTunnels = line ≡ codes "show tunnels"
 AsksFor line requests.ShowBypasses = line ≡ codes "show bypasses"
 AsksFor line requests.ShowRecent = line ≡ codes "show recent"
+AsksFor line requests.ShowSummary = line ≡ codes "show summary"
+AsksFor line (requests.ShowPath lsp) = AsksAbout (codes "path") line lsp
+AsksFor line (requests.ShowResv lsp) = AsksAbout (codes "resv") line lsp

@@ -23,7 +23,7 @@ bypass N TUNNEL LINK, with N and TUNNEL 0 to 65535 and LINK 1 to 65535
 unbypass N, with N 0 to 65535
 route PREFIX LINK, as route 10.9.0.0/16 2
 unroute PREFIX, as unroute 10.9.0.0/16
-show paths, resvs, table, links, tunnels, bypasses or recent
+show paths, resvs, table, links, tunnels, bypasses, recent or summary, or path or resv and an LSP as show path 10.0.0.4/1/10.0.0.1 10.0.0.1/1
 ";
 
 /// What is expected of a line with another first word.

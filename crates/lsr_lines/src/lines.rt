@@ -7,10 +7,14 @@ ghost use Rattle.std.specs.Option.{MatchOption};
 ghost use Rattle.hex.specs.Hex.{decode_of};
 ghost use Rattle.lsr_lines.specs.declared.lines.Request.{Request};
 ghost use Rattle.lsr_lines.specs.Lines.{lines_of, AsksFor, AsksOf, AsksToTake, BringsBehind, BringsMore};
+ghost use Rattle.lsr_lines.specs.Lsps.{AsksAbout};
 ghost use Rattle.lsr_lines.specs.Numbers.{NamesLink, NamesMoment};
+ghost use Rattle.lsr_lines.specs.declared.lsps.LspName.{LspName};
 
 use crate::commands::{CommandRequest, read_command};
+use crate::lsps::{LspName, read_lsp};
 use crate::numbers::{read_link, read_moment};
+use crate::words::next_word;
 use std::alloc::{AllocError, Global};
 
 /// What came over a link.
@@ -56,6 +60,12 @@ pub enum Request {
     ShowBypasses,
     /// `show recent`: the last replies are printed.
     ShowRecent,
+    /// `show summary`: how much there is of everything is printed.
+    ShowSummary,
+    /// `show path KEY`: all that the router knows of the path of an LSP is printed.
+    ShowPath(LspName),
+    /// `show resv KEY`: all that the router knows of the reservation of an LSP is printed.
+    ShowResv(LspName),
 }
 
 // The words of lines, up to the first number.
@@ -86,6 +96,15 @@ const SHOW_TUNNELS: &str = "show tunnels";
 const SHOW_BYPASSES: &str = "show bypasses";
 
 const SHOW_RECENT: &str = "show recent";
+
+const SHOW_SUMMARY: &str = "show summary";
+
+// The words before the LSP that is shown.
+const SHOW: &str = "show";
+
+const PATH: &str = "path";
+
+const RESV: &str = "resv";
 
 /// The text's first line without its newline, and all that stands behind that. None where the text is empty.
 pub fn next_line(text: &str) -> Option<(&str, &str)>
@@ -134,12 +153,13 @@ fn read_word(line: &str) -> Option<Request>
     None
 }
 
-/// What a line asks to be shown: `show paths|resvs|table|links|tunnels|bypasses|recent`; none where it is no such line.
+/// What a line asks to be shown: `show paths|resvs|table|links|tunnels|bypasses|recent|summary`; none where it is no such
+/// line.
 fn read_show(line: &str) -> Option<Request>
     ensures { MatchOption result
         ((line.now ≢ codes "show paths") × (line.now ≢ codes "show resvs") × (line.now ≢ codes "show table")
         × (line.now ≢ codes "show links") × (line.now ≢ codes "show tunnels") × (line.now ≢ codes "show bypasses")
-        × (line.now ≢ codes "show recent"))
+        × (line.now ≢ codes "show recent") × (line.now ≢ codes "show summary"))
         (AsksFor line.now) }
 {
     if line == SHOW_PATHS {
@@ -162,6 +182,29 @@ fn read_show(line: &str) -> Option<Request>
     }
     if line == SHOW_RECENT {
         return Some(Request::ShowRecent);
+    }
+    if line == SHOW_SUMMARY {
+        return Some(Request::ShowSummary);
+    }
+    None
+}
+
+/// The LSP that a line asks to be shown: `show path KEY` or `show resv KEY`; none where it is no such line.
+fn read_show_lsp(line: &str) -> Option<Request>
+    ensures { MatchOption result
+        (((lsp : LspName) → ¬ AsksAbout (codes "path") line.now lsp) × ((lsp : LspName) → ¬ AsksAbout (codes "resv") line.now lsp))
+        (AsksFor line.now) }
+{
+    let (word, left) = next_word(Some(line))?;
+    if word != SHOW {
+        return None;
+    }
+    let (word, left) = next_word(left)?;
+    if word == PATH {
+        return Some(Request::ShowPath(read_lsp(left)?));
+    }
+    if word == RESV {
+        return Some(Request::ShowResv(read_lsp(left)?));
     }
     None
 }
@@ -246,8 +289,8 @@ fn read_arrival(alloc: Global, word: &str, line: &str) -> Result<Option<Arrival>
 }
 
 /// What the line asks for: `rx LINK HEX`, `frame LINK HEX`, `tick N`, `up LINK`, `down LINK`, `restart`, `start`, a
-/// command ([`CommandRequest`]), or `show paths|resvs|table|links|tunnels|bypasses|recent`; none where it is no such line.
-/// Words are parted by one space. The only error is that there is no memory for bytes or for a tunnel that the line brings,
+/// command ([`CommandRequest`]), `show paths|resvs|table|links|tunnels|bypasses|recent|summary`, `show path KEY` or `show
+/// resv KEY`; none where it is no such line. Words are parted by one space. The only error is that there is no memory for bytes or for a tunnel that the line brings,
 /// so it never comes in place of none.
 pub fn read_request(alloc: Global, line: &str) -> Result<Option<Request>, AllocError>
     ensures request { IfOk result (λ request. MatchOption request
@@ -259,6 +302,9 @@ pub fn read_request(alloc: Global, line: &str) -> Result<Option<Request>, AllocE
         return Ok(Some(request));
     }
     if let Some(request) = read_show(line) {
+        return Ok(Some(request));
+    }
+    if let Some(request) = read_show_lsp(line) {
         return Ok(Some(request));
     }
     if let Some(request) = read_number(line) {

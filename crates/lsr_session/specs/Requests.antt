@@ -12,6 +12,7 @@ use Rattle.router_events.specs.declared.events.Made.{Made}
 use Rattle.router_events.specs.declared.events.Event.{Event}
 use Rattle.router_events.specs.declared.events.Event.TheVariants as events
 use Rattle.lsr_facts.specs.declared.bypass.Bypass.{Bypass}
+use Rattle.lsr_facts.specs.declared.key.Key.{Key}
 use Rattle.lsr_facts.specs.declared.refusal.Refusal.{Refusal}
 use Rattle.lsr_facts.specs.declared.reply.Reply.{Reply}
 use Rattle.lsr_facts.specs.declared.reply.Reply.TheVariants as replies
@@ -30,12 +31,15 @@ use Rattle.router_machine.specs.declared.inputs.Served.{Served}
 use Rattle.router_machine.specs.declared.inputs.Served.TheVariants as serves
 use Rattle.lsr_text.specs.Answers.{answer_text, refusal_line, replies_text}
 use Rattle.lsr_text.specs.FrameLines.{delivery_line, sent_line}
+use Rattle.lsr_text.specs.Lsps.{path_lsp_text, resv_lsp_text}
 use Rattle.lsr_text.specs.Rows.{bypass_line, head_line, link_line, resvs_text, table_text}
 use Rattle.lsr_text.specs.Shown.{paths_text}
+use Rattle.lsr_text.specs.Summary.{counts_text, reserved_line}
 use Rattle.lsr_text.specs.Tunnels.{tunnels_text}
 use Rattle.lsr_lines.specs.declared.commands.CommandRequest.{CommandRequest}
 use Rattle.lsr_lines.specs.declared.lines.Request.{Request}
 use Rattle.lsr_lines.specs.declared.lines.Request.TheVariants as requests
+use Rattle.lsr_lines.specs.declared.lsps.LspName.{LspName}
 use Rattle.lsr_session.specs.Commands.{IsCommandFor}
 
 -- a session: what its router is and knows, and the last replies, the newest at the end
@@ -155,6 +159,21 @@ bypass_text r row = bypass_line row (is_bypass_up r row.0) (uses_of r row.0)
 abbrev pub bypasses_text : RouterState → List ℕ
 bypasses_text r = flat_map (bypass_text r) r.state.facts.bypasses
 
+-- the key of an LSP that words name
+abbrev pub key_of : LspName → Key
+key_of lsp = record {
+  session = record { endpoint = lsp.session.endpoint; tunnel = lsp.session.tunnel; extended = lsp.session.extended };
+  sender = record { sender = lsp.sender.sender; lsp = lsp.sender.lsp };
+}
+
+-- the line of what is reserved of a link at all priorities, 0 (best) to 7
+abbrev pub room_text : State → ℕ × Link → List ℕ
+room_text s link = reserved_line link.0 (reserved_of link.0 7 (claims_of s.facts.paths s.resvs)) link.1.limit
+
+-- how much there is of everything, and then a line for each link of the router, in the order of their numbers
+abbrev pub summary_text : RouterState → List ℕ
+summary_text r = counts_text r.router r.state ++ flat_map (room_text r.state) r.router.links
+
 -- What is printed for a request, and what the session is then: the answer to an event, whose reply is the newest of
 -- the last ones, be it a command or not; what comes of a datagram, be it a labelled frame or not; or what the session
 -- shows of itself as it stands.
@@ -174,3 +193,7 @@ PrintsAnswer before requests.ShowLinks printed after = (printed ≡ links_text b
 PrintsAnswer before requests.ShowTunnels printed after = (printed ≡ tunnels_text before.router.state.facts.tunnels) × (after ≡ before)
 PrintsAnswer before requests.ShowBypasses printed after = (printed ≡ bypasses_text before.router) × (after ≡ before)
 PrintsAnswer before requests.ShowRecent printed after = (printed ≡ replies_text before.recent) × (after ≡ before)
+PrintsAnswer before requests.ShowSummary printed after = (printed ≡ summary_text before.router) × (after ≡ before)
+PrintsAnswer before (requests.ShowPath lsp) printed after =
+    (printed ≡ path_lsp_text before.router.router before.router.state (key_of lsp)) × (after ≡ before)
+PrintsAnswer before (requests.ShowResv lsp) printed after = (printed ≡ resv_lsp_text before.router.state (key_of lsp)) × (after ≡ before)

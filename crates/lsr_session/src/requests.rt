@@ -6,7 +6,10 @@ ghost use Rattle.lsr_session.specs.Requests.{PrintsAnswer, PrintsArrival, Prints
 
 use crate::commands::command_of;
 use crate::passing::passed_text;
-use crate::shown::{show_bypasses, show_links, show_paths, show_resvs, show_table, show_tunnels};
+use crate::shown::{
+    show_bypasses, show_links, show_path, show_paths, show_resv, show_resvs, show_summary,
+    show_table, show_tunnels,
+};
 use circular_buffer::HeapCircularBuffer;
 use lsr_facts::{Refusal, Reply};
 use lsr_lines::{Answers, Arrival, CommandRequest, Request};
@@ -81,6 +84,9 @@ fn answer(alloc: Global, session: &mut Session, request: &Request) -> Result<Str
         Request::ShowTunnels => show_tunnels(alloc, &session.router),
         Request::ShowBypasses => show_bypasses(alloc, &session.router),
         Request::ShowRecent => show_recent(alloc, session),
+        Request::ShowSummary => show_summary(alloc, &session.router),
+        Request::ShowPath(lsp) => show_path(alloc, &session.router, lsp),
+        Request::ShowResv(lsp) => show_resv(alloc, &session.router, lsp),
     }
 }
 

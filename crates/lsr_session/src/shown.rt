@@ -1,17 +1,21 @@
 //! What a session shows of its router.
 ghost use Rattle.std.specs.Prelude.{◌≡◌, ◌==◌, ◌++◌, IfOk, OnOk, count_by, string_bytes};
+ghost use Rattle.lsr_text.specs.Lsps.{path_lsp_text, resv_lsp_text};
 ghost use Rattle.lsr_text.specs.Rows.{resvs_text};
 ghost use Rattle.lsr_text.specs.Shown.{paths_text};
 ghost use Rattle.lsr_text.specs.Tunnels.{tunnels_text};
-ghost use Rattle.lsr_session.specs.Requests.{PrintsTable, bypass_text, bypasses_text, head_text, heads_text, link_text, links_text, sums_of};
+ghost use Rattle.lsr_session.specs.Requests.{PrintsTable, bypass_text, bypasses_text, head_text, heads_text, key_of, link_text, links_text, room_text, summary_text, sums_of};
 
 use explicit_routes::is_up;
 use lsr_facts::{Bypass, Key, Link, Tunnel};
+use lsr_lines::LspName;
 use lsr_text::{
-    PRIORITIES, paths_text, push_bypass, push_head, push_link, resvs_text, table_text, tunnels_text,
+    PRIORITIES, path_lsp_text, paths_text, push_bypass, push_counts, push_head, push_link,
+    push_reserved_link, resv_lsp_text, resvs_text, table_text, tunnels_text,
 };
-use resv_facts::{Repair, State};
+use resv_facts::{Repair, State, WORST_PRIORITY};
 use router_machine::Machine;
+use rsvp_contents::{Session, Template};
 use std::alloc::{AllocError, Global};
 
 /// The lines of the paths that the router knows. The only error is that memory ran out.
@@ -154,6 +158,74 @@ pub(crate) fn show_links(alloc: Global, router: &Machine) -> Result<String, Allo
     let mut text = String::new(alloc);
     for row in router.router().links.as_slice() {
         push_link_of(router, &state, &mut text, row)?;
+    }
+    Ok(text)
+}
+
+/// The key of the LSP that is named.
+fn key_of(lsp: &LspName) -> Key
+    ensures { result ≡ key_of lsp.now }
+{
+    Key {
+        session: Session {
+            endpoint: lsp.session.endpoint,
+            tunnel: lsp.session.tunnel,
+            extended: lsp.session.extended,
+        },
+        sender: Template {
+            sender: lsp.sender.sender,
+            lsp: lsp.sender.lsp,
+        },
+    }
+}
+
+/// All that the router knows of the path of an LSP: nothing where there is no path. The only error is that memory ran out.
+pub(crate) fn show_path(
+    alloc: Global,
+    router: &Machine,
+    lsp: &LspName,
+) -> Result<String, AllocError>
+    ensures { IfOk result (λ text. string_bytes text ≡ path_lsp_text router.now.router router.now.state (key_of lsp.now)) }
+{
+    let state = router.export(alloc)?;
+    path_lsp_text(alloc, router.router(), &state, &key_of(lsp))
+}
+
+/// All that the router knows of the reservation of an LSP, or of the one that it is repaired for: nothing where there is
+/// none. The only error is that memory ran out.
+pub(crate) fn show_resv(
+    alloc: Global,
+    router: &Machine,
+    lsp: &LspName,
+) -> Result<String, AllocError>
+    ensures { IfOk result (λ text. string_bytes text ≡ resv_lsp_text router.now.state (key_of lsp.now)) }
+{
+    let state = router.export(alloc)?;
+    resv_lsp_text(alloc, &state, &key_of(lsp))
+}
+
+/// Appends the line of what is reserved of a link of the router. The only error is that memory ran out.
+fn push_room_of(router: &Machine, text: &mut String, row: &(u16, Link)) -> Result<(), AllocError>
+    ensures { OnOk result (string_bytes text.new ≡ string_bytes text.old ++ room_text router.now.state row.now) }
+{
+    let (number, link) = row;
+    push_reserved_link(
+        text,
+        *number,
+        router.reserved(*number, WORST_PRIORITY),
+        link.limit,
+    )
+}
+
+/// How much there is of everything, and how much there may be. The only error is that memory ran out.
+pub(crate) fn show_summary(alloc: Global, router: &Machine) -> Result<String, AllocError>
+    ensures { IfOk result (λ text. string_bytes text ≡ summary_text router.now) }
+{
+    let state = router.export(alloc)?;
+    let mut text = String::new(alloc);
+    push_counts(&mut text, router.router(), &state)?;
+    for row in router.router().links.as_slice() {
+        push_room_of(router, &mut text, row)?;
     }
     Ok(text)
 }

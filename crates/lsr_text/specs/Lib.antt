@@ -4,3 +4,7 @@ pub mod Shown
 pub mod Rows
 pub mod FrameLines
 pub mod Tunnels
+pub mod Configs
+pub mod Routes
+pub mod Lsps
+pub mod Summary

@@ -20,9 +20,9 @@ abbrev pub style_text : ResvStyle → List ℕ
 style_text styles.FixedFilter = codes "ff"
 style_text styles.SharedExplicit = codes "se"
 
--- the token bucket rate of a FLOWSPEC: the fourth word of its body (RFC 2210, 3.2)
+-- the token bucket rate of a SENDER_TSPEC or a FLOWSPEC: the fourth word of its body (RFC 2210, 3.1 and 3.2)
 abbrev pub rate_bytes : List ℕ → List ℕ
-rate_bytes flowspec = take 4 (drop 12 flowspec)
+rate_bytes body = take 4 (drop 12 body)
 
 -- `resv KEY LINK ff|se RATE LABEL`: the link that it is on, its style, the rate that it asks for as the hexadecimal
 -- digits of the rate's word, and the label that the next hop gave

@@ -1,19 +1,26 @@
 //! The text that an operator reads: names of refusals, the lines of answers and of frames, and those of what a router
-//! knows.
+//! knows; and a configuration.
 #![tactic(auto)]
 
 mod answers;
+mod configs;
 mod frames;
+mod lsps;
 mod names;
+mod routes;
 mod rows;
 mod shown;
+mod summary;
 mod tunnels;
 
 pub use answers::{answer_text, push_refusal, push_replies};
+pub use configs::{LinkAddresses, config_text};
 pub use frames::{push_delivery, push_sent};
+pub use lsps::{path_lsp_text, resv_lsp_text};
 pub use names::{OUT_OF_MEMORY, refusal_name};
 pub use rows::{
     PRIORITIES, push_bypass, push_head, push_label, push_link, push_resv, resvs_text, table_text,
 };
 pub use shown::paths_text;
+pub use summary::{push_counts, push_reserved_link};
 pub use tunnels::{push_tunnel, tunnels_text};

@@ -6,11 +6,10 @@ use crate::shown::push_key;
 use forwarding_table::Action;
 use lsr_facts::{Bypass, Key};
 use resv_facts::{ResvFact, ResvStyle};
-use rsvp_traffic::Flowspec;
 use std::alloc::{AllocError, Global};
 use std::fmt::Write;
 
-/// Where the token bucket rate stands in the body of a FLOWSPEC, in bytes (RFC 2210, 3.2).
+/// Where the token bucket rate stands in the body of a SENDER_TSPEC or a FLOWSPEC, in bytes (RFC 2210, 3.1 and 3.2).
 const RATE_AT: usize = 12;
 /// The bytes of a rate.
 const RATE_LEN: usize = 4;
@@ -18,7 +17,7 @@ const RATE_LEN: usize = 4;
 pub const PRIORITIES: usize = 8;
 
 /// How the LSPs of a session reserve, as a word.
-fn style_text(style: ResvStyle) -> &'static str
+pub(crate) fn style_text(style: ResvStyle) -> &'static str
     ensures { result.now ≡ style_text style }
 {
     match style {
@@ -27,11 +26,10 @@ fn style_text(style: ResvStyle) -> &'static str
     }
 }
 
-/// The bytes of the FLOWSPEC's token bucket rate; fewer where its body ends before.
-fn rate_bytes(flowspec: &Flowspec) -> &[u8]
-    ensures { result.now ≡ rate_bytes flowspec.now }
+/// The bytes of the token bucket rate in the body of a SENDER_TSPEC or a FLOWSPEC; fewer where the body ends before.
+pub(crate) fn rate_bytes(body: &[u8]) -> &[u8]
+    ensures { result.now ≡ rate_bytes body.now }
 {
-    let body = flowspec.as_slice();
     let start = body.len().min(RATE_AT);
     let end = body.len().min(RATE_AT + RATE_LEN);
     &body[start..end]
@@ -47,7 +45,7 @@ pub fn push_resv(alloc: Global, text: &mut String, resv: &(Key, ResvFact)) -> Re
     push_key(text, key)?;
     let link = fact.link;
     let style = style_text(fact.style);
-    let rate = hex::encode(alloc, rate_bytes(&fact.flowspec))?;
+    let rate = hex::encode(alloc, rate_bytes(fact.flowspec.as_slice()))?;
     let label = fact.label;
     write!(text, " {link} {style} {rate} {label}\n")
 }

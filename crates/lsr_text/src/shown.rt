@@ -7,7 +7,7 @@ use std::alloc::{AllocError, Global};
 use std::fmt::Write;
 
 /// What the router is on a path's way, as a word.
-fn role_word(role: Role) -> &'static str
+pub(crate) fn role_word(role: Role) -> &'static str
     ensures { result.now ≡ role_word role }
 {
     match role {

@@ -1,1 +1,2 @@
 mod Sessions
+mod Printing

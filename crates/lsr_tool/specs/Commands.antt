@@ -14,21 +14,25 @@ use Rattle.lsr_serve.specs.Told.{Serves}
 use Rattle.lsr_words.specs.Words.{AsksFor, lsr_words}
 use Rattle.lsr_words.specs.declared.words.Asked.{Asked}
 use Rattle.lsr_words.specs.declared.words.Asked.TheVariants as asked
+use Rattle.lsr_tool.specs.Configuring.{Configures}
 use Rattle.lsr_tool.specs.Decoding.{DecodesAny}
 use Rattle.lsr_tool.specs.Endings.{ending_text, status_of}
 use Rattle.lsr_tool.specs.Sessions.{StepsOnFile, name_of}
 use Rattle.lsr_tool.specs.declared.endings.RunEnding.{RunEnding}
 
 -- What was asked for is done, with this status: a run on the router of the file that is named, or without a name on
--- the built-in router; or a word, the lines of the input or a capture file are decoded; or a word is explained. What is printed and told
--- stands behind what the streams held. The input was the first stream, and is the other now: to explain a word it isn't read.
+-- the built-in router; or the configuration of such a router is printed; or a word, the lines of the input or a capture file are decoded; or a
+-- word is explained. What is printed and told stands behind what the streams held. The input was the first stream, and is the other now: to
+-- print a configuration and to explain a word it isn't read.
 -- Or links are served: the input isn't read, and 0 is the status of one run alone, of which it was printed.
 abbrev pub Does : {F : Type 0} → (List ℕ → F → Type 0) → (List ℕ → InputFault → Type 0) → (F → Stream) → Asked → Stream → Stream → Option (List ℕ) → Option (List ℕ) → Option (List ℕ) → Option (List ℕ) → ℕ → Type 0
 Does opens fails stream (asked.Step file echo) input left output printed error told status =
     (ending : RunEnding) × (text : List ℕ) × (status ≡ status_of ending)
     × StepsOnFile opens fails stream echo (option_map (λ f. f.now) file) input text ending
     × Appends output printed text × Appends error told (ending_text (name_of (option_map (λ f. f.now) file)) ending)
-Does opens fails stream (asked.Decode word) input left output printed error told status = DecodesAny opens fails stream word.now input left output printed error told status
+Does opens fails stream (asked.Config file) input left output printed error told status =
+    (left ≡ input) × Configures opens fails stream (option_map (λ f. f.now) file) output printed error told status
+Does opens fails stream (asked.Decode word fields) input left output printed error told status = DecodesAny opens fails stream fields word.now input left output printed error told status
 Does opens fails stream (asked.Explain word) input left output printed error told status =
     (answer : Answer) × (text : List ℕ) × Explains word.now answer × (status ≡ answer_status answer) × (left ≡ input)
     × Appends output printed (shown_text answer) × IsTold word.now answer text × Appends error told text

@@ -1,4 +1,5 @@
 pub mod Endings
 pub mod Sessions
+pub mod Configuring
 pub mod Decoding
 pub mod Commands

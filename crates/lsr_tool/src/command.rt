@@ -6,6 +6,7 @@ ghost use Rattle.std.specs.declared.io.ErrorKind.TheVariants.{OutOfMemory};
 ghost use Rattle.clap.specs.Words.{kind_of};
 ghost use Rattle.lsr_tool.specs.Commands.{Does, Runs, words_status};
 
+use crate::configuring::run_config_of;
 use crate::decoding::run_decode_on;
 use crate::endings::FAILED;
 use crate::files::{FilesByName, SystemFiles};
@@ -84,7 +85,10 @@ pub fn run_asked<
         Asked::Step { file, echo } => {
             run_step_of(files, alloc, file, echo, input, output, error)
         }
-        Asked::Decode(word) => run_decode_on(files, alloc, word, input, output, error),
+        Asked::Config(file) => run_config_of(files, alloc, file, output, error),
+        Asked::Decode { word, fields } => {
+            run_decode_on(files, alloc, fields, word, input, output, error)
+        }
         Asked::Explain(word) => run_explain(alloc, word, output, error),
         Asked::Serve { file, turns } => {
             run_serve_of(files, rt, alloc, file, turns, output, error)

@@ -14,17 +14,18 @@ use std::io::Write;
 fn run_decode_named<F: FilesByName, W: Write, E: Write>(
     files: &F,
     alloc: Global,
+    fields: bool,
     name: &str,
     output: &mut W,
     error: &mut E,
 ) -> io::Result<u8>
-    ensures { IfOk result (DecodesNamed (F.opens files.now) (F.fails files.now) F.File.stream name.now
+    ensures { IfOk result (DecodesNamed (F.opens files.now) (F.fails files.now) F.File.stream fields name.now
         (W.contents output.old) (W.contents output.new) (E.contents error.old) (E.contents error.new)) }
 {
     match files.open(name) {
         Ok(file) => {
             let mut file = file;
-            run_decode_file(alloc, name, &mut file, output, error)
+            run_decode_file(alloc, fields, name, &mut file, output, error)
         }
         Err(fault) => {
             tell_input_fault(error, name, fault)?;
@@ -33,22 +34,23 @@ fn run_decode_named<F: FilesByName, W: Write, E: Write>(
     }
 }
 
-/// `lsr decode WORD`: a word with a dot or a slash is the name of a capture file, whose messages are printed; any other is
+/// `lsr decode WORD [--fields]`: a word with a dot or a slash is the name of a capture file, whose messages are printed; any other is
 /// decoded itself, and `-` stands for the lines of the input. Gives the status. The error is that a stream could not be
 /// written.
 pub fn run_decode_on<F: FilesByName, R: ByteStream, W: Write, E: Write>(
     files: &F,
     alloc: Global,
+    fields: bool,
     word: &str,
     input: &mut R,
     output: &mut W,
     error: &mut E,
 ) -> io::Result<u8>
-    ensures { IfOk result (DecodesAny (F.opens files.now) (F.fails files.now) F.File.stream word.now (R.stream input.old) (R.stream input.new)
+    ensures { IfOk result (DecodesAny (F.opens files.now) (F.fails files.now) F.File.stream fields word.now (R.stream input.old) (R.stream input.new)
         (W.contents output.old) (W.contents output.new) (E.contents error.old) (E.contents error.new)) }
 {
     if is_file_name(word) {
-        return run_decode_named(files, alloc, word, output, error);
+        return run_decode_named(files, alloc, fields, word, output, error);
     }
-    run_decode_of(alloc, word, input, output, error)
+    run_decode_of(alloc, fields, word, input, output, error)
 }

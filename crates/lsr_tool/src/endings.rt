@@ -1,4 +1,4 @@
-//! How a run of `lsr step` ends, what is told of it, and its status.
+//! How a run of `lsr step` or `lsr config` ends, what is told of it, and its status.
 ghost use Rattle.std.specs.Prelude.{◌≡◌, [], OnOk};
 ghost use Rattle.std.specs.Io.KnownBytes.{Appends};
 ghost use Rattle.lsr_tool.specs.declared.endings.RunEnding.TheVariants as endings;
@@ -12,6 +12,8 @@ use std::io::Write;
 
 /// What the input is called.
 const INPUT: &str = "standard input";
+/// The status where nothing was.
+pub(crate) const DONE: u8 = 0;
 /// The status where something was refused, or memory ran out.
 pub(crate) const FAILED: u8 = 1;
 
@@ -24,7 +26,7 @@ pub enum Source {
     Input,
 }
 
-/// How a run of `lsr step` ends.
+/// How a run of `lsr step` or `lsr config` ends.
 #[derive(Debug, Drop)]
 pub enum RunEnding<'a> {
     /// Its lines were answered as far as this says.
@@ -42,7 +44,7 @@ pub(crate) fn status_of(ending: &RunEnding) -> u8
     ensures { result ≡ status_of ending.now }
 {
     match ending {
-        RunEnding::Ran(Ending::Done) => 0,
+        RunEnding::Ran(Ending::Done) => DONE,
         RunEnding::Ran(Ending::BadLine(_, _)) => FAILED,
         RunEnding::Ran(Ending::Memory) => FAILED,
         RunEnding::Unread(_, _) => FAILED,

@@ -2,6 +2,7 @@
 #![tactic(auto)]
 
 mod command;
+mod configuring;
 mod decoding;
 mod endings;
 mod files;
@@ -9,6 +10,7 @@ mod serving;
 mod session;
 
 pub use command::{end, run, run_asked, tell_unread_words};
+pub use configuring::run_config_of;
 pub use decoding::run_decode_on;
 pub use endings::{RunEnding, Source};
 pub use files::{FilesByName, SystemFiles};

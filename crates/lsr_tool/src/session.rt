@@ -18,7 +18,7 @@ use std::io;
 use std::io::Write;
 
 /// The text of the configuration, where there is one.
-fn read_config_text<C: ByteStream + Drop>(
+pub(crate) fn read_config_text<C: ByteStream + Drop>(
     alloc: Global,
     config: Option<C>,
 ) -> Result<Option<String>, InputFault>

@@ -40,7 +40,10 @@ pub no_word : (found : Option (Text × List Row)) (name : Text) (given : List Ro
 no_word found name given e d none (asked.Step file echo) (command, values, f, (is, text, said)) =
     let word : codes "decode" ≡ codes "step" = sym d ∙ same_command name command given values (sym e ∙ f) ∙ is in
     absurd (omega (arith, ap (λ (l : List ℕ). get_or l 0 0) word))
-no_word found name given e d none (asked.Decode word) (command, values, f, (is, text)) =
+no_word found name given e d none (asked.Config file) (command, values, f, (is, text)) =
+    let word : codes "decode" ≡ codes "config" = sym d ∙ same_command name command given values (sym e ∙ f) ∙ is in
+    absurd (omega (arith, ap (λ (l : List ℕ). get_or l 0 0) word))
+no_word found name given e d none (asked.Decode word fields) (command, values, f, (is, text, said)) =
     let t = sym none ∙ ap (first_of (codes "HEX")) (same_values name command given values (sym e ∙ f)) ∙ text in cc
 no_word found name given e d none (asked.Explain word) (command, values, f, (is, text)) =
     let word : codes "decode" ≡ codes "explain" = sym d ∙ same_command name command given values (sym e ∙ f) ∙ is in
@@ -53,7 +56,10 @@ pub no_topic : (found : Option (Text × List Row)) (name : Text) (given : List R
 no_topic found name given e d none (asked.Step file echo) (command, values, f, (is, text, said)) =
     let word : codes "explain" ≡ codes "step" = sym d ∙ same_command name command given values (sym e ∙ f) ∙ is in
     absurd (omega (arith, ap (λ (l : List ℕ). get_or l 0 0) word))
-no_topic found name given e d none (asked.Decode word) (command, values, f, (is, text)) =
+no_topic found name given e d none (asked.Config file) (command, values, f, (is, text)) =
+    let word : codes "explain" ≡ codes "config" = sym d ∙ same_command name command given values (sym e ∙ f) ∙ is in
+    absurd (omega (arith, ap (λ (l : List ℕ). get_or l 0 0) word))
+no_topic found name given e d none (asked.Decode word fields) (command, values, f, (is, text, said)) =
     let word : codes "explain" ≡ codes "decode" = sym d ∙ same_command name command given values (sym e ∙ f) ∙ is in
     absurd (omega (arith, ap (λ (l : List ℕ). get_or l 0 0) word))
 no_topic found name given e d none (asked.Explain word) (command, values, f, (is, text)) =
@@ -66,7 +72,10 @@ pub no_file : (found : Option (Text × List Row)) (name : Text) (given : List Ro
 no_file found name given e d none (asked.Step file echo) (command, values, f, (is, text, said)) =
     let word : codes "serve" ≡ codes "step" = sym d ∙ same_command name command given values (sym e ∙ f) ∙ is in
     absurd (omega (arith, ap (λ (l : List ℕ). get_or l 1 0) word))
-no_file found name given e d none (asked.Decode word) (command, values, f, (is, text)) =
+no_file found name given e d none (asked.Config file) (command, values, f, (is, text)) =
+    let word : codes "serve" ≡ codes "config" = sym d ∙ same_command name command given values (sym e ∙ f) ∙ is in
+    absurd (omega (arith, ap (λ (l : List ℕ). get_or l 0 0) word))
+no_file found name given e d none (asked.Decode word fields) (command, values, f, (is, text, said)) =
     let word : codes "serve" ≡ codes "decode" = sym d ∙ same_command name command given values (sym e ∙ f) ∙ is in
     absurd (omega (arith, ap (λ (l : List ℕ). get_or l 0 0) word))
 no_file found name given e d none (asked.Explain word) (command, values, f, (is, text)) =

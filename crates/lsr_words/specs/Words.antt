@@ -22,9 +22,21 @@ echo_word = record (new_rule (codes "echo")) { long = Some (codes "echo"); actio
 abbrev pub step_words : App
 step_words = with_rule (with_rule (new_app (codes "step")) file_words) echo_word
 
--- `decode HEX`
+-- `FILE`, which may be left out
+abbrev pub printed_word : Rule
+printed_word = new_rule (codes "FILE")
+
+-- `config [FILE]`
+abbrev pub config_words : App
+config_words = with_rule (new_app (codes "config")) printed_word
+
+-- `--fields`
+abbrev pub fields_word : Rule
+fields_word = record (new_rule (codes "fields")) { long = Some (codes "fields"); action = Some SetTrue }
+
+-- `decode HEX [--fields]`
 abbrev pub decode_words : App
-decode_words = with_rule (new_app (codes "decode")) digits_word
+decode_words = with_rule (with_rule (new_app (codes "decode")) digits_word) fields_word
 
 -- `WHAT`
 abbrev pub topic_word : Rule
@@ -50,9 +62,11 @@ serve_words = with_rule (with_rule (new_app (codes "serve")) served_word) turns_
 abbrev pub program_words : App
 program_words = on_top (λ top. record top { has_version = true; subcommand_required = true; arg_required_else_help = true }) (new_app (codes "lsr"))
 
--- the program's name, and one of the four
+-- the program's name, and one of the five
 abbrev pub lsr_words : App
-lsr_words = with_subcommand (with_subcommand (with_subcommand (with_subcommand program_words step_words.top) decode_words.top) explain_words.top) serve_words.top
+lsr_words =
+    with_subcommand (with_subcommand (with_subcommand (with_subcommand (with_subcommand program_words
+    step_words.top) config_words.top) decode_words.top) explain_words.top) serve_words.top
 
 -- whether an option without a value is given: what was found of it is `true`
 abbrev pub is_given : Option (List ℕ) → Bool
@@ -63,7 +77,9 @@ is_given (Some word) = bytes_eq word (codes "true")
 abbrev pub Asks : Text → List Row → Asked → Type 0
 Asks command given (asked.Step file echo) =
     (command ≡ codes "step") × (option_map (λ f. f.now) file ≡ first_of (codes "config") given) × (echo ≡ is_given (first_of (codes "echo") given))
-Asks command given (asked.Decode word) = (command ≡ codes "decode") × (first_of (codes "HEX") given ≡ Some word.now)
+Asks command given (asked.Config file) = (command ≡ codes "config") × (option_map (λ f. f.now) file ≡ first_of (codes "FILE") given)
+Asks command given (asked.Decode word fields) =
+    (command ≡ codes "decode") × (first_of (codes "HEX") given ≡ Some word.now) × (fields ≡ is_given (first_of (codes "fields") given))
 Asks command given (asked.Explain word) = (command ≡ codes "explain") × (first_of (codes "WHAT") given ≡ Some word.now)
 Asks command given (asked.Serve file turns) =
     (command ≡ codes "serve") × (first_of (codes "FILE") given ≡ Some file.now) × (option_map (λ n. n.now) turns ≡ first_of (codes "turns") given)

@@ -2,7 +2,7 @@
 ghost use Rattle.std.specs.Prelude.{◌≡◌, false, IfOk};
 ghost use Rattle.clap.specs.Words.{app_of, rule_of, with_subcommand};
 ghost use Rattle.clap.specs.declared.builder.command.Command.{out-Command};
-ghost use Rattle.lsr_words.specs.Words.{decode_words, digits_word, echo_word, explain_words, file_words, lsr_words, program_words, serve_words, served_word, step_words, topic_word, turns_words};
+ghost use Rattle.lsr_words.specs.Words.{config_words, decode_words, digits_word, echo_word, explain_words, fields_word, file_words, lsr_words, printed_word, program_words, serve_words, served_word, step_words, topic_word, turns_words};
 
 use clap::{Arg, ArgAction, Command};
 use std::alloc::{AllocError, Global};
@@ -20,6 +20,7 @@ const ABOUT: &str = "The control plane of an MPLS label switching router, in an 
 const HELP: &str = "\
 Where to go on:
   lsr step --help     the lines that a router takes, and what it prints for them
+  lsr config --help   a router's configuration, checked and printed whole
   lsr decode --help   what messages are made of
   lsr explain --help  what a refusal, an error or a fault means, and what to do about it
   lsr serve --help    a router over sockets
@@ -89,6 +90,9 @@ newline at the very end begins no further line. Each line is one of these:
   show tunnels      asks for the tunnels that begin here
   show bypasses     asks for the bypasses of the links
   show recent       asks for the last 32 replies
+  show summary      asks how much there is of everything, and how much there may be
+  show path KEY     asks for all that is known of the path of one LSP, whose KEY `show paths` has
+  show resv KEY     asks for all that is known of its reservation, or of the repaired one
 Words are parted by one space, and nothing else stands in a line: no sign, no blank before or
 behind, no carriage return. Numbers are decimal; zeros may stand before them. An empty line is
 a bad line.
@@ -157,6 +161,9 @@ ENDPOINT/TUNNEL/EXTENDED SENDER/LSP, the session, sender and LSP ID of an LSP:
                     the tunnel that it runs in; the link that it protects; whether its tunnel has
                     a label to send under; how many LSPs are repaired over it
 
+`show path KEY`, `show resv KEY` and `show summary` print one thing in each line, in words that
+docs/PROGRAM.md explains. Nothing is printed of an LSP that isn't there.
+
 The router is the one that FILE says (docs/CONFIGURATION.md has the keys; begin with a copy
 of examples/middle.toml), or without it the built-in one: 10.0.0.2, link 1 to 10.0.0.1, link
 2 to 10.0.0.3, and 10.0.0.4 behind link 2. FILE is read whole before the first line.
@@ -178,6 +185,39 @@ Example: a tear of a path that isn't there prints `refused 10 NoMatch`.
 000c0b070a00000100000001 | lsr step
 ";
 
+const CONFIG_ABOUT: &str = "\
+Checks a router's configuration, and prints it as the router understands it";
+
+const CONFIG_HELP: &str = "\
+What is printed is the whole configuration, as TOML: it can be given to `lsr step --config` and
+`lsr serve` in place of FILE, and is the same router. Use it to check a file before it is used, to
+see what was left out, to bring a file into order, or to begin one: without FILE it is the built-in
+router's.
+  - what FILE leaves out stands there: refresh_ms = 30000, and up = true of a link
+  - bits of a route's prefix past its length are 0; numbers are decimal, as flags = 4 for 0x04
+  - the tables stand in the order link, route, tunnel, bypass; links, tunnels and bypasses by their
+    numbers, routes by their prefixes; keys in the order of docs/CONFIGURATION.md
+  - listen and send stand there where each link has both, as `lsr serve` needs them
+  - comments go
+What is printed for that is the same again, byte for byte. Standard input isn't read.
+
+The status is 0; 1 with nothing printed and one of these on standard error; 2 where the words of
+the command aren't taken:
+  config FAULT KEY  the first fault of FILE, and the key that it is about (none for Text
+                    and Memory), as `lsr step --config FILE` tells it. docs/CONFIGURATION.md says
+                    what each FAULT is, and `lsr explain FAULT` what to do
+  unreadable        FILE can't be opened or read, isn't UTF-8, or has more than 16777216 bytes;
+                    the line after it says which
+  memory            there is no memory
+  unwritable        the output or the error stream can't be written
+
+Example: a configuration of your own begins with the built-in one.
+  lsr config > own.toml
+
+Example: what two files differ in as routers.
+  lsr config one.toml > one; lsr config other.toml > other; diff one other
+";
+
 const DECODE_ABOUT: &str =
     "Prints the objects of one message, of each message of many lines, or of a capture file";
 
@@ -193,6 +233,12 @@ What is printed:
                     C-Type in decimal, 0 to 255, and its body in hexadecimal digits, if it
                     has any. The last three bytes of an ERROR_SPEC, `6 1 0a00000200180007`,
                     are code and value of the error, here 24/7
+With --fields there stand behind that line, for each object:
+    CLASS FIELD ..  two spaces, its class by name, and each field behind its name. A rate is
+                    the digits of its word and what it stands for, in whole bytes per second,
+                    rounded up: `infinite`, or `none` where it is negative, no number, or 2^50
+                    or more. Flags are their byte and the names of those that are set
+      SUBOBJECT ..  of a route, for each subobject: four spaces, and what it says
 
 A message that can't be read prints `refused N NAME` on standard error, status 1: what is
 wrong with it first. A router answers the same to `rx LINK HEX` (lsr step --help), and
@@ -249,6 +295,12 @@ Example: this PathTear prints `PathTear 48`, `1 7 0a000004000000010a000001`,
 `3 1 0a00000100000001` and `11 7 0a00000100000001`.
   lsr decode 1005b988ff000030001001070a000004000000010a000001000c03010a0000010000000\
 1000c0b070a00000100000001
+
+Example: what is wrong with the path of a tunnel; it prints `ERROR_SPEC node 10.0.0.2 flags 00
+error 24/7 RoutingLoop` in a line.
+  lsr decode 1003cc89ff000054001001070a000004000000010a000001000c06010a0000020018000\
+7000c0b070a0000010000000100240c0200000007010000067f00000547f4240047f424007f80000000000\
+040000005dc --fields
 
 Example: the messages that a router sent, decoded.
   lsr step < lines | sed -n 's/^tx [0-9]* //p' | lsr decode -
@@ -333,17 +385,23 @@ const WHAT_HELP: &str = "\
 A refusal's number or name; an error's code and value as one word, as 24/5, or its name; a
 fault's name; or `list`";
 
+const PRINTED_FILE_HELP: &str =
+    "The file of a router's configuration (TOML); without it the built-in router's is printed";
+
 const FILE_HELP: &str =
     "The file of the router's configuration (TOML); each of its links has `listen` and `send`";
 
 const TURNS_HELP: &str =
     "How many turns each link makes, of 100 milliseconds at most: 1 to 1000000; without it 1000";
 
-const CONFIG_HELP: &str =
+const CONFIG_OPTION_HELP: &str =
     "The file of the router's configuration (TOML); without it the built-in router serves";
 
 const ECHO_HELP: &str = "\
 Prints each line before its answers, and passes over empty lines and lines that begin with #";
+
+const FIELDS_HELP: &str = "\
+Prints after the line of each object what it says: its class and its fields by name";
 
 /// The program's name.
 const PROGRAM: &str = "lsr";
@@ -355,7 +413,9 @@ pub(crate) const DECODE: &str = "decode";
 pub(crate) const EXPLAIN: &str = "explain";
 /// The name of the command that serves links over sockets.
 pub(crate) const SERVE: &str = "serve";
-/// The name of the argument of `serve`.
+/// The name of the command that prints a configuration.
+pub(crate) const CONFIG: &str = "config";
+/// The name of the argument of `config` and of `serve`.
 pub(crate) const FILE: &str = "FILE";
 /// The name of the option of `serve`.
 pub(crate) const TURNS: &str = "turns";
@@ -364,19 +424,21 @@ pub(crate) const WHAT: &str = "WHAT";
 /// The name of the argument of `decode`.
 pub(crate) const HEX: &str = "HEX";
 /// The name of the option of `step` that takes a file.
-pub(crate) const CONFIG: &str = "config";
+pub(crate) const CONFIG_OPTION: &str = "config";
 /// The name of the option of `step` that prints lines, too.
 pub(crate) const ECHO: &str = "echo";
+/// The name of the option of `decode` that names fields.
+pub(crate) const FIELDS: &str = "fields";
 
 /// `--config FILE`.
 fn config_option<'a>(alloc: Global) -> Arg<'a>
     ensures rule { rule_of result ≡ file_words }
     ensures local { result.global ≡ false }
 {
-    Arg::new(alloc, CONFIG)
-        .long(CONFIG)
+    Arg::new(alloc, CONFIG_OPTION)
+        .long(CONFIG_OPTION)
         .value_name("FILE")
-        .help(CONFIG_HELP)
+        .help(CONFIG_OPTION_HELP)
 }
 
 /// `--echo`.
@@ -390,12 +452,31 @@ fn echo_option<'a>(alloc: Global) -> Arg<'a>
         .help(ECHO_HELP)
 }
 
+/// `FILE`, which may be left out.
+fn printed_file<'a>(alloc: Global) -> Arg<'a>
+    ensures rule { rule_of result ≡ printed_word }
+    ensures local { result.global ≡ false }
+{
+    Arg::new(alloc, FILE).help(PRINTED_FILE_HELP)
+}
+
 /// `HEX`.
 fn hex_word<'a>(alloc: Global) -> Arg<'a>
     ensures rule { rule_of result ≡ digits_word }
     ensures local { result.global ≡ false }
 {
     Arg::new(alloc, HEX).required(true).help(HEX_HELP)
+}
+
+/// `--fields`.
+fn fields_option<'a>(alloc: Global) -> Arg<'a>
+    ensures rule { rule_of result ≡ fields_word }
+    ensures local { result.global ≡ false }
+{
+    Arg::new(alloc, FIELDS)
+        .long(FIELDS)
+        .action(ArgAction::SetTrue)
+        .help(FIELDS_HELP)
 }
 
 /// `WHAT`.
@@ -437,15 +518,27 @@ fn step_command<'a>(alloc: Global) -> Result<Command<'a>, AllocError>
     config.arg(echo_option(alloc))
 }
 
-/// `decode HEX`. The only error is that memory ran out.
+/// `config [FILE]`. The only error is that memory ran out.
+fn config_command<'a>(alloc: Global) -> Result<Command<'a>, AllocError>
+    ensures words { IfOk result (λ command. app_of command ≡ config_words) }
+    ensures local { IfOk result (λ command. (out-Command command).has_globals ≡ false) }
+{
+    Command::new(alloc, CONFIG)
+        .about(CONFIG_ABOUT)
+        .after_help(CONFIG_HELP)
+        .arg(printed_file(alloc))
+}
+
+/// `decode HEX [--fields]`. The only error is that memory ran out.
 fn decode_command<'a>(alloc: Global) -> Result<Command<'a>, AllocError>
     ensures words { IfOk result (λ command. app_of command ≡ decode_words) }
     ensures local { IfOk result (λ command. (out-Command command).has_globals ≡ false) }
 {
-    Command::new(alloc, DECODE)
+    let hex = Command::new(alloc, DECODE)
         .about(DECODE_ABOUT)
         .after_help(DECODE_HELP)
-        .arg(hex_word(alloc))
+        .arg(hex_word(alloc))?;
+    hex.arg(fields_option(alloc))
 }
 
 /// `explain WHAT`. The only error is that memory ran out.
@@ -486,26 +579,37 @@ fn program_with_step<'a>(alloc: Global) -> Result<Command<'a>, AllocError>
 }
 
 /// The program with its first two commands. The only error is that memory ran out.
-fn program_with_decode<'a>(alloc: Global) -> Result<Command<'a>, AllocError>
-    ensures { IfOk result (λ command. app_of command ≡ with_subcommand (with_subcommand program_words step_words.top) decode_words.top) }
+fn program_with_config<'a>(alloc: Global) -> Result<Command<'a>, AllocError>
+    ensures { IfOk result (λ command. app_of command ≡ with_subcommand (with_subcommand program_words step_words.top) config_words.top) }
 {
-    let decode = decode_command(alloc)?;
+    let config = config_command(alloc)?;
     let program = program_with_step(alloc)?;
-    program.subcommand(decode)
+    program.subcommand(config)
 }
 
 /// The program with its first three commands. The only error is that memory ran out.
+fn program_with_decode<'a>(alloc: Global) -> Result<Command<'a>, AllocError>
+    ensures { IfOk result (λ command. app_of command
+        ≡ with_subcommand (with_subcommand (with_subcommand program_words step_words.top) config_words.top) decode_words.top) }
+{
+    let decode = decode_command(alloc)?;
+    let program = program_with_config(alloc)?;
+    program.subcommand(decode)
+}
+
+/// The program with its first four commands. The only error is that memory ran out.
 fn program_with_explain<'a>(alloc: Global) -> Result<Command<'a>, AllocError>
     ensures { IfOk result (λ command. app_of command
-        ≡ with_subcommand (with_subcommand (with_subcommand program_words step_words.top) decode_words.top) explain_words.top) }
+        ≡ with_subcommand (with_subcommand (with_subcommand (with_subcommand program_words
+        step_words.top) config_words.top) decode_words.top) explain_words.top) }
 {
     let explain = explain_command(alloc)?;
     let program = program_with_decode(alloc)?;
     program.subcommand(explain)
 }
 
-/// The words that `lsr` takes: `--version`, `step [--config FILE] [--echo]`, `decode HEX`, `explain WHAT` and `serve FILE [--turns N]`. The only
-/// error is that memory ran out.
+/// The words that `lsr` takes: `--version`, `step [--config FILE] [--echo]`, `config [FILE]`, `decode HEX [--fields]`, `explain WHAT`
+/// and `serve FILE [--turns N]`. The only error is that memory ran out.
 pub(crate) fn command<'a>(alloc: Global) -> Result<Command<'a>, AllocError>
     ensures { IfOk result (λ command. app_of command ≡ lsr_words) }
 {

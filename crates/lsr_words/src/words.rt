@@ -5,7 +5,10 @@ ghost use Rattle.clap.specs.Words.{FailsBy, fault_of, kind_of, subcommand_rows_o
 ghost use Rattle.lsr_words.specs.declared.words.Asked.{Asked};
 ghost use Rattle.lsr_words.specs.Words.{AsksFor, AsksIn, is_given, lsr_words};
 
-use crate::help::{CONFIG, DECODE, ECHO, EXPLAIN, FILE, HEX, SERVE, STEP, TURNS, WHAT, command};
+use crate::help::{
+    CONFIG, CONFIG_OPTION, DECODE, ECHO, EXPLAIN, FIELDS, FILE, HEX, SERVE, STEP, TURNS, WHAT,
+    command,
+};
 use clap::ArgMatches;
 use clap::error::{Error, ErrorKind};
 use std::alloc::Global;
@@ -21,9 +24,16 @@ pub enum Asked<'a> {
         /// Whether each line is printed before its answers, and comments and empty lines are passed over.
         echo: bool,
     },
+    /// `config [FILE]`: the configuration of the file of this name is printed; without one the built-in router's.
+    Config(Option<&'a str>),
     /// `decode HEX`: the word is decoded; `-` stands for the lines of the input, and a word with `.` or `/` in it for a
     /// capture file.
-    Decode(&'a str),
+    Decode {
+        /// The word.
+        word: &'a str,
+        /// Whether the fields of each object are printed by name, too.
+        fields: bool,
+    },
     /// `explain WHAT`: what this word names is explained.
     Explain(&'a str),
     /// `serve FILE`: the router of the file of this name serves its links over sockets.
@@ -56,11 +66,15 @@ fn asked_in<'a>(matches: &ArgMatches<'a>) -> Option<Asked<'a>>
 {
     match matches.subcommand() {
         Some((STEP, given)) => Some(Asked::Step {
-            file: given.get_str(CONFIG),
+            file: given.get_str(CONFIG_OPTION),
             echo: is_given(given.get_str(ECHO)),
         }),
+        Some((CONFIG, given)) => Some(Asked::Config(given.get_str(FILE))),
         Some((DECODE, given)) => match given.get_str(HEX) {
-            Some(word) => Some(Asked::Decode(word)),
+            Some(word) => Some(Asked::Decode {
+                word,
+                fields: is_given(given.get_str(FIELDS)),
+            }),
             None => None,
         },
         Some((EXPLAIN, given)) => match given.get_str(WHAT) {

@@ -21,7 +21,7 @@ loop-front-preserved g c = λ read printed captured.
     let number : c.in-Some-checked_add.number ≡ c.loop-front.answered + 1 = search rules in
     let whole = c.as_slice.ensures.value ∙ c.in_default-extend.ensures.whole in
     let short = subst (λ l. length l ≤ 16777216) (sym c.as_slice.ensures.value) c.in_default-extend.ensures.short in
-    subst (λ l. IsTakenTo read printed c.args.bytes.now (g.W.Write.contents c.args.output.now) (g.W.Write.contents c.answer_line.new.output) c.in-Some.behind.now l c.in-Some-checked_add.number (c.loop-front.any || c.in_ok-is_bad.is_bad)) (sym c.clear.ensures.items)
+    subst (λ l. IsTakenTo c.args.fields read printed c.args.bytes.now (g.W.Write.contents c.args.output.now) (g.W.Write.contents c.answer_line.new.output) c.in-Some.behind.now l c.in-Some-checked_add.number (c.loop-front.any || c.in_ok-is_bad.is_bad)) (sym c.clear.ensures.items)
     (taken_more read printed c.args.bytes.now (g.W.Write.contents c.args.output.now) (g.W.Write.contents c.loop-front.output) (g.W.Write.contents c.answer_line.new.output) c.loop-front.rest.now
     c.in-Some.front.now c.in-Some.behind.now c.loop-front.line.items c.as_slice.result.now (answer_text c.in-Some-checked_add.number answer.0) c.loop-front.answered c.in-Some-checked_add.number c.loop-front.any
     c.in_ok-is_bad.is_bad answer.0 (c.loop-front.invariant read printed captured) c.in-Some.ensures.parts.0 c.in-Some.ensures.parts.1 whole short number answer.1 answer.2 refl answer.3)

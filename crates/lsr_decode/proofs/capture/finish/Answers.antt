@@ -8,12 +8,12 @@ use Rattle.lsr_decode.proofs.capture.finish.Goals as goal
 pub returns-then-is_empty : goal.returns-then-is_empty
 returns-then-is_empty g c = λ read printed captured.
     let none = none_there c.args.line.now c.is_empty.result c.is_empty.ensures c.if-is_empty.true in
-    ([], Appends-nil _, subst (λ l. AnswersAll read l c.args.refused) (sym (append-nil printed)) (captured_all read printed c.args.line.now c.args.count c.args.refused captured none))
+    ([], Appends-nil _, subst (λ l. AnswersAll c.args.fields read l c.args.refused) (sym (append-nil printed)) (captured_all read printed c.args.line.now c.args.count c.args.refused captured none))
 
 pub returns-in_default : goal.returns-in_default
 returns-in_default g c = λ read printed captured.
     let many : 2 ^ 64 ≤ c.args.count + 1 = search rules in
-    ([], Appends-nil _, subst (λ l. StopsAtCount read l) (sym (append-nil printed)) (captured_many read printed c.args.line.now c.args.count c.args.refused captured many))
+    ([], Appends-nil _, subst (λ l. StopsAtCount c.args.fields read l) (sym (append-nil printed)) (captured_many read printed c.args.line.now c.args.count c.args.refused captured many))
 
 pub returns : goal.returns
 returns g c = λ read printed captured.

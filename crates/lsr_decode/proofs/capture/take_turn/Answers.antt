@@ -12,7 +12,7 @@ returns-in_default g c = λ first before reads small r.
 
 pub returns-in-Ok : goal.returns-in-Ok
 returns-in-Ok g c = λ first before reads small r.
-    let captured = subst (λ (l : List ℕ). IsCaptured r.read r.printed l c.args.count c.args.refused) (sym c.as_slice.ensures.value) r.captured in
+    let captured = subst (λ (l : List ℕ). IsCaptured c.args.fields r.read r.printed l c.args.count c.args.refused) (sym c.as_slice.ensures.value) r.captured in
     finished first (g.S.ByteStream.stream c.args.input.now) (g.S.ByteStream.stream c.read_some.new.input) _ _ _ c.args.line.now.items c.read_some.new.room c.args.count reads c.in-Some.len c.args.refused c.in-Ok.ending r c.in-Some.ensures.bytes
     (c.in-Some.ensures.end c.if-len-eq0.true) c.if-len-eq0.true (c.in-Ok.ensures r.read r.printed captured)
 

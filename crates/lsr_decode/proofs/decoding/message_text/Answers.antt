@@ -19,6 +19,6 @@ returns-in-Ok-format-clause-text c =
       reading = c.in_ok-reading.reading;
       spelled = c.in_ok-reading.ensures.reads.told;
       lines = string_bytes c.in-Ok.lines;
-      objects = subst (λ rest. ShowsObjects rest (string_bytes c.in-Ok.lines)) c.split_at.ensures.back c.in-Ok.ensures;
+      objects = subst (λ rest. ShowsObjects c.args.fields rest (string_bytes c.in-Ok.lines)) c.split_at.ensures.back c.in-Ok.ensures;
       shown = search rules;
     }

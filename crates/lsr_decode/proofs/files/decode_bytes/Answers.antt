@@ -10,7 +10,7 @@ pub returns-in-None : goal.returns-in-None
 returns-in-None g c =
     let packets = c.in-Ok.read.packets.items in
     let blocks = c.in_ok-refused.ensures in
-    let messages = subst (λ (l : List Packet). ShowsPackets l blocks.0 c.in_ok-refused.refused) c.as_slice.ensures.value blocks.2 in
+    let messages = subst (λ (l : List Packet). ShowsPackets c.args.fields l blocks.0 c.in_ok-refused.refused) c.as_slice.ensures.value blocks.2 in
     let counts = subst (λ (l : List Packet). Appends (g.W.Write.contents c.put_packets.new.output) (g.W.Write.contents c.put_counts.new.output) (counts_text l)) c.as_slice-2.ensures.value c.in_ok-put_counts.ensures in (
       blocks.0 ++ counts_text packets,
       Appends-trans _ _ _ _ _ blocks.1 counts,
@@ -21,7 +21,7 @@ pub returns : goal.returns
 returns g c =
     let packets = c.in-Ok.read.packets.items in
     let blocks = c.in_ok-refused.ensures in
-    let messages = subst (λ (l : List Packet). ShowsPackets l blocks.0 c.in_ok-refused.refused) c.as_slice.ensures.value blocks.2 in
+    let messages = subst (λ (l : List Packet). ShowsPackets c.args.fields l blocks.0 c.in_ok-refused.refused) c.as_slice.ensures.value blocks.2 in
     let counts = subst (λ (l : List Packet). Appends (g.W.Write.contents c.put_packets.new.output) (g.W.Write.contents c.put_counts.new.output) (counts_text l)) c.as_slice-2.ensures.value c.in_ok-put_counts.ensures in (
       blocks.0 ++ counts_text packets,
       Appends-trans _ _ _ _ _ blocks.1 counts,

@@ -15,11 +15,11 @@ loop-packet-preserved g c =
     record {
       printed = before.printed ++ block.0;
       told = Appends-trans _ _ _ _ _ before.told block.1;
-      goes_on = goes_on_at c.args.packets.now c.loop-packet.packet-index _ before.printed block.0 c.loop-packet.refused c.in_ok-is_bad.is_bad c.loop-packet-test.true before.goes_on block.2;
+      goes_on = goes_on_at c.args.fields c.args.packets.now c.loop-packet.packet-index _ before.printed block.0 c.loop-packet.refused c.in_ok-is_bad.is_bad c.loop-packet-test.true before.goes_on block.2;
     }
 
 pub returns : goal.returns
 returns g c =
     let before = c.loop-packet.invariant in
     let packets = c.args.packets.now in
-    (before.printed, before.told, goes_on_end packets (drop c.loop-packet.packet-index packets) before.printed c.loop-packet.refused before.goes_on (drop_all c.loop-packet.packet-index packets (omega (arith, c.loop-packet-test.false))))
+    (before.printed, before.told, goes_on_end c.args.fields packets (drop c.loop-packet.packet-index packets) before.printed c.loop-packet.refused before.goes_on (drop_all c.loop-packet.packet-index packets (omega (arith, c.loop-packet-test.false))))

@@ -21,11 +21,25 @@ returns-in-Some-step-default c =
       ),
     )
 
+pub returns-in-Some-config-default : goal.returns-in-Some-config-default
+returns-in-Some-config-default c =
+    let found = c.in-Some-config-default in
+    let values = rows_of (found_of found.given.now) in
+    (found.field-0-0.now, values, found_is c.args.matches.now found.field-0-0.now values found.ensures.name found.ensures.rows, (search rules, c.get_str-in-Some-config-default.ensures ∙ first_value-rows (found_of found.given.now) (codes "FILE")))
+
 pub returns-in-Some : goal.returns-in-Some
 returns-in-Some c =
     let found = c.in-Some-decode-default in
-    let values = rows_of (found_of found.given.now) in
-    (found.field-0-0.now, values, found_is c.args.matches.now found.field-0-0.now values found.ensures.name found.ensures.rows, (search rules, sym (first_value-rows (found_of found.given.now) (codes "HEX")) ∙ sym c.in-Some.ensures))
+    let values = rows_of (found_of found.given.now) in (
+      found.field-0-0.now,
+      values,
+      found_is c.args.matches.now found.field-0-0.now values found.ensures.name found.ensures.rows,
+      (
+        search rules,
+        sym (first_value-rows (found_of found.given.now) (codes "HEX")) ∙ sym c.in-Some.ensures,
+        c.is_given-in-Some.ensures ∙ ap is_given (c.get_str-in-Some.ensures ∙ first_value-rows (found_of found.given.now) (codes "fields")),
+      ),
+    )
 
 pub returns-in-None : goal.returns-in-None
 returns-in-None c =

@@ -1,0 +1,8 @@
+-- The LSPs so far, after what there was.
+use Rattle.std.proofs.Common.{◌≡◌, ◌++◌, take, string_bytes}
+use Rattle.std.specs.List.{flat_map}
+use Rattle.lsr_text.specs.Lsps.{preempting_line}
+use Rattle.lsr_text.proofs.lsps.push_all_preempting.Given as goal
+
+abbrev pub invariant-loop-row : goal.invariant-loop-row
+invariant-loop-row l = string_bytes l.text ≡ string_bytes l.fn.text ++ flat_map (preempting_line l.state l.link l.holding) (take l.row-index l.row-items)

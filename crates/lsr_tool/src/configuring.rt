@@ -1,0 +1,147 @@
+//! `lsr config` on the configuration of a file, or on the built-in one.
+ghost use Rattle.std.specs.Option.{option_map};
+ghost use Rattle.std.specs.Prelude.{◌≡◌, ℕ, List, [], Option, IfOk, IfErr, string_bytes};
+ghost use Rattle.std.specs.Io.KnownBytes.{Appends};
+ghost use Rattle.lsr_lines.specs.Texts.{Stream};
+ghost use Rattle.lsr_tool.specs.declared.endings.RunEnding.{RunEnding};
+ghost use Rattle.lsr_tool.specs.Configuring.{Configures, GivesAddresses, Prints, PrintsConfig, addresses_of, done};
+ghost use Rattle.lsr_tool.specs.Endings.{ending_text, status_of};
+ghost use Rattle.lsr_tool.specs.Sessions.{IsConfigText, said_by};
+
+use crate::endings::{DONE, RunEnding, Source, status_of, tell_ending};
+use crate::files::FilesByName;
+use crate::session::read_config_text;
+use lsr_config::{BUILT_IN, Config, ConfigFault};
+use lsr_lines::ByteStream;
+use lsr_serve::{LinkSockets, read_sockets};
+use lsr_text::{LinkAddresses, config_text};
+use std::alloc::{AllocError, Global};
+use std::io;
+use std::io::Write;
+
+/// The socket addresses of links, by their numbers. The only error is that memory ran out.
+fn addresses_of(
+    alloc: Global,
+    sockets: &[(u16, LinkSockets)],
+) -> Result<Vec<(u16, LinkAddresses)>, AllocError>
+    ensures { IfOk result (λ rows. rows.items ≡ addresses_of sockets.now) }
+{
+    sockets
+        .iter()
+        .map(|row| {
+            let (number, LinkSockets { listen, send }) = *row;
+            (number, LinkAddresses { listen, send })
+        })
+        .collect(alloc)
+}
+
+/// The socket addresses that a configuration's text gives its links, or none where it doesn't give each link both. The only
+/// error is that memory ran out.
+fn read_addresses(alloc: Global, text: &str) -> Result<Vec<(u16, LinkAddresses)>, AllocError>
+    ensures { IfOk result (λ rows. GivesAddresses text.now rows.items) }
+{
+    match read_sockets(alloc, text) {
+        Ok(sockets) => addresses_of(alloc, sockets.as_slice()),
+        Err(ConfigFault::Memory) => Err(AllocError),
+        Err(_) => Ok(Vec::new(alloc)),
+    }
+}
+
+/// The text that was read, or without one that of the built-in router.
+fn said(text: &Option<String>) -> &str
+    ensures { result.now ≡ said_by (option_map string_bytes text.now) }
+{
+    match text {
+        Some(text) => text.as_str(),
+        None => BUILT_IN,
+    }
+}
+
+/// What is printed of the configuration that the text says; or how a run ends that prints nothing of it.
+fn print_text<'a>(alloc: Global, text: &str) -> Result<Vec<u8>, RunEnding<'a>>
+    ensures printed { IfOk result (λ printed. Prints text.now printed.items) }
+    ensures fault { IfErr result (λ ending. (stream : Option Stream) → IsConfigText stream text.now → PrintsConfig stream [] ending) }
+{
+    let config = match Config::read(alloc, text) {
+        Ok(config) => config,
+        Err(fault) => return Err(RunEnding::BadConfig(fault)),
+    };
+    let Ok(addresses) = read_addresses(alloc, text) else {
+        return Err(RunEnding::Memory);
+    };
+    match config_text(alloc, &config, addresses.as_slice()) {
+        Ok(printed) => Ok(printed),
+        Err(_) => Err(RunEnding::Memory),
+    }
+}
+
+/// What is printed of the configuration of the stream, or without one of the built-in one; or how a run ends that prints
+/// nothing.
+fn print_config<'a, C: ByteStream + Drop>(
+    alloc: Global,
+    config: Option<C>,
+) -> Result<Vec<u8>, RunEnding<'a>>
+    ensures printed { IfOk result (λ printed. PrintsConfig (option_map C.stream config) printed.items done) }
+    ensures fault { IfErr result (PrintsConfig (option_map C.stream config) []) }
+{
+    let text = match read_config_text(alloc, config) {
+        Ok(text) => text,
+        Err(fault) => return Err(RunEnding::Unread(Source::Config, fault)),
+    };
+    match print_text(alloc, said(&text)) {
+        Ok(printed) => Ok(printed),
+        Err(ending) => Err(ending),
+    }
+}
+
+/// `lsr config` on a configuration, which has this name, or without one on the built-in one: prints it as the router
+/// understands it, or tells on the error stream why it doesn't. Gives the status, 0 or 1. The error is that a stream could not
+/// be written.
+fn run_config<C: ByteStream + Drop, W: Write, E: Write>(
+    alloc: Global,
+    name: &str,
+    config: Option<C>,
+    output: &mut W,
+    error: &mut E,
+) -> io::Result<u8>
+    ensures { IfOk result (λ status. (ending : RunEnding) × (printed : List ℕ) × (status ≡ status_of ending)
+        × PrintsConfig (option_map C.stream config) printed ending
+        × Appends (W.contents output.old) (W.contents output.new) printed
+        × Appends (E.contents error.old) (E.contents error.new) (ending_text name.now ending)) }
+{
+    match print_config(alloc, config) {
+        Ok(printed) => {
+            output.write_all(printed.as_slice())?;
+            Ok(DONE)
+        }
+        Err(ending) => {
+            tell_ending(error, name, &ending)?;
+            Ok(status_of(&ending))
+        }
+    }
+}
+
+/// `lsr config [FILE]`: as [`run_config`], on the configuration of the file of this name, or without one on the built-in one. A
+/// file that can't be opened is told as one that can't be read.
+pub fn run_config_of<F: FilesByName, W: Write, E: Write>(
+    files: &F,
+    alloc: Global,
+    file: Option<&str>,
+    output: &mut W,
+    error: &mut E,
+) -> io::Result<u8>
+    ensures { IfOk result (Configures (F.opens files.now) (F.fails files.now) F.File.stream (option_map (λ f. f.now) file.entry)
+        (W.contents output.old) (W.contents output.new) (E.contents error.old) (E.contents error.new)) }
+{
+    let Some(name) = file else {
+        return run_config(alloc, "", None::<F::File>, output, error);
+    };
+    match files.open(name) {
+        Ok(stream) => run_config(alloc, name, Some(stream), output, error),
+        Err(fault) => {
+            let ending = RunEnding::Unread(Source::Config, fault);
+            tell_ending(error, name, &ending)?;
+            Ok(status_of(&ending))
+        }
+    }
+}
