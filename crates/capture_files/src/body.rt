@@ -1,6 +1,7 @@
-ghost use Rattle.std.specs.Prelude.{◌≡◌, ◌≤◌, ◌+◌, length, None, Some, IfErr, IfOk, Option, option_map, List, ℕ};
+ghost use Rattle.std.specs.Prelude.{◌≡◌, ◌≤◌, ◌+◌, length, None, Some, IfErr, IfOk, Option, option_map, slice_get, List, ℕ};
 ghost use Rattle.std.specs.Duration.{as_nanos};
-ghost use Rattle.capture_files.specs.Bodies.{HasNumber, Says, body_fault, enhanced_fault, enhanced_in, enhanced_time, interface_fault, interface_in, resolution_in, section_fault, simple_fault, simple_in, simple_len};
+ghost use Rattle.capture_files.specs.Bodies.{HasNumber, Says, body_fault, enhanced_fault, enhanced_in, enhanced_len, enhanced_of, enhanced_time, interface_fault, interface_in, resolution_in, section_fault, simple_fault, simple_in, simple_len};
+ghost use Rattle.capture_files.specs.Numbers.{field};
 ghost use Rattle.capture_files.specs.Packets.{seen};
 
 use crate::block::{Block, SECTION_BLOCK};
@@ -130,6 +131,43 @@ fn time_at(endian: Endian, resolution: Option<u8>, body: &[u8]) -> Option<Durati
     time_of(resolution, (high << WORD_BITS) + low)
 }
 
+/// How many bytes an enhanced packet has in its block.
+fn captured_len(endian: Endian, body: &[u8]) -> usize
+    requires { 20 ≤ length body.now }
+    ensures { result ≡ enhanced_len endian body.now }
+{
+    endian.read_u32(&body[CAPTURED_FIELD..]) as usize
+}
+
+/// The packet of this interface that an enhanced packet's body says, which gets this number and is whole.
+fn whole_packet<'a>(
+    endian: Endian,
+    interface: Interface,
+    number: usize,
+    body: &'a [u8],
+) -> Packet<'a>
+    requires { 20 + enhanced_len endian body.now ≤ length body.now }
+    ensures packet { seen result ≡ enhanced_of endian body.now interface }
+    ensures number { result.number ≡ number }
+{
+    let (_, rest) = body.split_at(ENHANCED_HEAD_LEN);
+    Packet {
+        number,
+        time: time_at(endian, interface.resolution, body),
+        link_type: interface.link_type,
+        bytes: &rest[..captured_len(endian, body)],
+        original_len: endian.read_u32(&body[ORIGINAL_FIELD..]),
+    }
+}
+
+/// The interface of an enhanced packet, where its section has described it.
+fn interface_at(endian: Endian, interfaces: &[Interface], body: &[u8]) -> Option<Interface>
+    requires { 4 ≤ length body.now }
+    ensures { result ≡ slice_get interfaces.now (field endian 0 4 body.now) }
+{
+    interfaces.get(endian.read_u32(body) as usize).copied()
+}
+
 /// The packet that an enhanced packet's body says, which gets this number.
 #[tactic(auto, unfolding(crate::specs::Bodies::enhanced_fault))]
 fn enhanced_of<'a>(
@@ -146,21 +184,13 @@ fn enhanced_of<'a>(
     if body.len() < ENHANCED_HEAD_LEN {
         return Err(Damage::Length);
     }
-    let Some(interface) = interfaces.get(endian.read_u32(body) as usize) else {
+    let Some(interface) = interface_at(endian, interfaces, body) else {
         return Err(Damage::Interface);
     };
-    let (_, rest) = body.split_at(ENHANCED_HEAD_LEN);
-    let captured_len = endian.read_u32(&body[CAPTURED_FIELD..]) as usize;
-    if rest.len() < captured_len {
+    if body.len() - ENHANCED_HEAD_LEN < captured_len(endian, body) {
         return Err(Damage::Length);
     }
-    Ok(Packet {
-        number,
-        time: time_at(endian, interface.resolution, body),
-        link_type: interface.link_type,
-        bytes: &rest[..captured_len],
-        original_len: endian.read_u32(&body[ORIGINAL_FIELD..]),
-    })
+    Ok(whole_packet(endian, interface, number, body))
 }
 
 /// How many bytes a simple packet of this interface has in its block, if it had so many on its link.

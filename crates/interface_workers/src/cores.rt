@@ -1,7 +1,7 @@
 //! A router under its lock, and the ports of those who feed it.
 
 ghost use Rattle.std.specs.Prelude.{◌≡◌, ◌+◌, ◌<◌, ◌≤◌, [], All, IfOk, OnErr, OnOk, length, map};
-ghost use Rattle.run_journal.specs.Events.{event_bytes};
+ghost use Rattle.event_bytes.specs.Events.{event_bytes};
 ghost use Rattle.run_journal.specs.Journals.{IsAnswered};
 ghost use Rattle.run_journal.specs.Marks.{Follows, first_marks};
 

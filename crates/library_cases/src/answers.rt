@@ -90,8 +90,11 @@ fn framed(alloc: Global, frame: &Frame) -> Result<Answer, AllocError> {
 
 /// How the frame is read, and how it is written.
 fn frame(alloc: Global, bytes: &[u8]) -> Result<Answer> {
-    let frame = read_frame(alloc, bytes).map_err(refusal)?;
-    Ok(framed(alloc, &frame)?)
+    let answer = match read_frame(alloc, bytes) {
+        Ok(frame) => framed(alloc, &frame),
+        Err(fault) => return Err(refusal(fault)),
+    };
+    Ok(answer?)
 }
 
 /// The payload with the message in it read.
@@ -127,20 +130,26 @@ fn whole(alloc: Global, bytes: &[u8]) -> Result<Message> {
 /// How the frame is read, and how it is written by the router that makes the message in it.
 fn made_frame(alloc: Global, bytes: &[u8]) -> Result<Answer> {
     let frame = read_frame(alloc, bytes).map_err(refusal)?;
-    let frame = made(alloc, frame)?;
-    Ok(framed(alloc, &frame)?)
+    let answer = framed(alloc, &made(alloc, frame)?);
+    Ok(answer?)
+}
+
+/// How many bytes the object has, its Class-Num, its C-Type and what it says, and how it is written.
+fn described(alloc: Global, object: &Object, len: usize) -> Result<Answer, AllocError> {
+    let (class, ctype) = (object.class(), object.ctype());
+    let mut written = Vec::new(alloc);
+    write_object(object, &mut written)?;
+    let said = format!(in alloc; "{len} {class}/{ctype} {object:?}")?;
+    Ok((said, Some(written)))
 }
 
 /// How many bytes the first object has, its Class-Num, its C-Type and what it says, and how it is written.
 fn object(alloc: Global, bytes: &[u8]) -> Result<Answer> {
-    let (object, len) = read_object(alloc, bytes).map_err(|fault| anyhow!("refused {fault:?}"))?;
-    let (class, ctype) = (object.class(), object.ctype());
-    let mut written = Vec::new(alloc);
-    write_object(&object, &mut written)?;
-    Ok((
-        format!(in alloc; "{len} {class}/{ctype} {object:?}")?,
-        Some(written),
-    ))
+    let answer = match read_object(alloc, bytes) {
+        Ok((object, len)) => described(alloc, &object, len),
+        Err(fault) => bail!("refused {fault:?}"),
+    };
+    Ok(answer?)
 }
 
 /// The rate that the word stands for.
@@ -153,14 +162,23 @@ fn rate_of_word(alloc: Global, bytes: &[u8]) -> Result<String> {
     Ok(format!(in alloc; "{rate}")?)
 }
 
+/// The rate that a SENDER_TSPEC or a FLOWSPEC asks for.
+fn rate_in(object: &Object) -> Result<u64> {
+    let rate = match object {
+        Object::SenderTspec(tspec) => tspec.rate(),
+        Object::Flowspec(flowspec) => flowspec.rate(),
+        _ => bail!("no object of traffic"),
+    };
+    rate.map_err(|fault| anyhow!("refused {fault:?}"))
+}
+
 /// The rate that the SENDER_TSPEC or FLOWSPEC asks for.
 fn rate_of_object(alloc: Global, bytes: &[u8]) -> Result<String> {
     let rate = match read_object(alloc, bytes) {
-        Ok((Object::SenderTspec(tspec), _)) => tspec.rate(),
-        Ok((Object::Flowspec(flowspec), _)) => flowspec.rate(),
-        _ => bail!("no object of traffic"),
+        Ok((object, _)) => rate_in(&object),
+        Err(_) => bail!("no object of traffic"),
     };
-    let rate = rate.map_err(|fault| anyhow!("refused {fault:?}"))?;
+    let rate = rate?;
     Ok(format!(in alloc; "{rate}")?)
 }
 
@@ -183,18 +201,26 @@ pub fn input(alloc: Global, pieces: &Pieces, verb: &str, text: &str) -> Result<V
     }
 }
 
+/// What the verb says of the bytes and of changes of them, where it is one for that.
+fn counts(alloc: Global, verb: &str, bytes: &[u8]) -> Result<Option<String>, AllocError> {
+    let counts = match verb {
+        "checksum" => sum(alloc, bytes),
+        "turn" => turned(alloc, Form::Message, bytes),
+        "turn_frame" => turned(alloc, Form::Frame, bytes),
+        "cut" => cut(alloc, Form::Message, bytes, false),
+        "cut_frame" => cut(alloc, Form::Frame, bytes, false),
+        "shorten" => cut(alloc, Form::Message, bytes, true),
+        _ => return Ok(None),
+    };
+    Ok(Some(counts?))
+}
+
 /// What the verb says of the bytes.
 fn said(alloc: Global, verb: &str, bytes: &[u8]) -> Result<String> {
     match verb {
         "rate" => rate_of_word(alloc, bytes),
         "traffic" => rate_of_object(alloc, bytes),
-        "checksum" => Ok(sum(alloc, bytes)?),
-        "turn" => Ok(turned(alloc, Form::Message, bytes)?),
-        "turn_frame" => Ok(turned(alloc, Form::Frame, bytes)?),
-        "cut" => Ok(cut(alloc, Form::Message, bytes, false)?),
-        "cut_frame" => Ok(cut(alloc, Form::Frame, bytes, false)?),
-        "shorten" => Ok(cut(alloc, Form::Message, bytes, true)?),
-        _ => bail!("no such verb"),
+        _ => counts(alloc, verb, bytes)?.context("no such verb"),
     }
 }
 
@@ -215,10 +241,12 @@ fn counted(alloc: Global, pieces: &Pieces, verb: &str, text: &str) -> Result<Str
     let (times, after) = text.split_once(' ').context("no count")?;
     let times = times.parse::<u32>()?;
     let bytes = pieces.spell(after)?;
-    if verb == "mutate" {
-        return Ok(mutated(alloc, bytes.as_slice(), times)?);
-    }
-    Ok(repeated(alloc, bytes.as_slice(), times)?)
+    let counts = if verb == "mutate" {
+        mutated(alloc, bytes.as_slice(), times)
+    } else {
+        repeated(alloc, bytes.as_slice(), times)
+    };
+    Ok(counts?)
 }
 
 /// What the verb answers to the text after it. What is refused is an error, whose text says why.

@@ -2,7 +2,7 @@
 
 ghost use Rattle.std.specs.Prelude.{◌^◌, ◌≤◌, IfOk};
 
-use crate::words::{lsp, priority, rate_word, request, style, word};
+use crate::words::{link, lsp, priority, rate_word, request, style, word};
 use admission::Admission;
 use anyhow::{Context, Result, bail};
 use lsr_facts::Key;
@@ -12,7 +12,7 @@ use rsvp_bodies::Body;
 use rsvp_contents::Passing;
 use rsvp_traffic::Flowspec;
 use sorted_rows::Table;
-use std::alloc::Global;
+use std::alloc::{AllocError, Global};
 use std::str::SplitWhitespace;
 
 /// A FLOWSPEC for controlled load up to its rate, and what stands behind that (RFC 2210, 3.2.1).
@@ -32,14 +32,30 @@ pub fn is_verb(verb: &str) -> bool {
     )
 }
 
-/// Links with the limits that the words say, nothing reserved on them.
-fn links(alloc: Global, words: &mut SplitWhitespace<'_>) -> Result<Admission> {
+/// The number of a link and its limit, as `NUMBER=LIMIT`.
+fn limit(word: &str) -> Result<(u16, u64)> {
+    let (number, limit) = word.split_once('=').context("no limit")?;
+    Ok((number.parse::<u16>()?, limit.parse::<u64>()?))
+}
+
+/// The limits of links that the words say.
+fn limits(alloc: Global, words: &mut SplitWhitespace<'_>) -> Result<Table<u16, u64>> {
     let mut limits = Table::new(alloc);
     for word in words {
-        let (number, limit) = word.split_once('=').context("no limit")?;
-        limits.set(number.parse::<u16>()?, limit.parse::<u64>()?)?;
+        let (number, limit) = limit(word)?;
+        limits.set(number, limit)?;
     }
-    Ok(Admission::new(alloc, limits)?)
+    Ok(limits)
+}
+
+/// There are links with the limits that the words say from now on, nothing reserved on them.
+fn set_links(
+    alloc: Global,
+    admission: &mut Admission,
+    words: &mut SplitWhitespace<'_>,
+) -> Result<()> {
+    *admission = Admission::new(alloc, limits(alloc, words)?)?;
+    Ok(())
 }
 
 /// The FLOWSPEC of a rate word.
@@ -53,19 +69,27 @@ fn flowspec(alloc: Global, rate: u32) -> Result<Flowspec> {
     Ok(Flowspec::from_body(Body::from_vec(bytes)))
 }
 
-/// An LSP has the reservation that the words say.
-#[tactic(auto, using(crate::proofs::Room::put_fits))]
-fn put(alloc: Global, admission: &mut Admission, words: &mut SplitWhitespace<'_>) -> Result<()> {
-    let key = lsp(words)?;
-    let fact = ResvFact {
-        link: word(words)?.parse::<u16>()?,
-        style: style(words)?,
-        flowspec: flowspec(alloc, rate_word(words)?)?,
+/// The reservation that the words say.
+fn reservation(alloc: Global, words: &mut SplitWhitespace<'_>) -> Result<ResvFact> {
+    let link = link(words)?;
+    let style = style(words)?;
+    let flowspec = flowspec(alloc, rate_word(words)?)?;
+    Ok(ResvFact {
+        link,
+        style,
+        flowspec,
         label: LABEL,
         recorded: None,
         passing: Passing::new(alloc),
         expiry: EXPIRY,
-    };
+    })
+}
+
+/// An LSP has the reservation that the words say.
+#[tactic(auto, using(crate::proofs::Room::put_fits))]
+fn put(alloc: Global, admission: &mut Admission, words: &mut SplitWhitespace<'_>) -> Result<()> {
+    let key = lsp(words)?;
+    let fact = reservation(alloc, words)?;
     let holding = priority(words)?;
     if fact.flowspec.rate().is_err() || holding > 7 || admission.len() >= MAX_LSPS {
         bail!("no room");
@@ -86,7 +110,7 @@ fn asked(words: &mut SplitWhitespace<'_>) -> Result<Request>
 }
 
 /// The LSPs by their names.
-fn names(alloc: Global, keys: &[Key]) -> Result<String> {
+fn names(alloc: Global, keys: &[Key]) -> Result<String, AllocError> {
     let mut said = String::new(alloc);
     for key in keys {
         if !said.is_empty() {
@@ -100,6 +124,39 @@ fn names(alloc: Global, keys: &[Key]) -> Result<String> {
     Ok(said)
 }
 
+/// How much is reserved on a link at a priority.
+fn reserved(
+    alloc: Global,
+    admission: &Admission,
+    words: &mut SplitWhitespace<'_>,
+) -> Result<String> {
+    let link = link(words)?;
+    let rate = admission.reserved(link, priority(words)?);
+    Ok(format!(in alloc; "{rate}")?)
+}
+
+/// Whether a request fits.
+fn fits(alloc: Global, admission: &Admission, words: &mut SplitWhitespace<'_>) -> Result<String> {
+    let request = asked(words)?;
+    let said = if admission.fits(&request) {
+        "yes"
+    } else {
+        "no"
+    };
+    Ok(String::from_str(alloc, said)?)
+}
+
+/// Who gives way to a request.
+fn victims(
+    alloc: Global,
+    admission: &Admission,
+    words: &mut SplitWhitespace<'_>,
+) -> Result<String> {
+    let request = asked(words)?;
+    let keys = admission.victims(alloc, &request)?;
+    Ok(names(alloc, &keys)?)
+}
+
 /// What is said of a question.
 fn told(
     alloc: Global,
@@ -108,45 +165,46 @@ fn told(
     words: &mut SplitWhitespace<'_>,
 ) -> Result<String> {
     match verb {
-        "reserved" => {
-            let link = word(words)?.parse::<u16>()?;
-            let rate = admission.reserved(link, priority(words)?);
-            Ok(format!(in alloc; "{rate}")?)
-        }
-        "fits" => {
-            let request = asked(words)?;
-            let said = if admission.fits(&request) {
-                "yes"
-            } else {
-                "no"
-            };
-            Ok(String::from_str(alloc, said)?)
-        }
-        "victims" => {
-            let request = asked(words)?;
-            let keys = admission.victims(alloc, &request)?;
-            names(alloc, &keys)
-        }
+        "reserved" => reserved(alloc, admission, words),
+        "fits" => fits(alloc, admission, words),
+        "victims" => victims(alloc, admission, words),
         _ => bail!("no case"),
     }
+}
+
+/// An LSP goes.
+fn remove(admission: &mut Admission, words: &mut SplitWhitespace<'_>) -> Result<()> {
+    admission.remove(&lsp(words)?);
+    Ok(())
+}
+
+/// An LSP is kept at another priority.
+fn hold(admission: &mut Admission, words: &mut SplitWhitespace<'_>) -> Result<()> {
+    let key = lsp(words)?;
+    let holding = priority(words)?;
+    if holding <= 7 {
+        admission.set_holding(&key, holding);
+    }
+    Ok(())
+}
+
+/// What has expired at a moment goes.
+fn expire(admission: &mut Admission, words: &mut SplitWhitespace<'_>) -> Result<()> {
+    admission.expire(word(words)?.parse::<u64>()?);
+    Ok(())
 }
 
 /// What is said of the case.
 pub fn answer(alloc: Global, admission: &mut Admission, case: &str) -> Result<String> {
     let mut words = case.split_whitespace();
-    match word(&mut words)? {
-        "links" => *admission = links(alloc, &mut words)?,
-        "put" => put(alloc, admission, &mut words)?,
-        "remove" => admission.remove(&lsp(&mut words)?),
-        "hold" => {
-            let key = lsp(&mut words)?;
-            let holding = priority(&mut words)?;
-            if holding <= 7 {
-                admission.set_holding(&key, holding);
-            }
-        }
-        "expire" => admission.expire(word(&mut words)?.parse::<u64>()?),
+    let done = match word(&mut words)? {
+        "links" => set_links(alloc, admission, &mut words),
+        "put" => put(alloc, admission, &mut words),
+        "remove" => remove(admission, &mut words),
+        "hold" => hold(admission, &mut words),
+        "expire" => expire(admission, &mut words),
         verb => return told(alloc, admission, verb, &mut words),
-    }
+    };
+    done?;
     Ok(String::from_str(alloc, "ok")?)
 }

@@ -159,6 +159,27 @@ fn change_objects(parts: &mut Vec<&[u8]>, chance: &mut Chance) -> Result<(), All
     Ok(())
 }
 
+/// The parts, one after the other.
+fn joined(alloc: Global, parts: &[&[u8]]) -> Result<Vec<u8>, AllocError> {
+    let mut bytes = Vec::new(alloc);
+    for part in parts {
+        bytes.extend_from_slice(part)?;
+    }
+    Ok(bytes)
+}
+
+/// Turns one bit or more of a byte.
+fn change_byte(bytes: &mut [u8], chance: &mut Chance) {
+    let at = chance.place(bytes.len());
+    let bits = chance.below(256);
+    let bits = if chance.below(2) == 0 {
+        1 << (bits % 8)
+    } else {
+        bits
+    };
+    turn(bytes, at, u8::try_from(bits).unwrap_or(0));
+}
+
 /// The message with changes by chance: up to two objects more or fewer, up to two bytes changed, and mostly a length put
 /// right and no checksum.
 fn mutant(alloc: Global, message: &[u8], chance: &mut Chance) -> Result<Vec<u8>, AllocError> {
@@ -166,19 +187,9 @@ fn mutant(alloc: Global, message: &[u8], chance: &mut Chance) -> Result<Vec<u8>,
     for _ in 0..chance.below(3) {
         change_objects(&mut parts, chance)?;
     }
-    let mut bytes = Vec::new(alloc);
-    for part in &parts {
-        bytes.extend_from_slice(part)?;
-    }
+    let mut bytes = joined(alloc, parts.as_slice())?;
     for _ in 0..chance.below(3) {
-        let at = chance.place(bytes.len());
-        let bits = chance.below(256);
-        let bits = if chance.below(2) == 0 {
-            1 << (bits % 8)
-        } else {
-            bits
-        };
-        turn(bytes.as_mut_slice(), at, u8::try_from(bits).unwrap_or(0));
+        change_byte(bytes.as_mut_slice(), chance);
     }
     if chance.below(8) != 0 {
         mend(bytes.as_mut_slice());

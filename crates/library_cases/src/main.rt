@@ -37,7 +37,7 @@ use answers::{Answer, answer, input};
 use anyhow::{Context, Result};
 use pieces::Pieces;
 use sorted_rows::Table;
-use std::alloc::Global;
+use std::alloc::{AllocError, Global};
 use std::fs;
 
 /// The names of the files of cases.
@@ -57,6 +57,17 @@ struct Bench {
     admission: Admission,
 }
 
+impl Bench {
+    /// No named bytes, and no link.
+    fn new(alloc: Global) -> Result<Bench, AllocError> {
+        let admission = Admission::new(alloc, Table::new(alloc))?;
+        Ok(Bench {
+            pieces: Pieces::new(alloc),
+            admission,
+        })
+    }
+}
+
 /// What is said of a case, and what is written of what was read.
 fn answered(
     alloc: Global,
@@ -71,6 +82,53 @@ fn answered(
     answer(alloc, &bench.pieces, verb, text)
 }
 
+/// What is said of a case, and what is written of what was read; of a case that is refused why, and nothing.
+fn answered_or_refused(
+    alloc: Global,
+    bench: &mut Bench,
+    verb: &str,
+    case: &str,
+    text: &str,
+) -> Result<Answer, AllocError> {
+    match answered(alloc, bench, verb, case, text) {
+        Ok(answer) => Ok(answer),
+        Err(fault) => Ok((format!(in alloc; "{fault}")?, None)),
+    }
+}
+
+/// What is said and the bytes that are written, where these differ from what is wanted.
+fn other_bytes(
+    alloc: Global,
+    said: &str,
+    bytes: &[u8],
+    wanted: &[u8],
+) -> Result<Option<String>, AllocError> {
+    if bytes == wanted {
+        return Ok(None);
+    }
+    let digits = hex::encode(alloc, bytes)?;
+    Ok(Some(format!(in alloc; "{said} as {digits}")?))
+}
+
+/// What the answer is in place of these words and the bytes that the form spells, where it differs.
+fn other_answer(
+    alloc: Global,
+    pieces: &Pieces,
+    verb: &str,
+    answer: &Answer,
+    (words, form): (&str, &str),
+) -> Result<Option<String>> {
+    let (said, written) = answer;
+    if said.as_str() != words {
+        return Ok(Some(said.clone()?));
+    }
+    let Some(bytes) = written else {
+        return Ok(None);
+    };
+    let wanted = input(alloc, pieces, verb, form)?;
+    Ok(other_bytes(alloc, said.as_str(), bytes.as_slice(), wanted.as_slice())?)
+}
+
 /// What the case gives in place of what it is to give, where it differs.
 fn difference(
     alloc: Global,
@@ -79,21 +137,9 @@ fn difference(
     wanted: &str,
 ) -> Result<Option<String>> {
     let (verb, text) = case.split_once(' ').unwrap_or((case, ""));
-    let (words, form) = wanted.split_once(" as ").unwrap_or((wanted, text));
-    let (said, written) = match answered(alloc, bench, verb, case, text) {
-        Ok(answered) => answered,
-        Err(fault) => (format!(in alloc; "{fault}")?, None),
-    };
-    if said.as_str() != words {
-        return Ok(Some(said));
-    }
-    if let Some(bytes) = written {
-        if bytes != input(alloc, &bench.pieces, verb, form)? {
-            let digits = hex::encode(alloc, bytes)?;
-            return Ok(Some(format!(in alloc; "{said} as {digits}")?));
-        }
-    }
-    Ok(None)
+    let wanted = wanted.split_once(" as ").unwrap_or((wanted, text));
+    let answer = answered_or_refused(alloc, bench, verb, case, text)?;
+    other_answer(alloc, &bench.pieces, verb, &answer, wanted)
 }
 
 /// Takes the line in, and tells how its case differs.
@@ -119,26 +165,44 @@ fn take_line(
     Ok(difference)
 }
 
-fn main(rt: HostRuntime) -> Result<()> {
-    let alloc = rt.alloc();
-    let mut bench = Bench {
-        pieces: Pieces::new(alloc),
-        admission: Admission::new(alloc, Table::new(alloc))?,
+/// How the line's case differs, or why the line can't be taken in.
+fn wrong_line(
+    alloc: Global,
+    bench: &mut Bench,
+    line: &str,
+    score: &mut Score,
+) -> Result<Option<String>, AllocError> {
+    match take_line(alloc, bench, line, score) {
+        Ok(differs) => Ok(differs),
+        Err(fault) => Ok(Some(format!(in alloc; "{fault}")?)),
+    }
+}
+
+/// Takes in the lines of the file, and prints each whose case differs.
+fn take_file(rt: &HostRuntime, alloc: Global, bench: &mut Bench, file: &str) -> Result<()> {
+    let mut score = Score {
+        agreeing: 0,
+        cases: 0,
     };
-    for file in fs::read_to_string(&rt, FILES)?.lines() {
-        let mut score = Score {
-            agreeing: 0,
-            cases: 0,
-        };
-        for (place, line) in fs::read_to_string(&rt, file)?.lines().enumerate() {
-            let differs = match take_line(alloc, &mut bench, line, &mut score) {
-                Ok(None) => continue,
-                Ok(Some(got)) => got,
-                Err(fault) => format!(in alloc; "{fault}")?,
-            };
+    for (place, line) in fs::read_to_string(rt, file)?.lines().enumerate() {
+        if let Some(differs) = wrong_line(alloc, bench, line, &mut score)? {
             println!(rt; "{file}, line {}: {differs}", place.saturating_add(1))?;
         }
-        println!(rt; "{file}: {} of {} cases agree", score.agreeing, score.cases)?;
+    }
+    println!(rt; "{file}: {} of {} cases agree", score.agreeing, score.cases)?;
+    Ok(())
+}
+
+/// Takes in the lines of the files, one after the other.
+fn take_files(rt: &HostRuntime, alloc: Global, bench: &mut Bench) -> Result<()> {
+    for file in fs::read_to_string(rt, FILES)?.lines() {
+        take_file(rt, alloc, bench, file)?;
     }
     Ok(())
+}
+
+fn main(rt: HostRuntime) -> Result<()> {
+    let alloc = rt.alloc();
+    let mut bench = Bench::new(alloc)?;
+    take_files(&rt, alloc, &mut bench)
 }

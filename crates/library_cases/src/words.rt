@@ -17,6 +17,11 @@ pub fn word<'a>(words: &mut SplitWhitespace<'a>) -> Result<&'a str> {
     words.next().context("a word is missing")
 }
 
+/// The number of a link that the next word says.
+pub fn link(words: &mut SplitWhitespace<'_>) -> Result<u16> {
+    Ok(word(words)?.parse::<u16>()?)
+}
+
 /// The LSP that the next word names.
 pub fn lsp(words: &mut SplitWhitespace<'_>) -> Result<Key> {
     let (tunnel, lsp) = word(words)?.split_once('/').context("no LSP")?;
@@ -57,14 +62,19 @@ pub fn rate_word(words: &mut SplitWhitespace<'_>) -> Result<u32> {
     Ok(u32::from_str_radix(word(words)?, HEXADECIMAL)?)
 }
 
+/// The rate of the next word, in bytes per second.
+fn rate(words: &mut SplitWhitespace<'_>) -> Result<u64> {
+    RateWord::from_bits(rate_word(words)?)
+        .whole()
+        .context("no rate")
+}
+
 /// The request that the next words say.
 pub fn request(words: &mut SplitWhitespace<'_>) -> Result<Request> {
     let key = lsp(words)?;
-    let link = word(words)?.parse::<u16>()?;
+    let link = link(words)?;
     let style = style(words)?;
-    let rate = RateWord::from_bits(rate_word(words)?)
-        .whole()
-        .context("no rate")?;
+    let rate = rate(words)?;
     let setup = priority(words)?;
     let holding = priority(words)?;
     Ok(Request {

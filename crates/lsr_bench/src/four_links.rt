@@ -1,49 +1,25 @@
 //! A router with four links over sockets, and its neighbours.
 
-use crate::fault::Fault;
-use crate::frames::{LABELLED_FRAME, PATH_FRAME, RESV_FRAME};
 use crate::sending::Sender;
+use lsr_config::BUILT_IN;
 use lsr_serve::LinkSockets;
 use sorted_rows::Table;
 use std::alloc::{AllocError, Global};
 use std::net::{Net, UdpSocket};
 use std::sync::atomic::AtomicU64;
+use worker_fixtures::{Fault, LABELLED_FRAME, OUT_LINK, PATH_FRAME, RESV_FRAME};
 
 /// How many links the router has.
 pub const LINKS: u16 = 4;
 
-/// Its configuration. Link 2 leads on to where the Path of [`PATH_FRAME`] goes.
-pub const FOUR_LINKS: &str = r#"
-router = "10.0.0.2"
-refresh_ms = 30000
-labels = [16, 4111]
-
-[[link]]
-number = 1
-address = "10.1.0.2"
-peer = "10.1.0.1"
-peer_router = "10.0.0.1"
-limit = 1250000
-listen = "127.0.0.1:5711"
-send = "127.0.0.1:5721"
-
-[[link]]
-number = 2
-address = "10.2.0.2"
-peer = "10.2.0.3"
-peer_router = "10.0.0.3"
-limit = 1250000
-listen = "127.0.0.1:5712"
-send = "127.0.0.1:5722"
-
+/// Those that the built-in router hasn't. Its link 2 leads on to where the Path of [`PATH_FRAME`] goes.
+const MORE_LINKS: &str = r#"
 [[link]]
 number = 3
 address = "10.3.0.2"
 peer = "10.3.0.5"
 peer_router = "10.0.0.5"
 limit = 1250000
-listen = "127.0.0.1:5713"
-send = "127.0.0.1:5723"
 
 [[link]]
 number = 4
@@ -51,9 +27,12 @@ address = "10.4.0.2"
 peer = "10.4.0.7"
 peer_router = "10.0.0.7"
 limit = 1250000
-listen = "127.0.0.1:5714"
-send = "127.0.0.1:5724"
 "#;
+
+/// The configuration of the router. The only error is out of memory.
+pub fn four_links(alloc: Global) -> Result<String, AllocError> {
+    format!(in alloc; "{BUILT_IN}{MORE_LINKS}")
+}
 
 /// The place of the last byte of the tunnel's number in [`PATH_FRAME`].
 const TUNNEL_AT: usize = 20;
@@ -118,7 +97,7 @@ fn resvs_and_frames(alloc: Global) -> Result<Vec<Vec<u8>>, AllocError> {
 /// The frames that the neighbour of a link sends round and round.
 fn frames_of(alloc: Global, traffic: Traffic, link: u16) -> Result<Vec<Vec<u8>>, AllocError> {
     let labelled = match (traffic, link) {
-        (Traffic::Frames, 2) => return resvs_and_frames(alloc),
+        (Traffic::Frames, OUT_LINK) => return resvs_and_frames(alloc),
         (Traffic::Frames, _) => FRAMES_A_MESSAGE,
         (Traffic::Paths, _) => 0,
     };

@@ -1,26 +1,25 @@
 //! How many datagrams a router takes over sockets, and how many frames it forwards.
 ghost use Rattle.std.specs.Prelude.{◌≡◌};
 
-use crate::fault::Fault;
-use crate::four_links::{FOUR_LINKS, LINKS, Traffic, open_senders};
-use crate::routers::{Left, open_router};
+use crate::four_links::{LINKS, Traffic, four_links, open_senders};
 use crate::sending::{CountedWire, Sender};
 use crate::timing::per_second;
 use interface_workers::{Core, CoreReader, OpenGate, Opened, Port, Wire, Work, serve_link};
-use lsr_serve::{LinkSockets, LinkWire, ServeFault, UdpWire, open_wires, read_sockets};
+use lsr_serve::{LinkSockets, LinkWire, ServeFault, UdpWire, open_wires};
 use sorted_rows::Table;
 use std::alloc::{AllocError, Global};
 use std::marker::Brand;
 use std::net::Net;
 use std::sync::Wait;
-use std::sync::atomic::AtomicU64;
+use std::sync::atomic::{AtomicU64, Ordering};
 use std::sync::ledger::{Blank, Ledger};
 use std::thread;
 use std::thread::Threads;
 use std::time::{Clock, Duration, Instant};
+use worker_fixtures::{Fault, Left, free_links, open_router};
 
 /// How many turns a worker makes beyond those in which it takes a frame: it waits 100 milliseconds in each for one that is late.
-const SPARE_TURNS: u32 = 64;
+const SPARE_TURNS: u32 = 600;
 
 /// The neighbours, each of which sends so many frames, with how many of them were taken.
 #[derive(Drop)]
@@ -91,25 +90,40 @@ fn send_all<R: Threads + Clock + Sync>(
     Ok(sent.iter().all(|is_sent| *is_sent))
 }
 
-/// Runs the workers, each so many turns; what they leave is added. The only error is out of memory.
-fn work_all<L: Ledger + Send + Sync, R: Threads + Wait + Send + Sync + Drop, W: Wire + Send + Drop>(
+/// What the threads of a run leave, how many datagrams they took, and how long that was.
+#[derive(Drop)]
+struct Loaded {
+    left: Left,
+    taken: u64,
+    took: Duration,
+}
+
+/// Puts together what threads left that took so many datagrams in this time. The fault is out of memory.
+fn put_together<L: Ledger, R: Wait + Drop>(
     rt: &R,
     alloc: Global,
     core: &Core<L, R>,
-    workers: Vec<Worker<'_, L, W>>,
-    turns: u32,
-    left: &mut Left,
-) -> Result<(), AllocError> {
-    let works = thread::map_vec(
-        rt,
-        workers,
-        &|worker| run_worker(rt, alloc, core, turns, worker),
-    )?;
-    left.add_all(works)
+    works: Vec<Result<Work, AllocError>>,
+    taken: u64,
+    took: Duration,
+) -> Result<Loaded, Fault> {
+    match Left::gathered(rt, alloc, core, works) {
+        Ok(left) => Ok(Loaded { left, taken, took }),
+        Err(_) => Err(Fault::Memory),
+    }
 }
 
-/// Runs the workers beside the neighbours; what they leave is added. How long it took since this moment. The fault is that a neighbour
-/// gave up, or that memory ran out.
+/// The sum of counts.
+fn sum_of(counts: &[AtomicU64]) -> u64 {
+    let mut sum = 0_u64;
+    for count in counts {
+        sum = sum.saturating_add(count.load(Ordering::SeqCst));
+    }
+    sum
+}
+
+/// Runs the workers beside the neighbours: what they leave, and how long it took since this moment. The fault is that a neighbour gave
+/// up, or that memory ran out.
 fn run_since<
     L: Ledger + Send + Sync,
     R: Threads + Wait + Clock + Send + Sync + Drop,
@@ -120,49 +134,31 @@ fn run_since<
     core: &Core<L, R>,
     workers: Vec<Worker<'_, L, W>>,
     neighbours: Neighbours<'_>,
-    left: &mut Left,
     start: Instant,
-) -> Result<Duration, Fault> {
+) -> Result<Loaded, Fault> {
     let Neighbours {
         senders,
-        counts: _,
+        counts,
         count,
     } = neighbours;
     let turns = count.saturating_add(SPARE_TURNS);
-    let (worked, is_sent) = thread::join(
+    let (works, is_sent) = thread::join(
         rt,
-        || work_all(rt, alloc, core, workers, turns, left),
+        || thread::map_vec(
+            rt,
+            workers,
+            &|worker| run_worker(rt, alloc, core, turns, worker),
+        ),
         || send_all(rt, senders),
     );
     let took = start.elapsed(rt)?;
-    worked?;
-    if is_sent? {
-        Ok(took)
-    } else {
-        Err(Fault::NotSent)
+    if !is_sent? {
+        return Err(Fault::NotSent);
     }
+    put_together(rt, alloc, core, works?, sum_of(counts), took)
 }
 
-/// The same from now on.
-fn run_both<
-    L: Ledger + Send + Sync,
-    R: Threads + Wait + Clock + Send + Sync + Drop,
-    W: Wire + Send + Drop,
->(
-    rt: &R,
-    alloc: Global,
-    core: &Core<L, R>,
-    workers: Vec<Worker<'_, L, W>>,
-    neighbours: Neighbours<'_>,
-    left: &mut Left,
-) -> Result<Duration, Fault> {
-    match Instant::now(rt) {
-        Ok(start) => run_since(rt, alloc, core, workers, neighbours, left, start),
-        Err(_) => Err(Fault::System),
-    }
-}
-
-/// Serves the neighbours by these ports and readers of a router; what its threads leave is added. How long they took.
+/// Serves the neighbours by these ports and readers of a router: what its threads leave, and how long they took.
 fn serve_by<
     L: Ledger + Send + Sync,
     R: Threads + Wait + Clock + Send + Sync + Drop,
@@ -175,8 +171,8 @@ fn serve_by<
     readers: Vec<CoreReader<L>>,
     wires: Vec<LinkWire<W>>,
     neighbours: Neighbours<'_>,
-    left: &mut Left,
-) -> Result<Duration, Fault> {
+) -> Result<Loaded, Fault> {
+    let start = Instant::now(rt)?;
     match workers(
         alloc,
         ports,
@@ -185,29 +181,9 @@ fn serve_by<
         neighbours.counts,
         neighbours.count,
     ) {
-        Ok(workers) => run_both(rt, alloc, core, workers, neighbours, left),
+        Ok(workers) => run_since(rt, alloc, core, workers, neighbours, start),
         Err(_) => Err(Fault::Memory),
     }
-}
-
-/// The same, and takes the last segment.
-fn serve_and_close<
-    L: Ledger + Send + Sync,
-    R: Threads + Wait + Clock + Send + Sync + Drop,
-    W: Wire + Send + Drop,
->(
-    rt: &R,
-    alloc: Global,
-    core: &Core<L, R>,
-    ports: Vec<Port<L>>,
-    readers: Vec<CoreReader<L>>,
-    wires: Vec<LinkWire<W>>,
-    neighbours: Neighbours<'_>,
-    left: &mut Left,
-) -> Result<Duration, Fault> {
-    let took = serve_by(rt, alloc, core, ports, readers, wires, neighbours, left)?;
-    left.close(rt, alloc, core)?;
-    Ok(took)
 }
 
 /// Serves the neighbours by a router of this name.
@@ -221,20 +197,20 @@ fn serve_named<
     blank: Blank,
     wires: Vec<LinkWire<W>>,
     neighbours: Neighbours<'_>,
-    left: &mut Left,
-) -> Result<Duration, Fault>
+) -> Result<Loaded, Fault>
     requires name { blank.name ≡ L.name }
     requires parts { blank.parts ≡ L.parts }
     requires four { blank.parts ≡ LINKS }
 {
-    match open_router::<L, R>(alloc, rt.clone()?, blank, FOUR_LINKS, LINKS) {
+    let text = four_links(alloc)?;
+    match open_router::<L, R>(alloc, rt.clone()?, blank, text.as_str(), LINKS) {
         Ok(
             Opened {
                 core,
                 ports,
                 readers,
             },
-        ) => serve_and_close(rt, alloc, &core, ports, readers, wires, neighbours, left),
+        ) => serve_by(rt, alloc, &core, ports, readers, wires, neighbours),
         Err(fault) => Err(fault),
     }
 }
@@ -267,13 +243,10 @@ fn serve_neighbours<R: Net + Threads + Wait + Clock + Clone + Send + Sync + Drop
     alloc: Global,
     links: &Table<u16, LinkSockets>,
     neighbours: Neighbours<'_>,
-    left: &mut Left,
-) -> Result<Duration, Fault> {
+) -> Result<Loaded, Fault> {
     let blank = Blank::new(u64::from(LINKS));
     match wires(rt, alloc, links) {
-        Ok(wires) => {
-            serve_named::<Brand, R, UdpWire<'_>>(rt, alloc, blank, wires, neighbours, left)
-        }
+        Ok(wires) => serve_named::<Brand, R, UdpWire<'_>>(rt, alloc, blank, wires, neighbours),
         Err(fault) => Err(fault),
     }
 }
@@ -285,8 +258,7 @@ fn serve<R: Net + Threads + Wait + Clock + Clone + Send + Sync + Drop>(
     links: &Table<u16, LinkSockets>,
     traffic: Traffic,
     count: u32,
-    left: &mut Left,
-) -> Result<Duration, Fault> {
+) -> Result<Loaded, Fault> {
     let all = new_counts(alloc)?;
     let counts = all.as_slice();
     match open_senders(rt, alloc, links, traffic, counts, count) {
@@ -296,7 +268,7 @@ fn serve<R: Net + Threads + Wait + Clock + Clone + Send + Sync + Drop>(
                 counts,
                 count,
             };
-            serve_neighbours(rt, alloc, links, neighbours, left)
+            serve_neighbours(rt, alloc, links, neighbours)
         }
         Err(fault) => Err(fault),
     }
@@ -308,73 +280,64 @@ fn run<R: Net + Threads + Wait + Clock + Clone + Send + Sync + Drop>(
     alloc: Global,
     traffic: Traffic,
     count: u32,
-    left: &mut Left,
-) -> Result<Duration, Fault> {
-    match read_sockets(alloc, FOUR_LINKS) {
-        Ok(links) => serve(rt, alloc, &links, traffic, count / u32::from(LINKS), left),
-        Err(_) => Err(Fault::Memory),
+) -> Result<Loaded, Fault> {
+    match free_links(rt, alloc, LINKS) {
+        Ok(links) => serve(rt, alloc, &links, traffic, count / u32::from(LINKS)),
+        Err(fault) => Err(fault),
     }
 }
 
 /// Prints whether what the threads were told is one run.
 fn tell_run<R: Print>(rt: &R, left: &Left) -> Result<(), Fault> {
+    let run = if left.is_one_run() {
+        "reconciled"
+    } else {
+        "not one run"
+    };
     let entries = left.receipts.len();
     let segments = left.segments.len();
-    if left.is_one_run() {
-        println!(rt; "reconciled: {entries} receipts, {segments} segments of the journal")?;
-    } else {
-        println!(rt; "not one run: {entries} receipts, {segments} segments of the journal")?;
-    }
+    println!(rt; "{run}: {entries} receipts, {segments} segments of the journal")?;
     Ok(())
 }
 
-/// Prints how many messages were taken in this time, of so many.
-fn tell_datagrams<R: Print>(rt: &R, count: u32, taken: usize, took: Duration) -> Result<(), Fault> {
-    let rate = per_second(taken as u64, took);
-    let millis = took.as_millis();
+/// Prints how many messages were taken of so many, and in which time.
+fn tell_datagrams<R: Print>(rt: &R, count: u32, loaded: &Loaded) -> Result<(), Fault> {
+    let taken = loaded.left.receipts.len();
+    let rate = per_second(taken as u64, loaded.took);
+    let millis = loaded.took.as_millis();
     println!(rt;
         "datagrams: {taken} of {count} taken by 4 workers in {millis} ms: {rate} a second"
     )?;
-    Ok(())
+    tell_run(rt, &loaded.left)
 }
 
-/// Prints how many frames were forwarded in this time, beside so many messages.
-fn tell_forwarding<R: Print>(
-    rt: &R,
-    forwarded: u64,
-    messages: usize,
-    took: Duration,
-) -> Result<(), Fault> {
-    let rate = per_second(forwarded, took);
-    let millis = took.as_millis();
+/// Prints how many frames were forwarded beside messages, and in which time.
+fn tell_forwarding<R: Print>(rt: &R, loaded: &Loaded) -> Result<(), Fault> {
+    let forwarded = loaded.left.forwarded;
+    let messages = loaded.left.receipts.len();
+    let rate = per_second(forwarded, loaded.took);
+    let millis = loaded.took.as_millis();
     println!(rt;
         "forwarding: {forwarded} frames by 4 workers in {millis} ms, beside {messages} messages: {rate} a second"
     )?;
+    tell_run(rt, &loaded.left)
+}
+
+/// Prints how many datagrams were taken of so many, and whether what the threads were told is one run.
+fn tell_counts<R: Print>(
+    rt: &R,
+    of: &str,
+    taken: u64,
+    count: u32,
+    left: &Left,
+) -> Result<(), Fault> {
+    let run = if left.is_one_run() {
+        "reconciled"
+    } else {
+        "not one run"
+    };
+    println!(rt; "{of}: {taken} of {count} taken by 4 workers; {run}")?;
     Ok(())
-}
-
-/// Measures how many messages four workers take a second of so many in all; what their threads leave is added.
-fn run_datagrams<R: Net + Threads + Wait + Clock + Print + Clone + Send + Sync + Drop>(
-    rt: &R,
-    alloc: Global,
-    count: u32,
-    left: &mut Left,
-) -> Result<(), Fault> {
-    let took = run(rt, alloc, Traffic::Paths, count, left)?;
-    tell_datagrams(rt, count, left.receipts.len(), took)?;
-    tell_run(rt, left)
-}
-
-/// Measures how many frames four workers forward a second; what their threads leave is added.
-fn run_forwarding<R: Net + Threads + Wait + Clock + Print + Clone + Send + Sync + Drop>(
-    rt: &R,
-    alloc: Global,
-    count: u32,
-    left: &mut Left,
-) -> Result<(), Fault> {
-    let took = run(rt, alloc, Traffic::Frames, count, left)?;
-    tell_forwarding(rt, left.forwarded, left.receipts.len(), took)?;
-    tell_run(rt, left)
 }
 
 /// Measures how many messages four workers take a second of so many in all, and prints what came. The fault says what to do.
@@ -383,8 +346,10 @@ pub fn measure_datagrams<R: Net + Threads + Wait + Clock + Print + Clone + Send 
     alloc: Global,
     count: u32,
 ) -> Result<(), Fault> {
-    let mut left = Left::new(alloc);
-    run_datagrams(rt, alloc, count, &mut left)
+    match run(rt, alloc, Traffic::Paths, count) {
+        Ok(loaded) => tell_datagrams(rt, count, &loaded),
+        Err(fault) => Err(fault),
+    }
 }
 
 /// Measures how many labelled frames four workers forward a second while messages come, of so many datagrams in all, and prints what
@@ -394,6 +359,35 @@ pub fn measure_forwarding<R: Net + Threads + Wait + Clock + Print + Clone + Send
     alloc: Global,
     count: u32,
 ) -> Result<(), Fault> {
-    let mut left = Left::new(alloc);
-    run_forwarding(rt, alloc, count, &mut left)
+    match run(rt, alloc, Traffic::Frames, count) {
+        Ok(loaded) => tell_forwarding(rt, &loaded),
+        Err(fault) => Err(fault),
+    }
+}
+
+/// Prints how many messages four workers take of so many in all. The fault says what to do.
+pub fn count_datagrams<R: Net + Threads + Wait + Clock + Print + Clone + Send + Sync + Drop>(
+    rt: &R,
+    alloc: Global,
+    count: u32,
+) -> Result<(), Fault> {
+    match run(rt, alloc, Traffic::Paths, count) {
+        Ok(loaded) => {
+            let taken = loaded.left.receipts.len() as u64;
+            tell_counts(rt, "datagrams", taken, count, &loaded.left)
+        }
+        Err(fault) => Err(fault),
+    }
+}
+
+/// Prints how many labelled frames and messages four workers take of so many in all. The fault says what to do.
+pub fn count_forwarding<R: Net + Threads + Wait + Clock + Print + Clone + Send + Sync + Drop>(
+    rt: &R,
+    alloc: Global,
+    count: u32,
+) -> Result<(), Fault> {
+    match run(rt, alloc, Traffic::Frames, count) {
+        Ok(loaded) => tell_counts(rt, "forwarding", loaded.taken, count, &loaded.left),
+        Err(fault) => Err(fault),
+    }
 }

@@ -1,7 +1,6 @@
 //! How many look-ups of labels there are a second.
 ghost use Rattle.std.specs.Prelude.{◌≤◌};
 
-use crate::fault::Fault;
 use crate::publishing::{OUT_LINK, SWAP, Writer, open};
 use crate::tables::{
     BURST, Bare, Bursts, Longest, LookUp, Nothing, Pace, longest_of, pace_of, pace_of_bursts,
@@ -14,6 +13,7 @@ use std::sync::atomic::{AtomicBool, Ordering};
 use std::thread::Threads;
 use std::time::Clock;
 use std::{io, thread};
+use worker_fixtures::Fault;
 
 /// The most readers at once.
 const MOST_READERS: usize = 4;
@@ -274,6 +274,29 @@ fn tell_longest<R: Print>(rt: &R, of: &str, longest: Longest, count: u32) -> Res
     let long = longest.long;
     println!(rt; "longest of {count} {of}: {nanos} ns, {long} took over 10000 ns")?;
     Ok(())
+}
+
+/// Looks labels up in this way beside a writer, so many by each reader, and prints that each was found.
+fn tell_found<R: Threads + Wait + Clock + Print + Clone + Send + Sync + Drop>(
+    rt: &R,
+    alloc: Global,
+    way: Way,
+    count: u32,
+) -> Result<(), Fault> {
+    let _beside = readers_beside(rt, alloc, way, MOST_READERS, count)?;
+    let words = way.words();
+    println!(rt; "lookups: {MOST_READERS} readers found each label, {count} {words} by each")?;
+    Ok(())
+}
+
+/// Looks labels up in both ways beside a writer, so many by each reader, and prints that each was found. The fault says what to do.
+pub fn count_lookups<R: Threads + Wait + Clock + Print + Clone + Send + Sync + Drop>(
+    rt: &R,
+    alloc: Global,
+    count: u32,
+) -> Result<(), Fault> {
+    tell_found(rt, alloc, Way::Single, count)?;
+    tell_found(rt, alloc, Way::Bursts, count)
 }
 
 /// Measures look-ups, each reader of which makes so many, and prints what came. The fault says what to do.

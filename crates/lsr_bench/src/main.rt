@@ -1,35 +1,20 @@
-//! Worked cases of the router under many threads, and measures of it that a person runs.
+//! Measures of the router under many threads, which a person runs; without words a short run, whose counts are always the same.
 #![tactic(auto)]
 
-mod both_at_once;
-mod cases;
-mod fault;
-mod follower;
 mod four_links;
-mod frames;
-mod full_journal;
 mod load;
 mod lookups;
 mod publishing;
-mod reader_row;
-mod routers;
 mod sending;
-mod silent_links;
-mod small_runs;
-mod socket_frames;
-mod socket_words;
-mod strange_receipt;
+mod short_run;
 mod tables;
 mod timing;
-mod two_threads;
-mod wires;
 mod withdrawals;
 mod words;
 
-use crate::cases::run_cases;
-use crate::fault::Fault;
 use crate::load::{measure_datagrams, measure_forwarding};
 use crate::lookups::{measure_longest, measure_lookups};
+use crate::short_run::run_short;
 use crate::withdrawals::measure_withdrawals;
 use crate::words::{Task, USAGE, read_task};
 use std::fmt::Display;
@@ -39,6 +24,7 @@ use std::sync::Wait;
 use std::thread::Threads;
 use std::time::Clock;
 use std::{env, io};
+use worker_fixtures::Fault;
 
 /// The status of a run that did what it was asked.
 const DONE: u8 = 0;
@@ -47,7 +33,7 @@ const FAILED: u8 = 1;
 /// That of words that ask for nothing that is known.
 const BAD_WORDS: u8 = 2;
 
-/// The words behind the program's name. The errors are that one isn't UTF-8, or that memory ran out.
+/// The words after the program's name. The errors are that one isn't UTF-8, or that memory ran out.
 fn read_words(rt: &HostRuntime) -> io::Result<Vec<String>> {
     Ok(env::args(rt)?.skip(1).collect::<Vec<String>>(rt.alloc())?)
 }
@@ -58,7 +44,7 @@ fn run<R: Net + Threads + Wait + Clock + Print + AllocGlobal + Clone + Send + Sy
     task: Task,
 ) -> Result<(), Fault> {
     match task {
-        Task::Cases => run_cases(rt, rt.alloc()),
+        Task::Short => run_short(rt, rt.alloc()),
         Task::Lookups(count) => measure_lookups(rt, rt.alloc(), count),
         Task::Longest(count) => measure_longest(rt, rt.alloc(), count),
         Task::Datagrams(count) => measure_datagrams(rt, rt.alloc(), count),

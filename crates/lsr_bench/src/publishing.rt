@@ -3,7 +3,6 @@ ghost use Rattle.std.specs.Prelude.{◌≡◌, ◌≤◌, [], IfOk};
 ghost use Rattle.lookup_plane.specs.Changes.{IsChangeOf};
 ghost use Rattle.lsr_bench.specs.declared.publishing.TheConstants.{FIRST_LABEL, LAST_LABEL};
 
-use crate::fault::Fault;
 use crate::tables::label_in;
 use crate::timing::per_second;
 use forwarding_table::Action;
@@ -13,6 +12,7 @@ use std::alloc::{AllocError, Global};
 use std::sync::Wait;
 use std::sync::atomic::{AtomicBool, Ordering};
 use std::time::{Clock, Instant};
+use worker_fixtures::Fault;
 
 /// The first label of the range that is looked up.
 pub const FIRST_LABEL: u32 = 16;

@@ -11,8 +11,8 @@ use std::time::{Clock, Duration};
 const WINDOW: u64 = 64;
 /// How long a neighbour sleeps until it looks again how many were taken, in microseconds.
 const LOOK_US: u64 = 50;
-/// How often it looks before it gives up: ten seconds in all.
-const MOST_LOOKS: u32 = 200_000;
+/// How often it looks before it gives up: a minute in all.
+const MOST_LOOKS: u32 = 1_200_000;
 
 /// A neighbour that sends frames round and round.
 #[derive(Drop)]

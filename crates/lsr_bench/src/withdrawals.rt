@@ -1,12 +1,9 @@
 //! Frames that are forwarded while the entry of their label comes and goes.
-ghost use Rattle.std.specs.Prelude.{◌≡◌, ◌≤◌};
+ghost use Rattle.std.specs.Prelude.{◌≡◌};
 
-use crate::fault::Fault;
-use crate::follower::{Fate, Follower, followers};
-use crate::frames::{LABELLED_FRAME, PATH_FRAME, RESV_FRAME, TEAR_FRAME};
-use crate::routers::open_router;
 use crate::timing::per_second;
 use interface_workers::{Core, CoreReader, Opened, Port};
+use lsr_config::BUILT_IN;
 use lsr_facts::Refusal;
 use std::alloc::Global;
 use std::marker::Brand;
@@ -16,38 +13,20 @@ use std::sync::ledger::{Blank, Ledger};
 use std::thread;
 use std::thread::Threads;
 use std::time::{Clock, Duration, Instant};
+use worker_fixtures::{
+    Fate, Fault, Follower, IN_LINK, LABELLED_FRAME, OUT_LINK, PATH_FRAME, RESV_FRAME, TEAR_FRAME,
+    followers, open_router,
+};
 
 /// How many ports and readers the router has: one that signals, and three that forward.
 const PORTS: u16 = 4;
-/// The link over which Paths and labelled frames come.
-const IN_LINK: u16 = 1;
-/// The link over which Resvs come and labelled frames leave.
-const OUT_LINK: u16 = 2;
 /// The port that signals.
 const SIGNALLER: u16 = 1;
-/// How many rounds the worked case has.
-const CASE_ROUNDS: u32 = 100;
 
-/// A router that has one label to give out: each LSP gets the same.
-const ONE_LABEL: &str = r#"
-router = "10.0.0.2"
-refresh_ms = 30000
-labels = [16, 16]
-
-[[link]]
-number = 1
-address = "10.1.0.2"
-peer = "10.1.0.1"
-peer_router = "10.0.0.1"
-limit = 1250000
-
-[[link]]
-number = 2
-address = "10.2.0.2"
-peer = "10.2.0.3"
-peer_router = "10.0.0.3"
-limit = 1250000
-"#;
+/// The labels of the built-in router.
+const ITS_LABELS: &str = "[16, 4111]";
+/// One label to give out: each LSP gets the same.
+const ONE_LABEL: &str = "[16, 16]";
 
 /// How many frames were forwarded, refused for their label, or neither.
 #[derive(Clone, Copy)]
@@ -209,7 +188,7 @@ fn play_all<L: Ledger + Send + Sync, R: Threads + Wait + Send + Sync + Drop>(
     Ok(sum_of(seen.as_slice()))
 }
 
-/// The run of a router of this name.
+/// The run of a router of this name: the built-in one, where it has one label to give out.
 fn run_named<L: Ledger + Send + Sync, R: Threads + Wait + Clone + Send + Sync + Drop>(
     rt: &R,
     alloc: Global,
@@ -220,7 +199,8 @@ fn run_named<L: Ledger + Send + Sync, R: Threads + Wait + Clone + Send + Sync + 
     requires parts { blank.parts ≡ L.parts }
     requires four { blank.parts ≡ PORTS }
 {
-    match open_router::<L, R>(alloc, rt.clone()?, blank, ONE_LABEL, PORTS) {
+    let text = BUILT_IN.replace(alloc, ITS_LABELS, ONE_LABEL)?;
+    match open_router::<L, R>(alloc, rt.clone()?, blank, text.as_str(), PORTS) {
         Ok(
             Opened {
                 core,
@@ -266,13 +246,14 @@ fn tell_rate<R: Print>(rt: &R, rounds: u32, beside: Fates, took: Duration) -> Re
     Ok(())
 }
 
-/// An LSP comes and goes a hundred times, while three threads forward frames under its label: prints what becomes of frames that come
-/// once the receipt of its Resv is learnt, and once that of its PathTear is.
-pub fn run<R: Threads + Wait + Print + Clone + Send + Sync + Drop>(
+/// An LSP comes and goes so many times, while three threads forward frames under its label: prints what becomes of frames that come
+/// once the receipt of its Resv is learnt, and once that of its PathTear is. The fault says what to do.
+pub fn count_withdrawals<R: Threads + Wait + Print + Clone + Send + Sync + Drop>(
     rt: &R,
     alloc: Global,
+    count: u32,
 ) -> Result<(), Fault> {
-    tell_learnt(rt, run_rounds(rt, alloc, CASE_ROUNDS)?)
+    tell_learnt(rt, run_rounds(rt, alloc, count)?)
 }
 
 /// Measures how many frames three workers forward or refuse a second while an LSP comes and goes so many times, and prints that too. The

@@ -3,7 +3,7 @@
 /// What to do where the words ask for nothing that is known.
 pub const USAGE: &str = "\
 Write one of these:
-  lsr_bench                   runs the worked cases of threads
+  lsr_bench                   a short run of all but the longest, whose counts are always the same
   lsr_bench lookups [N]       look-ups of labels a second, N by each reader; 2000000 without N
   lsr_bench longest [N]       the longest of N look-ups; 10000000 without N
   lsr_bench datagrams [N]     messages that four workers take a second, N in all; 100000 without N
@@ -27,8 +27,8 @@ const DEFAULT_ROUNDS: u32 = 10_000;
 /// What is asked for.
 #[derive(Clone, Copy)]
 pub enum Task {
-    /// The worked cases.
-    Cases,
+    /// A short run of all but the longest.
+    Short,
     /// Look-ups a second, so many by each reader.
     Lookups(u32),
     /// The longest of so many look-ups.
@@ -59,7 +59,7 @@ pub fn read_task(words: &[String]) -> Option<Task> {
     }
     let size = words.get(1);
     match words.first() {
-        None => Some(Task::Cases),
+        None => Some(Task::Short),
         Some(word) => match word.as_str() {
             "lookups" => number(size, DEFAULT_LOOKUPS).map(Task::Lookups),
             "longest" => number(size, DEFAULT_LONGEST).map(Task::Longest),

@@ -13,8 +13,8 @@
 //!   with TEXT on the stream, `output` or `error`, and nothing on the other.
 //! - A line `FILE => TEXT` of `captures.txt` says what a reader of capture files gives of FILE, packet by packet.
 //! - Each line of `bad-lines.txt`, alone, is a bad line of `lsr step`.
-//! - A line `NAME: FAULT` or `NAME: good` of `config/answers.txt` says what is told of the configuration
-//!   config/NAME.toml.
+//! - A line `NAME: FAULT | PLACE | ALLOWED` or `NAME: good` of `config/answers.txt` says what is told of the configuration
+//!   config/NAME.toml: the lines, with ` | ` between them in place of a newline and two spaces.
 //! - Inputs and outputs that fail are of its own.
 #![tactic(auto)]
 
@@ -23,7 +23,7 @@ mod runs;
 mod streams;
 
 use lsr_tool::{run_decode, run_step};
-use std::alloc::Global;
+use std::alloc::{AllocError, Global};
 use std::fmt::Write;
 use std::io::{ErrorKind, Read};
 use std::rt::Files;
@@ -43,6 +43,8 @@ const CONFIG: &str = "configuration";
 const ANSWERS: &str = "config/answers.txt";
 /// The answer to a configuration that has no fault.
 const GOOD: &str = "good";
+/// What parts the lines of an answer.
+const LINE_END: &str = " | ";
 
 /// No configuration: the built-in router.
 const NO_CONFIG: Option<&[u8]> = None;
@@ -190,12 +192,25 @@ fn many_agree<R: Files + AllocGlobal>(rt: &R, name: &str) -> io::Result<bool> {
     Ok(ran.status == 0 && counts_agree(counts.as_str(), printed.as_str()))
 }
 
-/// Whether the line, alone, is told as a bad one, and stands behind that.
+/// Whether the line, alone, is told as a bad one, and stands after that.
 fn is_bad_line(alloc: Global, line: &str) -> io::Result<bool> {
     let input = format!(in alloc; "{line}\n")?;
     let told = format!(in alloc; "bad line 1\n  {line}\n  expected ")?;
     let ran = run(alloc, NO_CONFIG, input.as_bytes())?;
     Ok(ran.status == 1 && ran.output.is_empty() && ran.error.starts_with(told.as_bytes()))
+}
+
+/// The lines of the answer as they are told.
+fn told_lines(alloc: Global, answer: &str) -> Result<String, AllocError> {
+    let mut told = String::new(alloc);
+    for (place, line) in answer.split(LINE_END).enumerate() {
+        if place > 0 {
+            told.push_str("  ")?;
+        }
+        told.push_str(line)?;
+        told.push_str("\n")?;
+    }
+    Ok(told)
 }
 
 /// Whether the configuration is taken where its answer is [`GOOD`], and else refused with its answer.
@@ -206,7 +221,7 @@ fn config_agrees<R: Files + AllocGlobal>(rt: &R, name: &str, answer: &str) -> io
     if answer == GOOD {
         return Ok(is_as_wanted(&ran, &[], &[]));
     }
-    let told = format!(in alloc; "{answer}\n")?;
+    let told = told_lines(alloc, answer)?;
     Ok(is_as_wanted(&ran, &[], told.as_bytes()))
 }
 

@@ -1,12 +1,12 @@
 //! Inputs and outputs that fail or are too long, which no file can be.
 ghost use Rattle.std.specs.Prelude.{◌≡◌, ◌≤◌};
 
-use lsr_tool::run_step;
+use lsr_tool::{run_live, run_step};
 use std::alloc::Global;
 use std::io;
 use std::io::{ErrorKind, Read, Write};
 
-/// The most bytes of an input.
+/// The most bytes of an input, and of a line that is answered as it comes.
 const MAX_INPUT_LEN: u64 = 16_777_216;
 /// Lines of which the last is none, and what is printed for those before it.
 const LINES: &[u8] = b"restart\nstart\nno line\n";
@@ -65,6 +65,27 @@ fn is_refused<R: Read>(alloc: Global, input: &mut R, told: &[u8]) -> io::Result<
     Ok(status == 1 && output.is_empty() && error.as_slice().starts_with(told))
 }
 
+/// Whether a live run over the input prints this, tells that first, and ends with status 1.
+fn is_stopped<R: Read>(
+    alloc: Global,
+    input: &mut R,
+    printed: &[u8],
+    told: &[u8],
+) -> io::Result<bool> {
+    let mut output = Vec::new(alloc);
+    let mut error = Vec::new(alloc);
+    let status = run_live(
+        alloc,
+        crate::CONFIG,
+        crate::NO_CONFIG,
+        false,
+        input,
+        &mut output,
+        &mut error,
+    )?;
+    Ok(status == 1 && output.as_slice() == printed && error.as_slice().starts_with(told))
+}
+
 /// Whether a run whose output takes so many bytes fails there.
 fn is_unwritable(alloc: Global, room: usize) -> bool {
     let mut lines = LINES;
@@ -89,6 +110,20 @@ fn failing_outputs_agree(alloc: Global) -> bool {
     (0..all).all(|room| is_unwritable(alloc, room)) && !is_unwritable(alloc, all)
 }
 
+/// Tells of live inputs that break or have a long line whether the run ends as it should.
+fn tell_live_streams(rt: &HostRuntime) -> io::Result<()> {
+    let alloc = rt.alloc();
+    let mut breaking = Breaking { left: LINES };
+    let broken = is_stopped(alloc, &mut breaking, ANSWERS, b"bad line 3\n")?;
+    println!(rt; "a live input that breaks {}", crate::word(broken))?;
+    let mut longest = io::repeat(b'x').take(MAX_INPUT_LEN);
+    let longest = is_stopped(alloc, &mut longest, b"", b"bad line 1\n")?;
+    println!(rt; "the longest line {}", crate::word(longest))?;
+    let mut longer = io::repeat(b'x').take(MAX_INPUT_LEN + 1);
+    let longer = is_stopped(alloc, &mut longer, b"", b"unreadable\n")?;
+    println!(rt; "a longer line {}", crate::word(longer))
+}
+
 /// Tells of inputs and outputs that fail whether the run ends as it should.
 pub fn tell_streams(rt: &HostRuntime) -> io::Result<()> {
     let alloc = rt.alloc();
@@ -104,5 +139,6 @@ pub fn tell_streams(rt: &HostRuntime) -> io::Result<()> {
     println!(rt;
         "an output that fails {}",
         crate::word(failing_outputs_agree(alloc))
-    )
+    )?;
+    tell_live_streams(rt)
 }

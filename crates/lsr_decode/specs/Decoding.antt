@@ -29,7 +29,7 @@ kind_of (contents.ResvErr e) = codes "ResvErr"
 kind_of (contents.PathTear t) = codes "PathTear"
 kind_of (contents.ResvTear t) = codes "ResvTear"
 
--- a body in hexadecimal digits behind a space, or nothing
+-- a body in hexadecimal digits after a space, or nothing
 abbrev pub body_word : List ℕ → List ℕ
 body_word [] = []
 body_word (byte ∷ bytes) = codes " " ++ encode_lower (byte ∷ bytes)
@@ -38,7 +38,7 @@ body_word (byte ∷ bytes) = codes " " ++ encode_lower (byte ∷ bytes)
 abbrev pub object_line : Raw → List ℕ
 object_line raw = decimal raw.class ++ (codes " " ++ (decimal raw.ctype ++ (body_word raw.body ++ codes "\n")))
 
--- `KIND LENGTH`, and behind it the lines of the objects
+-- `KIND LENGTH`, and after it the lines of the objects
 abbrev pub message_lines : Content → ℕ → List ℕ → List ℕ
 message_lines content size lines = kind_of content ++ (codes " " ++ (decimal size ++ (codes "\n" ++ lines)))
 
@@ -56,14 +56,14 @@ bytes_of o = object_bytes o.0
 abbrev pub IsSpelled : Raw × Object → Type 0
 IsSpelled o = SpellsObject (bytes_of o) o.1
 
--- The objects stand behind the message's header of eight bytes, one behind the other; each has its lines.
+-- The objects stand after the message's header of eight bytes, one after the other; each has its lines.
 pub record ShowsObjects (fields : Bool) (bytes printed : List ℕ) : Type 0 where
   pub objects : List (Raw × Object)
   pub spelled : All IsSpelled objects
   pub parts : bytes ≡ flat_map bytes_of objects
   pub lines : printed ≡ flat_map (object_lines fields) objects
 
--- The bytes are read as a message: the line of its type, and behind it those of its objects.
+-- The bytes are read as a message: the line of its type, and after it those of its objects.
 pub record ShowsMessage (fields : Bool) (bytes printed : List ℕ) : Type 0 where
   pub reading : Reading
   pub spelled : SpellsReading bytes reading
@@ -72,7 +72,7 @@ pub record ShowsMessage (fields : Bool) (bytes printed : List ℕ) : Type 0 wher
   pub shown : printed ≡ message_lines (content_in reading) (length bytes) lines
 
 -- the bytes are read as no message, for this first fault; or their common header has no fault, and there was no memory to
--- read what stands behind it
+-- read what stands after it
 abbrev pub RefusesMessage : List ℕ → Dropped → Type 0
 RefusesMessage bytes NoMemory = header_fault bytes ≡ None
 RefusesMessage bytes fault = IsFirstFault bytes fault

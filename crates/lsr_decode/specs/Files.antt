@@ -28,7 +28,7 @@ abbrev pub is_of_version : List ℕ → Bool
 is_of_version [] = false
 is_of_version (first ∷ rest) = first / 16 == 1
 
--- the message of a Hop frame, which the payload of a UDP datagram may be: a byte 1, and behind it a message of version 1
+-- the message of a Hop frame, which the payload of a UDP datagram may be: a byte 1, and after it a message of version 1
 abbrev pub hop_message : List ℕ → Option (List ℕ)
 hop_message [] = None
 hop_message (kind ∷ message) = if kind == 1 && is_of_version message then Some message else None
@@ -101,14 +101,14 @@ ShowsFound fields packet (Some message) block refused = IsBlock fields packet me
 abbrev pub ShowsPacket : Bool → Packet → List ℕ → Bool → Type 0
 ShowsPacket fields packet block refused = ShowsFound fields packet (message_of packet) block refused
 
--- what is printed for packets, one behind the other, and whether a message is refused
+-- what is printed for packets, one after the other, and whether a message is refused
 abbrev pub ShowsPackets : Bool → List Packet → List ℕ → Bool → Type 0
 ShowsPackets fields [] printed refused = (printed ≡ []) × (refused ≡ false)
 ShowsPackets fields (packet ∷ packets) printed refused =
     (block : List ℕ) × (rest : List ℕ) × (bad : Bool) × (later : Bool) × (printed ≡ block ++ rest) × (refused ≡ (bad || later))
     × ShowsPacket fields packet block bad × ShowsPackets fields packets rest later
 
--- The messages of packets are printed, and behind them how many packets there are of each kind.
+-- The messages of packets are printed, and after them how many packets there are of each kind.
 pub record ShowsFile (fields : Bool) (packets : List Packet) (printed : List ℕ) (refused : Bool) : Type 0 where
   pub blocks : List ℕ
   pub messages : ShowsPackets fields packets blocks refused

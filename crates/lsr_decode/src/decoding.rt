@@ -52,7 +52,7 @@ fn kind_of(content: &Content) -> &'static str
     }
 }
 
-/// Appends the body of an object in hexadecimal digits behind a space, or nothing where it is empty.
+/// Appends the body of an object in hexadecimal digits after a space, or nothing where it is empty.
 fn push_body(alloc: Global, text: &mut String, body: &[u8]) -> Result<(), AllocError>
     ensures { OnOk result (string_bytes text.new ≡ string_bytes text.old ++ body_word body.now) }
 {
@@ -116,7 +116,7 @@ fn push_lines(
     Ok(())
 }
 
-/// Appends the lines of the first object of the bytes, and gives what stands behind it.
+/// Appends the lines of the first object of the bytes, and gives what stands after it.
 fn push_first<'a>(
     alloc: Global,
     text: &mut String,
@@ -148,7 +148,7 @@ fn object_lines(alloc: Global, fields: bool, bytes: &[u8]) -> Result<String, Obj
 }
 
 /// What `decode` answers to a word.
-#[derive(Debug, Drop)]
+#[derive(Drop)]
 pub enum Decoded {
     /// The lines of the message that it is.
     Shown(String),

@@ -19,7 +19,7 @@ use std::io;
 use std::io::Write;
 use std::time::Duration;
 
-/// The kind of a Hop frame, its first byte: a message stands behind it (docs/WIRE.md, Frames).
+/// The kind of a Hop frame, its first byte: a message stands after it (docs/WIRE.md, Frames).
 const HOP: u8 = 1;
 /// The version of RSVP, in the upper half of a message's first byte (RFC 2205, 3.1.1).
 const VERSION: u8 = 1;
@@ -27,7 +27,7 @@ const VERSION: u8 = 1;
 const HALF_BITS: u32 = 4;
 
 /// How a run over a capture file ends.
-#[derive(Clone, Copy, Debug, PartialEq, Eq)]
+#[derive(Clone, Copy)]
 pub enum FileEnding {
     /// It was read to its end; this says whether a message was refused.
     Whole(bool),
@@ -182,7 +182,7 @@ fn put_heading<W: Write>(packet: &Packet, output: &mut W) -> io::Result<()>
     write!(output, "\n")
 }
 
-/// Prints why a message is refused, and an empty line behind it. The error is the output's.
+/// Prints why a message is refused, and an empty line after it. The error is the output's.
 fn put_refused<W: Write>(fault: Dropped, output: &mut W) -> io::Result<()>
     ensures { OnOk result (Appends (W.contents output.old) (W.contents output.new) (refusal_line (Unread fault) ++ codes "\n")) }
 {
@@ -192,7 +192,7 @@ fn put_refused<W: Write>(fault: Dropped, output: &mut W) -> io::Result<()>
     write!(output, "refused {kind} {name}\n\n")
 }
 
-/// Prints the packet's message, or why it is refused, and an empty line behind it: whether it is refused. The error is the
+/// Prints the packet's message, or why it is refused, and an empty line after it: whether it is refused. The error is the
 /// output's.
 fn put_block<W: Write>(
     alloc: Global,

@@ -4,7 +4,6 @@
 mod capture;
 mod decoding;
 mod files;
-mod newline;
 
 pub use capture::{Ending, run_decode_lines, run_decode_of};
 pub use decoding::{Decoded, decode_word, run_decode};

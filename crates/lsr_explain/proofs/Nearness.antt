@@ -24,7 +24,7 @@ pub pushed_all : (kind : Kind) (word rest : List ℕ) (now : List Near) (whole :
 pushed_all kind word rest now whole parts e =
     sym (parts ∙ ap (λ r. map shown now ++ near_lines kind word (lines_of r)) e ∙ ap (λ l. map shown now ++ near_lines kind word l) no_lines ∙ append-nil (map shown now))
 
--- four kinds, one behind the other
+-- four kinds, one after the other
 pub four : {X : Type 0} (none first second third fourth a b c d : List X) → none ≡ [] → first ≡ none ++ a → second ≡ first ++ b → third ≡ second ++ c → fourth ≡ third ++ d → fourth ≡ a ++ (b ++ (c ++ d))
 four none first second third fourth a b c d n e f g h =
     h ∙ ap (λ l. l ++ d) (g ∙ ap (λ l. l ++ c) (f ∙ ap (λ l. l ++ b) (e ∙ ap (λ l. l ++ a) n))) ∙ append_assoc (a ++ b) c d ∙ append_assoc a b (c ++ d)

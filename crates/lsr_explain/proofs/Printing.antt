@@ -1,4 +1,4 @@
--- What is printed behind what was printed.
+-- What is printed after what was printed.
 use Rattle.std.proofs.Common.{ℕ, List, ◌++◌, Option, Result, Ok, Err}
 use Rattle.std.specs.Result.{OnOk}
 use Rattle.std.specs.Io.KnownBytes.{Appends}

@@ -25,7 +25,7 @@ no_sign (d ∷ ds) h e = let p = tells_all_ascii_digits.parts d ds h in absurd (
 pub no_value_signed : (digits : List ℕ) (value : ℕ) → get_or digits 0 0 ≡ 43 → ValueOf digits value → ⊥
 no_value_signed digits value e n = no_sign digits n.decimal e
 
--- a word that names a value behind a code names that of what is behind it
+-- a word that names a value after a code names that of what is after it
 pub value_at : (code word digits : List ℕ) (r : Option ℕ) → word ≡ code ++ digits → MatchOption r ((n : ℕ) → ValueOf digits n → ⊥) (ValueOf digits) → MatchOption r ((n : ℕ) → NamesValue code word n → ⊥) (NamesValue code word)
 value_at code word digits None e h = λ n a. h n (subst (λ d. ValueOf d n) (append_cancel_left code a.digits digits (sym a.parts ∙ e)) a.names)
 value_at code word digits (Some n) e h = record { digits = digits; parts = e; names = h }

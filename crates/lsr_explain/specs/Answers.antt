@@ -23,7 +23,7 @@ unfoldable pub explained : List (List ℕ) → List ℕ
 explained [] = []
 explained (line ∷ lines) = if is_indented line then line ++ (codes "\n" ++ explained lines) else []
 
--- the heading of a topic behind the word that it is told with, and its explanation
+-- the heading of a topic after the word that it is told with, and its explanation
 abbrev pub topic_text : Topic → List ℕ
 topic_text topic = (told_word topic.kind ++ (topic.heading.now ++ codes "\n")) ++ explained (lines_of topic.behind.now)
 
@@ -32,7 +32,7 @@ abbrev pub object_line : ℕ → List ℕ
 object_line value =
     codes "  Here N is " ++ (decimal value ++ (codes ": class " ++ (decimal (value / 256) ++ (codes ", C-Type " ++ (decimal (value % 256) ++ codes ".\n")))))
 
--- a line that is a heading, behind two spaces; of others nothing
+-- a line that is a heading, after two spaces; of others nothing
 abbrev pub heading_line : List ℕ → List ℕ
 heading_line line = if is_indented line then [] else codes "  " ++ (line ++ codes "\n")
 
@@ -60,7 +60,7 @@ faults_text =
 abbrev pub topics_text : List ℕ
 topics_text = answers_text ++ faults_text
 
--- a heading behind the word that it is told with
+-- a heading after the word that it is told with
 abbrev pub near_text : Near → List ℕ
 near_text near = codes "  " ++ (told_word near.kind ++ (near.heading.now ++ codes "\n"))
 

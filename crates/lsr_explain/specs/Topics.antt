@@ -20,7 +20,7 @@ text_of kinds.RsvpError = ERRORS.now
 text_of kinds.ConfigFault = CONFIG_FAULTS.now
 text_of kinds.Ending = ENDINGS.now
 
--- whether a name stands behind the first word of each heading of a kind
+-- whether a name stands after the first word of each heading of a kind
 abbrev pub has_names : Kind → Bool
 has_names kinds.Refusal = true
 has_names kinds.RsvpError = true
@@ -37,12 +37,12 @@ abbrev pub longer_first : ℕ → Option (List ℕ × List ℕ) → Option (List
 longer_first byte None = None
 longer_first byte (Some words) = Some (byte ∷ words.0, words.1)
 
--- what stands before a line's first space, and what behind it
+-- what stands before a line's first space, and what after it
 unfoldable pub words_of : List ℕ → Option (List ℕ × List ℕ)
 words_of [] = None
 words_of (byte ∷ rest) = if byte == 32 then Some ([], rest) else longer_first byte (words_of rest)
 
--- whether a word is a heading's first word, which is the whole heading where it has no space; or the name behind that, where
+-- whether a word is a heading's first word, which is the whole heading where it has no space; or the name after that, where
 -- headings have names
 abbrev pub is_one_of : Bool → List ℕ → List ℕ → Option (List ℕ × List ℕ) → Bool
 is_one_of named word heading None = bytes_eq heading word
@@ -91,7 +91,7 @@ pub record ValueOf (digits : List ℕ) (value : ℕ) : Type 0 where
   pub number : digits_value 10 digits ≡ value
   pub high : value < 2 ^ 16
 
--- The word is a code with its slash, and behind it a value.
+-- The word is a code with its slash, and after it a value.
 pub record NamesValue (code word : List ℕ) (value : ℕ) : Type 0 where
   pub digits : List ℕ
   pub parts : word ≡ code ++ digits

@@ -1,6 +1,6 @@
 //! What each error of RSVP means, in the order of codes and values (RFC 2205, B; RFC 2750, A; RFC 3209, 7.3).
 
-/// A heading for each, its code and value and a name, and behind it what it means, in lines that begin with spaces. A
+/// A heading for each, its code and value and a name, and after it what it means, in lines that begin with spaces. A
 /// value `N` stands for any: it is 256 times the class of an object, plus its C-Type.
 pub const ERRORS: &str = "\
 1/1 DelayBound

@@ -18,7 +18,7 @@ const OF_CTYPE: &str = "14/";
 const ALL_OF_CTYPE: &str = "14/N";
 
 /// What a word is answered.
-#[derive(Clone, Copy, Debug)]
+#[derive(Clone, Copy)]
 pub enum Answer {
     /// What this explains.
     Topic(Topic),
@@ -45,8 +45,8 @@ fn read_value(digits: &str) -> Option<u16>
     }
 }
 
-/// The value of the error that the word names behind this code and its slash; none where it names none.
-fn value_behind(code: &str, word: &str) -> Option<u16>
+/// The value of the error that the word names after this code and its slash; none where it names none.
+fn value_after(code: &str, word: &str) -> Option<u16>
     ensures { MatchOption result ((value : ℕ) → ¬ NamesValue code.now word.now value) (NamesValue code.now word.now) }
 {
     let digits = word.strip_prefix(code)?;
@@ -59,7 +59,7 @@ fn find_error(code: &str, all: &str, word: &str) -> Option<(Topic, u16)>
         ((found : Topic) (value : ℕ) → ¬ NamesError code.now all.now word.now found value)
         (λ r. NamesError code.now all.now word.now r.0 r.1) }
 {
-    match value_behind(code, word) {
+    match value_after(code, word) {
         Some(value) => match find_topic(all) {
             Some(topic) => Some((topic, value)),
             None => None,

@@ -1,6 +1,6 @@
 //! What each fault of a configuration means, and what else is told on the error stream.
 
-/// Faults of a configuration: for each a heading, which is the fault as it is told behind `config`, and behind it what it
+/// Faults of a configuration: for each a heading, which is the fault as it is told after `config`, and after it what it
 /// means, in lines that begin with spaces. `KEY` stands for the name of a key.
 pub const CONFIG_FAULTS: &str = "\
 Text
@@ -43,22 +43,24 @@ Memory
   See: docs/CONFIGURATION.md (Faults)
 ";
 
-/// What else is told on the error stream and ends a run: for each a heading, which is what is told, and behind it what it
+/// What else is told on the error stream and ends a run: for each a heading, which is what is told, and after it what it
 /// means, in lines that begin with spaces. `N` stands for a number.
 pub const ENDINGS: &str = "\
 bad line N
-  Line N has none of the forms that `lsr step --help` tells. It stands behind that, and the form
+  Line N has none of the forms that `lsr step --help` tells. It stands after that, and the form
   of lines that begin as it does. It ended the run; what the lines before it asked for is done.
-  What to do: fix the line, and run the whole again.
+  With --live the run goes on.
+  What to do: fix the line, and run the whole again; with --live, write it again.
   See: README.md (A short tour)
 unreadable
   The file or the input can't be opened or read, isn't UTF-8 where it has to be text, or has more
-  than 16777216 bytes; which of them it is and why stands behind that. Of `lsr decode -`: the
-  input broke, or a line has more than 16777216 bytes; the lines before that are answered.
+  than 16777216 bytes; which of them it is and why stands after that. Of `lsr decode -`: the
+  input broke, or a line has more than 16777216 bytes; the lines before that are answered, and
+  so they are by `lsr step --live`.
   What to do: look at its name and its permissions; give it as text.
   See: docs/CONFIGURATION.md (Faults); docs/PROGRAM.md (`lsr decode`: what messages are made of)
 damaged
-  The capture file breaks at the byte that stands behind that, and is no capture file where that is
+  The capture file breaks at the byte that stands after that, and is no capture file where that is
   byte 0. What `lsr decode` printed is all that stands before that byte.
   What to do: copy the file again, or let its capture end first; convert other files to pcap.
   See: docs/PROGRAM.md (`lsr decode`: capture files)

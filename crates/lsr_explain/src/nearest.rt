@@ -10,7 +10,7 @@ use std::alloc::{AllocError, Global};
 use strsim::levenshtein;
 
 /// A heading, and how far it is from a word.
-#[derive(Clone, Copy, Debug)]
+#[derive(Clone, Copy)]
 pub struct Near {
     /// How many characters are put in, taken out or changed to make its number or its name of the word; the fewest.
     pub edits: usize,
@@ -20,7 +20,7 @@ pub struct Near {
     pub heading: &'static str,
 }
 
-/// How many characters are put in, taken out or changed to make the heading's first word of the word, or the name behind it,
+/// How many characters are put in, taken out or changed to make the heading's first word of the word, or the name after it,
 /// where headings of this kind have names; the fewest.
 fn edits_to(alloc: Global, kind: Kind, word: &str, heading: &str) -> Result<usize, AllocError>
     ensures { IfOk result (λ n. n ≡ edits_to kind word.now heading.now) }

@@ -1,6 +1,6 @@
 //! What each refusal means, in the order of their numbers.
 
-/// A heading for each, its number and its name, and behind it what it means, in lines that begin with spaces.
+/// A heading for each, its number and its name, and after it what it means, in lines that begin with spaces.
 pub const REFUSALS: &str = "\
 1 Short
   The message has fewer than the 8 bytes of its header, or the frame ends before its
@@ -30,7 +30,7 @@ pub const REFUSALS: &str = "\
   See: RFC 2205, 3.1.2; RFC 3209, 4.3.3 and 4.4.1
 6 MissingObject
   An object that this type of message needs is absent, or has a C-Type that isn't known
-  here, as the SESSION of an IPv6 tunnel; or the flow descriptors behind STYLE don't follow
+  here, as the SESSION of an IPv6 tunnel; or the flow descriptors after STYLE don't follow
   the grammar of their style.
   What to do: compare the objects with docs/WIRE.md (What each type has); their sender is at
   fault.

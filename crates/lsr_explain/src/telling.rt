@@ -20,7 +20,7 @@ const BAD_WORDS: u8 = 2;
 const CLASS_UNIT: u16 = 256;
 /// What is told of a word that asks for nothing.
 const UNKNOWN: &str = "error: no refusal, error or fault has this number or name\n";
-/// What is told behind the topics that come closest.
+/// What is told after the topics that come closest.
 const CLOSEST: &str = "  these come closest to it; `lsr explain list` has all\n";
 /// What stands over the topics.
 const OF_REFUSALS: &str = "Refusals (refused N NAME), by number or name:\n";

@@ -8,7 +8,7 @@ use crate::refusals::REFUSALS;
 use lsr_lines::next_line;
 
 /// What is explained.
-#[derive(Clone, Copy, Debug, PartialEq, Eq)]
+#[derive(Clone, Copy)]
 pub enum Kind {
     /// A refusal.
     Refusal,
@@ -21,7 +21,7 @@ pub enum Kind {
 }
 
 impl Kind {
-    /// The topics of this kind: a heading for each, a line of a word or more, and behind it lines that begin with spaces.
+    /// The topics of this kind: a heading for each, a line of a word or more, and after it lines that begin with spaces.
     pub(crate) fn text(self) -> &'static str
         ensures { result.now ≡ text_of self }
     {
@@ -33,7 +33,7 @@ impl Kind {
         }
     }
 
-    /// Whether a name stands behind the first word of each heading of this kind.
+    /// Whether a name stands after the first word of each heading of this kind.
     pub(crate) fn has_names(self) -> bool
         ensures { result ≡ has_names self }
     {
@@ -45,14 +45,14 @@ impl Kind {
 }
 
 /// Something that an operator sees, and its explanation.
-#[derive(Clone, Copy, Debug)]
+#[derive(Clone, Copy)]
 pub struct Topic {
     /// What it is.
     pub kind: Kind,
     /// How it is told, but for the word that all of its kind begin with: a number or a code and value, and a name; or a
     /// fault.
     pub heading: &'static str,
-    /// What stands behind that: the explanation is the lines up to the first that doesn't begin with a space.
+    /// What stands after that: the explanation is the lines up to the first that doesn't begin with a space.
     pub behind: &'static str,
 }
 
@@ -63,7 +63,7 @@ pub(crate) fn is_indented(line: &str) -> bool
     matches!(line.as_bytes(), [b' ', ..])
 }
 
-/// Whether the word asks for what this heading stands over: it is the heading's first word, or the name behind that, where
+/// Whether the word asks for what this heading stands over: it is the heading's first word, or the name after that, where
 /// headings have names.
 fn is_asked_by(named: bool, word: &str, heading: &str) -> bool
     ensures { result ≡ is_asked_by named word.now heading.now }

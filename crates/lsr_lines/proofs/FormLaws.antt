@@ -18,6 +18,6 @@ pub form_first : (word form : List ℕ) (forms : List (List ℕ)) → is_form_of
 unfolding form_in
 form_first word form forms e = rw e refl
 
-pub form_behind : (word form : List ℕ) (forms : List (List ℕ)) → is_form_of form word ≡ false → form_in word (form ∷ forms) ≡ form_in word forms
+pub form_after : (word form : List ℕ) (forms : List (List ℕ)) → is_form_of form word ≡ false → form_in word (form ∷ forms) ≡ form_in word forms
 unfolding form_in
-form_behind word form forms e = rw e refl
+form_after word form forms e = rw e refl

@@ -1,5 +1,7 @@
 mod FormLaws
 mod LineLaws
+mod Living
 mod PartLaws
-mod Stepping
+pub mod Reading
+pub mod Stepping
 mod WordLaws

@@ -15,7 +15,7 @@ use Rattle.std.specs.List.{list_all}
 use Rattle.std.proofs.lemmas.List.Sums.{AllPass-from_list_all, list_all-from_AllPass}
 use Rattle.hex.specs.Hex.{decode_of, decode_pairs, is_hex_digit}
 use Rattle.hex.proofs.HexLemmas.{decode_of-digits, decode_of-ok}
-use Rattle.lsr_lines.specs.Lines.{lines_of, AsksOf, AsksToTake, BringsBehind}
+use Rattle.lsr_lines.specs.Lines.{lines_of, AsksOf, AsksToTake, BringsAfter}
 use Rattle.lsr_lines.specs.Numbers.{NamesLink, NamesMoment, NamesUpTo}
 
 pub own : IsNumeralModel (λ ds. all_ascii_digits ds ≡ true) (digits_value 10)
@@ -64,7 +64,7 @@ no_moment digits e moment plain h n = digits_parsed 64 digits (Err e) plain h (n
 pub no_number : {E : Type 0} (digits : List ℕ) (e : E) (most number : ℕ) → most < 2 ^ 16 → get_or digits 0 0 ≢ 43 → ParsesUnsigned 16 10 digits (Err e) → NamesUpTo most digits number → ⊥
 no_number digits e most number low plain h n = digits_parsed 16 digits (Err e) plain h (n.decimal, omega (arith, n.some), omega (arith, n.value, n.high, low))
 
--- what is behind the word is that of the line
+-- what is after the word is that of the line
 pub words_of : (word line words : List ℕ) (link : ℕ) (bytes : List ℕ) → line ≡ word ++ words → (a : AsksToTake word line link bytes) → words ≡ a.link_digits ++ (32 ∷ a.hex_digits)
 words_of word line words link bytes e a = append_cancel_left word words _ (sym e ∙ a.parts)
 
@@ -90,7 +90,7 @@ no_name digits others link (Some x) none h e n = none x refl
 
 -- where there is no memory for the bytes, the line brings some
 pub brings : (word line words link_digits hex_digits : List ℕ) (link : ℕ) → line ≡ word ++ words → words ≡ link_digits ++ (32 ∷ hex_digits) → NamesLink link_digits link
-    → (bytes : List ℕ) × (decode_of hex_digits ≡ Ok bytes) × (1 ≤ length bytes) → BringsBehind word line
+    → (bytes : List ℕ) × (decode_of hex_digits ≡ Ok bytes) × (1 ≤ length bytes) → BringsAfter word line
 brings word line words link_digits hex_digits link e f names h =
     record { link = link; bytes = h.0; asks = record { link_digits = link_digits; hex_digits = hex_digits; parts = e ∙ ap (λ w. word ++ w) f; names = names; spelled = h.1 }; some = h.2 }
 
@@ -98,7 +98,7 @@ pub for_error : {T E P : Type 0} (r : Result T E) → P → OnErr r P
 for_error (Ok x) p = tt
 for_error (Err e) p = p
 
--- and what stands behind it are the bytes
+-- and what stands after it are the bytes
 pub no_bytes : (digits others message : List ℕ) → ((bytes : List ℕ) → decode_of digits ≡ Ok bytes → ⊥) → digits ≡ others → decode_of others ≡ Ok message → ⊥
 no_bytes digits others message none e m = none message (ap decode_of e ∙ m)
 
@@ -141,7 +141,7 @@ spelled_none (d ∷ ds) e = absurd (omega (arith, e))
 pub spelled_some : (digits bytes : List ℕ) → decode_of digits ≡ Ok bytes → 0 < length digits → 1 ≤ length bytes
 spelled_some digits bytes h low = let ok = decode_of-ok digits bytes h in omega (arith, ok.2, low)
 
--- a line that names a number behind a word names that of what is behind it
-pub number_behind : (Names : List ℕ → ℕ → Type 0) (word line digits : List ℕ) (r : Option ℕ) → line ≡ word ++ digits → MatchOption r ((n : ℕ) → Names digits n → ⊥) (Names digits) → MatchOption r ((n : ℕ) → AsksOf Names word line n → ⊥) (AsksOf Names word line)
-number_behind Names word line digits None e h = λ n a. h n (subst (λ d. Names d n) (append_cancel_left word a.digits digits (sym a.parts ∙ e)) a.names)
-number_behind Names word line digits (Some n) e h = record { digits = digits; parts = e; names = h }
+-- a line that names a number after a word names that of what is after it
+pub number_after : (Names : List ℕ → ℕ → Type 0) (word line digits : List ℕ) (r : Option ℕ) → line ≡ word ++ digits → MatchOption r ((n : ℕ) → Names digits n → ⊥) (Names digits) → MatchOption r ((n : ℕ) → AsksOf Names word line n → ⊥) (AsksOf Names word line)
+number_after Names word line digits None e h = λ n a. h n (subst (λ d. Names d n) (append_cancel_left word a.digits digits (sym a.parts ∙ e)) a.names)
+number_after Names word line digits (Some n) e h = record { digits = digits; parts = e; names = h }

@@ -26,11 +26,3 @@ parts_whole (b ∷ text) h = part_more b text (h 0 (omega arith)) ∙ ap (onto_f
 pub more_parts : (left : Option (Bor (List ℕ))) → true ≡ is_some left → 1 ≤ length (parts_left left)
 more_parts None e = absurd (true≢false e)
 more_parts (Some text) e = omega (arith, length-slice_split is_slash text.now)
-
--- two parts that are left one behind the other are all parts
-pub two_parts : (all rest : List (List ℕ)) (a b : List ℕ) → all ≡ a ∷ rest → rest ≡ b ∷ [] → all ≡ a ∷ b ∷ []
-two_parts all rest a b e f = e ∙ ap (λ parts. a ∷ parts) f
-
--- and so are three
-pub three_parts : (all second third : List (List ℕ)) (a b c : List ℕ) → all ≡ a ∷ second → second ≡ b ∷ third → third ≡ c ∷ [] → all ≡ a ∷ b ∷ c ∷ []
-three_parts all second third a b c e f g = e ∙ ap (λ parts. a ∷ parts) (two_parts second third b c f g)

@@ -31,9 +31,9 @@ words_left None = []
 words_left (Some text) = words_of text.now
 
 -- the first of the words is this, and the others are such
-abbrev pub IsBehind : List ℕ → (List (List ℕ) → Type 0) → List (List ℕ) → Type 0
-IsBehind word Says [] = ⊥
-IsBehind word Says (first ∷ others) = (first ≡ word) × Says others
+abbrev pub BeginsWith : List ℕ → (List (List ℕ) → Type 0) → List (List ℕ) → Type 0
+BeginsWith word Says [] = ⊥
+BeginsWith word Says (first ∷ others) = (first ≡ word) × Says others
 
 -- The word writes flags: two hexadecimal digits, of either case.
 pub record IsFlagsText (text : List ℕ) (flags : ℕ) : Type 0 where
@@ -97,14 +97,14 @@ SaysStatic words prefix link = ⊥
 -- What words command a router: `tunnel N ENDPOINT RATE SETUP HOLD FLAGS NAME [ROUTE..]`, `change N RATE [ROUTE..]`,
 -- `cancel N`, `drop N`, `bypass N TUNNEL LINK`, `unbypass N`, `route PREFIX LINK` or `unroute PREFIX`.
 abbrev pub SaysCommand : List (List ℕ) → CommandRequest → Type 0
-SaysCommand words (commands.AddTunnel t) = IsBehind (codes "tunnel") (λ others. SaysTunnel others t) words
-SaysCommand words (commands.ChangeTunnel c) = IsBehind (codes "change") (λ others. SaysChange others c) words
-SaysCommand words (commands.CancelChange number) = IsBehind (codes "cancel") (λ others. SaysNumber others number) words
-SaysCommand words (commands.DropTunnel number) = IsBehind (codes "drop") (λ others. SaysNumber others number) words
-SaysCommand words (commands.AddBypass b) = IsBehind (codes "bypass") (λ others. SaysBypass others b) words
-SaysCommand words (commands.DropBypass number) = IsBehind (codes "unbypass") (λ others. SaysNumber others number) words
-SaysCommand words (commands.AddRoute prefix link) = IsBehind (codes "route") (λ others. SaysStatic others prefix link) words
-SaysCommand words (commands.DropRoute prefix) = IsBehind (codes "unroute") (λ others. SaysPrefix others prefix) words
+SaysCommand words (commands.AddTunnel t) = BeginsWith (codes "tunnel") (λ others. SaysTunnel others t) words
+SaysCommand words (commands.ChangeTunnel c) = BeginsWith (codes "change") (λ others. SaysChange others c) words
+SaysCommand words (commands.CancelChange number) = BeginsWith (codes "cancel") (λ others. SaysNumber others number) words
+SaysCommand words (commands.DropTunnel number) = BeginsWith (codes "drop") (λ others. SaysNumber others number) words
+SaysCommand words (commands.AddBypass b) = BeginsWith (codes "bypass") (λ others. SaysBypass others b) words
+SaysCommand words (commands.DropBypass number) = BeginsWith (codes "unbypass") (λ others. SaysNumber others number) words
+SaysCommand words (commands.AddRoute prefix link) = BeginsWith (codes "route") (λ others. SaysStatic others prefix link) words
+SaysCommand words (commands.DropRoute prefix) = BeginsWith (codes "unroute") (λ others. SaysPrefix others prefix) words
 
 -- a line that asks for a tunnel, or for a tunnel to be changed
 abbrev pub BringsTunnel : List ℕ → Type 0

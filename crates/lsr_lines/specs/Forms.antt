@@ -1,5 +1,6 @@
 -- Which form a line should have that asks for nothing.
-use Rattle.std.specs.Prelude.{ℕ, List, [], ◌∷◌, Bool, false, bytes_eq, if◌then◌else◌}
+use Rattle.std.specs.Prelude.{ℕ, List, [], ◌∷◌, ◌++◌, Bool, false, bytes_eq, codes, if◌then◌else◌}
+use Rattle.std.specs.Fmt.{decimal}
 use Rattle.lsr_lines.specs.Commands.{words_of}
 use Rattle.lsr_lines.specs.Lines.{lines_of}
 use Rattle.lsr_lines.specs.declared.forms.TheConstants.{FORMS, OTHER}
@@ -26,3 +27,8 @@ form_for (word ∷ words) = form_in word (lines_of FORMS.now)
 -- the form that a line should have, by its first word
 abbrev pub expected_form : List ℕ → List ℕ
 expected_form line = form_for (words_of line)
+
+-- a line that asks for nothing, and what was expected
+abbrev pub bad_line_text : ℕ → List ℕ → List ℕ
+bad_line_text number line =
+    codes "bad line " ++ (decimal number ++ (codes "\n  " ++ (line ++ (codes "\n  expected " ++ (expected_form line ++ codes "\n")))))

@@ -3,5 +3,7 @@ pub mod Numbers
 pub mod Commands
 pub mod Lsps
 pub mod Lines
+pub mod Streams
 pub mod Steps
 pub mod Forms
+pub mod Live

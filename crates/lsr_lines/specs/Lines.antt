@@ -13,7 +13,7 @@ unfoldable pub lines_of : List ℕ → List (List ℕ)
 lines_of [] = []
 lines_of (byte ∷ rest) = if byte == 10 then [] ∷ lines_of rest else onto_first byte (lines_of rest)
 
--- A word with one space behind it, then a link, then bytes in hexadecimal digits of either case, perhaps none; the
+-- A word with one space after it, then a link, then bytes in hexadecimal digits of either case, perhaps none; the
 -- words are parted by one space.
 pub record AsksToTake (word line : List ℕ) (link : ℕ) (bytes : List ℕ) : Type 0 where
   pub link_digits : List ℕ
@@ -22,8 +22,8 @@ pub record AsksToTake (word line : List ℕ) (link : ℕ) (bytes : List ℕ) : T
   pub names : NamesLink link_digits link
   pub spelled : decode_of hex_digits ≡ Ok bytes
 
--- a line that brings a byte or more behind the word
-pub record BringsBehind (word line : List ℕ) : Type 0 where
+-- a line that brings a byte or more after the word
+pub record BringsAfter (word line : List ℕ) : Type 0 where
   pub link : ℕ
   pub bytes : List ℕ
   pub asks : AsksToTake word line link bytes
@@ -31,13 +31,13 @@ pub record BringsBehind (word line : List ℕ) : Type 0 where
 
 -- A line that brings bytes: `rx LINK HEX` with a message, or `frame LINK HEX` with a frame, that isn't empty.
 abbrev pub BringsBytes : List ℕ → Type 0
-BringsBytes line = BringsBehind (codes "rx ") line ⊎ BringsBehind (codes "frame ") line
+BringsBytes line = BringsAfter (codes "rx ") line ⊎ BringsAfter (codes "frame ") line
 
 -- A line that brings more than numbers: bytes, or a tunnel.
 abbrev pub BringsMore : List ℕ → Type 0
 BringsMore line = BringsBytes line ⊎ BringsTunnel line
 
--- A word with one space behind it, and then a number alone; `Names` says which digits are which number.
+-- A word with one space after it, and then a number alone; `Names` says which digits are which number.
 pub record AsksOf (Names : List ℕ → ℕ → Type 0) (word line : List ℕ) (number : ℕ) : Type 0 where
   pub digits : List ℕ
   pub parts : line ≡ word ++ digits

@@ -42,12 +42,12 @@ Prints answers echo before [] printed after = (printed ≡ []) × (after ≡ bef
 Prints {S} answers echo before (line ∷ lines) printed after =
     (first : List ℕ) × (rest : List ℕ) × (between : S) × (printed ≡ first ++ rest) × ServesLine answers echo before line first between × Prints answers echo between lines rest after
 
--- some of the lines from the first on, and what is behind them
+-- some of the lines from the first on, and those that are left
 pub record PrintsSome {S : Type 0} (answers : S → Request → List ℕ → S → Type 0) (echo : Bool) (before : S) (lines : List (List ℕ)) (printed : List ℕ) : Type 0 where
   pub served : List (List ℕ)
-  pub behind : List (List ℕ)
+  pub left : List (List ℕ)
   pub after : S
-  pub parts : lines ≡ served ++ behind
+  pub parts : lines ≡ served ++ left
   pub prints : Prints answers echo before served printed after
 
 -- A line that takes memory: it brings bytes or a tunnel, or it asks for something, which is answered.
@@ -60,9 +60,9 @@ abbrev pub Ends : {S : Type 0} → (S → Request → List ℕ → S → Type 0)
 Ends {S} answers echo before lines printed endings.Done = (after : S) × Prints answers echo before lines printed after
 Ends answers echo before lines printed (endings.BadLine number line) =
     (some : PrintsSome answers echo before lines printed) × (more : List (List ℕ))
-    × (some.behind ≡ line.now ∷ more) × (number ≡ length some.served + 1) × (is_passed echo line.now ≡ false) × ((request : Request) → AsksFor line.now request → ⊥)
+    × (some.left ≡ line.now ∷ more) × (number ≡ length some.served + 1) × (is_passed echo line.now ≡ false) × ((request : Request) → AsksFor line.now request → ⊥)
 Ends answers echo before lines printed endings.Memory =
-    (some : PrintsSome answers echo before lines printed) × (line : List ℕ) × (more : List (List ℕ)) × (some.behind ≡ line ∷ more) × TakesMemory line
+    (some : PrintsSome answers echo before lines printed) × (line : List ℕ) × (more : List (List ℕ)) × (some.left ≡ line ∷ more) × TakesMemory line
 
 -- Memory ran out for an answer. The session is as it was; or it is as it is after the answer, for whose text there was
 -- no memory. `prints` says which text is printed, and what the session is then.

@@ -1,18 +1,21 @@
 //! Lines that command a router: about the tunnels that begin here, about bypasses, and about static routes.
-ghost use Rattle.std.specs.Prelude.{◌≡◌, ◌≢◌, ◌==◌, ◌<◌, ◌∷◌, List, IfOk, OnErr, codes, length};
+ghost use Rattle.std.specs.Prelude.{◌≡◌, ◌≢◌, ◌==◌, ◌<◌, ◌∷◌, List, [], IfOk, OnErr, codes, length};
 ghost use Rattle.std.specs.Bool.{MatchBool};
 ghost use Rattle.std.specs.List.{list_any};
+ghost use Rattle.std.specs.Net.Grammar.{IsIpv4Text};
 ghost use Rattle.std.specs.Option.{MatchOption};
 ghost use Rattle.rsvp_routes.specs.declared.step.Step.{Step};
 ghost use Rattle.session_attribute.specs.declared.attr.Attr.{Attr};
 ghost use Rattle.route_words.specs.Finding.{Finds};
+ghost use Rattle.route_words.specs.Rates.{IsRateText};
 ghost use Rattle.lsr_lines.specs.Commands.{BringsTunnel, IsFlagsText, SaysAttr, SaysBypass, SaysChange, SaysCommand, SaysNumber, SaysPrefix, SaysRoute, SaysStatic, SaysTunnel, words_left, words_of};
+ghost use Rattle.lsr_lines.specs.Numbers.{NamesUpTo};
 ghost use Rattle.lsr_lines.specs.declared.commands.ChangeRequest.{ChangeRequest};
 ghost use Rattle.lsr_lines.specs.declared.commands.CommandRequest.{CommandRequest};
 ghost use Rattle.lsr_lines.specs.declared.commands.TunnelRequest.{TunnelRequest};
 
 use crate::numbers::{read_link, read_up_to};
-use crate::words::{next_word, only_word};
+use crate::words::{next_two, next_word, only_word};
 use route_words::{read_prefix, read_rate, read_step};
 use rsvp_routes::{Prefix, Route};
 use rsvp_traffic::RateWord;
@@ -22,7 +25,7 @@ use std::alloc::{AllocError, Global};
 use std::net::Ipv4Addr;
 
 /// A tunnel that is to begin here, as `tunnel N ENDPOINT RATE SETUP HOLD FLAGS NAME [ROUTE..]` asks for it.
-#[derive(Debug, Drop)]
+#[derive(Drop)]
 pub struct TunnelRequest {
     /// Its number.
     pub number: u16,
@@ -37,7 +40,7 @@ pub struct TunnelRequest {
 }
 
 /// What a tunnel that begins here is to become, as `change N RATE [ROUTE..]` asks for it.
-#[derive(Debug, Drop)]
+#[derive(Drop)]
 pub struct ChangeRequest {
     /// The tunnel's number.
     pub number: u16,
@@ -48,7 +51,7 @@ pub struct ChangeRequest {
 }
 
 /// A bypass that is to protect a link, as `bypass N TUNNEL LINK` asks for it.
-#[derive(Clone, Copy, Debug, PartialEq, Eq)]
+#[derive(Clone, Copy)]
 pub struct BypassRequest {
     /// Its number.
     pub number: u16,
@@ -59,7 +62,7 @@ pub struct BypassRequest {
 }
 
 /// What a line commands a router.
-#[derive(Debug, Drop)]
+#[derive(Drop)]
 pub enum CommandRequest {
     /// `tunnel N ENDPOINT RATE SETUP HOLD FLAGS NAME [ROUTE..]`: a tunnel is to begin here.
     AddTunnel(TunnelRequest),
@@ -115,40 +118,57 @@ const SIGN: char = '+';
 /// The most steps that an EXPLICIT_ROUTE carries, of 8 bytes each.
 const MAX_STEPS: usize = 8191;
 
-/// The words of a line that asks for a tunnel.
-#[derive(Clone, Copy, Debug)]
-struct TunnelWords<'a> {
-    number: &'a str,
-    endpoint: &'a str,
-    rate: &'a str,
+/// The words of a tunnel's attributes.
+#[derive(Clone, Copy)]
+struct AttrWords<'a> {
     setup: &'a str,
     hold: &'a str,
     flags: &'a str,
     name: &'a str,
+}
+
+/// The words of a line that asks for a tunnel.
+#[derive(Clone, Copy)]
+struct TunnelWords<'a> {
+    number: &'a str,
+    endpoint: &'a str,
+    rate: &'a str,
+    attr: AttrWords<'a>,
     steps: Option<&'a str>,
 }
 
-/// The first seven words and what is left behind them; none where there are fewer words.
-fn cut_tunnel(left: Option<&str>) -> Option<TunnelWords>
+/// The first four words and what is left after them; none where there are fewer words.
+fn cut_attr(left: Option<&str>) -> Option<(AttrWords, Option<&str>)>
     ensures { MatchOption result
-        (length (words_left left.entry) < 7)
-        (λ w. words_left left.entry ≡ w.number.now ∷ w.endpoint.now ∷ w.rate.now ∷ w.setup.now ∷ w.hold.now ∷ w.flags.now ∷ w.name.now ∷ words_left w.steps) }
+        (length (words_left left.entry) < 4)
+        (λ r. words_left left.entry ≡ r.0.setup.now ∷ r.0.hold.now ∷ r.0.flags.now ∷ r.0.name.now ∷ words_left r.1) }
 {
-    let (number, left) = next_word(left)?;
-    let (endpoint, left) = next_word(left)?;
-    let (rate, left) = next_word(left)?;
-    let (setup, left) = next_word(left)?;
-    let (hold, left) = next_word(left)?;
-    let (flags, left) = next_word(left)?;
-    let (name, steps) = next_word(left)?;
-    Some(TunnelWords {
-        number,
-        endpoint,
-        rate,
+    let (setup, hold, left) = next_two(left)?;
+    let (flags, name, left) = next_two(left)?;
+    let attr = AttrWords {
         setup,
         hold,
         flags,
         name,
+    };
+    Some((attr, left))
+}
+
+/// The first seven words and what is left after them; none where there are fewer words.
+fn cut_tunnel(left: Option<&str>) -> Option<TunnelWords>
+    ensures { MatchOption result
+        (length (words_left left.entry) < 7)
+        (λ w. words_left left.entry ≡ w.number.now ∷ w.endpoint.now ∷ w.rate.now
+        ∷ w.attr.setup.now ∷ w.attr.hold.now ∷ w.attr.flags.now ∷ w.attr.name.now ∷ words_left w.steps) }
+{
+    let (number, endpoint, left) = next_two(left)?;
+    let (rate, left) = next_word(left)?;
+    let (attr, steps) = cut_attr(left)?;
+    Some(TunnelWords {
+        number,
+        endpoint,
+        rate,
+        attr,
         steps,
     })
 }
@@ -174,7 +194,7 @@ fn has_return(word: &str) -> bool
 }
 
 /// The attributes of a tunnel that its words say. The only error is that there is no memory for the name.
-fn read_attr(alloc: Global, words: &TunnelWords) -> Result<Option<Attr>, AllocError>
+fn read_attr(alloc: Global, words: &AttrWords) -> Result<Option<Attr>, AllocError>
     ensures attr { IfOk result (Finds (SaysAttr words.now.setup.now words.now.hold.now words.now.flags.now words.now.name.now)) }
     ensures memory { OnErr result ((attr : Attr) × SaysAttr words.now.setup.now words.now.hold.now words.now.flags.now words.now.name.now attr) }
 {
@@ -237,6 +257,18 @@ fn read_route(alloc: Global, words: Option<&str>) -> Result<Route, AllocError>
     Ok(Route::from_vec(steps))
 }
 
+/// The number, the endpoint and the rate of a tunnel that its words say.
+fn read_ends(words: &TunnelWords) -> Option<(u16, Ipv4Addr, RateWord)>
+    ensures { Finds (λ r. NamesUpTo 65535 words.now.number.now r.0 × IsIpv4Text words.now.endpoint.now r.1 × IsRateText words.now.rate.now r.2) result }
+{
+    let number = read_up_to(MAX_NUMBER, words.number)?;
+    let Ok(endpoint) = words.endpoint.parse() else {
+        return None;
+    };
+    let rate = read_rate(words.rate)?;
+    Some((number, endpoint, rate))
+}
+
 /// The tunnel that the words ask for; none where they ask for none. The only error is that there is no memory for it.
 fn read_tunnel(alloc: Global, left: Option<&str>) -> Result<Option<TunnelRequest>, AllocError>
     ensures tunnel { IfOk result (Finds (SaysTunnel (words_left left.entry))) }
@@ -245,19 +277,13 @@ fn read_tunnel(alloc: Global, left: Option<&str>) -> Result<Option<TunnelRequest
     let Some(words) = cut_tunnel(left) else {
         return Ok(None);
     };
-    let Some(number) = read_up_to(MAX_NUMBER, words.number) else {
-        return Ok(None);
-    };
-    let Ok(endpoint) = words.endpoint.parse() else {
-        return Ok(None);
-    };
-    let Some(rate) = read_rate(words.rate) else {
+    let Some((number, endpoint, rate)) = read_ends(&words) else {
         return Ok(None);
     };
     if !is_route(words.steps) {
         return Ok(None);
     }
-    let Some(attr) = read_attr(alloc, &words)? else {
+    let Some(attr) = read_attr(alloc, &words.attr)? else {
         return Ok(None);
     };
     Ok(Some(TunnelRequest {
@@ -269,32 +295,43 @@ fn read_tunnel(alloc: Global, left: Option<&str>) -> Result<Option<TunnelRequest
     }))
 }
 
-/// The change of a tunnel that the words ask for; none where they ask for none. The only error is that there is no memory
+/// The change of a tunnel that its words ask for; none where they ask for none. The only error is that there is no memory
 /// for its route.
-fn read_change(alloc: Global, left: Option<&str>) -> Result<Option<ChangeRequest>, AllocError>
-    ensures change { IfOk result (Finds (SaysChange (words_left left.entry))) }
-    ensures memory { OnErr result ((c : ChangeRequest) × SaysChange (words_left left.entry) c) }
+fn change_said(
+    alloc: Global,
+    number: &str,
+    rate: &str,
+    steps: Option<&str>,
+) -> Result<Option<ChangeRequest>, AllocError>
+    ensures change { IfOk result (Finds (SaysChange (number.now ∷ rate.now ∷ words_left steps.entry))) }
+    ensures memory { OnErr result ((c : ChangeRequest) × SaysChange (number.now ∷ rate.now ∷ words_left steps.entry) c) }
 {
-    let Some((number, left)) = next_word(left) else {
-        return Ok(None);
-    };
-    let Some((rate, left)) = next_word(left) else {
-        return Ok(None);
-    };
     let Some(number) = read_up_to(MAX_NUMBER, number) else {
         return Ok(None);
     };
     let Some(rate) = read_rate(rate) else {
         return Ok(None);
     };
-    if !is_route(left) {
+    if !is_route(steps) {
         return Ok(None);
     }
     Ok(Some(ChangeRequest {
         number,
         rate,
-        route: read_route(alloc, left)?,
+        route: read_route(alloc, steps)?,
     }))
+}
+
+/// The change of a tunnel that the words ask for; none where they ask for none. The only error is that there is no memory
+/// for its route.
+fn read_change(alloc: Global, left: Option<&str>) -> Result<Option<ChangeRequest>, AllocError>
+    ensures change { IfOk result (Finds (SaysChange (words_left left.entry))) }
+    ensures memory { OnErr result ((c : ChangeRequest) × SaysChange (words_left left.entry) c) }
+{
+    let Some((number, rate, left)) = next_two(left) else {
+        return Ok(None);
+    };
+    change_said(alloc, number, rate, left)
 }
 
 /// The number of a tunnel or a bypass that is the only word.
@@ -308,12 +345,17 @@ fn only_number(left: Option<&str>) -> Option<u16>
 fn read_bypass(left: Option<&str>) -> Option<BypassRequest>
     ensures { Finds (SaysBypass (words_left left.entry)) result }
 {
-    let (number, left) = next_word(left)?;
-    let (tunnel, left) = next_word(left)?;
-    let digits = only_word(left)?;
+    let (number, tunnel, left) = next_two(left)?;
+    bypass_said(number, tunnel, only_word(left)?)
+}
+
+/// The bypass that its three words ask for; none where they ask for none.
+fn bypass_said(number: &str, tunnel: &str, link: &str) -> Option<BypassRequest>
+    ensures { Finds (SaysBypass (number.now ∷ tunnel.now ∷ link.now ∷ [])) result }
+{
     let number = read_up_to(MAX_NUMBER, number)?;
     let tunnel = read_up_to(MAX_NUMBER, tunnel)?;
-    let link = read_link(digits)?;
+    let link = read_link(link)?;
     Some(BypassRequest {
         number,
         tunnel,
@@ -333,14 +375,40 @@ fn prefix_and_link(left: Option<&str>) -> Option<(Prefix, u16)>
     ensures { Finds (λ route. SaysStatic (words_left left.entry) route.0 route.1) result }
 {
     let (prefix, left) = next_word(left)?;
-    let digits = only_word(left)?;
+    static_said(prefix, only_word(left)?)
+}
+
+/// The prefix and the link that two words say.
+fn static_said(prefix: &str, link: &str) -> Option<(Prefix, u16)>
+    ensures { Finds (λ route. SaysStatic (prefix.now ∷ link.now ∷ []) route.0 route.1) result }
+{
     let prefix = read_prefix(prefix)?;
-    let link = read_link(digits)?;
+    let link = read_link(link)?;
     Some((prefix, link))
 }
 
+/// What a word and the others command of a bypass or of a static route: `bypass N TUNNEL LINK`, `route PREFIX LINK` or
+/// `unroute PREFIX`; none where they do not.
+fn read_linked(word: &str, left: Option<&str>) -> Option<CommandRequest>
+    requires no_tunnel { (word.now ≢ codes "tunnel") × (word.now ≢ codes "change") }
+    requires no_number { (word.now ≢ codes "cancel") × (word.now ≢ codes "drop") × (word.now ≢ codes "unbypass") }
+    ensures { Finds (SaysCommand (word.now ∷ words_left left.entry)) result }
+{
+    if word == BYPASS {
+        return Some(CommandRequest::AddBypass(read_bypass(left)?));
+    }
+    if word == ROUTE {
+        let (prefix, link) = prefix_and_link(left)?;
+        return Some(CommandRequest::AddRoute(prefix, link));
+    }
+    if word == UNROUTE {
+        return Some(CommandRequest::DropRoute(only_prefix(left)?));
+    }
+    None
+}
+
 /// What a word and the others command of a tunnel that is there, of a bypass or of a static route: `cancel N`, `drop N`,
-/// `bypass N TUNNEL LINK`, `unbypass N`, `route PREFIX LINK` or `unroute PREFIX`; none where they do not.
+/// `unbypass N`, `bypass N TUNNEL LINK`, `route PREFIX LINK` or `unroute PREFIX`; none where they do not.
 fn read_short(word: &str, left: Option<&str>) -> Option<CommandRequest>
     requires no_tunnel { word.now ≢ codes "tunnel" }
     requires no_change { word.now ≢ codes "change" }
@@ -352,20 +420,32 @@ fn read_short(word: &str, left: Option<&str>) -> Option<CommandRequest>
     if word == DROP {
         return Some(CommandRequest::DropTunnel(only_number(left)?));
     }
-    if word == BYPASS {
-        return Some(CommandRequest::AddBypass(read_bypass(left)?));
-    }
     if word == UNBYPASS {
         return Some(CommandRequest::DropBypass(only_number(left)?));
     }
-    if word == ROUTE {
-        let (prefix, link) = prefix_and_link(left)?;
-        return Some(CommandRequest::AddRoute(prefix, link));
+    read_linked(word, left)
+}
+
+/// The tunnel that is to begin here, as a command. The only error is that there is no memory for it.
+fn add_tunnel(alloc: Global, left: Option<&str>) -> Result<Option<CommandRequest>, AllocError>
+    ensures command { IfOk result (Finds (SaysCommand (codes "tunnel" ∷ words_left left.entry))) }
+    ensures memory { OnErr result ((t : TunnelRequest) × SaysTunnel (words_left left.entry) t) }
+{
+    match read_tunnel(alloc, left)? {
+        Some(tunnel) => Ok(Some(CommandRequest::AddTunnel(tunnel))),
+        None => Ok(None),
     }
-    if word == UNROUTE {
-        return Some(CommandRequest::DropRoute(only_prefix(left)?));
+}
+
+/// The change of a tunnel, as a command. The only error is that there is no memory for its route.
+fn change_tunnel(alloc: Global, left: Option<&str>) -> Result<Option<CommandRequest>, AllocError>
+    ensures command { IfOk result (Finds (SaysCommand (codes "change" ∷ words_left left.entry))) }
+    ensures memory { OnErr result ((c : ChangeRequest) × SaysChange (words_left left.entry) c) }
+{
+    match read_change(alloc, left)? {
+        Some(change) => Ok(Some(CommandRequest::ChangeTunnel(change))),
+        None => Ok(None),
     }
-    None
 }
 
 /// What the line commands a router; none where it commands nothing. The only error is that there is no memory for a tunnel
@@ -378,16 +458,10 @@ pub(crate) fn read_command(alloc: Global, line: &str) -> Result<Option<CommandRe
         return Ok(None);
     };
     if word == TUNNEL {
-        return match read_tunnel(alloc, left)? {
-            Some(tunnel) => Ok(Some(CommandRequest::AddTunnel(tunnel))),
-            None => Ok(None),
-        };
+        return add_tunnel(alloc, left);
     }
     if word == CHANGE {
-        return match read_change(alloc, left)? {
-            Some(change) => Ok(Some(CommandRequest::ChangeTunnel(change))),
-            None => Ok(None),
-        };
+        return change_tunnel(alloc, left);
     }
     Ok(read_short(word, left))
 }

@@ -1,10 +1,13 @@
 //! Which form a line should have that asks for nothing.
-ghost use Rattle.std.specs.Prelude.{◌≡◌};
-ghost use Rattle.lsr_lines.specs.Forms.{expected_form, form_in, is_form_of};
+ghost use Rattle.std.specs.Prelude.{◌≡◌, OnOk};
+ghost use Rattle.std.specs.Io.KnownBytes.{Appends};
+ghost use Rattle.lsr_lines.specs.Forms.{bad_line_text, expected_form, form_in, is_form_of};
 ghost use Rattle.lsr_lines.specs.Lines.{lines_of};
 
 use crate::lines::next_line;
 use crate::words::next_word;
+use std::io;
+use std::io::Write;
 
 /// The forms of lines, one in each line: its word first.
 const FORMS: &str = "\
@@ -45,11 +48,11 @@ fn form_for(word: &str) -> &'static str
     ensures { result.now ≡ form_in word.now (lines_of FORMS.now) }
 {
     let mut rest = FORMS;
-    while let Some((form, behind)) = next_line(rest) {
+    while let Some((form, others)) = next_line(rest) {
         if is_form_of(form, word) {
             return form;
         }
-        rest = behind;
+        rest = others;
     }
     OTHER
 }
@@ -62,4 +65,12 @@ pub fn expected_form(line: &str) -> &'static str
         Some((word, _)) => form_for(word),
         None => OTHER,
     }
+}
+
+/// Tells which line is bad, and what was expected. The error is the stream's.
+pub fn tell_bad_line<E: Write>(error: &mut E, number: usize, line: &str) -> io::Result<()>
+    ensures { OnOk result (Appends (E.contents error.old) (E.contents error.new) (bad_line_text number line.now)) }
+{
+    let form = expected_form(line);
+    write!(error, "bad line {number}\n  {line}\n  expected {form}\n")
 }

@@ -6,7 +6,7 @@ ghost use Rattle.std.specs.List.{list_all};
 ghost use Rattle.std.specs.Option.{MatchOption};
 ghost use Rattle.hex.specs.Hex.{decode_of};
 ghost use Rattle.lsr_lines.specs.declared.lines.Request.{Request};
-ghost use Rattle.lsr_lines.specs.Lines.{lines_of, AsksFor, AsksOf, AsksToTake, BringsBehind, BringsMore};
+ghost use Rattle.lsr_lines.specs.Lines.{lines_of, AsksFor, AsksOf, AsksToTake, BringsAfter, BringsMore};
 ghost use Rattle.lsr_lines.specs.Lsps.{AsksAbout};
 ghost use Rattle.lsr_lines.specs.Numbers.{NamesLink, NamesMoment};
 ghost use Rattle.lsr_lines.specs.declared.lsps.LspName.{LspName};
@@ -18,7 +18,7 @@ use crate::words::next_word;
 use std::alloc::{AllocError, Global};
 
 /// What came over a link.
-#[derive(Debug, Drop)]
+#[derive(Drop)]
 pub struct Arrival {
     /// The link's number, at least 1.
     pub link: u16,
@@ -27,7 +27,7 @@ pub struct Arrival {
 }
 
 /// What a line of standard input asks for.
-#[derive(Debug, Drop)]
+#[derive(Drop)]
 pub enum Request {
     /// `rx LINK HEX`: the message came, in a Hop frame.
     Receive(Arrival),
@@ -106,7 +106,7 @@ const PATH: &str = "path";
 
 const RESV: &str = "resv";
 
-/// The text's first line without its newline, and all that stands behind that. None where the text is empty.
+/// The text's first line without its newline, and all that stands after that. None where the text is empty.
 pub fn next_line(text: &str) -> Option<(&str, &str)>
     ensures end { IsNone result ↔ (text.now ≡ []) }
     ensures cut { IfSome result (λ r. (text.now ≡ r.0.now ++ (10 ∷ r.1.now)) ⊎ ((text.now ≡ r.0.now) × (r.1.now ≡ []))) }
@@ -122,16 +122,16 @@ pub fn next_line(text: &str) -> Option<(&str, &str)>
     }
 }
 
-/// The link that the line names behind the word, which ends with a space; none where it is no such line.
-fn read_link_behind(word: &str, line: &str) -> Option<u16>
+/// The link that the line names after the word, which ends with a space; none where it is no such line.
+fn read_link_after(word: &str, line: &str) -> Option<u16>
     ensures { MatchOption result ((link : ℕ) → ¬ AsksOf NamesLink word.now line.now link) (AsksOf NamesLink word.now line.now) }
 {
     let digits = line.strip_prefix(word)?;
     read_link(digits)
 }
 
-/// The moment that the line names behind the word, which ends with a space; none where it is no such line.
-fn read_moment_behind(word: &str, line: &str) -> Option<u64>
+/// The moment that the line names after the word, which ends with a space; none where it is no such line.
+fn read_moment_after(word: &str, line: &str) -> Option<u64>
     ensures { MatchOption result ((moment : ℕ) → ¬ AsksOf NamesMoment word.now line.now moment) (AsksOf NamesMoment word.now line.now) }
 {
     let digits = line.strip_prefix(word)?;
@@ -217,13 +217,13 @@ fn read_number(line: &str) -> Option<Request>
         × ((link : ℕ) → ¬ AsksOf NamesLink (codes "up ") line.now link) × ((link : ℕ) → ¬ AsksOf NamesLink (codes "down ") line.now link))
         (AsksFor line.now) }
 {
-    if let Some(moment) = read_moment_behind(TICK, line) {
+    if let Some(moment) = read_moment_after(TICK, line) {
         return Some(Request::Tick(moment));
     }
-    if let Some(link) = read_link_behind(LINK_UP, line) {
+    if let Some(link) = read_link_after(LINK_UP, line) {
         return Some(Request::LinkUp(link));
     }
-    if let Some(link) = read_link_behind(LINK_DOWN, line) {
+    if let Some(link) = read_link_after(LINK_DOWN, line) {
         return Some(Request::LinkDown(link));
     }
     None
@@ -265,13 +265,13 @@ fn read_bytes(alloc: Global, digits: &str) -> Result<Option<Vec<u8>>, AllocError
     }
 }
 
-/// What the line brings over a link behind the word, which ends with a space, as `rx LINK HEX` does; none where it is no
+/// What the line brings over a link after the word, which ends with a space, as `rx LINK HEX` does; none where it is no
 /// such line. The only error is that there is no memory for the bytes.
 fn read_arrival(alloc: Global, word: &str, line: &str) -> Result<Option<Arrival>, AllocError>
     ensures arrival { IfOk result (λ arrival. MatchOption arrival
         ((link : ℕ) (bytes : List ℕ) → ¬ AsksToTake word.now line.now link bytes)
         (λ a. AsksToTake word.now line.now a.link a.bytes.items)) }
-    ensures memory { OnErr result (BringsBehind word.now line.now) }
+    ensures memory { OnErr result (BringsAfter word.now line.now) }
 {
     let Some(words) = line.strip_prefix(word) else {
         return Ok(None);

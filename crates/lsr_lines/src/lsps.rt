@@ -10,7 +10,7 @@ use crate::words::{next_word, only_word};
 use std::net::Ipv4Addr;
 
 /// What tells one LSP from all others, as words name it: `ENDPOINT/TUNNEL/EXTENDED SENDER/LSP` (RFC 3209, 4.6).
-#[derive(Clone, Copy, Debug, PartialEq, Eq)]
+#[derive(Clone, Copy)]
 pub struct LspName {
     /// Its session.
     pub session: SessionName,
@@ -19,7 +19,7 @@ pub struct LspName {
 }
 
 /// A session, as a word names it: `ENDPOINT/TUNNEL/EXTENDED` (RFC 3209, 4.6.1).
-#[derive(Clone, Copy, Debug, PartialEq, Eq)]
+#[derive(Clone, Copy)]
 pub struct SessionName {
     /// Where the tunnel ends.
     pub endpoint: Ipv4Addr,
@@ -30,7 +30,7 @@ pub struct SessionName {
 }
 
 /// An LSP of a session, as a word names it: `SENDER/LSP` (RFC 3209, 4.6.2).
-#[derive(Clone, Copy, Debug, PartialEq, Eq)]
+#[derive(Clone, Copy)]
 pub struct SenderName {
     /// The address of its head.
     pub sender: Ipv4Addr,
@@ -44,7 +44,7 @@ const MAX_NUMBER: u16 = 65_535;
 /// What parts two parts of a word.
 const SLASH: char = '/';
 
-/// The next part of what is left of a word, and what is left behind it; none where nothing is left.
+/// The next part of what is left of a word, and what is left after it; none where nothing is left.
 fn next_part(left: Option<&str>) -> Option<(&str, Option<&str>)>
     ensures { MatchOption result (parts_left left.entry ≡ []) (λ r. parts_left left.entry ≡ r.0.now ∷ parts_left r.1) }
 {
@@ -66,13 +66,10 @@ fn only_part(left: Option<&str>) -> Option<&str>
     Some(part)
 }
 
-/// The session that the word names.
-fn read_session(word: &str) -> Option<SessionName>
-    ensures { Finds (SaysSession (parts_of word.now)) result }
+/// The session that its three parts name.
+fn session_said(endpoint: &str, tunnel: &str, extended: &str) -> Option<SessionName>
+    ensures { Finds (SaysSession (endpoint.now ∷ tunnel.now ∷ extended.now ∷ [])) result }
 {
-    let (endpoint, left) = next_part(Some(word))?;
-    let (tunnel, left) = next_part(left)?;
-    let extended = only_part(left)?;
     let Ok(endpoint) = endpoint.parse() else {
         return None;
     };
@@ -87,12 +84,19 @@ fn read_session(word: &str) -> Option<SessionName>
     })
 }
 
-/// The LSP of a session that the word names.
-fn read_sender(word: &str) -> Option<SenderName>
-    ensures { Finds (SaysSender (parts_of word.now)) result }
+/// The session that the word names.
+fn read_session(word: &str) -> Option<SessionName>
+    ensures { Finds (SaysSession (parts_of word.now)) result }
 {
-    let (sender, left) = next_part(Some(word))?;
-    let lsp = only_part(left)?;
+    let (endpoint, left) = next_part(Some(word))?;
+    let (tunnel, left) = next_part(left)?;
+    session_said(endpoint, tunnel, only_part(left)?)
+}
+
+/// The LSP of a session that its two parts name.
+fn sender_said(sender: &str, lsp: &str) -> Option<SenderName>
+    ensures { Finds (SaysSender (sender.now ∷ lsp.now ∷ [])) result }
+{
     let Ok(sender) = sender.parse() else {
         return None;
     };
@@ -100,13 +104,27 @@ fn read_sender(word: &str) -> Option<SenderName>
     Some(SenderName { sender, lsp })
 }
 
+/// The LSP of a session that the word names.
+fn read_sender(word: &str) -> Option<SenderName>
+    ensures { Finds (SaysSender (parts_of word.now)) result }
+{
+    let (sender, left) = next_part(Some(word))?;
+    sender_said(sender, only_part(left)?)
+}
+
+/// The LSP that its two words name.
+fn lsp_said(session: &str, sender: &str) -> Option<LspName>
+    ensures { Finds (SaysLsp (session.now ∷ sender.now ∷ [])) result }
+{
+    let session = read_session(session)?;
+    let sender = read_sender(sender)?;
+    Some(LspName { session, sender })
+}
+
 /// The LSP that the words name; none where they name none.
 pub(crate) fn read_lsp(left: Option<&str>) -> Option<LspName>
     ensures { Finds (SaysLsp (words_left left.entry)) result }
 {
     let (session, left) = next_word(left)?;
-    let sender = only_word(left)?;
-    let session = read_session(session)?;
-    let sender = read_sender(sender)?;
-    Some(LspName { session, sender })
+    lsp_said(session, only_word(left)?)
 }

@@ -35,7 +35,7 @@ pub enum Ending<'a> {
 
 /// What became of one line.
 #[derive(Clone, Copy, Debug, PartialEq, Eq)]
-enum Served {
+pub(crate) enum Served {
     /// It was served: its answer was printed, or it was passed over.
     Done,
     /// It asks for nothing that there is.
@@ -45,7 +45,7 @@ enum Served {
 }
 
 /// Whether the line is a remark: it is empty, or begins with #.
-fn is_remark(line: &str) -> bool
+pub(crate) fn is_remark(line: &str) -> bool
     ensures { result ≡ is_remark line.now }
 {
     matches!(line.as_bytes(), [] | [b'#', ..])
@@ -71,7 +71,7 @@ fn put_echo<W: Write>(echo: bool, line: &str, output: &mut W) -> io::Result<()>
 /// Answers the line, and prints the answer: the session as it is then. A line that asks for nothing leaves it as it
 /// was. Where memory ran out it is as it was, or as it is after the answer for which there was no memory. The error is
 /// the output's.
-fn step_line<A: Answers, W: Write>(
+pub(crate) fn step_line<A: Answers, W: Write>(
     alloc: Global,
     session: A,
     echo: bool,
@@ -114,7 +114,7 @@ pub fn step_lines<'a, A: Answers, W: Write>(
     let mut session = session;
     let mut rest = text;
     let mut number = 0usize;
-    while let Some((line, behind)) = next_line(rest) {
+    while let Some((line, others)) = next_line(rest) {
         number += 1;
         let (next, served) = step_line(alloc, session, echo, line, output)?;
         session = next;
@@ -123,7 +123,7 @@ pub fn step_lines<'a, A: Answers, W: Write>(
             Served::NoRequest => return Ok(Ending::BadLine(number, line)),
             Served::Memory => return Ok(Ending::Memory),
         }
-        rest = behind;
+        rest = others;
     }
     Ok(Ending::Done)
 }

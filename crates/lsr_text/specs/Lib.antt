@@ -4,7 +4,6 @@ pub mod Shown
 pub mod Rows
 pub mod FrameLines
 pub mod Tunnels
-pub mod Configs
 pub mod Routes
 pub mod Lsps
 pub mod Summary

@@ -29,7 +29,8 @@ use Rattle.resv_facts.specs.declared.repair.Repair.{Repair}
 use Rattle.resv_facts.specs.declared.resv_fact.ResvFact.{ResvFact}
 use Rattle.resv_facts.specs.declared.state.State.{State}
 use Rattle.lsr_text.specs.Routes.{flags_words, name_text, record_lines, route_line}
-use Rattle.lsr_text.specs.Rows.{rate_bytes, style_text}
+use Rattle.object_text.specs.Traffic.{rate_bytes}
+use Rattle.lsr_text.specs.Rows.{style_text}
 use Rattle.lsr_text.specs.Shown.{key_text, role_word}
 
 -- how the Paths of an origin come: over a link, or through stacks of labels

@@ -1,22 +1,16 @@
 -- What is printed of routes, of records and of names.
 use Rattle.std.specs.Prelude.{ℕ, Bool, true, false, not, ◌==◌, ◌&&◌, nat_le, List, [], ◌∷◌, ◌++◌, codes, flat_map, Option, Some, None, if◌then◌else◌}
 use Rattle.std.specs.Fmt.{decimal}
-use Rattle.std.specs.Net.Addr.{ipv4_octets}
-use Rattle.std.specs.Net.Text.{ipv4_text}
 use Rattle.hex.specs.Hex.{encode_lower}
-use Rattle.rsvp_routes.specs.declared.prefix.Prefix.{Prefix}
 use Rattle.rsvp_routes.specs.declared.step.Step.{Step}
 use Rattle.rsvp_routes.specs.declared.step.Step.TheVariants as steps
 use Rattle.rsvp_routes.specs.declared.trace.Trace.{Trace}
 use Rattle.rsvp_routes.specs.declared.trace.Trace.TheVariants as traces
+use Rattle.object_text.specs.Routes.{prefix_text}
 
 -- bytes that have no other form
 abbrev pub bytes_text : List ℕ → List ℕ
 bytes_text bytes = codes "0x" ++ encode_lower bytes
-
--- `ADDRESS/LENGTH`
-abbrev pub prefix_text : Prefix → List ℕ
-prefix_text prefix = ipv4_text (ipv4_octets prefix.address) ++ (codes "/" ++ decimal prefix.length)
 
 -- what stands before the prefix of a step: where it is loose `~` stands behind the space
 abbrev pub step_mark : Bool → List ℕ

@@ -1,5 +1,5 @@
 -- What `show` prints of reservations, of the label table, of links and of bypasses: a line for each row.
-use Rattle.std.specs.Prelude.{ℕ, List, [], ◌++◌, codes, take, drop, flat_map, Option, Some, None, Bool, true, false}
+use Rattle.std.specs.Prelude.{ℕ, List, [], ◌++◌, codes, flat_map, Option, Some, None, Bool, true, false}
 use Rattle.std.specs.Fmt.{decimal}
 use Rattle.hex.specs.Hex.{encode_lower}
 use Rattle.lsr_facts.specs.declared.bypass.Bypass.{Bypass}
@@ -9,6 +9,7 @@ use Rattle.resv_facts.specs.declared.resv_fact.ResvStyle.{ResvStyle}
 use Rattle.resv_facts.specs.declared.resv_fact.ResvStyle.TheVariants as styles
 use Rattle.forwarding_table.specs.declared.action.Action.{Action}
 use Rattle.forwarding_table.specs.declared.action.Action.TheVariants as actions
+use Rattle.object_text.specs.Traffic.{rate_bytes}
 use Rattle.lsr_text.specs.Shown.{key_text}
 
 -- a number behind a space
@@ -19,10 +20,6 @@ next_number n = codes " " ++ decimal n
 abbrev pub style_text : ResvStyle → List ℕ
 style_text styles.FixedFilter = codes "ff"
 style_text styles.SharedExplicit = codes "se"
-
--- the token bucket rate of a SENDER_TSPEC or a FLOWSPEC: the fourth word of its body (RFC 2210, 3.1 and 3.2)
-abbrev pub rate_bytes : List ℕ → List ℕ
-rate_bytes body = take 4 (drop 12 body)
 
 -- `resv KEY LINK ff|se RATE LABEL`: the link that it is on, its style, the rate that it asks for as the hexadecimal
 -- digits of the rate's word, and the label that the next hop gave

@@ -1,9 +1,8 @@
 //! The text that an operator reads: names of refusals, the lines of answers and of frames, and those of what a router
-//! knows; and a configuration.
+//! knows.
 #![tactic(auto)]
 
 mod answers;
-mod configs;
 mod frames;
 mod lsps;
 mod names;
@@ -14,7 +13,6 @@ mod summary;
 mod tunnels;
 
 pub use answers::{answer_text, push_refusal, push_replies};
-pub use configs::{LinkAddresses, config_text};
 pub use frames::{push_delivery, push_sent};
 pub use lsps::{path_lsp_text, resv_lsp_text};
 pub use names::{OUT_OF_MEMORY, refusal_name};

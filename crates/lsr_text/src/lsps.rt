@@ -2,12 +2,13 @@
 ghost use Rattle.std.specs.Option.{option_copied};
 ghost use Rattle.std.specs.Prelude.{◌≡◌, ◌++◌, IfOk, OnOk, flat_map, string_bytes};
 ghost use Rattle.lsr_text.specs.Lsps.{asked_line, attr_at, attr_line, backup_words, called_words, carried_lines, counted_line, counting_line, detour_words, fast_reroute_line, from_words, given_word, hop_lines, hop_words, is_preempted, is_preempting, labels_line, left_words, limit_words, next_line, origin_line, origin_lines, out_words, passed_line, path_head, path_lines, path_lsp_text, preempted_line, preempting_line, priority_words, rate_line, rate_word, repair_line, reserved_lines, resv_head, resv_lines, resv_lsp_text, rival_key, rival_line, rival_lines, routed_lines, said_line, set_words, used_line, via_words};
-ghost use Rattle.lsr_text.specs.Rows.{rate_bytes};
+ghost use Rattle.object_text.specs.Traffic.{rate_bytes};
 
 use crate::routes::{push_flags, push_name, push_record, push_route};
-use crate::rows::{rate_bytes, style_text};
+use crate::rows::style_text;
 use crate::shown::{push_key, role_word};
 use lsr_facts::{Key, Link, Origin, PathFact, Role, Router, Via};
+use object_text::rate_bytes;
 use resv_facts::{Repair, ResvFact, State, holding_of, setup_of};
 use rsvp_contents::{Attr, FastReroute, Hop};
 use rsvp_traffic::RateWord;

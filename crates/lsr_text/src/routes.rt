@@ -1,6 +1,7 @@
 //! What is printed of routes, of records and of names.
 ghost use Rattle.std.specs.Prelude.{◌≡◌, ◌++◌, OnOk, flat_map, string_bytes};
-ghost use Rattle.lsr_text.specs.Routes.{bytes_text, flags_words, is_plain, name_letter, name_text, prefix_text, record_lines, route_line, step_words, trace_line};
+ghost use Rattle.object_text.specs.Routes.{prefix_text};
+ghost use Rattle.lsr_text.specs.Routes.{bytes_text, flags_words, is_plain, name_letter, name_text, record_lines, route_line, step_words, trace_line};
 
 use rsvp_contents::{Prefix, Record, Route};
 use rsvp_routes::{Step, Trace};

@@ -1,18 +1,15 @@
 //! What `show` prints of reservations, of the label table, of links and of bypasses: a line for each row.
 ghost use Rattle.std.specs.Prelude.{◌≡◌, ◌++◌, IfOk, OnOk, string_bytes};
-ghost use Rattle.lsr_text.specs.Rows.{action_words, bypass_line, head_line, label_line, link_line, rate_bytes, resv_line, resvs_text, state_word, style_text, sum_words, table_text};
+ghost use Rattle.lsr_text.specs.Rows.{action_words, bypass_line, head_line, label_line, link_line, resv_line, resvs_text, state_word, style_text, sum_words, table_text};
 
 use crate::shown::push_key;
 use forwarding_table::Action;
 use lsr_facts::{Bypass, Key};
+use object_text::rate_bytes;
 use resv_facts::{ResvFact, ResvStyle};
 use std::alloc::{AllocError, Global};
 use std::fmt::Write;
 
-/// Where the token bucket rate stands in the body of a SENDER_TSPEC or a FLOWSPEC, in bytes (RFC 2210, 3.1 and 3.2).
-const RATE_AT: usize = 12;
-/// The bytes of a rate.
-const RATE_LEN: usize = 4;
 /// How many setup priorities there are (RFC 3209, 4.7.3).
 pub const PRIORITIES: usize = 8;
 
@@ -24,15 +21,6 @@ pub(crate) fn style_text(style: ResvStyle) -> &'static str
         ResvStyle::FixedFilter => "ff",
         ResvStyle::SharedExplicit => "se",
     }
-}
-
-/// The bytes of the token bucket rate in the body of a SENDER_TSPEC or a FLOWSPEC; fewer where the body ends before.
-pub(crate) fn rate_bytes(body: &[u8]) -> &[u8]
-    ensures { result.now ≡ rate_bytes body.now }
-{
-    let start = body.len().min(RATE_AT);
-    let end = body.len().min(RATE_AT + RATE_LEN);
-    &body[start..end]
 }
 
 /// Appends the line of a reservation: `resv KEY LINK ff|se RATE LABEL`, RATE being the digits of the FLOWSPEC's token

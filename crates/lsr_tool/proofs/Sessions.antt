@@ -18,7 +18,7 @@ pub cannot_begin : (echo : Bool) (stream : Option Stream) (input : Stream) (conf
 cannot_begin echo stream input configured text (endings.Ran ending) c t h = absurd h
 cannot_begin echo stream input configured text (endings.Unread source fault) c t h = absurd h
 cannot_begin echo stream input configured text endings.Memory c t h = refl
-cannot_begin echo stream input configured text (endings.BadConfig fault) c t h =
+cannot_begin echo stream input configured text (endings.BadConfig fault place) c t h =
     (refl, record { configured = configured; text = text; config_read = c; input_read = t; misconfigured = h })
 
 -- a file that isn't opened

@@ -1,5 +1,5 @@
 -- What is done of what the words ask for, and the status of words that aren't taken.
-use Rattle.std.specs.Prelude.{◌≡◌, ◌⊎◌, ℕ, List, [], Option}
+use Rattle.std.specs.Prelude.{◌≡◌, ◌⊎◌, ℕ, List, [], Option, true, false}
 use Rattle.std.specs.Option.{option_map}
 use Rattle.std.specs.Io.KnownBytes.{Appends}
 use Rattle.clap.specs.Words.{IsAmong, fault_of}
@@ -17,16 +17,19 @@ use Rattle.lsr_words.specs.declared.words.Asked.TheVariants as asked
 use Rattle.lsr_tool.specs.Configuring.{Configures}
 use Rattle.lsr_tool.specs.Decoding.{DecodesAny}
 use Rattle.lsr_tool.specs.Endings.{ending_text, status_of}
+use Rattle.lsr_tool.specs.Live.{RunsLive}
 use Rattle.lsr_tool.specs.Sessions.{StepsOnFile, name_of}
 use Rattle.lsr_tool.specs.declared.endings.RunEnding.{RunEnding}
 
 -- What was asked for is done, with this status: a run on the router of the file that is named, or without a name on
--- the built-in router; or the configuration of such a router is printed; or a word, the lines of the input or a capture file are decoded; or a
--- word is explained. What is printed and told stands behind what the streams held. The input was the first stream, and is the other now: to
+-- the built-in router, which answers lines as they come, or once all have come; or the configuration of such a router is printed; or a word, the lines of the input or a capture file are decoded; or a
+-- word is explained. What is printed and told stands after what the streams held. The input was the first stream, and is the other now: to
 -- print a configuration and to explain a word it isn't read.
 -- Or links are served: the input isn't read, and 0 is the status of one run alone, of which it was printed.
 abbrev pub Does : {F : Type 0} → (List ℕ → F → Type 0) → (List ℕ → InputFault → Type 0) → (F → Stream) → Asked → Stream → Stream → Option (List ℕ) → Option (List ℕ) → Option (List ℕ) → Option (List ℕ) → ℕ → Type 0
-Does opens fails stream (asked.Step file echo) input left output printed error told status =
+Does opens fails stream (asked.Step file echo true) input left output printed error told status =
+    RunsLive opens fails stream echo (option_map (λ f. f.now) file) input left output printed error told status
+Does opens fails stream (asked.Step file echo false) input left output printed error told status =
     (ending : RunEnding) × (text : List ℕ) × (status ≡ status_of ending)
     × StepsOnFile opens fails stream echo (option_map (λ f. f.now) file) input text ending
     × Appends output printed text × Appends error told (ending_text (name_of (option_map (λ f. f.now) file)) ending)

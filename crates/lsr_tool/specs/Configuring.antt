@@ -1,7 +1,9 @@
 -- What `lsr config` prints, and how it ends.
-use Rattle.std.specs.Prelude.{◌≡◌, ◌⊎◌, ℕ, List, [], map, Option, Some, None, Ok, Err}
+use Rattle.std.specs.Prelude.{◌≡◌, ◌⊎◌, ℕ, List, [], map, Option, Some, None, Ok}
 use Rattle.std.specs.Io.KnownBytes.{Appends}
 use Rattle.std.specs.Ordering.{nat_cmp}
+use Rattle.config_text.specs.Printing.{config_text}
+use Rattle.config_text.specs.declared.printing.LinkAddresses.{LinkAddresses}
 use Rattle.lsr_config.specs.Configs.{Setup}
 use Rattle.lsr_config.specs.Documents.{SaysTable, records}
 use Rattle.lsr_config.specs.Reading.{IsOfDocument, IsRead}
@@ -11,10 +13,8 @@ use Rattle.lsr_lines.specs.declared.input.InputFault.{InputFault}
 use Rattle.lsr_lines.specs.declared.step.Ending.TheVariants as lines
 use Rattle.lsr_serve.specs.Sockets.{SaysSockets}
 use Rattle.lsr_serve.specs.declared.sockets.LinkSockets.{LinkSockets}
-use Rattle.lsr_text.specs.Configs.{config_text}
-use Rattle.lsr_text.specs.declared.configs.LinkAddresses.{LinkAddresses}
 use Rattle.lsr_tool.specs.Endings.{ending_text, status_of}
-use Rattle.lsr_tool.specs.Sessions.{IsConfigText, IsUnreadConfig, name_of}
+use Rattle.lsr_tool.specs.Sessions.{IsConfigText, IsMisconfigured, IsUnreadConfig, name_of}
 use Rattle.lsr_tool.specs.declared.endings.Source.TheVariants as sources
 use Rattle.lsr_tool.specs.declared.endings.RunEnding.{RunEnding}
 use Rattle.lsr_tool.specs.declared.endings.RunEnding.TheVariants as endings
@@ -47,7 +47,7 @@ abbrev pub PrintsConfig : Option Stream → List ℕ → RunEnding → Type 0
 PrintsConfig stream printed (endings.Ran lines.Done) = (text : List ℕ) × IsConfigText stream text × Prints text printed
 PrintsConfig stream printed (endings.Unread sources.Config fault) = (printed ≡ []) × IsUnreadConfig stream fault
 PrintsConfig stream printed endings.Memory = printed ≡ []
-PrintsConfig stream printed (endings.BadConfig fault) = (printed ≡ []) × ((text : List ℕ) × IsConfigText stream text × IsRead text (Err fault))
+PrintsConfig stream printed (endings.BadConfig fault place) = (printed ≡ []) × ((text : List ℕ) × IsConfigText stream text × IsMisconfigured text fault place)
 PrintsConfig stream printed ending = ⊥
 
 -- The configuration of the file of this name is printed, or without a name the built-in one. `opens` says which file a name

@@ -1,8 +1,10 @@
 -- What is told of how a run ended, and its status.
 use Rattle.std.specs.Prelude.{ℕ, List, [], ◌++◌, codes, Option, Some, None}
-use Rattle.std.specs.Fmt.{decimal}
+use Rattle.config_text.specs.Telling.{place_text}
+use Rattle.config_text.specs.declared.place.Place.{Place}
 use Rattle.lsr_config.specs.Faults.{fault_name, fault_word}
-use Rattle.lsr_lines.specs.Forms.{expected_form}
+use Rattle.lsr_config.specs.declared.fault.ConfigFault.{ConfigFault}
+use Rattle.lsr_lines.specs.Forms.{bad_line_text}
 use Rattle.lsr_lines.specs.Texts.{input_fault_text}
 use Rattle.lsr_lines.specs.declared.step.Ending.{Ending}
 use Rattle.lsr_lines.specs.declared.step.Ending.TheVariants as lines
@@ -11,7 +13,7 @@ use Rattle.lsr_tool.specs.declared.endings.Source.TheVariants as sources
 use Rattle.lsr_tool.specs.declared.endings.RunEnding.{RunEnding}
 use Rattle.lsr_tool.specs.declared.endings.RunEnding.TheVariants as endings
 
--- a word behind a space, where there is one
+-- a word after a space, where there is one
 abbrev pub next_word : Option (List ℕ) → List ℕ
 next_word None = []
 next_word (Some word) = codes " " ++ word
@@ -21,24 +23,31 @@ abbrev pub source_name : List ℕ → Source → List ℕ
 source_name config sources.Config = config
 source_name config sources.Input = codes "standard input"
 
--- a line that asks for nothing, and what was expected
-abbrev pub bad_line_text : ℕ → List ℕ → List ℕ
-bad_line_text number line =
-    codes "bad line " ++ (decimal number ++ (codes "\n  " ++ (line ++ (codes "\n  expected " ++ (expected_form line ++ codes "\n")))))
-
 -- why lines weren't all answered
 abbrev pub lines_ending_text : Ending → List ℕ
 lines_ending_text lines.Done = []
 lines_ending_text (lines.BadLine number line) = bad_line_text number line.now
 lines_ending_text lines.Memory = codes "memory\n"
 
--- what is told on the error stream of a run on the configuration of this name; of the configuration's fault `config FAULT
--- KEY`, or without a key `config FAULT`
+-- the fault of a configuration: `config FAULT KEY`, or without a key `config FAULT`
+unfoldable pub fault_line : ConfigFault → List ℕ
+fault_line fault = codes "config " ++ (fault_word fault ++ (next_word (fault_name fault) ++ codes "\n"))
+
+-- where it stands, where that is known
+abbrev pub place_lines : ConfigFault → Option Place → List ℕ
+place_lines fault None = []
+place_lines fault (Some place) = place_text fault place
+
+-- the fault of a configuration, and where it stands
+unfoldable pub config_fault_text : ConfigFault → Option Place → List ℕ
+config_fault_text fault place = fault_line fault ++ place_lines fault place
+
+-- what is told on the error stream of a run on the configuration of this name
 abbrev pub ending_text : List ℕ → RunEnding → List ℕ
 ending_text config (endings.Ran ending) = lines_ending_text ending
 ending_text config (endings.Unread source fault) = input_fault_text (source_name config source) fault
 ending_text config endings.Memory = codes "memory\n"
-ending_text config (endings.BadConfig fault) = codes "config " ++ (fault_word fault ++ (next_word (fault_name fault) ++ codes "\n"))
+ending_text config (endings.BadConfig fault place) = config_fault_text fault place
 
 -- the status: 1 wherever something is told
 abbrev pub status_of : RunEnding → ℕ
@@ -47,4 +56,4 @@ status_of (endings.Ran (lines.BadLine number line)) = 1
 status_of (endings.Ran lines.Memory) = 1
 status_of (endings.Unread source fault) = 1
 status_of endings.Memory = 1
-status_of (endings.BadConfig fault) = 1
+status_of (endings.BadConfig fault place) = 1

@@ -1,5 +1,7 @@
 -- What `step` prints, and how it ends, on the router that it is given.
-use Rattle.std.specs.Prelude.{◌≡◌, ℕ, List, [], Option, Some, None, Ok, Err, Bool, ◌⊎◌}
+use Rattle.std.specs.Prelude.{◌≡◌, ℕ, List, [], Option, Some, None, IfSome, Ok, Err, Bool, ◌⊎◌}
+use Rattle.config_text.specs.Places.{IsPlaceOf}
+use Rattle.config_text.specs.declared.place.Place.{Place}
 use Rattle.lsr_config.specs.Configs.{Setup}
 use Rattle.lsr_config.specs.Reading.{IsRead}
 use Rattle.lsr_config.specs.declared.config.TheConstants.{BUILT_IN}
@@ -30,9 +32,13 @@ IsConfigText (Some stream) text = IsTextOf stream text
 abbrev pub begun : Setup → SessionState
 begun config = record { router = opened config; recent = [] }
 
+-- the text gives no router for this fault, which stands at this place where that is known
+abbrev pub IsMisconfigured : List ℕ → ConfigFault → Option Place → Type 0
+IsMisconfigured configured fault place = IsRead configured (Err fault) × IfSome place (IsPlaceOf configured fault)
+
 -- why no run begins: the fault of its configuration; or memory ran out
 abbrev pub CannotBegin : List ℕ → RunEnding → Type 0
-CannotBegin configured (endings.BadConfig fault) = IsRead configured (Err fault)
+CannotBegin configured (endings.BadConfig fault place) = IsMisconfigured configured fault place
 CannotBegin configured endings.Memory = Unit {0}
 CannotBegin configured ending = ⊥
 
@@ -52,13 +58,13 @@ pub record RanLines (echo : Bool) (stream : Option Stream) (input : Stream) (pri
   pub ready : IsReady stream input session text
   pub ends : Ends PrintsAnswer echo session (lines_of text) printed ending
 
--- Both texts were read, and that of the configuration gives no router, for this fault.
-pub record IsRefusedFor (stream : Option Stream) (input : Stream) (fault : ConfigFault) : Type 0 where
+-- Both texts were read, and that of the configuration gives no router, for this fault at this place.
+pub record IsRefusedFor (stream : Option Stream) (input : Stream) (fault : ConfigFault) (place : Option Place) : Type 0 where
   pub configured : List ℕ
   pub text : List ℕ
   pub config_read : IsConfigText stream configured
   pub input_read : IsTextOf input text
-  pub misconfigured : IsRead configured (Err fault)
+  pub misconfigured : IsMisconfigured configured fault place
 
 -- why a configuration's stream isn't read as text; the built-in router needs none
 abbrev pub IsUnreadConfig : Option Stream → InputFault → Type 0
@@ -76,7 +82,7 @@ abbrev pub Steps : Bool → Option Stream → Stream → List ℕ → RunEnding 
 Steps echo stream input printed (endings.Ran ending) = RanLines echo stream input printed ending
 Steps echo stream input printed (endings.Unread source fault) = (printed ≡ []) × IsUnreadFor stream input source fault
 Steps echo stream input printed endings.Memory = printed ≡ []
-Steps echo stream input printed (endings.BadConfig fault) = (printed ≡ []) × IsRefusedFor stream input fault
+Steps echo stream input printed (endings.BadConfig fault place) = (printed ≡ []) × IsRefusedFor stream input fault place
 
 -- the name of a run's file; without one there is none
 abbrev pub name_of : Option (List ℕ) → List ℕ

@@ -10,6 +10,7 @@ use crate::configuring::run_config_of;
 use crate::decoding::run_decode_on;
 use crate::endings::FAILED;
 use crate::files::{FilesByName, SystemFiles};
+use crate::live::run_live_of;
 use crate::serving::{BAD_WORDS, run_serve_of};
 use crate::session::run_step_of;
 use clap::error::{Error, ErrorKind};
@@ -82,9 +83,16 @@ pub fn run_asked<
         (R.stream input.old) (R.stream input.new) (W.contents output.old) (W.contents output.new) (E.contents error.old) (E.contents error.new)) }
 {
     match asked {
-        Asked::Step { file, echo } => {
-            run_step_of(files, alloc, file, echo, input, output, error)
-        }
+        Asked::Step {
+            file,
+            echo,
+            live: false,
+        } => run_step_of(files, alloc, file, echo, input, output, error),
+        Asked::Step {
+            file,
+            echo,
+            live: true,
+        } => run_live_of(files, alloc, file, echo, input, output, error),
         Asked::Config(file) => run_config_of(files, alloc, file, output, error),
         Asked::Decode { word, fields } => {
             run_decode_on(files, alloc, fields, word, input, output, error)

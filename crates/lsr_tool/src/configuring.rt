@@ -1,20 +1,20 @@
 //! `lsr config` on the configuration of a file, or on the built-in one.
 ghost use Rattle.std.specs.Option.{option_map};
-ghost use Rattle.std.specs.Prelude.{◌≡◌, ℕ, List, [], Option, IfOk, IfErr, string_bytes};
+ghost use Rattle.std.specs.Prelude.{◌≡◌, ℕ, List, [], Option, IfOk, IfErr};
 ghost use Rattle.std.specs.Io.KnownBytes.{Appends};
 ghost use Rattle.lsr_lines.specs.Texts.{Stream};
 ghost use Rattle.lsr_tool.specs.declared.endings.RunEnding.{RunEnding};
 ghost use Rattle.lsr_tool.specs.Configuring.{Configures, GivesAddresses, Prints, PrintsConfig, addresses_of, done};
 ghost use Rattle.lsr_tool.specs.Endings.{ending_text, status_of};
-ghost use Rattle.lsr_tool.specs.Sessions.{IsConfigText, said_by};
+ghost use Rattle.lsr_tool.specs.Sessions.{IsConfigText};
 
 use crate::endings::{DONE, RunEnding, Source, status_of, tell_ending};
 use crate::files::FilesByName;
-use crate::session::read_config_text;
-use lsr_config::{BUILT_IN, Config, ConfigFault};
+use crate::session::{misconfigured, read_config_text, said};
+use config_text::{LinkAddresses, config_text};
+use lsr_config::{Config, ConfigFault};
 use lsr_lines::ByteStream;
 use lsr_serve::{LinkSockets, read_sockets};
-use lsr_text::{LinkAddresses, config_text};
 use std::alloc::{AllocError, Global};
 use std::io;
 use std::io::Write;
@@ -47,16 +47,6 @@ fn read_addresses(alloc: Global, text: &str) -> Result<Vec<(u16, LinkAddresses)>
     }
 }
 
-/// The text that was read, or without one that of the built-in router.
-fn said(text: &Option<String>) -> &str
-    ensures { result.now ≡ said_by (option_map string_bytes text.now) }
-{
-    match text {
-        Some(text) => text.as_str(),
-        None => BUILT_IN,
-    }
-}
-
 /// What is printed of the configuration that the text says; or how a run ends that prints nothing of it.
 fn print_text<'a>(alloc: Global, text: &str) -> Result<Vec<u8>, RunEnding<'a>>
     ensures printed { IfOk result (λ printed. Prints text.now printed.items) }
@@ -64,7 +54,7 @@ fn print_text<'a>(alloc: Global, text: &str) -> Result<Vec<u8>, RunEnding<'a>>
 {
     let config = match Config::read(alloc, text) {
         Ok(config) => config,
-        Err(fault) => return Err(RunEnding::BadConfig(fault)),
+        Err(fault) => return Err(misconfigured(alloc, text, fault)),
     };
     let Ok(addresses) = read_addresses(alloc, text) else {
         return Err(RunEnding::Memory);

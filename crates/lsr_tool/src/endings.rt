@@ -1,11 +1,11 @@
 //! How a run of `lsr step` or `lsr config` ends, what is told of it, and its status.
-ghost use Rattle.std.specs.Prelude.{◌≡◌, [], OnOk};
+ghost use Rattle.std.specs.Prelude.{◌≡◌, OnOk};
 ghost use Rattle.std.specs.Io.KnownBytes.{Appends};
-ghost use Rattle.lsr_tool.specs.declared.endings.RunEnding.TheVariants as endings;
-ghost use Rattle.lsr_tool.specs.Endings.{bad_line_text, ending_text, lines_ending_text, source_name, status_of};
+ghost use Rattle.lsr_tool.specs.Endings.{config_fault_text, ending_text, fault_line, lines_ending_text, place_lines, source_name, status_of};
 
+use config_text::{Place, tell_place};
 use lsr_config::ConfigFault;
-use lsr_lines::{Ending, InputFault, expected_form, tell_input_fault};
+use lsr_lines::{Ending, InputFault, tell_bad_line, tell_input_fault};
 use lsr_text::OUT_OF_MEMORY;
 use std::io;
 use std::io::Write;
@@ -35,8 +35,8 @@ pub enum RunEnding<'a> {
     Unread(Source, InputFault),
     /// There is no memory to begin.
     Memory,
-    /// The configuration's text gives no router.
-    BadConfig(ConfigFault),
+    /// The configuration's text gives no router, for a fault that stands at this place, where that is known.
+    BadConfig(ConfigFault, Option<Place>),
 }
 
 /// The status that the program ends with.
@@ -49,7 +49,7 @@ pub(crate) fn status_of(ending: &RunEnding) -> u8
         RunEnding::Ran(Ending::Memory) => FAILED,
         RunEnding::Unread(_, _) => FAILED,
         RunEnding::Memory => FAILED,
-        RunEnding::BadConfig(_) => FAILED,
+        RunEnding::BadConfig(_, _) => FAILED,
     }
 }
 
@@ -65,8 +65,9 @@ fn source_name(config: &str, source: Source) -> &str
 
 /// Tells of a configuration's fault: `config FAULT NAME`, or `config FAULT` where no key is at fault. The error is
 /// the stream's.
-fn tell_config_fault<E: Write>(error: &mut E, fault: &ConfigFault) -> io::Result<()>
-    ensures { OnOk result (Appends (E.contents error.old) (E.contents error.new) (ending_text [] (endings.BadConfig fault.now))) }
+#[tactic(auto, unfolding(crate::specs::Endings::fault_line))]
+fn tell_fault<E: Write>(error: &mut E, fault: &ConfigFault) -> io::Result<()>
+    ensures { OnOk result (Appends (E.contents error.old) (E.contents error.new) (fault_line fault.now)) }
 {
     let word = fault.word();
     match fault.name() {
@@ -75,12 +76,30 @@ fn tell_config_fault<E: Write>(error: &mut E, fault: &ConfigFault) -> io::Result
     }
 }
 
-/// Tells which line is bad, and what was expected. The error is the stream's.
-fn tell_bad_line<E: Write>(error: &mut E, number: usize, line: &str) -> io::Result<()>
-    ensures { OnOk result (Appends (E.contents error.old) (E.contents error.new) (bad_line_text number line.now)) }
+/// Tells where the fault stands, where that is known. The error is the stream's.
+fn tell_known_place<E: Write>(
+    error: &mut E,
+    fault: &ConfigFault,
+    place: &Option<Place>,
+) -> io::Result<()>
+    ensures { OnOk result (Appends (E.contents error.old) (E.contents error.new) (place_lines fault.now place.now)) }
 {
-    let form = expected_form(line);
-    write!(error, "bad line {number}\n  {line}\n  expected {form}\n")
+    match place {
+        Some(place) => tell_place(error, fault, place),
+        None => Ok(()),
+    }
+}
+
+/// Tells of a configuration's fault, and where it stands. The error is the stream's.
+fn tell_config_fault<E: Write>(
+    error: &mut E,
+    fault: &ConfigFault,
+    place: &Option<Place>,
+) -> io::Result<()>
+    ensures { OnOk result (Appends (E.contents error.old) (E.contents error.new) (config_fault_text fault.now place.now)) }
+{
+    tell_fault(error, fault)?;
+    tell_known_place(error, fault, place)
 }
 
 /// Tells why lines weren't all answered. The error is the stream's.
@@ -108,6 +127,6 @@ pub(crate) fn tell_ending<E: Write>(
             tell_input_fault(error, source_name(config, *source), *fault)
         }
         RunEnding::Memory => write!(error, "{OUT_OF_MEMORY}\n"),
-        RunEnding::BadConfig(fault) => tell_config_fault(error, fault),
+        RunEnding::BadConfig(fault, place) => tell_config_fault(error, fault, place),
     }
 }

@@ -6,6 +6,7 @@ mod configuring;
 mod decoding;
 mod endings;
 mod files;
+mod live;
 mod serving;
 mod session;
 
@@ -14,6 +15,7 @@ pub use configuring::run_config_of;
 pub use decoding::run_decode_on;
 pub use endings::{RunEnding, Source};
 pub use files::{FilesByName, SystemFiles};
+pub use live::{run_live, run_live_of};
 pub use lsr_decode::run_decode;
 pub use serving::run_serve_of;
 pub use session::{run_step, run_step_of};

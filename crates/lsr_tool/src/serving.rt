@@ -5,6 +5,8 @@ ghost use Rattle.lsr_tool.specs.Endings.{status_of};
 
 use crate::endings::{RunEnding, Source, status_of, tell_ending};
 use crate::files::FilesByName;
+use crate::session::misconfigured;
+use config_text::link_without;
 use lsr_config::Config;
 use lsr_lines::read_text;
 use lsr_serve::{LinkSockets, read_sockets, read_turns, serve_links};
@@ -32,11 +34,14 @@ fn configured<'a>(
 {
     let config = match Config::read(alloc, text) {
         Ok(config) => config,
-        Err(fault) => return Err(RunEnding::BadConfig(fault)),
+        Err(fault) => return Err(misconfigured(alloc, text, fault)),
     };
     match read_sockets(alloc, text) {
         Ok(links) => Ok((config, links)),
-        Err(fault) => Err(RunEnding::BadConfig(fault)),
+        Err(fault) => {
+            let place = link_without(alloc, text, &fault);
+            Err(RunEnding::BadConfig(fault, place))
+        }
     }
 }
 

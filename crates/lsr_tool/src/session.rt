@@ -1,5 +1,5 @@
 //! `lsr step` on the router of a configuration, or on the built-in one.
-ghost use Rattle.std.specs.Prelude.{◌≡◌, Bool, List, ℕ, [], Ok, IfOk, IfErr, string_bytes};
+ghost use Rattle.std.specs.Prelude.{◌≡◌, Bool, List, ℕ, [], Ok, Err, IfOk, IfErr, string_bytes};
 ghost use Rattle.std.specs.Option.{option_map};
 ghost use Rattle.std.specs.Io.KnownBytes.{Appends};
 ghost use Rattle.lsr_config.specs.Configs.{Setup};
@@ -10,7 +10,8 @@ ghost use Rattle.lsr_tool.specs.Sessions.{CannotBegin, IsConfigText, IsReady, Is
 
 use crate::endings::{RunEnding, Source, status_of, tell_ending};
 use crate::files::FilesByName;
-use lsr_config::Config;
+use config_text::place_of;
+use lsr_config::{BUILT_IN, Config, ConfigFault};
 use lsr_lines::{ByteStream, InputFault, read_text, step_lines};
 use lsr_session::{Machine, Session};
 use std::alloc::{AllocError, Global};
@@ -34,18 +35,33 @@ pub(crate) fn read_config_text<C: ByteStream + Drop>(
     }
 }
 
+/// How a run ends on a text that gives no router for this fault.
+pub(crate) fn misconfigured<'a>(alloc: Global, text: &str, fault: ConfigFault) -> RunEnding<'a>
+    ensures { IsRead text.now (Err fault) → CannotBegin text.now result }
+{
+    let place = place_of(alloc, text, &fault);
+    RunEnding::BadConfig(fault, place)
+}
+
+/// The text that was read, or without one that of the built-in router.
+pub(crate) fn said(text: &Option<String>) -> &str
+    ensures { result.now ≡ said_by (option_map string_bytes text.now) }
+{
+    match text {
+        Some(text) => text.as_str(),
+        None => BUILT_IN,
+    }
+}
+
 /// The configuration that the text says, or without a text the built-in one.
 fn configured<'a>(alloc: Global, text: Option<String>) -> Result<Config, RunEnding<'a>>
     ensures said { IfOk result (λ config. IsRead (said_by (option_map string_bytes text)) (Ok config)) }
     ensures fault { IfErr result (CannotBegin (said_by (option_map string_bytes text))) }
 {
-    let config = match text {
-        Some(text) => Config::read(alloc, text.as_str()),
-        None => Config::two_links(alloc),
-    };
-    match config {
+    let text = said(&text);
+    match Config::read(alloc, text) {
         Ok(config) => Ok(config),
-        Err(fault) => Err(RunEnding::BadConfig(fault)),
+        Err(fault) => Err(misconfigured(alloc, text, fault)),
     }
 }
 
@@ -58,7 +74,7 @@ fn open(alloc: Global, config: Config) -> Result<Session, AllocError>
 }
 
 /// A session that begins on the router that the text says, or without a text on the built-in one.
-fn begin<'a>(alloc: Global, text: Option<String>) -> Result<Session, RunEnding<'a>>
+pub(crate) fn begin<'a>(alloc: Global, text: Option<String>) -> Result<Session, RunEnding<'a>>
     ensures begun { IfOk result (λ session. (config : Setup) × IsRead (said_by (option_map string_bytes text)) (Ok config) × (session ≡ begun config)) }
     ensures fault { IfErr result (CannotBegin (said_by (option_map string_bytes text))) }
 {

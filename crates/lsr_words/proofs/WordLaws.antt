@@ -1,13 +1,14 @@
 -- What a command asks for that was found with its values.
-use Rattle.std.proofs.Common.{◌≡◌, ℕ, List, Option, Some, None, [], refl, sym, ap, ap₂, false, ◌∙◌, codes, true, arith, get_or}
-use Rattle.std.specs.Option.{option_map, option_map_or}
-use Rattle.clap.specs.Words.{App, Row, Rule, Text, app_of, first_of, is_simple, is_simple_and_free, rule_of, subcommand_name_of, subcommand_rows_of, with_rule}
-use Rattle.clap.specs.Built.{AddsArg}
+use Rattle.std.proofs.Common.{◌≡◌, ℕ, List, Result, Ok, Option, Some, None, [], refl, sym, subst, ap, ap₂, false, ◌∙◌, codes, true, arith, get_or}
+use Rattle.std.specs.Option.{MatchOption, option_map, option_map_or}
+use Rattle.std.specs.Result.{IfOk}
+use Rattle.clap.specs.Words.{App, Row, Rule, Text, app_of, first_of, is_simple, is_simple_and_free, rule_of, subcommand_name_of, subcommand_rows_of, with_rule, with_subcommand}
+use Rattle.clap.specs.Built.{AddsArg, AddsSubcommand}
 use Rattle.clap.specs.declared.builder.arg.Arg.{Arg}
-use Rattle.clap.specs.declared.builder.command.Command.{Command}
+use Rattle.clap.specs.declared.builder.command.Command.{Command, out-Command}
 use Rattle.clap.proofs.OnLiterals.{clap_on_literals}
 use Rattle.clap.specs.declared.parser.matches.ArgMatches.{ArgMatches}
-use Rattle.lsr_words.specs.Words.{AsksIn, lsr_words}
+use Rattle.lsr_words.specs.Words.{Asks, AsksIn, lsr_words}
 use Rattle.lsr_words.specs.declared.words.Asked.{Asked}
 use Rattle.lsr_words.specs.declared.words.Asked.TheVariants as asked
 
@@ -37,7 +38,7 @@ same_values name command given values e = ap (λ (o : Option (Text × List Row))
 
 -- a command without its word asks for nothing
 pub no_word : (found : Option (Text × List Row)) (name : Text) (given : List Row) → found ≡ Some (name, given) → name ≡ codes "decode" → first_of (codes "HEX") given ≡ None → (other : Asked) → AsksIn found other → ⊥
-no_word found name given e d none (asked.Step file echo) (command, values, f, (is, text, said)) =
+no_word found name given e d none (asked.Step file echo live) (command, values, f, (is, text, said, kept)) =
     let word : codes "decode" ≡ codes "step" = sym d ∙ same_command name command given values (sym e ∙ f) ∙ is in
     absurd (omega (arith, ap (λ (l : List ℕ). get_or l 0 0) word))
 no_word found name given e d none (asked.Config file) (command, values, f, (is, text)) =
@@ -53,7 +54,7 @@ no_word found name given e d none (asked.Serve file turns) (command, values, f, 
     absurd (omega (arith, ap (λ (l : List ℕ). get_or l 0 0) word))
 
 pub no_topic : (found : Option (Text × List Row)) (name : Text) (given : List Row) → found ≡ Some (name, given) → name ≡ codes "explain" → first_of (codes "WHAT") given ≡ None → (other : Asked) → AsksIn found other → ⊥
-no_topic found name given e d none (asked.Step file echo) (command, values, f, (is, text, said)) =
+no_topic found name given e d none (asked.Step file echo live) (command, values, f, (is, text, said, kept)) =
     let word : codes "explain" ≡ codes "step" = sym d ∙ same_command name command given values (sym e ∙ f) ∙ is in
     absurd (omega (arith, ap (λ (l : List ℕ). get_or l 0 0) word))
 no_topic found name given e d none (asked.Config file) (command, values, f, (is, text)) =
@@ -69,7 +70,7 @@ no_topic found name given e d none (asked.Serve file turns) (command, values, f,
     absurd (omega (arith, ap (λ (l : List ℕ). get_or l 0 0) word))
 
 pub no_file : (found : Option (Text × List Row)) (name : Text) (given : List Row) → found ≡ Some (name, given) → name ≡ codes "serve" → first_of (codes "FILE") given ≡ None → (other : Asked) → AsksIn found other → ⊥
-no_file found name given e d none (asked.Step file echo) (command, values, f, (is, text, said)) =
+no_file found name given e d none (asked.Step file echo live) (command, values, f, (is, text, said, kept)) =
     let word : codes "serve" ≡ codes "step" = sym d ∙ same_command name command given values (sym e ∙ f) ∙ is in
     absurd (omega (arith, ap (λ (l : List ℕ). get_or l 1 0) word))
 no_file found name given e d none (asked.Config file) (command, values, f, (is, text)) =
@@ -84,9 +85,22 @@ no_file found name given e d none (asked.Explain word) (command, values, f, (is,
 no_file found name given e d none (asked.Serve file turns) (command, values, f, (is, text, count)) =
     let t = sym none ∙ ap (first_of (codes "FILE")) (same_values name command given values (sym e ∙ f)) ∙ text in cc
 
+-- what a command asks for is what was found, where it asks for anything
+pub asked_or : {Missing : Type 0} (what : Option Asked) (found : Option (Text × List Row)) (command name : Text) (given : List Row) → found ≡ Some (name, given) → name ≡ command
+    → (Missing → (other : Asked) → AsksIn found other → ⊥) → MatchOption what Missing (Asks command given) → MatchOption what ((other : Asked) → AsksIn found other → ⊥) (AsksIn found)
+asked_or None found command name given e is none h = none h
+asked_or (Some what) found command name given e is none h = (name, given, e, subst (λ command. Asks command given what) (sym is) h)
+
 -- a command with one more argument
 pub adds_word : (old : Command) (a : Arg) (new : Command) (before : App) (rule : Rule) → AddsArg old a new → rule_of a ≡ rule → a.global ≡ false → app_of old ≡ before → app_of new ≡ with_rule before rule
 adds_word old a new before rule adds is local e = adds.shape local ∙ ap₂ with_rule e is
+
+-- a program with one command more
+pub adds_command : {E : Type 0} (program : Command) (made : Result Command E) (more : Command) (before words : App) → app_of program ≡ before
+    → IfOk made (λ command. app_of command ≡ words) → IfOk made (λ command. (out-Command command).has_globals ≡ false)
+    → (command : Command) × (made ≡ Ok command) × AddsSubcommand program command more → app_of more ≡ with_subcommand before words.top
+adds_command program made more before words e is local (command, found, adds) =
+    adds.shape (rw found at local) ∙ ap₂ with_subcommand e (ap (λ (a : App). a.top) (rw found at is))
 
 pub is_taken : is_simple lsr_words ≡ true
 unfolding clap_on_literals

@@ -18,9 +18,13 @@ digits_word = record (new_rule (codes "HEX")) { required = true }
 abbrev pub echo_word : Rule
 echo_word = record (new_rule (codes "echo")) { long = Some (codes "echo"); action = Some SetTrue }
 
--- `step [--config FILE] [--echo]`
+-- `--live`
+abbrev pub live_word : Rule
+live_word = record (new_rule (codes "live")) { long = Some (codes "live"); action = Some SetTrue }
+
+-- `step [--config FILE] [--echo] [--live]`
 abbrev pub step_words : App
-step_words = with_rule (with_rule (new_app (codes "step")) file_words) echo_word
+step_words = with_rule (with_rule (with_rule (new_app (codes "step")) file_words) echo_word) live_word
 
 -- `FILE`, which may be left out
 abbrev pub printed_word : Rule
@@ -75,8 +79,9 @@ is_given (Some word) = bytes_eq word (codes "true")
 
 -- what a command asks for, with the values that it was given
 abbrev pub Asks : Text → List Row → Asked → Type 0
-Asks command given (asked.Step file echo) =
+Asks command given (asked.Step file echo live) =
     (command ≡ codes "step") × (option_map (λ f. f.now) file ≡ first_of (codes "config") given) × (echo ≡ is_given (first_of (codes "echo") given))
+    × (live ≡ is_given (first_of (codes "live") given))
 Asks command given (asked.Config file) = (command ≡ codes "config") × (option_map (λ f. f.now) file ≡ first_of (codes "FILE") given)
 Asks command given (asked.Decode word fields) =
     (command ≡ codes "decode") × (first_of (codes "HEX") given ≡ Some word.now) × (fields ≡ is_given (first_of (codes "fields") given))

@@ -1,13 +1,15 @@
 //! The words that `lsr` takes, and what its help says.
-ghost use Rattle.std.specs.Prelude.{◌≡◌, false, IfOk};
-ghost use Rattle.clap.specs.Words.{app_of, rule_of, with_subcommand};
-ghost use Rattle.clap.specs.declared.builder.command.Command.{out-Command};
-ghost use Rattle.lsr_words.specs.Words.{config_words, decode_words, digits_word, echo_word, explain_words, fields_word, file_words, lsr_words, printed_word, program_words, serve_words, served_word, step_words, topic_word, turns_words};
+ghost use Rattle.std.specs.Prelude.{◌≡◌, Ok, Some, true, false, IfOk};
+ghost use Rattle.clap.specs.Built.{AddsSubcommand};
+ghost use Rattle.clap.specs.Words.{app_of, new_app, new_rule, rule_of, with_subcommand};
+ghost use Rattle.clap.specs.declared.builder.action.ArgAction.TheVariants.{SetTrue};
+ghost use Rattle.clap.specs.declared.builder.command.Command.{Command, out-Command};
+ghost use Rattle.lsr_words.specs.Words.{config_words, decode_words, digits_word, echo_word, explain_words, fields_word, file_words, live_word, lsr_words, printed_word, program_words, serve_words, served_word, step_words, topic_word, turns_words};
 
 use clap::{Arg, ArgAction, Command};
 use std::alloc::{AllocError, Global};
 
-/// What stands behind the program's name in `lsr --version`: the number, and what is proved.
+/// What stands after the program's name in `lsr --version`: the number, and what is proved.
 const VERSION: &str = "\
 0.1.0
   Proved with rattle-kit-13f, logic dac8208d650f15bf (`rt version`): each function meets its
@@ -36,11 +38,11 @@ The status is, of each command:
   1                   a file, the input, a line of `step` or a message to decode wasn't taken;
                       a capture is damaged; a socket can't be had, or what `serve` was told
                       isn't one run; the output can't be written; or memory ran out
-  2                   the words behind `lsr` aren't taken, and nothing was done: too few, too
+  2                   the words after `lsr` aren't taken, and nothing was done: too few, too
                       many or unknown ones, HEX that isn't hexadecimal digits, WHAT that asks
                       for nothing, or N that isn't a number of turns
 Why it isn't 0 is said on standard error, and by `decode` of lines or a file in its answers too.
-The first line says what it is, and `lsr explain` knows its first word; lines behind it that begin
+The first line says what it is, and `lsr explain` knows its first word; lines after it that begin
 with two spaces say where it is and what to do.
 ";
 
@@ -49,8 +51,9 @@ Serves messages, frames, moments, links that come up and go down, commands and r
 line each from standard input, and prints what the router answers and sends";
 
 const STEP_HELP: &str = "\
-Standard input is read to its end, at most 16777216 bytes, before its first line is answered. A
-newline at the very end begins no further line. Each line is one of these:
+Standard input is read to its end, at most 16777216 bytes, before its first line is answered; with
+--live each line is answered as soon as it has come. A newline at the very end begins no further
+line. Each line is one of these:
   rx LINK HEX       a message came over link LINK, 1 to 65535; HEX is its bytes in
                     hexadecimal digits of either case, two for each, and may be empty
   frame LINK HEX    a whole frame came over link LINK: its first byte is 01 before a message,
@@ -94,11 +97,16 @@ newline at the very end begins no further line. Each line is one of these:
   show path KEY     asks for all that is known of the path of one LSP, whose KEY `show paths` has
   show resv KEY     asks for all that is known of its reservation, or of the repaired one
 Words are parted by one space, and nothing else stands in a line: no sign, no blank before or
-behind, no carriage return. Numbers are decimal; zeros may stand before them. An empty line is
+after them, no carriage return. Numbers are decimal; zeros may stand before them. An empty line is
 a bad line.
 
 With --echo each line is printed before its answers, and empty lines and lines that begin with #
 are passed over: they are counted and do nothing.
+
+With --live, for an operator who writes lines at a terminal, each line is answered as soon as it
+has come, however many come. A bad line is told on standard error as soon as it has come, and the
+run goes on with the next; empty lines and lines that begin with # are passed over. A line has at
+most 16777216 bytes. `./lsr step` adds --live where standard input is a terminal.
 
 What is printed for each of them but `show`:
   done              it was done
@@ -115,7 +123,7 @@ What is printed for a frame under labels, in place of these:
 
 What to do next:
   refused 1 to 9           the message can't be read: `lsr decode HEX` tells the same of `rx`,
-                           and of `frame` with what stands behind its first byte, 01
+                           and of `frame` with what stands after its first byte, 01
   refused 10 NoMatch       `show paths` and `show resvs` have what a message can speak of
   refused 12 LinkDown      `up LINK` first
   refused 13 HopLimit      the frame's TTL or limit ran out: look for a loop
@@ -169,14 +177,15 @@ of examples/middle.toml), or without it the built-in one: 10.0.0.2, link 1 to 10
 2 to 10.0.0.3, and 10.0.0.4 behind link 2. FILE is read whole before the first line.
 
 The status is 0 where each line was answered, whatever the answers are; 1 with one of these on
-standard error; 2 where the words of the command aren't taken:
+standard error, or with --live with some of them; 2 where the words of the command aren't taken:
   bad line N        line N, counted from 1, has none of the forms above, and ends the run;
                     what the lines before it asked for is done. The line and the form of its
-                    first word stand behind. Fix it, and run the whole again
+                    first word follow. Fix it, and run the whole again; with --live the run
+                    goes on: write the line again
   config FAULT KEY  the first fault of FILE, and the key that it is about (none for Text
                     and Memory); fix that, and run again for the next. docs/CONFIGURATION.md says what each FAULT is
   unreadable        FILE or the input can't be opened or read, isn't UTF-8, or has more than
-                    16777216 bytes; which of them it is and why stands behind
+                    16777216 bytes; the line after it says which of them it is, and why
   memory            there is no memory; what was printed before is done
   unwritable        the output or the error stream can't be written
 
@@ -233,8 +242,8 @@ What is printed:
                     C-Type in decimal, 0 to 255, and its body in hexadecimal digits, if it
                     has any. The last three bytes of an ERROR_SPEC, `6 1 0a00000200180007`,
                     are code and value of the error, here 24/7
-With --fields there stand behind that line, for each object:
-    CLASS FIELD ..  two spaces, its class by name, and each field behind its name. A rate is
+With --fields these lines follow that line, for each object:
+    CLASS FIELD ..  two spaces, its class by name, and each field after its name. A rate is
                     the digits of its word and what it stands for, in whole bytes per second,
                     rounded up: `infinite`, or `none` where it is negative, no number, or 2^50
                     or more. Flags are their byte and the names of those that are set
@@ -259,7 +268,7 @@ wrong with it first. A router answers the same to `rx LINK HEX` (lsr step --help
 With `-` for HEX the messages are the lines of standard input, each the digits of one, as many
 as come, until the input ends; a line has at most 16777216 bytes. An empty line is a message of
 no bytes; a newline at the very end begins no further line, and the last line needs none. Each
-line has its answer on standard output at once, and an empty line behind it: what is printed
+line has its answer on standard output at once, and an empty line after it: what is printed
 above, or for a line that is refused, which doesn't end the run:
   line N: refused M NAME
   line N: no hexadecimal digits
@@ -268,12 +277,12 @@ N counts lines from 1.
 
 A file is a classic pcap or a pcapng file of at most 16777216 bytes. Messages are what IPv4
 packets of protocol 46 carry, and UDP datagrams whose payload is a Hop frame of this router: a
-byte 01, and behind it a message of version 1. Packets are looked for in Ethernet, with or without
+byte 01, and after it a message of version 1. Packets are looked for in Ethernet, with or without
 tags, in raw IP, and in Linux's cooked packets. Each message is printed so, with an empty line
-behind it:
+after it:
   packet N TIME     the packet's number in the file, from 1, and when it was captured, in
                     seconds since the beginning of 1970 with nine decimals, or `unknown`;
-                    behind it what is printed above, or `refused M NAME`
+                    after it what is printed above, or `refused M NAME`
 and then, in the end:
   messages A        how many packets have a message; and how many have none that is read:
   fragments B       fragments of packets of protocol 46 or 17, which aren't put together,
@@ -286,7 +295,7 @@ and 1 where the run ends before the last line. That of a file is 0; 1 where a me
 refused, or the file can't be read to its end. Then one of these stands on standard error:
   unreadable        the input broke, or a line has more than 16777216 bytes; or the file can't
                     be opened or read, or has more than 16777216 bytes
-  damaged           the file breaks at the byte that stands behind it; what stands before
+  damaged           the file breaks at the byte of the line after it; what stands before
                     that place is printed
   memory            there is no memory
   unwritable        the output or the error stream can't be written
@@ -400,6 +409,9 @@ const CONFIG_OPTION_HELP: &str =
 const ECHO_HELP: &str = "\
 Prints each line before its answers, and passes over empty lines and lines that begin with #";
 
+const LIVE_HELP: &str = "\
+Answers each line as soon as it has come, and goes on after a bad line";
+
 const FIELDS_HELP: &str = "\
 Prints after the line of each object what it says: its class and its fields by name";
 
@@ -427,18 +439,47 @@ pub(crate) const HEX: &str = "HEX";
 pub(crate) const CONFIG_OPTION: &str = "config";
 /// The name of the option of `step` that prints lines, too.
 pub(crate) const ECHO: &str = "echo";
+/// The name of the option of `step` that answers lines as they come.
+pub(crate) const LIVE: &str = "live";
 /// The name of the option of `decode` that names fields.
 pub(crate) const FIELDS: &str = "fields";
+
+/// An option that takes a value.
+fn option<'a>(alloc: Global, name: &'a str, value: &'a str, help: &'a str) -> Arg<'a>
+    ensures rule { rule_of result ≡ record (new_rule name.entry.now) { long = Some name.entry.now; value_names = 1 } }
+    ensures local { result.global ≡ false }
+{
+    Arg::new(alloc, name)
+        .long(name)
+        .value_name(value)
+        .help(help)
+}
+
+/// An option without a value.
+fn switch<'a>(alloc: Global, name: &'a str, help: &'a str) -> Arg<'a>
+    ensures rule { rule_of result ≡ record (new_rule name.entry.now) { long = Some name.entry.now; action = Some SetTrue } }
+    ensures local { result.global ≡ false }
+{
+    Arg::new(alloc, name)
+        .long(name)
+        .action(ArgAction::SetTrue)
+        .help(help)
+}
+
+/// A word that has to be there.
+fn required_word<'a>(alloc: Global, name: &'a str, help: &'a str) -> Arg<'a>
+    ensures rule { rule_of result ≡ record (new_rule name.entry.now) { required = true } }
+    ensures local { result.global ≡ false }
+{
+    Arg::new(alloc, name).required(true).help(help)
+}
 
 /// `--config FILE`.
 fn config_option<'a>(alloc: Global) -> Arg<'a>
     ensures rule { rule_of result ≡ file_words }
     ensures local { result.global ≡ false }
 {
-    Arg::new(alloc, CONFIG_OPTION)
-        .long(CONFIG_OPTION)
-        .value_name("FILE")
-        .help(CONFIG_OPTION_HELP)
+    option(alloc, CONFIG_OPTION, FILE, CONFIG_OPTION_HELP)
 }
 
 /// `--echo`.
@@ -446,10 +487,15 @@ fn echo_option<'a>(alloc: Global) -> Arg<'a>
     ensures rule { rule_of result ≡ echo_word }
     ensures local { result.global ≡ false }
 {
-    Arg::new(alloc, ECHO)
-        .long(ECHO)
-        .action(ArgAction::SetTrue)
-        .help(ECHO_HELP)
+    switch(alloc, ECHO, ECHO_HELP)
+}
+
+/// `--live`.
+fn live_option<'a>(alloc: Global) -> Arg<'a>
+    ensures rule { rule_of result ≡ live_word }
+    ensures local { result.global ≡ false }
+{
+    switch(alloc, LIVE, LIVE_HELP)
 }
 
 /// `FILE`, which may be left out.
@@ -465,7 +511,7 @@ fn hex_word<'a>(alloc: Global) -> Arg<'a>
     ensures rule { rule_of result ≡ digits_word }
     ensures local { result.global ≡ false }
 {
-    Arg::new(alloc, HEX).required(true).help(HEX_HELP)
+    required_word(alloc, HEX, HEX_HELP)
 }
 
 /// `--fields`.
@@ -473,10 +519,7 @@ fn fields_option<'a>(alloc: Global) -> Arg<'a>
     ensures rule { rule_of result ≡ fields_word }
     ensures local { result.global ≡ false }
 {
-    Arg::new(alloc, FIELDS)
-        .long(FIELDS)
-        .action(ArgAction::SetTrue)
-        .help(FIELDS_HELP)
+    switch(alloc, FIELDS, FIELDS_HELP)
 }
 
 /// `WHAT`.
@@ -484,7 +527,7 @@ fn topic_word<'a>(alloc: Global) -> Arg<'a>
     ensures rule { rule_of result ≡ topic_word }
     ensures local { result.global ≡ false }
 {
-    Arg::new(alloc, WHAT).required(true).help(WHAT_HELP)
+    required_word(alloc, WHAT, WHAT_HELP)
 }
 
 /// `FILE`.
@@ -492,7 +535,7 @@ fn served_file<'a>(alloc: Global) -> Arg<'a>
     ensures rule { rule_of result ≡ served_word }
     ensures local { result.global ≡ false }
 {
-    Arg::new(alloc, FILE).required(true).help(FILE_HELP)
+    required_word(alloc, FILE, FILE_HELP)
 }
 
 /// `--turns N`.
@@ -500,22 +543,25 @@ fn turns_option<'a>(alloc: Global) -> Arg<'a>
     ensures rule { rule_of result ≡ turns_words }
     ensures local { result.global ≡ false }
 {
-    Arg::new(alloc, TURNS)
-        .long(TURNS)
-        .value_name("N")
-        .help(TURNS_HELP)
+    option(alloc, TURNS, "N", TURNS_HELP)
 }
 
-/// `step [--config FILE] [--echo]`. The only error is that memory ran out.
+/// A command without words of its own, with its help.
+fn bare_command<'a>(alloc: Global, name: &'a str, about: &'a str, help: &'a str) -> Command<'a>
+    ensures words { app_of result ≡ new_app name.entry.now }
+    ensures local { (out-Command result).has_globals ≡ false }
+{
+    Command::new(alloc, name).about(about).after_help(help)
+}
+
+/// `step [--config FILE] [--echo] [--live]`. The only error is that memory ran out.
 fn step_command<'a>(alloc: Global) -> Result<Command<'a>, AllocError>
     ensures words { IfOk result (λ command. app_of command ≡ step_words) }
     ensures local { IfOk result (λ command. (out-Command command).has_globals ≡ false) }
 {
-    let config = Command::new(alloc, STEP)
-        .about(STEP_ABOUT)
-        .after_help(STEP_HELP)
-        .arg(config_option(alloc))?;
-    config.arg(echo_option(alloc))
+    let config = bare_command(alloc, STEP, STEP_ABOUT, STEP_HELP).arg(config_option(alloc))?;
+    let echo = config.arg(echo_option(alloc))?;
+    echo.arg(live_option(alloc))
 }
 
 /// `config [FILE]`. The only error is that memory ran out.
@@ -523,10 +569,7 @@ fn config_command<'a>(alloc: Global) -> Result<Command<'a>, AllocError>
     ensures words { IfOk result (λ command. app_of command ≡ config_words) }
     ensures local { IfOk result (λ command. (out-Command command).has_globals ≡ false) }
 {
-    Command::new(alloc, CONFIG)
-        .about(CONFIG_ABOUT)
-        .after_help(CONFIG_HELP)
-        .arg(printed_file(alloc))
+    bare_command(alloc, CONFIG, CONFIG_ABOUT, CONFIG_HELP).arg(printed_file(alloc))
 }
 
 /// `decode HEX [--fields]`. The only error is that memory ran out.
@@ -534,10 +577,7 @@ fn decode_command<'a>(alloc: Global) -> Result<Command<'a>, AllocError>
     ensures words { IfOk result (λ command. app_of command ≡ decode_words) }
     ensures local { IfOk result (λ command. (out-Command command).has_globals ≡ false) }
 {
-    let hex = Command::new(alloc, DECODE)
-        .about(DECODE_ABOUT)
-        .after_help(DECODE_HELP)
-        .arg(hex_word(alloc))?;
+    let hex = bare_command(alloc, DECODE, DECODE_ABOUT, DECODE_HELP).arg(hex_word(alloc))?;
     hex.arg(fields_option(alloc))
 }
 
@@ -546,10 +586,7 @@ fn explain_command<'a>(alloc: Global) -> Result<Command<'a>, AllocError>
     ensures words { IfOk result (λ command. app_of command ≡ explain_words) }
     ensures local { IfOk result (λ command. (out-Command command).has_globals ≡ false) }
 {
-    Command::new(alloc, EXPLAIN)
-        .about(EXPLAIN_ABOUT)
-        .after_help(EXPLAIN_HELP)
-        .arg(topic_word(alloc))
+    bare_command(alloc, EXPLAIN, EXPLAIN_ABOUT, EXPLAIN_HELP).arg(topic_word(alloc))
 }
 
 /// `serve FILE [--turns N]`. The only error is that memory ran out.
@@ -557,34 +594,44 @@ fn serve_command<'a>(alloc: Global) -> Result<Command<'a>, AllocError>
     ensures words { IfOk result (λ command. app_of command ≡ serve_words) }
     ensures local { IfOk result (λ command. (out-Command command).has_globals ≡ false) }
 {
-    let file = Command::new(alloc, SERVE)
-        .about(SERVE_ABOUT)
-        .after_help(SERVE_HELP)
-        .arg(served_file(alloc))?;
+    let file = bare_command(alloc, SERVE, SERVE_ABOUT, SERVE_HELP).arg(served_file(alloc))?;
     file.arg(turns_option(alloc))
 }
 
-/// The program's name with `step` behind it. The only error is that memory ran out.
-fn program_with_step<'a>(alloc: Global) -> Result<Command<'a>, AllocError>
-    ensures { IfOk result (λ command. app_of command ≡ with_subcommand program_words step_words.top) }
+/// The program's name, with the help of all.
+fn bare_program<'a>(alloc: Global) -> Command<'a>
+    ensures { app_of result ≡ program_words }
 {
-    let step = step_command(alloc)?;
     Command::new(alloc, PROGRAM)
         .about(ABOUT)
         .version(VERSION)
         .after_help(HELP)
         .subcommand_required(true)
         .arg_required_else_help(true)
-        .subcommand(step)
+}
+
+/// The program with one command more, where that could be made. The only error is that memory ran out.
+fn with_command<'a>(
+    program: Command<'a>,
+    made: Result<Command<'a>, AllocError>,
+) -> Result<Command<'a>, AllocError>
+    ensures { IfOk result (λ more. (command : Command) × (made.entry ≡ Ok command) × AddsSubcommand program.entry command more) }
+{
+    program.subcommand(made?)
+}
+
+/// The program's name with `step` after it. The only error is that memory ran out.
+fn program_with_step<'a>(alloc: Global) -> Result<Command<'a>, AllocError>
+    ensures { IfOk result (λ command. app_of command ≡ with_subcommand program_words step_words.top) }
+{
+    with_command(bare_program(alloc), step_command(alloc))
 }
 
 /// The program with its first two commands. The only error is that memory ran out.
 fn program_with_config<'a>(alloc: Global) -> Result<Command<'a>, AllocError>
     ensures { IfOk result (λ command. app_of command ≡ with_subcommand (with_subcommand program_words step_words.top) config_words.top) }
 {
-    let config = config_command(alloc)?;
-    let program = program_with_step(alloc)?;
-    program.subcommand(config)
+    with_command(program_with_step(alloc)?, config_command(alloc))
 }
 
 /// The program with its first three commands. The only error is that memory ran out.
@@ -592,9 +639,7 @@ fn program_with_decode<'a>(alloc: Global) -> Result<Command<'a>, AllocError>
     ensures { IfOk result (λ command. app_of command
         ≡ with_subcommand (with_subcommand (with_subcommand program_words step_words.top) config_words.top) decode_words.top) }
 {
-    let decode = decode_command(alloc)?;
-    let program = program_with_config(alloc)?;
-    program.subcommand(decode)
+    with_command(program_with_config(alloc)?, decode_command(alloc))
 }
 
 /// The program with its first four commands. The only error is that memory ran out.
@@ -603,17 +648,13 @@ fn program_with_explain<'a>(alloc: Global) -> Result<Command<'a>, AllocError>
         ≡ with_subcommand (with_subcommand (with_subcommand (with_subcommand program_words
         step_words.top) config_words.top) decode_words.top) explain_words.top) }
 {
-    let explain = explain_command(alloc)?;
-    let program = program_with_decode(alloc)?;
-    program.subcommand(explain)
+    with_command(program_with_decode(alloc)?, explain_command(alloc))
 }
 
-/// The words that `lsr` takes: `--version`, `step [--config FILE] [--echo]`, `config [FILE]`, `decode HEX [--fields]`, `explain WHAT`
+/// The words that `lsr` takes: `--version`, `step [--config FILE] [--echo] [--live]`, `config [FILE]`, `decode HEX [--fields]`, `explain WHAT`
 /// and `serve FILE [--turns N]`. The only error is that memory ran out.
 pub(crate) fn command<'a>(alloc: Global) -> Result<Command<'a>, AllocError>
     ensures { IfOk result (λ command. app_of command ≡ lsr_words) }
 {
-    let serve = serve_command(alloc)?;
-    let program = program_with_explain(alloc)?;
-    program.subcommand(serve)
+    with_command(program_with_explain(alloc)?, serve_command(alloc))
 }

@@ -1,13 +1,14 @@
 //! Reads the words of the command line.
-ghost use Rattle.std.specs.Prelude.{◌≡◌, true, map, option_map, IfOk, IfErr};
+ghost use Rattle.std.specs.Prelude.{◌≡◌, true, None, codes, map, option_map, IfOk, IfErr};
 ghost use Rattle.std.specs.Option.{MatchOption};
-ghost use Rattle.clap.specs.Words.{FailsBy, fault_of, kind_of, subcommand_rows_of, takes};
+ghost use Rattle.clap.specs.Matches.{found_of};
+ghost use Rattle.clap.specs.Words.{FailsBy, fault_of, first_of, kind_of, rows_of, subcommand_rows_of, takes};
 ghost use Rattle.lsr_words.specs.declared.words.Asked.{Asked};
-ghost use Rattle.lsr_words.specs.Words.{AsksFor, AsksIn, is_given, lsr_words};
+ghost use Rattle.lsr_words.specs.Words.{Asks, AsksFor, AsksIn, is_given, lsr_words};
 
 use crate::help::{
-    CONFIG, CONFIG_OPTION, DECODE, ECHO, EXPLAIN, FIELDS, FILE, HEX, SERVE, STEP, TURNS, WHAT,
-    command,
+    CONFIG, CONFIG_OPTION, DECODE, ECHO, EXPLAIN, FIELDS, FILE, HEX, LIVE, SERVE, STEP, TURNS,
+    WHAT, command,
 };
 use clap::ArgMatches;
 use clap::error::{Error, ErrorKind};
@@ -15,7 +16,7 @@ use std::alloc::Global;
 use std::convert::AsStr;
 
 /// What the words ask for.
-#[derive(Clone, Copy, Debug, PartialEq, Eq)]
+#[derive(Clone, Copy)]
 pub enum Asked<'a> {
     /// `step`: lines are answered by a router.
     Step {
@@ -23,6 +24,8 @@ pub enum Asked<'a> {
         file: Option<&'a str>,
         /// Whether each line is printed before its answers, and comments and empty lines are passed over.
         echo: bool,
+        /// Whether each line is answered as soon as it has come, and a bad line doesn't end the run.
+        live: bool,
     },
     /// `config [FILE]`: the configuration of the file of this name is printed; without one the built-in router's.
     Config(Option<&'a str>),
@@ -58,6 +61,48 @@ fn is_given(found: Option<&str>) -> bool
     }
 }
 
+/// What `decode` asks for; none without its word.
+fn decode_asked<'a>(given: &ArgMatches<'a>) -> Option<Asked<'a>>
+    ensures { MatchOption result
+        (first_of (codes "HEX") (rows_of (found_of given.now)) ≡ None)
+        (Asks (codes "decode") (rows_of (found_of given.now))) }
+{
+    match given.get_str(HEX) {
+        Some(word) => Some(Asked::Decode {
+            word,
+            fields: is_given(given.get_str(FIELDS)),
+        }),
+        None => None,
+    }
+}
+
+/// What `explain` asks for; none without its word.
+fn explain_asked<'a>(given: &ArgMatches<'a>) -> Option<Asked<'a>>
+    ensures { MatchOption result
+        (first_of (codes "WHAT") (rows_of (found_of given.now)) ≡ None)
+        (Asks (codes "explain") (rows_of (found_of given.now))) }
+{
+    match given.get_str(WHAT) {
+        Some(topic) => Some(Asked::Explain(topic)),
+        None => None,
+    }
+}
+
+/// What `serve` asks for; none without its file.
+fn serve_asked<'a>(given: &ArgMatches<'a>) -> Option<Asked<'a>>
+    ensures { MatchOption result
+        (first_of (codes "FILE") (rows_of (found_of given.now)) ≡ None)
+        (Asks (codes "serve") (rows_of (found_of given.now))) }
+{
+    match given.get_str(FILE) {
+        Some(file) => Some(Asked::Serve {
+            file,
+            turns: given.get_str(TURNS),
+        }),
+        None => None,
+    }
+}
+
 /// What the matches of the program's words ask for; none where they name no command.
 fn asked_in<'a>(matches: &ArgMatches<'a>) -> Option<Asked<'a>>
     ensures { MatchOption result
@@ -68,26 +113,12 @@ fn asked_in<'a>(matches: &ArgMatches<'a>) -> Option<Asked<'a>>
         Some((STEP, given)) => Some(Asked::Step {
             file: given.get_str(CONFIG_OPTION),
             echo: is_given(given.get_str(ECHO)),
+            live: is_given(given.get_str(LIVE)),
         }),
         Some((CONFIG, given)) => Some(Asked::Config(given.get_str(FILE))),
-        Some((DECODE, given)) => match given.get_str(HEX) {
-            Some(word) => Some(Asked::Decode {
-                word,
-                fields: is_given(given.get_str(FIELDS)),
-            }),
-            None => None,
-        },
-        Some((EXPLAIN, given)) => match given.get_str(WHAT) {
-            Some(topic) => Some(Asked::Explain(topic)),
-            None => None,
-        },
-        Some((SERVE, given)) => match given.get_str(FILE) {
-            Some(file) => Some(Asked::Serve {
-                file,
-                turns: given.get_str(TURNS),
-            }),
-            None => None,
-        },
+        Some((DECODE, given)) => decode_asked(given),
+        Some((EXPLAIN, given)) => explain_asked(given),
+        Some((SERVE, given)) => serve_asked(given),
         _ => None,
     }
 }

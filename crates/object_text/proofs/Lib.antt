@@ -1,2 +1,2 @@
-mod Growing
+pub mod Growing
 mod Names

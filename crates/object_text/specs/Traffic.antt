@@ -1,5 +1,5 @@
 -- What a SENDER_TSPEC and a FLOWSPEC say (RFC 2210, 3.1 and 3.2).
-use Rattle.std.specs.Prelude.{ℕ, ◌==◌, List, [], ◌++◌, codes, length, drop, slice_index, Option, Some, None, if◌then◌else◌}
+use Rattle.std.specs.Prelude.{ℕ, ◌==◌, List, [], ◌++◌, codes, length, drop, take, slice_index, Option, Some, None, if◌then◌else◌}
 use Rattle.std.specs.Fmt.{decimal}
 use Rattle.byteorder.specs.Endian.{big_number}
 use Rattle.rsvp_traffic.specs.Rates.{rate_of}
@@ -8,6 +8,10 @@ use Rattle.object_text.specs.Words.{next_word, word_text}
 -- the IEEE 754 word of plus infinity
 abbrev pub infinity : ℕ
 infinity = 0x7f800000
+
+-- the token bucket rate of a SENDER_TSPEC or a FLOWSPEC: the fourth word of its body (RFC 2210, 3.1 and 3.2)
+abbrev pub rate_bytes : List ℕ → List ℕ
+rate_bytes body = take 4 (drop 12 body)
 
 -- a whole number
 abbrev pub whole_text : Option ℕ → List ℕ

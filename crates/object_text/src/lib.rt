@@ -13,3 +13,4 @@ mod words;
 
 pub use errors::error_name;
 pub use fields::push_fields;
+pub use traffic::rate_bytes;

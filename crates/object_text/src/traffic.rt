@@ -1,6 +1,6 @@
 //! What a SENDER_TSPEC and a FLOWSPEC say (RFC 2210, 3.1 and 3.2).
 ghost use Rattle.std.specs.Prelude.{◌≡◌, ◌+◌, ◌++◌, ◌≤◌, OnOk, length, string_bytes};
-ghost use Rattle.object_text.specs.Traffic.{amount_text, amount_words, bucket_words, service_name, service_words, sizes_words, traffic_words, word_at};
+ghost use Rattle.object_text.specs.Traffic.{amount_text, amount_words, bucket_words, rate_bytes, service_name, service_words, sizes_words, traffic_words, word_at};
 
 use crate::words::{push_next, push_word};
 use byteorder::{BigEndian, ByteOrder};
@@ -14,6 +14,8 @@ const BODY_LEN: usize = 32;
 const SERVICE_AT: usize = 4;
 /// Where the token bucket rate r stands.
 const RATE_AT: usize = 12;
+/// The bytes of a rate.
+const RATE_LEN: usize = 4;
 /// Where the bucket's size b stands.
 const BUCKET_AT: usize = 16;
 /// Where the peak rate p stands.
@@ -24,6 +26,15 @@ const MIN_AT: usize = 24;
 const MAX_AT: usize = 28;
 /// The IEEE 754 word of plus infinity.
 const INFINITY: u32 = 0x7f80_0000;
+
+/// The bytes of the token bucket rate in the body of a SENDER_TSPEC or a FLOWSPEC; fewer where the body ends before.
+pub fn rate_bytes(body: &[u8]) -> &[u8]
+    ensures { result.now ≡ rate_bytes body.now }
+{
+    let start = body.len().min(RATE_AT);
+    let end = body.len().min(RATE_AT + RATE_LEN);
+    &body[start..end]
+}
 
 /// Appends what the word stands for, as a whole number, rounded up.
 #[tactic(auto, unfolding(crate::specs::Traffic::amount_text))]

@@ -30,14 +30,13 @@ pub fn link_change<V: StateView>(
     }
     let mut up = node.up.try_copy(alloc)?;
     up.set(number, is_up)?;
+    let mut edits = Edits::none(alloc);
+    edits.up = Some(up);
     Ok(Draft {
         reply: Reply::Done,
         errors: Outputs::new(alloc),
         due: None,
         is_silent: false,
-        edits: Edits {
-            up: Some(up),
-            ..Edits::none(alloc)
-        },
+        edits,
     })
 }

@@ -137,10 +137,9 @@ fn noted_of<V: StateView>(
     let Some(tunnel) = view.tunnel(number) else {
         return Ok(Edits::none(alloc));
     };
-    Ok(Edits {
-        tunnels: noted(alloc, number, tunnel, error.error)?,
-        ..Edits::none(alloc)
-    })
+    let mut edits = Edits::none(alloc);
+    edits.tunnels = noted(alloc, number, tunnel, error.error)?;
+    Ok(edits)
 }
 
 /// What a PathErr does that is for the LSP of this path: it is told to the path's origins, and noted where the path

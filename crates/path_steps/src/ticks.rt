@@ -114,13 +114,12 @@ fn expiries<V: WholeState>(alloc: Global, view: &V, moment: u64) -> Result<Edits
     ensures known { IfOk result (λ edits. AreOfKnown edits (V.state view.now)) }
     ensures left { IfOk result (λ edits. edited edits (V.state view.now) ≡ expired moment (V.state view.now)) }
 {
-    Ok(Edits {
-        moment: Some(moment),
-        paths: path_expiries(alloc, view, moment)?,
-        resvs: resv_expiries(alloc, view, moment)?,
-        repairs: repair_expiries(alloc, view, moment)?,
-        ..Edits::none(alloc)
-    })
+    let mut edits = Edits::none(alloc);
+    edits.moment = Some(moment);
+    edits.paths = path_expiries(alloc, view, moment)?;
+    edits.resvs = resv_expiries(alloc, view, moment)?;
+    edits.repairs = repair_expiries(alloc, view, moment)?;
+    Ok(edits)
 }
 
 /// What it does that a moment comes, in milliseconds: what has expired goes of paths, of reservations and of repairs,

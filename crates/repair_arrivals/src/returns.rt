@@ -55,10 +55,8 @@ fn replied<V: StateView>(alloc: Global, view: &V, progress: Progress) -> Draft
         (reached (V.state view.now) progress) progress.first)
         (V.router view.now) (V.state view.now) }
 {
-    let edits = Edits {
-        repairs: progress.edits,
-        ..Edits::none(alloc)
-    };
+    let mut edits = Edits::none(alloc);
+    edits.repairs = progress.edits;
     resv_replied(
         alloc,
         view,

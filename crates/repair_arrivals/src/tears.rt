@@ -65,14 +65,13 @@ pub fn returned_tear<V: WholeState>(
     if torn.is_empty() {
         return Ok(refused(alloc, view, Refusal::NoMatch));
     }
+    let mut edits = Edits::none(alloc);
+    edits.repairs = without_rows(Table::new(alloc), torn.as_slice())?;
     Ok(Draft {
         reply: Reply::Done,
         errors: Outputs::new(alloc),
         due: None,
         is_silent: false,
-        edits: Edits {
-            repairs: without_rows(Table::new(alloc), torn.as_slice())?,
-            ..Edits::none(alloc)
-        },
+        edits,
     })
 }

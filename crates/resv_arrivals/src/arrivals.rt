@@ -106,10 +106,8 @@ fn replied<V: WholeState>(alloc: Global, view: &V, progress: Progress) -> Draft
         (reached (V.state view.now) progress) progress.first)
         (V.router view.now) (V.state view.now) }
 {
-    let edits = Edits {
-        resvs: progress.edits,
-        ..Edits::none(alloc)
-    };
+    let mut edits = Edits::none(alloc);
+    edits.resvs = progress.edits;
     resv_replied(
         alloc,
         view,

@@ -23,7 +23,8 @@ ghost use Rattle.router_core.specs.Plans.{IsOutFor, IsPlanOf, IsSendingPlan, aft
 ghost use Rattle.router_core.specs.States.{RouterState};
 
 use forwarding_table::Action;
-use lsr_facts::{Key, Refusal, Reply};
+use lsr_facts::{Item, Key, Refusal, Reply};
+use resv_facts::{ResvFact, Upstream};
 use router_events::{Command, Event, Outputs};
 use router_steps::{draft_of, exceeds_hop_limit};
 use router_tables::{Change, Draft, Edits, Tables, table_edits, tunnel_edits};
@@ -32,13 +33,14 @@ use sorted_rows::Table;
 use state_sends::{appended, sends_of};
 use state_settling::{bandwidth_edits, settle};
 use std::alloc::{AllocError, Global};
+use std::mem;
 
 /// Octets of an address.
 const ADDRESS_LEN: usize = 4;
 
 /// A step that is made ready, with all the memory that it takes, and hasn't happened yet. It is of use once, on
 /// the router that it was made for, as that stood then: [`crate::Running::commit`] takes it.
-#[derive(Debug, Drop)]
+#[derive(Debug)]
 pub struct Plan {
     /// What the event is answered.
     pub(crate) reply: Reply,
@@ -50,7 +52,32 @@ pub struct Plan {
     pub(crate) change: Option<Change>,
 }
 
+/// Written out, so that it is dropped by one call, whatever it holds.
+impl Drop for Plan {
+    fn drop(self) {
+        let Plan {
+            reply: _reply,
+            outputs: _outputs,
+            chosen: _chosen,
+            change: _change,
+        } = self;
+    }
+}
+
 impl Plan {
+    /// The labels that were chosen, what is sent, and what changes.
+    pub(crate) fn into_parts(self) -> (Table<Key, u32>, Outputs, Option<Change>)
+        ensures { result ≡ (self.chosen, self.outputs, self.change) }
+    {
+        let Plan {
+            reply: _reply,
+            outputs,
+            chosen,
+            change,
+        } = self;
+        (chosen, outputs, change)
+    }
+
     /// What the event is answered.
     pub fn reply(&self) -> Reply
         ensures { result ≡ self.now.reply }
@@ -156,6 +183,51 @@ fn table_of(
     table_edits(alloc, tables, edits, changed)
 }
 
+/// The change of edits, in which these edits of bandwidth stand for those of reservations, with when messages were sent, and with
+/// what becomes of the label table and of the table of tunnels.
+fn change_of(
+    alloc: Global,
+    edits: Edits,
+    bandwidth: Table<Key, Option<(ResvFact, u8)>>,
+    moments: Table<Item, Option<u64>>,
+    upstream: Table<Upstream, Option<u64>>,
+    table: Table<u32, Option<Action>>,
+    tunnel_table: Table<u16, Option<Action>>,
+) -> Change
+    ensures { result ≡ record {
+      moment = edits.moment;
+      up = edits.up;
+      routes = edits.routes;
+      tunnels = edits.tunnels;
+      bypasses = edits.bypasses;
+      paths = edits.paths;
+      bandwidth = bandwidth;
+      repairs = edits.repairs;
+      labels = edits.labels;
+      moments = moments;
+      upstream = upstream;
+      table = table;
+      tunnel_table = tunnel_table;
+    } }
+{
+    let mut edits = edits;
+    Change {
+        moment: edits.moment,
+        up: edits.up.take(),
+        routes: edits.routes.take(),
+        tunnels: mem::replace(&mut edits.tunnels, Table::new(alloc)),
+        bypasses: edits.bypasses.take(),
+        paths: mem::replace(&mut edits.paths, Table::new(alloc)),
+        bandwidth,
+        repairs: mem::replace(&mut edits.repairs, Table::new(alloc)),
+        labels: mem::replace(&mut edits.labels, Table::new(alloc)),
+        moments,
+        upstream,
+        table,
+        tunnel_table,
+    }
+}
+
 /// The plan of the step of a draft that isn't silent: with all that follows from its own change, with what is sent, and
 /// with what becomes of the label table and of the table of tunnels. The only error is out of memory.
 fn sending_plan(alloc: Global, tables: &Tables, draft: Draft) -> Result<Plan, AllocError>
@@ -168,28 +240,22 @@ fn sending_plan(alloc: Global, tables: &Tables, draft: Draft) -> Result<Plan, Al
     let sends = sends_of(alloc, tables, &settled.edits, draft.due, errors)?;
     let table = table_of(alloc, tables, &settled.edits, sends.changed)?;
     let tunnel_table = tunnel_edits(alloc, tables, &settled.edits)?;
-    let edits = settled.edits;
-    let resvs = edits.resvs;
+    let mut edits = settled.edits;
+    let resvs = mem::replace(&mut edits.resvs, Table::new(alloc));
     let bandwidth = bandwidth_edits(alloc, tables, &edits.paths, resvs)?;
     Ok(Plan {
         reply: draft.reply,
         outputs: sends.outputs,
         chosen: settled.chosen,
-        change: Some(Change {
-            moment: edits.moment,
-            up: edits.up,
-            routes: edits.routes,
-            tunnels: edits.tunnels,
-            bypasses: edits.bypasses,
-            paths: edits.paths,
+        change: Some(change_of(
+            alloc,
+            edits,
             bandwidth,
-            repairs: edits.repairs,
-            labels: edits.labels,
-            moments: sends.moments,
-            upstream: sends.upstream,
+            sends.moments,
+            sends.upstream,
             table,
             tunnel_table,
-        }),
+        )),
     })
 }
 

@@ -120,12 +120,7 @@ impl Running {
         ensures state { self.new.state ≡ after_plan plan self.old.state }
         ensures router { self.new.router ≡ self.old.router }
     {
-        let Plan {
-            reply: _,
-            outputs,
-            chosen,
-            change,
-        } = plan;
+        let (chosen, outputs, change) = plan.into_parts();
         if let Some(change) = change {
             self.tables.make(change);
         }

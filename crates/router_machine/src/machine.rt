@@ -65,6 +65,32 @@ impl Model for Machine {
     ghost invariant = { λ m. IsThere m.phase };
 }
 
+/// Makes an event's step ready on a running router, as [`Machine::ready`] does.
+fn running_step(alloc: Global, router: &Running, event: &Event) -> Result<Ready, Refusal>
+    ensures ready { IfOk result (IsReady router.now event.now) }
+    ensures left { IfErr result (IsEventLeft router.now.router router.now.state event.now) }
+{
+    router.soundness();
+    if let Event::Restart = event {
+        return Ok(Ready::Restart {
+            changes_table: router.is_forwarding(),
+        });
+    }
+    Ok(Ready::Plan(router.plan(alloc, event)?))
+}
+
+/// Makes an event's step ready on a cold router, as [`Machine::ready`] does.
+fn cold_step(router: &Cold, event: &Event) -> Result<Ready, Refusal>
+    ensures ready { IfOk result (IsReady router.now event.now) }
+    ensures left { IfErr result (IsEventLeft router.now.router router.now.state event.now) }
+{
+    router.soundness();
+    if let Event::Start = event {
+        return Ok(Ready::Start);
+    }
+    Err(Refusal::IsCold)
+}
+
 /// Makes a step that is made ready for a router that is there: the router after it, the labels that it gives, and what it
 /// sends. Takes no memory.
 fn made(phase: Phase, alloc: Global, ready: Ready) -> (Phase, (Table<Key, u32>, Outputs))
@@ -142,26 +168,10 @@ impl Machine {
         ensures ready { IfOk result (IsReady self.now event.now) }
         ensures left { IfErr result (IsEventLeft self.now.router self.now.state event.now) }
     {
-        match (&self.phase, event) {
-            (Phase::Running(router), Event::Restart) => {
-                router.soundness();
-                Ok(Ready::Restart {
-                    changes_table: router.is_forwarding(),
-                })
-            }
-            (Phase::Running(router), event) => {
-                router.soundness();
-                Ok(Ready::Plan(router.plan(alloc, event)?))
-            }
-            (Phase::Cold(router), Event::Start) => {
-                router.soundness();
-                Ok(Ready::Start)
-            }
-            (Phase::Cold(router), _) => {
-                router.soundness();
-                Err(Refusal::IsCold)
-            }
-            (Phase::Between, _) => unreachable!(),
+        match &self.phase {
+            Phase::Running(router) => running_step(alloc, router, event),
+            Phase::Cold(router) => cold_step(router, event),
+            Phase::Between => unreachable!(),
         }
     }
 

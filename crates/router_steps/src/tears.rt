@@ -67,14 +67,13 @@ pub(crate) fn resv_tear_arrival<V: StateView>(
     if torn.is_empty() {
         return Ok(refused(alloc, view, Refusal::NoMatch));
     }
+    let mut edits = Edits::none(alloc);
+    edits.resvs = without_rows(Table::new(alloc), torn.as_slice())?;
     Ok(Draft {
         reply: Reply::Done,
         errors: Outputs::new(alloc),
         due: None,
         is_silent: false,
-        edits: Edits {
-            resvs: without_rows(Table::new(alloc), torn.as_slice())?,
-            ..Edits::none(alloc)
-        },
+        edits,
     })
 }

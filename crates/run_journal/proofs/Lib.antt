@@ -3,7 +3,6 @@ pub mod Answering
 pub mod Following
 pub mod Keeping
 pub mod Leading
-pub mod Lengths
 pub mod Making
 pub mod Marking
 pub mod Running

@@ -7,7 +7,7 @@ use Rattle.router_events.specs.declared.events.Output.{Output}
 use Rattle.abstract_router.specs.States.{State}
 use Rattle.abstract_router.specs.Steps.{Step}
 use Rattle.abstract_router.specs.Tables.{TellsChange}
-use Rattle.run_journal.specs.Events.{event_bytes}
+use Rattle.event_bytes.specs.Events.{event_bytes}
 use Rattle.run_journal.specs.declared.entry.Entry.{Entry}
 use Rattle.run_journal.specs.declared.entry.WrittenFrame.{WrittenFrame}
 

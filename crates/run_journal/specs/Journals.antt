@@ -17,7 +17,7 @@ use Rattle.abstract_router.specs.Tables.{TellsChange, look, look_tunnel}
 use Rattle.lookup_plane.specs.Changes as planes
 use Rattle.lookup_plane.specs.Changes.{Changes, IsChangeOf}
 use Rattle.lookup_plane.specs.declared.change.TableChange.{TableChange}
-use Rattle.run_journal.specs.Events.{event_bytes}
+use Rattle.event_bytes.specs.Events.{event_bytes}
 use Rattle.router_machine.specs.States.{RouterState}
 use Rattle.router_machine.specs.Readies.{IsReady, after_ready, made_of}
 use Rattle.router_machine.specs.declared.ready.Ready.{Ready}

@@ -1,4 +1,3 @@
 pub mod Entries
-pub mod Events
 pub mod Journals
 pub mod Marks

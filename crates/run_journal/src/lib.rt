@@ -3,7 +3,6 @@
 #![tactic(auto)]
 
 mod entry;
-mod events;
 mod locked;
 mod mark;
 mod receipt;
@@ -12,7 +11,6 @@ mod tally;
 mod writing;
 
 pub use entry::{AnyRule, Bytes, ChosenLabels, Entry, Frames, Listed, WrittenFrame};
-pub use events::write_event;
 pub use locked::Locked;
 pub use mark::Mark;
 pub use receipt::Receipt;

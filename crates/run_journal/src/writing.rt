@@ -1,11 +1,11 @@
 //! What is written of events and of frames that are sent.
 
 ghost use Rattle.std.specs.Prelude.{◌≡◌, IfOk, map};
-ghost use Rattle.run_journal.specs.Events.{event_bytes};
+ghost use Rattle.event_bytes.specs.Events.{event_bytes};
 ghost use Rattle.run_journal.specs.Entries.{written_frame};
 
 use crate::entry::{Bytes, Frames, Listed, WrittenFrame};
-use crate::events::write_event;
+use event_bytes::write_event;
 use frame_writer::write_frame;
 use router_events::{Event, Frame, Output};
 use rsvp_bodies::Kept;

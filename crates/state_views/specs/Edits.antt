@@ -1,6 +1,6 @@
 -- Edits of what a router knows.
-use Rattle.std.specs.Prelude.{◌||◌, Bool, List, [], ◌∷◌, Option, None, T}
-use Rattle.std.specs.FinMap.Entries.{is_sorted, put}
+use Rattle.std.specs.Prelude.{◌||◌, Bool, List, [], ◌∷◌, Option, None}
+use Rattle.std.specs.FinMap.Entries.{put}
 use Rattle.std.specs.Option.{unwrap_or}
 use Rattle.std.specs.Ordering.{nat_cmp}
 use Rattle.sorted_rows.specs.Edits as rows
@@ -29,14 +29,6 @@ edited e s = record s {
   repairs = rows.edited key_cmp e.repairs s.repairs;
   labels = rows.edited key_cmp e.labels s.labels;
 }
-
--- the tables that edits go by the keys of are in order
-pub record AreInOrder (s : State) : Type 0 where
-  pub tunnels : T (is_sorted nat_cmp s.facts.tunnels)
-  pub paths : T (is_sorted key_cmp s.facts.paths)
-  pub resvs : T (is_sorted key_cmp s.resvs)
-  pub repairs : T (is_sorted key_cmp s.repairs)
-  pub labels : T (is_sorted key_cmp s.labels)
 
 -- edits of what LSPs have, and then these LSPs have none
 abbrev pub without_rows : {X : Type 0} → List (Key × Option X) → List Key → List (Key × Option X)

@@ -1,14 +1,14 @@
 //! Edits of what a router knows, and what it knows with edits over it.
 
-ghost use Rattle.std.specs.FinMap.Entries.{find, is_sorted};
+ghost use Rattle.std.specs.FinMap.Entries.{find};
 ghost use Rattle.std.specs.Option.{option_copied};
 ghost use Rattle.std.specs.Ordering.{nat_cmp};
-ghost use Rattle.std.specs.Prelude.{◌≡◌, IfOk, T};
+ghost use Rattle.std.specs.Prelude.{◌≡◌, IfOk};
 ghost use Rattle.sorted_rows.specs.Edits as rows;
 ghost use Rattle.lsr_facts.specs.Orders.{key_cmp};
 ghost use Rattle.abstract_router.specs.States.{State};
-ghost use Rattle.state_views.specs.Edits.{AreInOrder, edited, unedited, without_rows};
-ghost use Rattle.state_views.specs.Joining.{joined_rows, later_or};
+ghost use Rattle.state_views.specs.Edits.{edited, unedited, without_rows};
+ghost use Rattle.state_views.specs.Joining.{joined_rows};
 
 use crate::views::StateView;
 use lsr_facts::{Bypass, Key, Node, PathFact, Tunnel};
@@ -18,7 +18,7 @@ use sorted_rows::Table;
 use std::alloc::{AllocError, Global};
 
 /// What a step changes, but for the moments at which messages were sent.
-#[derive(Debug, Drop)]
+#[derive(Debug)]
 pub struct Edits {
     /// The moment from now on, in milliseconds, where one came.
     pub moment: Option<u64>,
@@ -38,6 +38,23 @@ pub struct Edits {
     pub repairs: Table<Key, Option<Repair>>,
     /// Of LSPs the label that each has from now on: `None` where it is free again.
     pub labels: Table<Key, Option<u32>>,
+}
+
+/// Written out, so that they are dropped by one call, whatever they hold.
+impl Drop for Edits {
+    fn drop(self) {
+        let Edits {
+            moment: _moment,
+            up: _up,
+            routes: _routes,
+            tunnels: _tunnels,
+            bypasses: _bypasses,
+            paths: _paths,
+            resvs: _resvs,
+            repairs: _repairs,
+            labels: _labels,
+        } = self;
+    }
 }
 
 impl Edits {
@@ -115,36 +132,6 @@ pub fn joined_rows<K: Ord + Drop, V: Drop>(
         all.set(key, now)?;
     }
     Ok(all)
-}
-
-/// What is replaced whole: later, if it is then.
-fn later_or<T: Drop>(later: Option<T>, was: Option<T>) -> Option<T>
-    ensures { result ≡ later_or later was }
-{
-    match later {
-        Some(now) => Some(now),
-        None => was,
-    }
-}
-
-/// Edits, and others that are made after them, as one. It asks of the view that its tables are in order, and takes it for
-/// its contract alone. The only error is out of memory.
-#[tactic(auto, using(crate::specs::Joining::edited_joined))]
-pub fn joined<V: StateView>(_view: &V, edits: Edits, later: Edits) -> Result<Edits, AllocError>
-    requires { AreInOrder (V.state _view.now) }
-    ensures { IfOk result (λ all. edited all (V.state _view.now) ≡ edited later (edited edits (V.state _view.now))) }
-{
-    Ok(Edits {
-        moment: later_or(later.moment, edits.moment),
-        up: later_or(later.up, edits.up),
-        routes: later_or(later.routes, edits.routes),
-        tunnels: joined_rows(edits.tunnels, later.tunnels)?,
-        bypasses: later_or(later.bypasses, edits.bypasses),
-        paths: joined_rows(edits.paths, later.paths)?,
-        resvs: joined_rows(edits.resvs, later.resvs)?,
-        repairs: joined_rows(edits.repairs, later.repairs)?,
-        labels: joined_rows(edits.labels, later.labels)?,
-    })
 }
 
 /// Edits of what LSPs have, and then these LSPs have none. The only error is out of memory.

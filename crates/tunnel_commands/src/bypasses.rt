@@ -29,10 +29,9 @@ pub(crate) fn with_bypass<V: StateView>(
             link: asked.link,
         },
     )?;
-    Ok(Edits {
-        bypasses: Some(bypasses),
-        ..Edits::none(alloc)
-    })
+    let mut edits = Edits::none(alloc);
+    edits.bypasses = Some(bypasses);
+    Ok(edits)
 }
 
 /// The bypass of a number goes. The only error is out of memory.
@@ -46,8 +45,7 @@ pub(crate) fn without_bypass<V: StateView>(
 {
     let mut bypasses = view.bypasses().try_copy(alloc)?;
     bypasses.remove(&number);
-    Ok(Edits {
-        bypasses: Some(bypasses),
-        ..Edits::none(alloc)
-    })
+    let mut edits = Edits::none(alloc);
+    edits.bypasses = Some(bypasses);
+    Ok(edits)
 }

@@ -39,10 +39,9 @@ pub(crate) fn with_route<V: StateView>(
 {
     let mut routes = view.node().routes.try_copy(alloc)?;
     routes.set(masked_prefix(prefix), link)?;
-    Ok(Edits {
-        routes: Some(routes),
-        ..Edits::none(alloc)
-    })
+    let mut edits = Edits::none(alloc);
+    edits.routes = Some(routes);
+    Ok(edits)
 }
 
 /// The static route to these addresses goes. The only error is out of memory.
@@ -57,8 +56,7 @@ pub(crate) fn without_route<V: StateView>(
 {
     let mut routes = view.node().routes.try_copy(alloc)?;
     routes.remove(&masked_prefix(prefix));
-    Ok(Edits {
-        routes: Some(routes),
-        ..Edits::none(alloc)
-    })
+    let mut edits = Edits::none(alloc);
+    edits.routes = Some(routes);
+    Ok(edits)
 }

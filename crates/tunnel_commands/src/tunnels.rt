@@ -55,13 +55,12 @@ fn with_lsp(
     if let Some((key, fact)) = head {
         paths.set(key, Some(fact))?;
     }
-    Ok(Edits {
-        tunnels: tunnel_edit(alloc, number, Some(tunnel))?,
-        paths,
-        resvs: without_rows(Table::new(alloc), &[key])?,
-        repairs: without_rows(Table::new(alloc), &[key])?,
-        ..Edits::none(alloc)
-    })
+    let mut edits = Edits::none(alloc);
+    edits.tunnels = tunnel_edit(alloc, number, Some(tunnel))?;
+    edits.paths = paths;
+    edits.resvs = without_rows(Table::new(alloc), &[key])?;
+    edits.repairs = without_rows(Table::new(alloc), &[key])?;
+    Ok(edits)
 }
 
 /// A tunnel as it is asked for, with its first LSP. The only error is out of memory.
@@ -176,11 +175,10 @@ pub(crate) fn with_cancelled<V: StateView>(
     let paths = without_pending(alloc, view.node().router, number, tunnel)?;
     let mut left = tunnel.try_copy(alloc)?;
     cancel(&mut left);
-    Ok(Edits {
-        tunnels: tunnel_edit(alloc, number, Some(left))?,
-        paths,
-        ..Edits::none(alloc)
-    })
+    let mut edits = Edits::none(alloc);
+    edits.tunnels = tunnel_edit(alloc, number, Some(left))?;
+    edits.paths = paths;
+    Ok(edits)
 }
 
 /// The paths go of a tunnel's LSPs. The only error is out of memory.
@@ -210,9 +208,8 @@ pub(crate) fn with_dropped<V: StateView>(
     ensures { IfOk result (λ edits. edited edits (V.state view.now)
         ≡ with_facts (with_dropped (V.router view.now) number tunnel.now (V.state view.now).facts) (V.state view.now)) }
 {
-    Ok(Edits {
-        tunnels: tunnel_edit(alloc, number, None)?,
-        paths: without_heads(alloc, view.node().router, number, tunnel)?,
-        ..Edits::none(alloc)
-    })
+    let mut edits = Edits::none(alloc);
+    edits.tunnels = tunnel_edit(alloc, number, None)?;
+    edits.paths = without_heads(alloc, view.node().router, number, tunnel)?;
+    Ok(edits)
 }

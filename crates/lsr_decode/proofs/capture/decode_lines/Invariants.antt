@@ -1,9 +1,8 @@
--- So far the stream was read, and the lines that are over were answered.
-use Rattle.std.proofs.Common.{◌≤◌, length}
-use Rattle.lsr_decode.specs.Captures.{IsReadTo}
+-- So far the stream was read, and its lines were answered.
+use Rattle.lsr_lines.specs.Streams.{left_of}
+use Rattle.lsr_decode.proofs.Capturing.{IsCaptured}
 use Rattle.lsr_decode.proofs.capture.decode_lines.Given as goal
 
-abbrev pub invariant-reads : goal.invariant-reads
-invariant-reads g l =
-    IsReadTo l.fields (g.S.ByteStream.stream l.fn.input) (g.S.ByteStream.stream l.input) (g.W.Write.contents l.fn.output) (g.W.Write.contents l.output) l.line.items l.count l.counter l.refused
-    × (1 ≤ length l.room.items) × (length l.room.items ≤ 65536)
+abbrev pub invariant-lines : goal.invariant-lines
+invariant-lines g l =
+    IsCaptured l.fields (g.S.ByteStream.stream l.fn.input) (g.S.ByteStream.stream l.input) (g.W.Write.contents l.fn.output) (g.W.Write.contents l.output) (left_of l.reader) l.count l.refused

@@ -1,4 +1,4 @@
--- What was read has a header, and behind it the objects; and what wasn't is refused.
+-- What was read has a header, and after it the objects; and what wasn't is refused.
 use Rattle.std.proofs.Common.{rules, subst, string_bytes}
 use Rattle.std.proofs.lemmas.Result.{err_from_is_err_and}
 use Rattle.lsr_decode.specs.Decoding.{ShowsObjects}

@@ -1,4 +1,4 @@
--- The messages were printed, and behind them how many packets there are.
+-- The messages were printed, and after them how many packets there are.
 use Rattle.std.proofs.Common.{◌++◌, List, refl, subst}
 use Rattle.std.proofs.KnownBytes.{Appends-trans}
 use Rattle.std.specs.Io.KnownBytes.{Appends}

@@ -1,4 +1,4 @@
--- What is printed of the message stands behind its heading.
+-- What is printed of the message stands after its heading.
 use Rattle.std.proofs.Common.{rules, ◌++◌, codes, inl, inr, refl, string_bytes}
 use Rattle.std.proofs.KnownBytes.{Appends-trans}
 use Rattle.lsr_facts.specs.declared.refusal.Refusal.TheVariants.{Unread}

@@ -1,4 +1,4 @@
--- One behind the other.
+-- One after the other.
 use Rattle.std.proofs.Common.{codes}
 use Rattle.lsr_explain.specs.Answers.{section_text}
 use Rattle.lsr_explain.specs.declared.topics.Kind.TheVariants as kinds

@@ -1,4 +1,4 @@
--- One behind the other.
+-- One after the other.
 use Rattle.lsr_explain.specs.Answers.{answers_text, faults_text}
 use Rattle.lsr_explain.proofs.Printing.{appends_after}
 use Rattle.lsr_explain.proofs.telling.put_topics.Goals as goal

@@ -1,4 +1,4 @@
--- One behind the other.
+-- One after the other.
 use Rattle.std.proofs.Common.{codes, subst}
 use Rattle.std.specs.Result.{OnOk}
 use Rattle.std.specs.Io.KnownBytes.{Appends}

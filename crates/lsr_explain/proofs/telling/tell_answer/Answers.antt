@@ -1,4 +1,4 @@
--- What an error about an object is told with stands behind its topic.
+-- What an error about an object is told with stands after its topic.
 use Rattle.lsr_explain.proofs.telling.tell_answer.Goals as goal
 
 pub returns-in_ok-put_object_topic-in-Object-clause-shown :

@@ -2,20 +2,20 @@
 use Rattle.std.proofs.Common.{rules, ap, sym, ◌∙◌}
 use Rattle.lsr_lines.specs.Forms.{form_in}
 use Rattle.lsr_lines.specs.Lines.{lines_of}
-use Rattle.lsr_lines.proofs.FormLaws.{form_behind, form_first, form_none}
+use Rattle.lsr_lines.proofs.FormLaws.{form_after, form_first, form_none}
 use Rattle.lsr_lines.proofs.Stepping.{lines_of-nil, none_by}
 use Rattle.lsr_lines.proofs.forms.form_for.Goals as goal
 
 pub returns-then-is_form_of : goal.returns-then-is_form_of
 returns-then-is_form_of c =
     let word = c.args.word.now in
-    sym (c.loop-form.invariant.same ∙ ap (form_in word) c.in-Some.ensures.line ∙ form_first word c.in-Some.form.now (lines_of c.in-Some.behind.now) (sym c.is_form_of.ensures ∙ c.if-is_form_of.true))
+    sym (c.loop-form.invariant.same ∙ ap (form_in word) c.in-Some.ensures.line ∙ form_first word c.in-Some.form.now (lines_of c.in-Some.others.now) (sym c.is_form_of.ensures ∙ c.if-is_form_of.true))
 
 pub loop-form-preserved : goal.loop-form-preserved
 loop-form-preserved c =
     let word = c.args.word.now in
     record {
-      same = c.loop-form.invariant.same ∙ ap (form_in word) c.in-Some.ensures.line ∙ form_behind word c.in-Some.form.now (lines_of c.in-Some.behind.now) (sym c.is_form_of.ensures ∙ c.if-is_form_of.false);
+      same = c.loop-form.invariant.same ∙ ap (form_in word) c.in-Some.ensures.line ∙ form_after word c.in-Some.form.now (lines_of c.in-Some.others.now) (sym c.is_form_of.ensures ∙ c.if-is_form_of.false);
       utf8 = search rules;
     }
 

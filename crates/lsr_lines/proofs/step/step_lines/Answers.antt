@@ -14,10 +14,10 @@ returns-in-NoRequest g c =
     let before = c.loop-line.invariant in
     let became = rw c.in-NoRequest.is at c.in_ok-next.ensures in
     let some : PrintsSome g.A.Answers.answers c.args.echo c.args.session (lines_of c.args.text.now) before.printed =
-    record { served = before.served; behind = lines_of c.loop-line.rest.now; after = c.loop-line.session; parts = before.parts; prints = before.prints } in (
+    record { served = before.served; left = lines_of c.loop-line.rest.now; after = c.loop-line.session; parts = before.parts; prints = before.prints } in (
       before.printed,
       told_none _ _ _ _ _ before.told became.1 became.2.0,
-      (some, lines_of c.in-Some.behind.now, c.in-Some.ensures.line, ap (λ n. n + 1) before.count, became.2.1, became.2.2),
+      (some, lines_of c.in-Some.others.now, c.in-Some.ensures.line, ap (λ n. n + 1) before.count, became.2.1, became.2.2),
     )
 
 pub returns-in-Memory : goal.returns-in-Memory
@@ -25,10 +25,10 @@ returns-in-Memory g c =
     let before = c.loop-line.invariant in
     let became = rw c.in-Memory.is at c.in_ok-next.ensures in
     let some : PrintsSome g.A.Answers.answers c.args.echo c.args.session (lines_of c.args.text.now) before.printed =
-    record { served = before.served; behind = lines_of c.loop-line.rest.now; after = c.loop-line.session; parts = before.parts; prints = before.prints } in (
+    record { served = before.served; left = lines_of c.loop-line.rest.now; after = c.loop-line.session; parts = before.parts; prints = before.prints } in (
       before.printed,
       told_none _ _ _ _ _ before.told became.1 became.2.0,
-      (some, c.in-Some.line.now, lines_of c.in-Some.behind.now, c.in-Some.ensures.line, became.2.1),
+      (some, c.in-Some.line.now, lines_of c.in-Some.others.now, c.in-Some.ensures.line, became.2.1),
     )
 
 pub loop-line-preserved : goal.loop-line-preserved
@@ -39,7 +39,7 @@ loop-line-preserved g c =
     record {
       served = before.served ++ (line ∷ []);
       printed = before.printed ++ became.0;
-      parts = before.parts ∙ ap (λ l. before.served ++ l) c.in-Some.ensures.line ∙ sym (append_assoc before.served (line ∷ []) (lines_of c.in-Some.behind.now));
+      parts = before.parts ∙ ap (λ l. before.served ++ l) c.in-Some.ensures.line ∙ sym (append_assoc before.served (line ∷ []) (lines_of c.in-Some.others.now));
       prints = prints_push _ _ _ _ _ _ _ _ _ before.prints became.2;
       told = Appends-trans _ _ _ _ _ before.told became.1;
       count = ap (λ n. n + 1) before.count ∙ sym (length-append before.served (line ∷ []));

@@ -4,7 +4,7 @@ use Rattle.std.proofs.lemmas.List.{take_more}
 use Rattle.lsr_facts.specs.declared.key.Key.{Key}
 use Rattle.resv_facts.specs.declared.resv_fact.ResvFact.{ResvFact}
 use Rattle.lsr_text.specs.Rows.{resv_line}
-use Rattle.lsr_text.proofs.Showing.{rows_push}
+use Rattle.object_text.proofs.Growing.{rows_push_after}
 use Rattle.lsr_text.proofs.rows.resvs_text.Goals as goal
 
 pub loop-resv-preserved : goal.loop-resv-preserved
@@ -13,4 +13,4 @@ loop-resv-preserved c =
     let i = c.loop-resv.resv-index in
     let resv = c.resv-item.result in
     let more : take (i + 1) resvs ≡ take i resvs ++ resv ∷ [] = take_more resvs i resv c.loop-resv-test.true ∙ ap (λ (p : Key × ResvFact). take i resvs ++ p ∷ []) (sym c.resv-item.is) in
-    rows_push resv_line (string_bytes c.loop-resv.text) (string_bytes c.push_resv.new.text) (take i resvs) (take (i + 1) resvs) resv c.loop-resv.invariant c.in_ok-push_resv.ensures more
+    rows_push_after resv_line [] (string_bytes c.loop-resv.text) (string_bytes c.push_resv.new.text) (take i resvs) (take (i + 1) resvs) resv c.loop-resv.invariant c.in_ok-push_resv.ensures more

@@ -1,9 +1,8 @@
 -- The program adds one command more.
-use Rattle.std.proofs.Common.{ap, ap₂, ◌≡◌, ◌∙◌}
 use Rattle.std.proofs.lemmas.Result.{IfOk-weaker}
-use Rattle.clap.specs.Words.{App, with_subcommand}
+use Rattle.lsr_words.proofs.WordLaws.{adds_command}
 use Rattle.lsr_words.proofs.help.command.Goals as goal
 
 pub returns : goal.returns
 returns c =
-    IfOk-weaker c.subcommand.result _ _ (λ new a. a.shape c.in_ok-serve.ensures.local ∙ ap₂ with_subcommand c.in_ok-program.ensures (ap (λ (a : App). a.top) c.in_ok-serve.ensures.words)) c.subcommand.ensures
+    IfOk-weaker c.with_command.result _ _ (λ more. adds_command _ _ more _ _ c.in_ok-program_with_explain.ensures c.serve_command.ensures.words c.serve_command.ensures.local) c.with_command.ensures

@@ -1,12 +1,13 @@
--- The command adds its two words.
+-- The command adds its three words.
 use Rattle.std.proofs.Common.{rules, codes, ◌≡◌}
 use Rattle.std.proofs.lemmas.Result.{IfOk-weaker}
 use Rattle.clap.specs.Words.{app_of, new_app, with_rule}
-use Rattle.lsr_words.specs.Words.{echo_word, file_words}
+use Rattle.lsr_words.specs.Words.{echo_word, file_words, live_word}
 use Rattle.lsr_words.proofs.WordLaws.{adds_word}
 use Rattle.lsr_words.proofs.help.step_command.Goals as goal
 
 pub returns-clause-words : goal.returns-clause-words
 returns-clause-words c =
     let first : app_of c.in_ok-config.config ≡ with_rule (new_app (codes "step")) file_words = adds_word _ _ c.in_ok-config.config (new_app (codes "step")) file_words c.in_ok-config.ensures c.config_option.ensures.rule c.config_option.ensures.local (search rules) in
-    IfOk-weaker c.arg-2.result _ _ (λ new a. adds_word _ _ new (with_rule (new_app (codes "step")) file_words) echo_word a c.echo_option.ensures.rule c.echo_option.ensures.local first) c.arg-2.ensures
+    let second : app_of c.in_ok-echo.echo ≡ with_rule (with_rule (new_app (codes "step")) file_words) echo_word = adds_word _ _ c.in_ok-echo.echo (with_rule (new_app (codes "step")) file_words) echo_word c.in_ok-echo.ensures c.echo_option.ensures.rule c.echo_option.ensures.local first in
+    IfOk-weaker c.arg-3.result _ _ (λ new a. adds_word _ _ new (with_rule (with_rule (new_app (codes "step")) file_words) echo_word) live_word a c.live_option.ensures.rule c.live_option.ensures.local second) c.arg-3.ensures

@@ -1,10 +1,10 @@
 -- The command that was found has its name and its values.
-use Rattle.std.proofs.Common.{rules, ◌∙◌, ap, sym, codes}
+use Rattle.std.proofs.Common.{rules, ◌∙◌, ap, codes}
 use Rattle.clap.specs.Words.{rows_of}
 use Rattle.clap.specs.Matches.{found_of}
 use Rattle.clap.proofs.WalkLemmas.{first_value-rows}
 use Rattle.lsr_words.specs.Words.{is_given}
-use Rattle.lsr_words.proofs.WordLaws.{found_is, no_file, no_topic, no_word}
+use Rattle.lsr_words.proofs.WordLaws.{asked_or, found_is, no_file, no_topic, no_word}
 use Rattle.lsr_words.proofs.words.asked_in.Goals as goal
 
 pub returns-in-Some-step-default : goal.returns-in-Some-step-default
@@ -18,6 +18,7 @@ returns-in-Some-step-default c =
         search rules,
         c.get_str.ensures ∙ first_value-rows (found_of found.given.now) (codes "config"),
         c.is_given.ensures ∙ ap is_given (c.get_str-in-Some-step-default.ensures ∙ first_value-rows (found_of found.given.now) (codes "echo")),
+        c.is_given-in-Some-step-default.ensures ∙ ap is_given (c.get_str-in-Some-step-default-2.ensures ∙ first_value-rows (found_of found.given.now) (codes "live")),
       ),
     )
 
@@ -27,46 +28,23 @@ returns-in-Some-config-default c =
     let values = rows_of (found_of found.given.now) in
     (found.field-0-0.now, values, found_is c.args.matches.now found.field-0-0.now values found.ensures.name found.ensures.rows, (search rules, c.get_str-in-Some-config-default.ensures ∙ first_value-rows (found_of found.given.now) (codes "FILE")))
 
-pub returns-in-Some : goal.returns-in-Some
-returns-in-Some c =
-    let found = c.in-Some-decode-default in
-    let values = rows_of (found_of found.given.now) in (
-      found.field-0-0.now,
-      values,
-      found_is c.args.matches.now found.field-0-0.now values found.ensures.name found.ensures.rows,
-      (
-        search rules,
-        sym (first_value-rows (found_of found.given.now) (codes "HEX")) ∙ sym c.in-Some.ensures,
-        c.is_given-in-Some.ensures ∙ ap is_given (c.get_str-in-Some.ensures ∙ first_value-rows (found_of found.given.now) (codes "fields")),
-      ),
-    )
-
-pub returns-in-None : goal.returns-in-None
-returns-in-None c =
+pub returns-in-Some-decode-default : goal.returns-in-Some-decode-default
+returns-in-Some-decode-default c =
     let found = c.in-Some-decode-default in
     let values = rows_of (found_of found.given.now) in
-    no_word _ found.field-0-0.now values (found_is c.args.matches.now found.field-0-0.now values found.ensures.name found.ensures.rows) (search rules) (sym (first_value-rows (found_of found.given.now) (codes "HEX")) ∙ sym c.in-None.ensures)
+    let is = found_is c.args.matches.now found.field-0-0.now values found.ensures.name found.ensures.rows in
+    asked_or c.decode_asked.result _ (codes "decode") found.field-0-0.now values is (search rules) (no_word _ found.field-0-0.now values is (search rules)) c.decode_asked.ensures
 
-pub returns-in-Some-get_str : goal.returns-in-Some-get_str
-returns-in-Some-get_str c =
+pub returns-in-Some-explain-default : goal.returns-in-Some-explain-default
+returns-in-Some-explain-default c =
     let found = c.in-Some-explain-default in
     let values = rows_of (found_of found.given.now) in
-    (found.field-0-0.now, values, found_is c.args.matches.now found.field-0-0.now values found.ensures.name found.ensures.rows, (search rules, sym (first_value-rows (found_of found.given.now) (codes "WHAT")) ∙ sym c.in-Some-get_str.ensures))
+    let is = found_is c.args.matches.now found.field-0-0.now values found.ensures.name found.ensures.rows in
+    asked_or c.explain_asked.result _ (codes "explain") found.field-0-0.now values is (search rules) (no_topic _ found.field-0-0.now values is (search rules)) c.explain_asked.ensures
 
-pub returns-in-None-get_str : goal.returns-in-None-get_str
-returns-in-None-get_str c =
-    let found = c.in-Some-explain-default in
-    let values = rows_of (found_of found.given.now) in
-    no_topic _ found.field-0-0.now values (found_is c.args.matches.now found.field-0-0.now values found.ensures.name found.ensures.rows) (search rules) (sym (first_value-rows (found_of found.given.now) (codes "WHAT")) ∙ sym c.in-None-get_str.ensures)
-
-pub returns-in-Some-get_str-2 : goal.returns-in-Some-get_str-2
-returns-in-Some-get_str-2 c =
+pub returns-in-Some-serve-default : goal.returns-in-Some-serve-default
+returns-in-Some-serve-default c =
     let found = c.in-Some-serve-default in
     let values = rows_of (found_of found.given.now) in
-    (found.field-0-0.now, values, found_is c.args.matches.now found.field-0-0.now values found.ensures.name found.ensures.rows, (search rules, sym (first_value-rows (found_of found.given.now) (codes "FILE")) ∙ sym c.in-Some-get_str-2.ensures, c.get_str-in-Some-get_str-2.ensures ∙ first_value-rows (found_of found.given.now) (codes "turns")))
-
-pub returns-in-None-get_str-2 : goal.returns-in-None-get_str-2
-returns-in-None-get_str-2 c =
-    let found = c.in-Some-serve-default in
-    let values = rows_of (found_of found.given.now) in
-    no_file _ found.field-0-0.now values (found_is c.args.matches.now found.field-0-0.now values found.ensures.name found.ensures.rows) (search rules) (sym (first_value-rows (found_of found.given.now) (codes "FILE")) ∙ sym c.in-None-get_str-2.ensures)
+    let is = found_is c.args.matches.now found.field-0-0.now values found.ensures.name found.ensures.rows in
+    asked_or c.serve_asked.result _ (codes "serve") found.field-0-0.now values is (search rules) (no_file _ found.field-0-0.now values is (search rules)) c.serve_asked.ensures

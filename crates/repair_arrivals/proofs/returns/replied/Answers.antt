@@ -11,4 +11,4 @@ returns g c =
     let s = g.V.StateView.state c.args.view.now in
     let p = c.args.progress in
     subst (λ (none : Edits). IsDraft c.resv_replied.result (resv_replied s (record { state = edited (record none { repairs = p.edits }) s; errors = p.errors; first = p.first; has_granted = p.has_granted }) p.first) (g.V.StateView.router c.args.view.now) s)
-    c.none.ensures c.resv_replied.ensures
+    c.none-edits.ensures c.resv_replied.ensures

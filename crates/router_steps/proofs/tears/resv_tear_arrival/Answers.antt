@@ -28,8 +28,8 @@ returns-then-is_empty-clause-draft g c =
     (tears_none s c.args.link c.args.tear.now c.requires c.in_ok-torn.torn.items c.in_ok-torn.ensures.keys (omega (arith, c.in_ok-torn.torn.ok, eqb-true (vec_len c.in_ok-torn.torn) 0 (sym c.is_empty.ensures ∙ c.if-is_empty.true))))
     c.refused.ensures
 
-pub returns-in_err-without_rows-clause-memory : goal.returns-in_err-without_rows-clause-memory
-returns-in_err-without_rows-clause-memory g c =
+pub returns-in_err-edits-clause-memory : goal.returns-in_err-edits-clause-memory
+returns-in_err-edits-clause-memory g c =
     let s = g.V.StateView.state c.args.view.now in
     let speaks : (resv_tear_arrival s c.args.link c.args.tear.now).is_silent ≡ false = sym (ap (λ (o : Outcome). o.is_silent) (tears_some s c.args.link c.args.tear.now c.requires c.in_ok-torn.torn.items c.in_ok-torn.ensures.keys (λ none. eqb-false (vec_len c.in_ok-torn.torn) 0 (sym c.is_empty.ensures ∙ c.if-is_empty.false) (omega (arith, c.in_ok-torn.torn.ok, none))))) in
     search rules
@@ -38,18 +38,18 @@ pub returns-clause-draft : goal.returns-clause-draft
 returns-clause-draft g c =
     let r = g.V.StateView.router c.args.view.now in
     let s = g.V.StateView.state c.args.view.now in
-    let resvs = c.in_ok-without_rows.field-0 in
-    subst (λ (o : Outcome). IsDraft (record { reply = replies.Done; errors = c.new.result; due = None; is_silent = false; edits = record c.none.result { resvs = resvs } }) o r s)
+    let resvs = c.in_ok-edits.field-0 in
+    subst (λ (o : Outcome). IsDraft (record { reply = replies.Done; errors = c.new-2.result; due = None; is_silent = false; edits = record c.none-edits.result { resvs = resvs } }) o r s)
     (tears_some s c.args.link c.args.tear.now c.requires c.in_ok-torn.torn.items c.in_ok-torn.ensures.keys (λ none. eqb-false (vec_len c.in_ok-torn.torn) 0 (sym c.is_empty.ensures ∙ c.if-is_empty.false) (omega (arith, c.in_ok-torn.torn.ok, none))))
     (record {
       reply = refl;
-      errors = c.new.ensures;
+      errors = c.new-2.ensures;
       due = refl;
       upstream_due = refl;
       is_silent = refl;
       after =
-          ap (λ (e : Edits). edited (record e { resvs = resvs }) s) c.none.ensures
+          ap (λ (e : Edits). edited (record e { resvs = resvs }) s) c.none-edits.ensures
           ∙ ap (λ (left : List (Key × ResvFact)). record s { resvs = left })
-          (ap (λ (edits : List (Key × Option ResvFact)). rows.edited key_cmp edits s.resvs) (c.in_ok-without_rows.ensures ∙ (λ i. without_rows (c.new-2.ensures i) (c.as_slice.ensures.value i)))
+          (ap (λ (edits : List (Key × Option ResvFact)). rows.edited key_cmp edits s.resvs) (c.in_ok-edits.ensures ∙ (λ i. without_rows (c.new.ensures i) (c.as_slice.ensures.value i)))
           ∙ rows_without [] c.in_ok-torn.torn.items s.resvs c.requires);
     })

@@ -20,5 +20,5 @@ returns g c =
     let gone : Router → List (Key × Option PathFact) = λ r. map (λ key. (key, None)) (option_to_list (pending_key r of)) in
     let paths = ◌∙◌ {b = gone c.node.result.router.now} c.in_ok-paths.ensures (ap gone c.node.ensures.router) in
     let left = c.cancel.ensures ∙ ap cancelled c.in_ok-left.ensures in
-    (λ i. edited (record (c.none.ensures i) { tunnels = c.in_ok-tunnel_edit.ensures i; paths = paths i }) s)
+    (λ i. edited (record (c.none-edits.ensures i) { tunnels = c.in_ok-edits.ensures i; paths = paths i }) s)
     ∙ (λ i. with_facts (record s.facts { tunnels = rows.at_key nat_cmp c.args.number (Some (left i)) s.facts.tunnels; paths = without_pending (pending_key r of) s.facts.paths i }) s)

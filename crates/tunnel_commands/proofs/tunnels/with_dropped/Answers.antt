@@ -19,7 +19,7 @@ returns g c =
     let s = g.V.StateView.state c.args.view.now in
     let of : ℕ × Tunnel = (c.args.number, c.args.tunnel.now) in
     let gone = λ (r : Router). put key_cmp (current_key r of) None (map (λ key. (key, None)) (option_to_list (pending_key r of))) in
-    let paths = ◌∙◌ {b = gone c.node.result.router.now} c.in_ok-without_heads.ensures (ap gone c.node.ensures.router) in
-    (λ i. edited (record (c.none.ensures i) { tunnels = c.in_ok-tunnel_edit.ensures i; paths = paths i }) s)
+    let paths = ◌∙◌ {b = gone c.node.result.router.now} c.in_ok-edits-2.ensures (ap gone c.node.ensures.router) in
+    (λ i. edited (record (c.none-edits.ensures i) { tunnels = c.in_ok-edits.ensures i; paths = paths i }) s)
     ∙ ap (λ (left : List (Key × PathFact)). with_facts (record s.facts { tunnels = rows.at_key nat_cmp c.args.number None s.facts.tunnels; paths = left }) s)
     (without_heads (current_key r of) (pending_key r of) s.facts.paths c.requires)

@@ -3,7 +3,7 @@ use Rattle.std.proofs.Common.{◌≡◌, ◌-◌, ◌<◌, ◌^◌, ℕ, Err, No
 use Rattle.std.proofs.lemmas.Result.{err_from_is_err_and}
 use Rattle.router_machine.specs.Machines.{IsEventLeft}
 use Rattle.router_machine.specs.Readies.{IsReady}
-use Rattle.run_journal.specs.Events.{event_bytes}
+use Rattle.event_bytes.specs.Events.{event_bytes}
 use Rattle.run_journal.specs.Journals.{IsEntryFor, IsRefusedLate, Journal, router_in}
 use Rattle.run_journal.specs.Marks.{Follows, receipt_of}
 use Rattle.run_journal.specs.declared.entry.Entry.{Entry}

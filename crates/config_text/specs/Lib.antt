@@ -1,0 +1,7 @@
+pub mod Printing
+pub mod Positions
+pub mod Sections
+pub mod Cuts
+pub mod Allowed
+pub mod Places
+pub mod Telling

@@ -1,0 +1,15 @@
+//! The text of a configuration: what `lsr config` prints of one, and where the fault of one stands.
+#![tactic(auto)]
+
+mod allowed;
+mod cuts;
+mod place;
+mod position;
+mod printing;
+mod section;
+mod telling;
+
+pub use place::{Place, link_without, place_of};
+pub use printing::{LinkAddresses, config_text};
+pub use section::{Section, Spot};
+pub use telling::tell_place;

@@ -1,8 +1,0 @@
--- The records of the routes so far, after what there was.
-use Rattle.std.proofs.Common.{◌≡◌, ◌++◌, take}
-use Rattle.std.specs.List.{flat_map}
-use Rattle.lsr_text.specs.Configs.{route_record}
-use Rattle.lsr_text.proofs.configs.push_routes.Given as goal
-
-abbrev pub invariant-loop-route : goal.invariant-loop-route
-invariant-loop-route l = l.text.items ≡ l.fn.text.items ++ flat_map route_record (take l.route-index l.routes)

@@ -1,0 +1,102 @@
+//! A journal that is full.
+
+use interface_workers::{Core, CoreReader, Port};
+use lsr_facts::Refusal;
+use router_events::Event;
+use std::alloc::Global;
+use std::sync::Wait;
+use std::sync::ledger::Ledger;
+use worker_fixtures::{Fault, Feed, count_entries, feed_router};
+
+/// How many events are fed.
+const EVENTS: u64 = 4_097;
+
+/// Feeds a moment. The error is its refusal.
+fn feed_moment<L: Ledger, R: Wait + Drop>(
+    rt: &R,
+    alloc: Global,
+    core: &Core<L, R>,
+    port: &mut Port<L>,
+    moment: u64,
+) -> Result<(), Refusal> {
+    match core.feed(rt, alloc, port, &Event::Tick(moment)) {
+        Ok(_receipt) => Ok(()),
+        Err(refusal) => Err(refusal),
+    }
+}
+
+/// Feeds so many moments, until one is refused: how many were taken, and why the next was refused.
+fn feed_until<L: Ledger, R: Wait + Drop>(
+    rt: &R,
+    alloc: Global,
+    core: &Core<L, R>,
+    port: &mut Port<L>,
+    count: u64,
+) -> (u64, Option<Refusal>) {
+    for turn in 0..count {
+        if let Err(refusal) = feed_moment(rt, alloc, core, port, turn) {
+            return (turn, Some(refusal));
+        }
+    }
+    (count, None)
+}
+
+/// Feeds so many moments and prints what came.
+fn tell_fed<L: Ledger, R: Wait + Print + Drop>(
+    rt: &R,
+    alloc: Global,
+    core: &Core<L, R>,
+    port: &mut Port<L>,
+    count: u64,
+) -> Result<(), Fault> {
+    let (taken, refusal) = feed_until(rt, alloc, core, port, count);
+    match refusal {
+        Some(refusal) => {
+            let number = refusal.number();
+            println!(rt;
+                "full journal: {taken} of {count} events taken, the next refused: {number}, {refusal}"
+            )?;
+        }
+        None => println!(rt; "full journal: {taken} of {count} events taken")?,
+    }
+    Ok(())
+}
+
+/// Fills the journal of this router by a port, and goes on once its entries are taken.
+fn fill<L: Ledger, R: Wait + Print + Drop>(
+    rt: &R,
+    alloc: Global,
+    core: &Core<L, R>,
+    port: &mut Port<L>,
+) -> Result<(), Fault> {
+    tell_fed(rt, alloc, core, port, EVENTS)?;
+    let entries = count_entries(rt, alloc, core)?;
+    println!(rt; "full journal: {entries} entries taken out")?;
+    tell_fed(rt, alloc, core, port, 1)
+}
+
+/// One port that feeds more than the journal holds.
+#[derive(Clone, Copy)]
+struct Fills;
+
+impl<R: Wait + Print + Drop> Feed<R> for Fills {
+    type Output = ();
+
+    /// Fills the journal by the port.
+    fn feed<L: Ledger>(
+        self,
+        rt: &R,
+        alloc: Global,
+        core: &Core<L, R>,
+        port: Port<L>,
+        _reader: CoreReader<L>,
+    ) -> Result<(), Fault> {
+        let mut port = port;
+        fill(rt, alloc, core, &mut port)
+    }
+}
+
+/// Feeds one event more than a journal holds, takes its entries, and feeds one more: prints what came of each.
+pub fn run<R: Wait + Print + Clone + Drop>(rt: &R, alloc: Global) -> Result<(), Fault> {
+    feed_router(rt, alloc, Fills)
+}

@@ -1,0 +1,186 @@
+//! A port of a router, and a reader of its label table that learns from it.
+
+use crate::left::count_entries;
+use datagrams::{Datagram, Passed};
+use forwarding_table::Action;
+use interface_workers::{Closed, Core, CoreReader, Mark, Port, read_by};
+use lsr_facts::{Refusal, Router};
+use router_events::Event;
+use std::alloc::{AllocError, Global};
+use std::fmt;
+use std::sync::Wait;
+use std::sync::ledger::Ledger;
+
+/// What becomes of a frame.
+#[derive(Clone, Copy)]
+pub enum Fate {
+    /// It goes on over the link of this number.
+    Forwarded(u16),
+    /// It is refused.
+    Refused(Refusal),
+    /// Neither.
+    Other,
+}
+
+impl fmt::Display for Fate {
+    fn fmt<W: fmt::Write>(&self, f: &mut fmt::Formatter<W>) -> fmt::Result {
+        match self {
+            Fate::Forwarded(link) => write!(f, "forwarded over link {link}"),
+            Fate::Refused(refusal) => write!(f, "refused {}", refusal.number()),
+            Fate::Other => write!(f, "neither forwarded nor refused"),
+        }
+    }
+}
+
+/// What came over a link.
+enum Came {
+    /// An event.
+    Event(Event),
+    /// Anything else, and what becomes of it.
+    Frame(Fate),
+}
+
+impl Drop for Came {
+    fn drop(self) {
+        match self {
+            Came::Event(_event) => {}
+            Came::Frame(_) => {}
+        }
+    }
+}
+
+/// What came over a link, by what it was read as.
+fn read_as(answer: Option<Result<Datagram, Refusal>>) -> Came {
+    match answer {
+        Some(Ok(Datagram::Event(event))) => Came::Event(event),
+        Some(
+            Ok(
+                Datagram::Passed(
+                    Passed::Sent {
+                        link,
+                        frame: _frame,
+                    },
+                ),
+            ),
+        ) => Came::Frame(Fate::Forwarded(link)),
+        Some(Err(refusal)) => Came::Frame(Fate::Refused(refusal)),
+        _ => Came::Frame(Fate::Other),
+    }
+}
+
+/// Feeds an event. What the router answers is let go; the error is its refusal.
+fn feed_event<L: Ledger, R: Wait + Drop>(
+    rt: &R,
+    alloc: Global,
+    core: &Core<L, R>,
+    port: &mut Port<L>,
+    event: &Event,
+) -> Result<(), Refusal> {
+    match core.feed(rt, alloc, port, event) {
+        Ok(_receipt) => Ok(()),
+        Err(refusal) => Err(refusal),
+    }
+}
+
+/// Feeds an event, once more where the journal was full, whose entries are taken then; whether it was taken.
+fn feed_rotating<L: Ledger, R: Wait + Drop>(
+    rt: &R,
+    alloc: Global,
+    core: &Core<L, R>,
+    port: &mut Port<L>,
+    event: &Event,
+) -> bool {
+    match feed_event(rt, alloc, core, port, event) {
+        Ok(()) => true,
+        Err(Refusal::JournalFull) => {
+            count_entries(rt, alloc, core).is_ok()
+                && feed_event(rt, alloc, core, port, event).is_ok()
+        }
+        Err(_) => false,
+    }
+}
+
+/// A port of a router, and a reader that learns of its entries. The reader is away only while it reads.
+#[derive(Drop)]
+pub struct Follower<L: Ledger> {
+    port: Port<L>,
+    reader: Option<CoreReader<L>>,
+}
+
+impl<L: Ledger> Follower<L> {
+    /// A follower by this port and this reader.
+    pub fn new(port: Port<L>, reader: CoreReader<L>) -> Follower<L> {
+        Follower {
+            port,
+            reader: Some(reader),
+        }
+    }
+
+    /// What comes over a link with this frame, by what the reader sees.
+    fn read(&mut self, alloc: Global, router: &Router, link: u16, frame: &[u8]) -> Came {
+        let Some(reader) = self.reader.take() else {
+            return Came::Frame(Fate::Other);
+        };
+        let (answer, reader) = read_by(alloc, router, reader, link, frame);
+        self.reader = Some(reader);
+        read_as(answer)
+    }
+
+    /// The reader learns of the port's last entry.
+    fn learn(&mut self) {
+        if let Some(reader) = &mut self.reader {
+            reader.learn(&self.port);
+        }
+    }
+
+    /// Feeds what a frame says that comes over a link, where it is an event, and learns of it; whether it was taken.
+    pub fn feed<R: Wait + Drop>(
+        &mut self,
+        rt: &R,
+        alloc: Global,
+        core: &Core<L, R>,
+        link: u16,
+        frame: &[u8],
+    ) -> bool {
+        let is_taken = match &self.read(alloc, core.router(), link, frame) {
+            Came::Event(event) => feed_rotating(rt, alloc, core, &mut self.port, event),
+            Came::Frame(_) => false,
+        };
+        self.learn();
+        is_taken
+    }
+
+    /// What becomes of a labelled frame that comes to this router over a link.
+    pub fn forward(&mut self, alloc: Global, router: &Router, link: u16, frame: &[u8]) -> Fate {
+        match &self.read(alloc, router, link, frame) {
+            Came::Event(_) => Fate::Other,
+            Came::Frame(fate) => *fate,
+        }
+    }
+
+    /// What is done with a label.
+    pub fn look(&mut self, label: u32) -> Result<Option<Action>, Closed> {
+        match &mut self.reader {
+            Some(reader) => reader.look(label),
+            None => Err(Closed),
+        }
+    }
+
+    /// The numbers of the port's last entry.
+    pub fn mark(&self) -> Mark {
+        self.port.mark()
+    }
+}
+
+/// A follower by each port of a router and the reader of its place. The only error is out of memory.
+pub fn followers<L: Ledger>(
+    alloc: Global,
+    ports: Vec<Port<L>>,
+    readers: Vec<CoreReader<L>>,
+) -> Result<Vec<Follower<L>>, AllocError> {
+    ports
+        .into_iter()
+        .zip(readers)
+        .map(|(port, reader)| Follower::new(port, reader))
+        .collect(alloc)
+}

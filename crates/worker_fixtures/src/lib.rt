@@ -1,0 +1,17 @@
+//! What worked cases of threads and measures of them share: routers that are fed, what their threads leave, and frames and sockets for
+//! them.
+#![tactic(auto)]
+
+mod fault;
+mod feeding;
+mod follower;
+mod frames;
+mod left;
+mod sockets;
+
+pub use fault::Fault;
+pub use feeding::{Feed, feed_router, open_router};
+pub use follower::{Fate, Follower, followers};
+pub use frames::{IN_LINK, LABELLED_FRAME, OUT_LINK, PATH_FRAME, RESV_FRAME, TEAR_FRAME};
+pub use left::{Left, count_entries};
+pub use sockets::free_links;
