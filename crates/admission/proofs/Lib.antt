@@ -1,6 +1,14 @@
 pub mod Around
+pub mod Bounds
+pub mod Claiming
 pub mod Editing
 pub mod Holdings
+pub mod Keeping
+pub mod Leaving
 pub mod Matching
+pub mod Moving
+pub mod Parts
+pub mod Runs
+pub mod Splitting
 pub mod Summing
 pub mod Turns

@@ -1,3 +1,4 @@
 pub mod Bandwidths
 pub mod RoomLaws
+pub mod Running
 pub mod Sums

@@ -5,8 +5,9 @@ use Rattle.std.specs.Option.{option_map_or, option_or}
 use Rattle.rsvp_objects.specs.declared.values.Session.{Session}
 use Rattle.lsr_facts.specs.Orders.{key_cmp}
 use Rattle.lsr_facts.specs.declared.key.Key.{Key}
-use Rattle.resv_facts.specs.Claims.{is_same_session, rate_of_all, shared_rate}
+use Rattle.resv_facts.specs.Claims.{fixed_rate, is_same_session, rate_of_all, shared_rate}
 use Rattle.resv_facts.specs.declared.claim.Claim.{Claim}
+use Rattle.admission.specs.declared.run.SessionRate.{SessionRate}
 use Rattle.admission.specs.declared.sum.Sum.{Sum}
 
 -- the session of the last claim: of those behind the first, or else of the first
@@ -19,6 +20,11 @@ pub record IsSumOf (claims : List (Key × Claim)) (sum : Sum) : Type 0 where
   pub total : sum.total ≡ rate_of_all claims
   pub session : sum.session ≡ last_session claims
   pub shared : sum.shared ≡ option_map_or (λ session. shared_rate session claims) (last_session claims) 0
+
+-- The rate is that of these claims, which are of this session.
+pub record IsRateOf (session : Session) (claims : List (Key × Claim)) (rate : SessionRate) : Type 0 where
+  pub shared : rate.shared ≡ shared_rate session claims
+  pub fixed : rate.fixed ≡ fixed_rate session claims
 
 -- These claims were added to a sum: it is that of the claims before and these, where they stand in the order of keys.
 abbrev pub AddsClaims : Sum → List (Key × Claim) → Sum → Type 0

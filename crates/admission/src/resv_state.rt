@@ -13,15 +13,19 @@ ghost use Rattle.sorted_rows.specs.Rows.{keys_of};
 use lsr_facts::Key;
 use lsr_facts::limits::MAX_LSPS;
 use resv_facts::{ResvFact, ResvStyle, is_same_session, is_same_style};
-use sorted_rows::{ReservedTable, Sweep, Table, TryCopy, copy_rows, make_edits};
+use rsvp_objects::Session;
+use slot_rows::{Probe, RowTest};
+use sorted_rows::{Sweep, Table, TryCopy};
 use std::alloc::{AllocError, Global};
+use std::cmp::Ordering;
 use std::marker::Model;
+use timed_rows::{Timed, TimedTable};
 
 /// What a router knows of the reservation of each LSP (RFC 2205, 2.3): at most 1,024 LSPs, in the order of their keys.
 /// Contracts see the list of keys and facts.
 #[derive(Debug, Drop)]
 pub(crate) struct ResvState {
-    rows: ReservedTable<Key, ResvFact, MAX_LSPS>,
+    rows: TimedTable<Key, ResvFact, Expiry, MAX_LSPS>,
 }
 
 impl Model for ResvState {
@@ -31,7 +35,21 @@ impl Model for ResvState {
 
     ghost Value = { List (Key × ResvFact) };
 
-    ghost view = { λ s. s.rows };
+    ghost view = { λ s. s.rows.rows };
+}
+
+/// A reservation's moment is its expiry.
+#[derive(Clone, Copy, Debug, Drop)]
+struct Expiry;
+
+impl Timed<ResvFact> for Expiry {
+    ghost use Rattle.std.specs.Prelude.{Some};
+
+    ghost at = { λ e fact. Some fact.expiry };
+
+    fn at(&self, fact: &ResvFact) -> Option<u64> {
+        Some(fact.expiry)
+    }
 }
 
 /// The reservations that have not expired at a moment, in milliseconds.
@@ -64,21 +82,38 @@ fn conflicts(link: u16, style: ResvStyle, key: &Key, resv: &(Key, ResvFact)) -> 
         && !is_same_style(style, resv.1.style)
 }
 
-/// The style of the first reservation that is another LSP's of the session, on the link, in the other style.
-fn style_in_the_way(
+/// The keys of a session.
+#[derive(Drop)]
+struct OfSession {
+    session: Session,
+}
+
+impl Probe<Key> for OfSession {
+    ghost use Rattle.lsr_facts.specs.Orders.{session_cmp};
+
+    ghost compares = { λ s key. session_cmp key.session s.session };
+
+    fn compare(&self, key: &Key) -> Ordering {
+        key.session.cmp(&self.session)
+    }
+}
+
+/// The reservations of other LSPs of a key's session, on a link, in the other style.
+#[derive(Drop)]
+struct Conflicting {
     link: u16,
     style: ResvStyle,
-    key: &Key,
-    resvs: &[(Key, ResvFact)],
-) -> Option<ResvStyle>
-    ensures { result ≡ option_map (λ other. other.1.style) (find_first (conflicts link style key.now) resvs.now) }
-{
-    for resv in resvs {
-        if conflicts(link, style, key, resv) {
-            return Some(resv.1.style);
-        }
+    key: Key,
+}
+
+impl RowTest<Key, ResvFact> for Conflicting {
+    ghost use Rattle.resv_facts.specs.Conflicts.{conflicts};
+
+    ghost passes = { λ c. conflicts c.link c.style c.key };
+
+    fn passes(&self, resv: &(Key, ResvFact)) -> bool {
+        conflicts(self.link, self.style, &self.key, resv)
     }
-    None
 }
 
 impl ResvState {
@@ -88,7 +123,7 @@ impl ResvState {
         ensures { IfOk result (λ state. state ≡ []) }
     {
         Ok(ResvState {
-            rows: ReservedTable::new(alloc)?,
+            rows: TimedTable::new(alloc, Expiry)?,
         })
     }
 
@@ -119,12 +154,7 @@ impl ResvState {
     pub(crate) fn expiring(&self, alloc: Global, moment: u64) -> Result<Vec<Key>, AllocError>
         ensures { IfOk result (λ keys. keys.items ≡ keys_of (filter (λ resv. not (lives_past moment resv.1)) self.now)) }
     {
-        self.rows
-            .as_slice()
-            .iter()
-            .filter(|resv| !resv.1.lives_past(moment))
-            .map(|resv| resv.0)
-            .collect(alloc)
+        self.rows.come(alloc, moment)
     }
 
     /// How another LSP of the session is reserved on a link, where that is in the other style: the first of them.
@@ -136,14 +166,27 @@ impl ResvState {
     ) -> Option<ResvStyle>
         ensures { result ≡ option_map (λ other. other.1.style) (find_first (conflicts link style key.now) self.now) }
     {
-        style_in_the_way(link, style, key, self.rows.as_slice())
+        let session = OfSession {
+            session: key.session,
+        };
+        let conflicting = Conflicting {
+            link,
+            style,
+            key: *key,
+        };
+
+        // The reservations of a session stand together.
+        match self.rows.find_in_run(&session, &conflicting) {
+            Some(resv) => Some(resv.1.style),
+            None => None,
+        }
     }
 
     /// The reservations as a table of their own: a copy. The only error is out of memory.
     pub fn copied(&self, alloc: Global) -> Result<Table<Key, ResvFact>, AllocError>
         ensures { IfOk result (λ resvs. resvs ≡ self.now) }
     {
-        Ok(Table::from_rows(copy_rows(alloc, self.rows.as_slice())?))
+        self.rows.copied(alloc)
     }
 
     /// What is known of an LSP's reservation, or `None` where the LSP has none.
@@ -175,7 +218,7 @@ impl ResvState {
         requires { length (edited key_cmp edits self.old) ≤ 1024 }
         ensures { self.new ≡ edited key_cmp edits self.old }
     {
-        make_edits(&mut self.rows, edits);
+        self.rows.edit(edits);
     }
 
     /// No LSP has a reservation any more. Takes no memory.
@@ -183,6 +226,14 @@ impl ResvState {
         ensures { self.new ≡ [] }
     {
         self.rows.clear();
+    }
+
+    /// Lets the wheel come up to this moment, in milliseconds, or to the first expiry before it: then
+    /// [`ResvState::expiring`] has less to go over. Nothing changes.
+    pub(crate) fn advance(&mut self, moment: u64)
+        ensures { self.new ≡ self.old }
+    {
+        self.rows.advance(moment);
     }
 
     /// A moment comes, in milliseconds: each reservation goes whose expiry isn't above it (RFC 2205, 2.3). Takes no

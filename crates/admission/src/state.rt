@@ -13,13 +13,12 @@ ghost use Rattle.sorted_rows.specs.InTurn.{given, in_turn, taken};
 ghost use Rattle.sorted_rows.specs.Rows.{keys_of};
 ghost use Rattle.admission.specs.Bandwidths.{AreEdits, AreMatched, AreRated, claim_edits, left_at, resv_edits, with_edits, with_holding, with_resv, without_resv};
 
-use crate::reserved::{reserved, reserved_with};
+use crate::claims::Claims;
 use crate::resv_state::ResvState;
-use crate::victims::victims_of;
+use crate::victims::victims_from;
 use lsr_facts::Key;
-use lsr_facts::limits::MAX_LSPS;
-use resv_facts::{Claim, Request, ResvFact, ResvStyle};
-use sorted_rows::{ReservedTable, Sweep, Table};
+use resv_facts::{Claim, Request, ResvFact, ResvStyle, WORST_PRIORITY};
+use sorted_rows::Table;
 use std::alloc::{AllocError, Global};
 use std::marker::Model;
 
@@ -29,7 +28,7 @@ use std::marker::Model;
 #[derive(Debug, Drop)]
 pub struct Admission {
     resvs: ResvState,
-    claims: ReservedTable<Key, Claim, MAX_LSPS>,
+    claims: Claims,
     limits: Table<u16, u64>,
 }
 
@@ -41,28 +40,6 @@ impl Model for Admission {
     ghost view = { λ a. record { resvs = a.resvs; claims = a.claims; limits = a.limits } };
 
     ghost invariant = { λ a. AreMatched a.resvs a.claims };
-}
-
-/// The claims of those LSPs that have a reservation.
-#[derive(Drop)]
-struct Reserving<'a> {
-    resvs: &'a ResvState,
-}
-
-impl Sweep<Key, Claim> for Reserving<'_> {
-    ghost use Rattle.std.specs.FinMap.Entries.{find};
-    ghost use Rattle.std.specs.Prelude.{is_some};
-    ghost use Rattle.lsr_facts.specs.Orders.{key_cmp};
-
-    ghost stays = { λ s row. is_some (find key_cmp row.0 s.resvs.now) };
-
-    ghost left = { λ s claim. claim };
-
-    fn stays(&self, row: &(Key, Claim)) -> bool {
-        self.resvs.get(&row.0).is_some()
-    }
-
-    fn leave(&self, _claim: &mut Claim) {}
 }
 
 /// What a reservation takes that is kept at a priority. It asks that its rate is defined.
@@ -87,7 +64,7 @@ impl Admission {
     {
         Ok(Admission {
             resvs: ResvState::new(alloc)?,
-            claims: ReservedTable::new(alloc)?,
+            claims: Claims::new(alloc, &limits)?,
             limits,
         })
     }
@@ -195,6 +172,14 @@ impl Admission {
         self.claims.clear();
     }
 
+    /// Lets the wheel come up to this moment, in milliseconds, or to the first expiry before it: then
+    /// [`Admission::expiring`] has less to go over. Nothing changes.
+    pub fn advance(&mut self, moment: u64)
+        ensures { self.new ≡ self.old }
+    {
+        self.resvs.advance(moment);
+    }
+
     /// A moment comes, in milliseconds: each reservation goes whose expiry isn't above it (RFC 2205, 2.3). Takes no
     /// memory.
     pub fn expire(&mut self, moment: u64)
@@ -203,7 +188,7 @@ impl Admission {
         // Those claims are left that belong to what is left, because the reservations are in order.
         self.resvs.rows_are_in_order();
         self.resvs.expire(moment);
-        self.claims.sweep(&Reserving { resvs: &self.resvs });
+        self.claims.keep_reserving(&self.resvs);
     }
 
     /// An LSP keeps what it has at this priority from now on. Where it has nothing, nothing changes. It asks for a
@@ -266,29 +251,30 @@ impl Admission {
     }
 
     /// The bandwidth that is reserved on a link at a priority, in bytes per second: the sum over sessions (RFC 2205,
-    /// 2.2). It goes over all reservations, and takes no memory.
+    /// 2.2). It finds the sum where the link has a limit, and goes over all reservations where it has none. Takes no
+    /// memory.
     pub fn reserved(&self, link: u16, priority: u8) -> u64
         ensures { result ≡ reserved_of link priority self.now.claims }
     {
-        reserved(self.claims(), link, priority)
+        self.claims.reserved(link, priority)
     }
 
     /// Whether a request fits a limit of its link, in bytes per second: what is reserved at its setup priority, itself
-    /// with it, is within that (RFC 3209, 4.7.3). It asks for a rate of at most 2^50 bytes per second. It goes over all
-    /// reservations, and takes no memory.
+    /// with it, is within that (RFC 3209, 4.7.3). It asks for a rate of at most 2^50 bytes per second. Where the link has a
+    /// limit, it goes over the reservations of the request's session alone. Takes no memory.
     #[tactic(auto, unfolding(resv_facts::specs::Admission::fits))]
     pub fn fits_within(&self, limit: u64, request: &Request) -> bool
         requires { request.now.claim.rate ≤ 2 ^ 50 }
         ensures { result ≡ fits limit request.now self.now.claims }
     {
-        reserved_with(request, self.claims(), request.setup) <= limit
+        self.claims.reserved_with(request, request.setup) <= limit
     }
 
     /// Those who give way to a request on a link with this limit, in bytes per second, in the order in which they are
     /// taken: the worst priority first, and of one priority the greater key, until what is reserved then is within the
     /// limit. Where that never is, all who can: [`Admission::fits_within`] tells that before. It asks for a rate of at
-    /// most 2^50 bytes per second; the only error is out of memory. It goes over all reservations once for each victim,
-    /// and copies them once.
+    /// most 2^50 bytes per second; the only error is out of memory. Where someone gives way, it copies all reservations
+    /// once, and goes over those of its session for each victim.
     pub fn victims_within(
         &self,
         alloc: Global,
@@ -298,7 +284,8 @@ impl Admission {
         requires { request.now.claim.rate ≤ 2 ^ 50 }
         ensures { IfOk result (λ keys. keys.items ≡ victims_of limit request.now self.now.claims) }
     {
-        victims_of(alloc, limit, request, self.claims())
+        let total = self.claims.reserved_with(request, WORST_PRIORITY);
+        victims_from(alloc, limit, request, self.claims(), total)
     }
 
     /// Whether a request fits its link's limit, as [`Admission::fits_within`] says it. On a link that has no limit

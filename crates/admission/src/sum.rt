@@ -10,7 +10,7 @@ use resv_facts::{Claim, ResvStyle, is_same_session};
 use rsvp_objects::Session;
 
 /// Whether a claim is on a link, and is kept at a priority or a better one.
-fn counts(link: u16, priority: u8, row: &(Key, Claim)) -> bool
+pub fn counts(link: u16, priority: u8, row: &(Key, Claim)) -> bool
     ensures { result ≡ counts link priority row.now }
 {
     row.1.link == link && row.1.holding <= priority

@@ -1,14 +1,18 @@
 //! Who gives way to a request (RFC 3209, 4.7.3).
 
-ghost use Rattle.std.specs.FinMap.Entries.{is_sorted};
-ghost use Rattle.std.specs.Prelude.{◌≡◌, ◌^◌, ◌≤◌, ◌++◌, T, [], IfOk, OnOk, filter, length, map, take};
+ghost use Rattle.std.specs.FinMap.Entries.{is_sorted, where_key};
+ghost use Rattle.std.specs.Ordering.{is_eq};
+ghost use Rattle.std.specs.Prelude.{◌≡◌, ◌^◌, ◌≤◌, ◌++◌, T, [], All, IfOk, OnOk, false, filter, length, map, not, take};
 ghost use Rattle.lsr_facts.specs.Orders.{key_cmp};
-ghost use Rattle.resv_facts.specs.Admission.{can_give_way, held_at, in_turn, is_enough, shortest, victims_of};
+ghost use Rattle.resv_facts.specs.Admission.{can_give_way, granted, held_at, in_turn, is_enough, shortest, victims_of};
+ghost use Rattle.resv_facts.specs.Claims.{is_of, reserved_of};
 ghost use Rattle.admission.specs.Bandwidths.{AreRated};
 
 use crate::reserved::reserved_with;
+use crate::run::{part_of, run_of};
 use lsr_facts::Key;
 use resv_facts::{Claim, Request, WORST_PRIORITY};
+use rsvp_objects::Session;
 use std::alloc::{AllocError, Global};
 
 /// Whether a claim can be taken away for a request: it is another LSP's, on the same link, and kept at a worse
@@ -56,8 +60,34 @@ fn in_turn(
     Ok(keys)
 }
 
+/// What the claims of a session reserve on a link at the worst priority, in bytes per second.
+fn own_part(claims: &[(Key, Claim)], session: &Session, link: u16) -> u64
+    requires sorted { T (is_sorted key_cmp claims.now) }
+    requires rated { AreRated claims.now }
+    requires few { length claims.now ≤ 1025 }
+    ensures { result ≡ reserved_of link 7 (filter (is_of session.now) claims.now) }
+{
+    part_of(run_of(claims, session), session, link, WORST_PRIORITY)
+}
+
+/// Takes an LSP's claim away, and gives what is reserved of a link then, in bytes per second: the total before, without
+/// what the LSP's session took, and with what it takes now.
+fn take_away(left: &mut Vec<(Key, Claim)>, key: &Key, link: u16, total: u64) -> u64
+    requires sorted { T (is_sorted key_cmp left.old.items) }
+    requires rated { AreRated left.old.items }
+    requires few { length left.old.items ≤ 1025 }
+    requires total { total ≡ reserved_of link 7 left.old.items }
+    ensures left { left.new.items ≡ where_key key_cmp (λ k. not (is_eq (key_cmp key.now k))) left.old.items }
+    ensures total { result ≡ reserved_of link 7 left.new.items }
+{
+    let others = total - own_part(left, &key.session, link);
+    sorted_rows::remove(left, key);
+    others + own_part(left, &key.session, link)
+}
+
 /// How many of these LSPs have to give way, from the first on, so that it is enough for a request: all, where it never
-/// is. The only error is out of memory.
+/// is. It asks for what is reserved at the worst priority with the request granted, in bytes per second. The only error
+/// is out of memory.
 #[tactic(auto, unfolding(resv_facts::specs::Admission::is_enough))]
 fn count_needed(
     alloc: Global,
@@ -65,27 +95,57 @@ fn count_needed(
     request: &Request,
     claims: &[(Key, Claim)],
     keys: &[Key],
+    total: u64,
 ) -> Result<usize, AllocError>
     requires sorted { T (is_sorted key_cmp claims.now) }
     requires rated { AreRated claims.now }
     requires few { length claims.now ≤ 1024 }
     requires most { request.now.claim.rate ≤ 2 ^ 50 }
+    requires apart { All (λ key. is_eq (key_cmp key request.now.key) ≡ false) keys.now }
+    requires total { total ≡ reserved_of request.now.claim.link 7 (granted request.now claims.now) }
     ensures { IfOk result (λ count. take count keys.now ≡ shortest (is_enough limit request.now claims.now) [] keys.now) }
 {
     let mut left = Vec::from_slice(alloc, claims)?;
+    sorted_rows::set(&mut left, request.key, request.claim)?;
+    let mut reserved = total;
     for (count, key) in keys.iter().enumerate() {
-        if reserved_with(request, &left, WORST_PRIORITY) <= limit {
+        if reserved <= limit {
             return Ok(count);
         }
-        sorted_rows::remove(&mut left, key);
+        reserved = take_away(&mut left, key, request.claim.link, reserved);
     }
     Ok(keys.len())
 }
 
-/// Those who give way to a request on a link with this limit, in the order in which they are taken: nobody, where there
-/// is room as it is. It asks for a rate of at most 2^50 bytes per second; the only error is out of memory. It goes over
-/// the claims once for each of them.
+/// Those who give way to a request, as [`victims_of`] says it, from what is reserved of its link at the worst priority
+/// with it granted, in bytes per second.
 #[tactic(auto, unfolding(resv_facts::specs::Admission::victims_of))]
+pub fn victims_from(
+    alloc: Global,
+    limit: u64,
+    request: &Request,
+    claims: &[(Key, Claim)],
+    total: u64,
+) -> Result<Vec<Key>, AllocError>
+    requires sorted { T (is_sorted key_cmp claims.now) }
+    requires rated { AreRated claims.now }
+    requires few { length claims.now ≤ 1024 }
+    requires most { request.now.claim.rate ≤ 2 ^ 50 }
+    requires total { total ≡ reserved_of request.now.claim.link 7 (granted request.now claims.now) }
+    ensures { IfOk result (λ keys. keys.items ≡ victims_of limit request.now claims.now) }
+{
+    if total <= limit {
+        return Ok(Vec::new(alloc));
+    }
+    let mut keys = in_turn(alloc, request, claims)?;
+    let count = count_needed(alloc, limit, request, claims, &keys, total)?;
+    keys.truncate(count);
+    Ok(keys)
+}
+
+/// Those who give way to a request on a link with this limit, in the order in which they are taken: nobody, where there
+/// is room as it is. It asks for a rate of at most 2^50 bytes per second; the only error is out of memory. It copies the
+/// claims once, and goes over those of its session for each of them.
 pub fn victims_of(
     alloc: Global,
     limit: u64,
@@ -98,11 +158,6 @@ pub fn victims_of(
     requires most { request.now.claim.rate ≤ 2 ^ 50 }
     ensures { IfOk result (λ keys. keys.items ≡ victims_of limit request.now claims.now) }
 {
-    if reserved_with(request, claims, WORST_PRIORITY) <= limit {
-        return Ok(Vec::new(alloc));
-    }
-    let mut keys = in_turn(alloc, request, claims)?;
-    let count = count_needed(alloc, limit, request, claims, &keys)?;
-    keys.truncate(count);
-    Ok(keys)
+    let total = reserved_with(request, claims, WORST_PRIORITY);
+    victims_from(alloc, limit, request, claims, total)
 }

@@ -5,7 +5,6 @@ use crate::publishing::{OUT_LINK, SWAP, Writer, open};
 use crate::tables::{
     BURST, Bare, Bursts, Longest, LookUp, Nothing, Pace, longest_of, pace_of, pace_of_bursts,
 };
-use crate::timing::percent;
 use lookup_plane::{LookupReader, MAX_LABELS};
 use std::alloc::Global;
 use std::sync::Wait;
@@ -19,6 +18,12 @@ use worker_fixtures::Fault;
 const MOST_READERS: usize = 4;
 /// How many changes are published where nobody reads.
 const CHANGES_ALONE: u32 = 100_000;
+
+/// How many hundredths a part is of a whole.
+fn percent(part: u64, whole: u64) -> u64 {
+    let hundredths = u128::from(part) * 100 / u128::from(whole.max(1));
+    u64::try_from(hundredths).unwrap_or(u64::MAX)
+}
 
 /// How readers look labels up.
 #[derive(Clone, Copy)]

@@ -4,7 +4,6 @@ ghost use Rattle.lookup_plane.specs.Changes.{IsChangeOf};
 ghost use Rattle.lsr_bench.specs.declared.publishing.TheConstants.{FIRST_LABEL, LAST_LABEL};
 
 use crate::tables::label_in;
-use crate::timing::per_second;
 use forwarding_table::Action;
 use lookup_plane::{LookupReader, MAX_LABELS, OpenFault, Plane, TableChange};
 use sorted_rows::Table;
@@ -12,7 +11,7 @@ use std::alloc::{AllocError, Global};
 use std::sync::Wait;
 use std::sync::atomic::{AtomicBool, Ordering};
 use std::time::{Clock, Instant};
-use worker_fixtures::Fault;
+use worker_fixtures::{Fault, per_second};
 
 /// The first label of the range that is looked up.
 pub const FIRST_LABEL: u32 = 16;

@@ -15,7 +15,7 @@
 //! - Each line of `bad-lines.txt`, alone, is a bad line of `lsr step`.
 //! - A line `NAME: FAULT | PLACE | ALLOWED` or `NAME: good` of `config/answers.txt` says what is told of the configuration
 //!   config/NAME.toml: the lines, with ` | ` between them in place of a newline and two spaces.
-//! - Inputs and outputs that fail are of its own.
+//! - Inputs and outputs that fail, and inputs that are folders, are of its own.
 #![tactic(auto)]
 
 mod captures;
@@ -26,7 +26,11 @@ use lsr_tool::{run_decode, run_step};
 use std::alloc::{AllocError, Global};
 use std::fmt::Write;
 use std::io::{ErrorKind, Read};
+use std::net::Net;
 use std::rt::Files;
+use std::sync::Wait;
+use std::thread::Threads;
+use std::time::Clock;
 use std::{fs, io};
 
 /// The names of the runs over lines.
@@ -277,6 +281,19 @@ fn tell_configs(rt: &HostRuntime) -> io::Result<()> {
     Ok(())
 }
 
+/// Tells what came of the cases of threads and sockets, and why the rest of them weren't run.
+fn tell_threads<R: Net + Threads + Wait + Clock + Print + AllocGlobal + Clone + Send + Sync + Drop>(
+    rt: &R,
+) -> io::Result<()> {
+    match worker_cases::run_cases(rt, rt.alloc()) {
+        Ok(()) => Ok(()),
+        Err(fault) => {
+            println!(rt; "threads: {fault}")?;
+            Ok(())
+        }
+    }
+}
+
 fn main(rt: HostRuntime) -> io::Result<()> {
     tell_runs(&rt)?;
     tell_messages(&rt)?;
@@ -285,6 +302,8 @@ fn main(rt: HostRuntime) -> io::Result<()> {
     tell_bad_lines(&rt)?;
     tell_configs(&rt)?;
     runs::tell_sayings(&rt, &mut rt.stdout())?;
+    runs::tell_unreadable(&rt, &mut rt.stdout())?;
     captures::tell_captures(&rt, &mut rt.stdout())?;
-    streams::tell_streams(&rt)
+    streams::tell_streams(&rt)?;
+    tell_threads(&rt)
 }

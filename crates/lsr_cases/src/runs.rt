@@ -1,7 +1,7 @@
 //! The program run on words and an input.
 use crate::{Ran, is_all_as_wanted, read_or_empty, word};
 use lsr_tool::run;
-use std::io::Write;
+use std::io::{ErrorKind, Read, Write};
 use std::net::Net;
 use std::rt::Files;
 use std::sync::Wait;
@@ -18,28 +18,48 @@ const ARROW: &str = " => ";
 /// The name of the standard output in what is said.
 const OUTPUT: &str = "output";
 
+/// What is told of an input that breaks: of a text, and of lines to decode.
+const TOLD_BROKEN: &str =
+    "unreadable\n  standard input can't be read to its end: look at where it comes from\n";
+
+const TOLD_BROKEN_LINES: &str = "\
+unreadable
+  standard input broke, or its next line has more than 16777216 bytes: look at where it comes from
+";
+/// The words of the runs that read their input, one in each line, and what they tell of one that breaks.
+const READERS: [(&str, &str); 3] = [
+    ("lsr\nstep", TOLD_BROKEN),
+    ("lsr\nstep\n--live", TOLD_BROKEN),
+    ("lsr\ndecode\n-", TOLD_BROKEN_LINES),
+];
+/// What is told of an input that is a folder.
+const TOLD_FOLDER: &str = "unreadable\n  standard input is a folder: give a file\n";
+
+/// An input that gives nothing but an error.
+#[derive(Debug, Drop)]
+struct Unreadable {
+    kind: ErrorKind,
+}
+
+impl Read for Unreadable {
+    fn read(&mut self, _room: &mut [u8]) -> io::Result<usize> {
+        Err(io::Error::from(self.kind))
+    }
+}
+
 /// Runs the program on these words, one in each line, and on this input.
-fn run_lines<R: Files + Net + Threads + Wait + Clock + Clone + Send + Sync + Drop + AllocGlobal>(
-    rt: &R,
-    words: &str,
-    input: &[u8],
-) -> io::Result<Ran> {
+fn run_lines<
+    R: Files + Net + Threads + Wait + Clock + Clone + Send + Sync + Drop + AllocGlobal,
+    I: Read,
+>(rt: &R, words: &str, input: &mut I) -> io::Result<Ran> {
     let alloc = rt.alloc();
     let mut all = Vec::new(alloc);
     for word in words.lines() {
         all.push(word)?;
     }
-    let mut input = input;
     let mut output = Vec::new(alloc);
     let mut error = Vec::new(alloc);
-    let status = run(
-        rt,
-        alloc,
-        all.as_slice(),
-        &mut input,
-        &mut output,
-        &mut error,
-    )?;
+    let status = run(rt, alloc, all.as_slice(), input, &mut output, &mut error)?;
     Ok(Ran {
         status,
         output,
@@ -58,7 +78,7 @@ fn run_agrees<R: Files + Net + Threads + Wait + Clock + Clone + Send + Sync + Dr
     let input = read_or_empty(rt, format!(in alloc; "{name}.in")?.as_str())?;
     let output = read_or_empty(rt, format!(in alloc; "{name}.out")?.as_str())?;
     let error = read_or_empty(rt, format!(in alloc; "{name}.err")?.as_str())?;
-    let ran = run_lines(rt, words, input.as_slice())?;
+    let ran = run_lines(rt, words, &mut input.as_slice())?;
     let status = status.parse::<u8>().unwrap_or(u8::MAX);
     Ok(is_all_as_wanted(&ran, status, output.as_slice(), error.as_slice()))
 }
@@ -92,7 +112,7 @@ fn saying_agrees<
     } else {
         lines.as_str()
     };
-    let ran = run_lines(rt, lines, &[])?;
+    let ran = run_lines(rt, lines, &mut &[][..])?;
     let (told, other) = if stream == OUTPUT {
         (ran.output, ran.error)
     } else {
@@ -112,6 +132,28 @@ pub fn tell_sayings<
         let (words, answer) = line.split_once(ARROW).unwrap_or((line, ""));
         let word = word(saying_agrees(rt, words, answer)?);
         write!(output, "lsr {words} {word}\n")?;
+    }
+    Ok(())
+}
+
+/// Whether the program, run on these words, tells this of an input that gives nothing but an error of this kind.
+fn is_unreadable<
+    R: Files + Net + Threads + Wait + Clock + Clone + Send + Sync + Drop + AllocGlobal,
+>(rt: &R, words: &str, kind: ErrorKind, told: &str) -> io::Result<bool> {
+    let ran = run_lines(rt, words, &mut Unreadable { kind })?;
+    Ok(is_all_as_wanted(&ran, 1, &[], told.as_bytes()))
+}
+
+/// Tells of each run that reads its input whether it tells what it should of one that is a folder, and of one that breaks.
+pub fn tell_unreadable<
+    R: Files + Net + Threads + Wait + Clock + Clone + Send + Sync + Drop + AllocGlobal,
+    W: Write,
+>(rt: &R, output: &mut W) -> io::Result<()> {
+    for (number, (words, broken)) in READERS.iter().enumerate() {
+        let folder = word(is_unreadable(rt, words, ErrorKind::IsADirectory, TOLD_FOLDER)?);
+        let broken = word(is_unreadable(rt, words, ErrorKind::BrokenPipe, broken)?);
+        write!(output, "a folder as input {number} {folder}\n")?;
+        write!(output, "a broken input {number} {broken}\n")?;
     }
     Ok(())
 }

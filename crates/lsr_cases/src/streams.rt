@@ -1,7 +1,7 @@
 //! Inputs and outputs that fail or are too long, which no file can be.
 ghost use Rattle.std.specs.Prelude.{◌≡◌, ◌≤◌};
 
-use lsr_tool::{run_live, run_step};
+use lsr_tool::{end, run_live, run_step, tell_unread_words};
 use std::alloc::Global;
 use std::io;
 use std::io::{ErrorKind, Read, Write};
@@ -12,6 +12,30 @@ const MAX_INPUT_LEN: u64 = 16_777_216;
 const LINES: &[u8] = b"restart\nstart\nno line\n";
 
 const ANSWERS: &[u8] = b"done\ndone\n";
+/// How many bytes of a text are UTF-8 that isn't all UTF-8: more than one read brings.
+const TEXT_LEN: u64 = 70_000;
+/// A byte that no UTF-8 has.
+const NO_TEXT: &[u8] = b"\xff";
+/// How many answers are more than are written at once, and how many bytes each has.
+const MANY: usize = 5_000;
+
+const ANSWER_LEN: usize = 16;
+/// A line that is answered so.
+const SHORT_LINE: &[u8] = b"rx 1 00\n";
+/// How often so many answers are written: 65,536 bytes, and the rest.
+const MANY_WRITES: usize = 2;
+/// What is told of an input that is such a text, and of one that has it as its first line.
+const TOLD_NO_TEXT: &[u8] = b"unreadable\n  standard input isn't UTF-8 from byte 70000 on, ";
+
+const TOLD_NO_LINE: &[u8] =
+    b"unreadable\n  standard input, line 1, isn't UTF-8 from the line's byte 70000 on, ";
+/// What is told where memory runs out, where a stream can't be written, and where a word isn't UTF-8.
+const TOLD_MEMORY: &[u8] = b"memory\n";
+
+const TOLD_UNWRITABLE: &[u8] =
+    b"unwritable\n  the output or the error stream can't be written: look at where they go\n";
+
+const TOLD_UNREAD_WORDS: &[u8] = b"error: a word isn't UTF-8; see lsr --help\n";
 
 /// An input that gives what it has, and then fails.
 #[derive(Debug, Drop)]
@@ -42,6 +66,25 @@ impl Write for Failing {
         let taken = bytes.len().min(self.room);
         self.room -= taken;
         Ok(taken)
+    }
+
+    fn flush(&mut self) -> io::Result<()> {
+        Ok(())
+    }
+}
+
+/// An output that counts how often it is written, and how many bytes.
+#[derive(Debug, Drop)]
+struct Counting {
+    writes: usize,
+    len: usize,
+}
+
+impl Write for Counting {
+    fn write(&mut self, bytes: &[u8]) -> io::Result<usize> {
+        self.writes = self.writes.saturating_add(1);
+        self.len = self.len.saturating_add(bytes.len());
+        Ok(bytes.len())
     }
 
     fn flush(&mut self) -> io::Result<()> {
@@ -86,9 +129,9 @@ fn is_stopped<R: Read>(
     Ok(status == 1 && output.as_slice() == printed && error.as_slice().starts_with(told))
 }
 
-/// Whether a run whose output takes so many bytes fails there.
-fn is_unwritable(alloc: Global, room: usize) -> bool {
-    let mut lines = LINES;
+/// Whether a run over the lines whose output takes so many bytes fails there.
+fn is_unwritable(alloc: Global, lines: &[u8], room: usize) -> bool {
+    let mut lines = lines;
     let mut output = Failing { room };
     let mut error = Vec::new(alloc);
     run_step(
@@ -107,7 +150,75 @@ fn is_unwritable(alloc: Global, room: usize) -> bool {
 /// Whether an output fails the run at each byte of what is printed, and not after them.
 fn failing_outputs_agree(alloc: Global) -> bool {
     let all = ANSWERS.len();
-    (0..all).all(|room| is_unwritable(alloc, room)) && !is_unwritable(alloc, all)
+    (0..all).all(|room| is_unwritable(alloc, LINES, room)) && !is_unwritable(alloc, LINES, all)
+}
+
+/// Whether the answers to many lines are written at once, and fail the run where they can't be.
+fn blocks_agree(alloc: Global) -> io::Result<bool> {
+    let mut lines = Vec::new(alloc);
+    for _ in 0..MANY {
+        lines.extend_from_slice(SHORT_LINE)?;
+    }
+    let mut output = Counting { writes: 0, len: 0 };
+    let mut error = Vec::new(alloc);
+    let status = run_step(
+        alloc,
+        crate::CONFIG,
+        crate::NO_CONFIG,
+        false,
+        &mut lines.as_slice(),
+        &mut output,
+        &mut error,
+    )?;
+    let all = MANY * ANSWER_LEN;
+    Ok(
+        status == 0
+            && output.writes == MANY_WRITES
+            && output.len == all
+            && is_unwritable(alloc, lines.as_slice(), all - 1),
+    )
+}
+
+/// Whether a run that an error of this kind ended tells this, and ends with status 1.
+fn is_end_told(alloc: Global, kind: ErrorKind, told: &[u8]) -> bool {
+    let mut error = Vec::new(alloc);
+    end(Err(io::Error::from(kind)), &mut error) == 1 && error.as_slice() == told
+}
+
+/// Whether words that an error of this kind kept from being read tell this, and end with this status.
+fn are_words_told(alloc: Global, kind: ErrorKind, status: u8, told: &[u8]) -> bool {
+    let mut error = Vec::new(alloc);
+    tell_unread_words(&io::Error::from(kind), &mut error) == status && error.as_slice() == told
+}
+
+/// Tells of the errors that end the program whether they are told as they should be.
+fn tell_ends(rt: &HostRuntime) -> io::Result<()> {
+    let alloc = rt.alloc();
+    let ended = is_end_told(alloc, ErrorKind::BrokenPipe, TOLD_UNWRITABLE)
+        && is_end_told(alloc, ErrorKind::OutOfMemory, TOLD_MEMORY);
+    println!(rt; "an error that ends a run {}", crate::word(ended))?;
+    let unread = are_words_told(alloc, ErrorKind::InvalidData, 2, TOLD_UNREAD_WORDS)
+        && are_words_told(alloc, ErrorKind::OutOfMemory, 1, TOLD_MEMORY);
+    println!(rt; "words that can't be read {}", crate::word(unread))
+}
+
+/// Tells whether the answers to many lines are written as they should be.
+fn tell_blocks(rt: &HostRuntime) -> io::Result<()> {
+    println!(rt;
+        "many answers at once {}",
+        crate::word(blocks_agree(rt.alloc())?)
+    )
+}
+
+/// Tells of inputs that are no text whether the run ends as it should.
+fn tell_odd_inputs(rt: &HostRuntime) -> io::Result<()> {
+    let alloc = rt.alloc();
+    let mut text = io::repeat(b'\n').take(TEXT_LEN).chain(NO_TEXT);
+    let text = is_refused(alloc, &mut text, TOLD_NO_TEXT)?;
+    println!(rt; "a long text that isn't one {}", crate::word(text))?;
+    let mut line = io::repeat(b'#').take(TEXT_LEN).chain(NO_TEXT);
+    let line = is_stopped(alloc, &mut line, b"", TOLD_NO_LINE)?;
+    println!(rt; "a long line that isn't one {}", crate::word(line))
 }
 
 /// Tells of live inputs that break or have a long line whether the run ends as it should.
@@ -140,5 +251,8 @@ pub fn tell_streams(rt: &HostRuntime) -> io::Result<()> {
         "an output that fails {}",
         crate::word(failing_outputs_agree(alloc))
     )?;
-    tell_live_streams(rt)
+    tell_live_streams(rt)?;
+    tell_odd_inputs(rt)?;
+    tell_blocks(rt)?;
+    tell_ends(rt)
 }

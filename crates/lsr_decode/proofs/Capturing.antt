@@ -75,10 +75,13 @@ captured_all first mid now before old held line left count refused found c finds
     (c.printed, c.told, (c.lines, reads_all first mid now c.lines held line left c.reads (subst (λ f. Finds mid now held line left (Ok f)) none finds), c.answered))
 
 stopped : {fields : Bool} (fault : InputFault) (first now : Stream) (printed left : List ℕ) → StopsFor first.may_break left fault → StopsAt fault fields first now printed → DecodesLines fields first now printed (ending_of fault)
+stopped faults.Absent first now printed left stops s = absurd stops
 stopped faults.Unopened first now printed left stops s = absurd stops
+stopped faults.Folder first now printed left stops s = s
 stopped faults.Broken first now printed left stops s = inl s
 stopped faults.TooLong first now printed left stops s = inr (inl s)
-stopped faults.NotText first now printed left stops s = absurd stops
+stopped (faults.NotText at) first now printed left stops s = absurd stops
+stopped (faults.NotTextLine line at) first now printed left stops s = absurd stops
 stopped faults.Memory first now printed left stops s = s
 
 -- where no further line is given the lines so far were answered

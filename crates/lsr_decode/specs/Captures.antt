@@ -5,7 +5,7 @@ use Rattle.std.specs.Io.KnownBytes.{Appends}
 use Rattle.lsr_facts.specs.declared.refusal.Refusal.TheVariants.{Unread}
 use Rattle.lsr_text.specs.Answers.{refusal_line}
 use Rattle.lsr_lines.specs.Streams.{Reads, ReadsAll, StopsFor}
-use Rattle.lsr_lines.specs.Texts.{Stream}
+use Rattle.lsr_lines.specs.Texts.{Stream, input_fault_text}
 use Rattle.lsr_lines.specs.declared.input.InputFault.{InputFault}
 use Rattle.lsr_lines.specs.declared.input.InputFault.TheVariants as faults
 use Rattle.lsr_decode.specs.Decoding.{Decodes, decoded_status, shown_text, told_text}
@@ -58,24 +58,29 @@ pub record StopsAtCount (fields : Bool) (first now : Stream) (printed : List ℕ
 
 -- how a run ends that is given no further line
 abbrev pub ending_of : InputFault → Ending
+ending_of faults.Absent = endings.Unreadable
 ending_of faults.Unopened = endings.Unreadable
+ending_of faults.Folder = endings.Folder
 ending_of faults.Broken = endings.Unreadable
 ending_of faults.TooLong = endings.Unreadable
-ending_of faults.NotText = endings.Unreadable
+ending_of (faults.NotText at) = endings.Unreadable
+ending_of (faults.NotTextLine line at) = endings.Unreadable
 ending_of faults.Memory = endings.Memory
 
 -- What is printed for a stream, which was the first one and is the other now: the answers to all its lines; or to the first
--- ones, where the stream broke, the next line is too long, no more can be counted, or memory ran out for the next.
+-- ones, where the stream broke, is a folder, the next line is too long, no more can be counted, or memory ran out for the next.
 abbrev pub DecodesLines : Bool → Stream → Stream → List ℕ → Ending → Type 0
 DecodesLines fields first now printed (endings.Done refused) = (lines : List (List ℕ)) × ReadsAll first now lines × Answered fields lines printed refused
 DecodesLines fields first now printed endings.Unreadable =
     StopsAt faults.Broken fields first now printed ⊎ (StopsAt faults.TooLong fields first now printed ⊎ StopsAtCount fields first now printed)
+DecodesLines fields first now printed endings.Folder = StopsAt faults.Folder fields first now printed
 DecodesLines fields first now printed endings.Memory = StopsAt faults.Memory fields first now printed
 
 -- what is told on the error stream
 abbrev pub ending_text : Ending → List ℕ
 ending_text (endings.Done refused) = []
 ending_text endings.Unreadable = codes "unreadable\n  standard input broke, or its next line has more than 16777216 bytes: look at where it comes from\n"
+ending_text endings.Folder = input_fault_text (codes "standard input") faults.Folder
 ending_text endings.Memory = codes "memory\n"
 
 -- the status: 1 where a line was refused, or the run ended before the last line
@@ -83,6 +88,7 @@ abbrev pub ending_status : Ending → ℕ
 ending_status (endings.Done false) = 0
 ending_status (endings.Done true) = 1
 ending_status endings.Unreadable = 1
+ending_status endings.Folder = 1
 ending_status endings.Memory = 1
 
 -- What becomes of a word: `-` stands for the lines of the input, each of which is answered; any other word is decoded, and

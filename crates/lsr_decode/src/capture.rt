@@ -8,7 +8,7 @@ ghost use Rattle.lsr_decode.specs.Captures.{DecodesLines, DecodesWord, answer_te
 
 use crate::decoding::{Decoded, decode_digits, run_decode};
 use lsr_facts::Refusal;
-use lsr_lines::{ByteStream, Found, InputFault, LineReader};
+use lsr_lines::{ByteStream, Found, InputFault, LineReader, tell_input_fault};
 use lsr_text::{OUT_OF_MEMORY, refusal_name};
 use std::alloc::Global;
 use std::io;
@@ -16,6 +16,8 @@ use std::io::Write;
 
 /// The word that stands for the lines of the input.
 const INPUT: &str = "-";
+/// What the input is called.
+const INPUT_NAME: &str = "standard input";
 /// What is told of an input that broke, or that has a line of too many bytes.
 const UNREADABLE: &str = "\
 unreadable
@@ -30,6 +32,8 @@ pub enum Ending {
     /// The input broke, a line has more bytes than a reader gives, or there are more lines than 64 bits count. Lines before
     /// that were answered.
     Unreadable,
+    /// The input is a folder. Lines before that was found were answered.
+    Folder,
     /// There is no memory for a line. Lines before it were answered.
     Memory,
 }
@@ -86,10 +90,14 @@ fn ending_of(fault: InputFault) -> Ending
     ensures { result ≡ ending_of fault }
 {
     match fault {
-        InputFault::Unopened | InputFault::Broken | InputFault::TooLong | InputFault::NotText => {
-            Ending::Unreadable
-        }
+        InputFault::Folder => Ending::Folder,
         InputFault::Memory => Ending::Memory,
+        InputFault::Absent
+        | InputFault::Unopened
+        | InputFault::Broken
+        | InputFault::TooLong
+        | InputFault::NotText(_)
+        | InputFault::NotTextLine { .. } => Ending::Unreadable,
     }
 }
 
@@ -133,6 +141,10 @@ fn tell_ending<E: Write>(ending: Ending, error: &mut E) -> io::Result<u8>
         Ending::Done(true) => Ok(1),
         Ending::Unreadable => {
             error.write_all(UNREADABLE.as_bytes())?;
+            Ok(1)
+        }
+        Ending::Folder => {
+            tell_input_fault(error, INPUT_NAME, InputFault::Folder)?;
             Ok(1)
         }
         Ending::Memory => {

@@ -5,10 +5,12 @@
 pub const CONFIG_FAULTS: &str = "\
 Text
   The configuration's text isn't TOML, or has a whole number outside 64 bits.
+  Where, and what is allowed there, stands after it.
   What to do: look at quotes, brackets, and keys that are given twice.
   See: docs/CONFIGURATION.md (Faults)
 Missing KEY
   The configuration lacks a key that is needed.
+  Where, and what is allowed there, stands after it.
   What to do: give that key a value.
   See: docs/CONFIGURATION.md (Faults)
 BadValue KEY
@@ -17,24 +19,29 @@ BadValue KEY
   router, its route has more than 31 steps, a prefix's length is above 32, a priority is above 7,
   or its rate isn't eight hexadecimal digits, or is negative, no number, or 2^50 bytes per
   second or more.
+  Where, and what is allowed there, stands after it.
   What to do: write the value as docs/CONFIGURATION.md says; head such tables `[[link]]`.
   See: docs/CONFIGURATION.md (Faults)
 Repeated KEY
   A number, an address or a prefix that may stand once stands there twice.
+  Where, and what is allowed there, stands after it.
   What to do: give each a value of its own.
   See: docs/CONFIGURATION.md (Faults)
 UnknownName KEY
   The key's value is the number of a link or of a tunnel, and the configuration has none of that
   number.
+  Where, and what is allowed there, stands after it.
   What to do: add that link or tunnel, or name another.
   See: docs/CONFIGURATION.md (Faults)
 TooMany KEY
   The table has more records than a router keeps: 16 links, 256 routes, 256 tunnels, 64
   bypasses.
+  Where, and what is allowed there, stands after it.
   What to do: take records out of it.
   See: docs/CONFIGURATION.md (Faults)
 UnknownKey KEY
   No configuration has a key of this name in this place.
+  Where, and what is allowed there, stands after it.
   What to do: look at its spelling, and at the table that it stands in; or take it out.
   See: docs/CONFIGURATION.md (Faults)
 Memory
@@ -53,10 +60,11 @@ bad line N
   What to do: fix the line, and run the whole again; with --live, write it again.
   See: README.md (A short tour)
 unreadable
-  The file or the input can't be opened or read, isn't UTF-8 where it has to be text, or has more
-  than 16777216 bytes; which of them it is and why stands after that. Of `lsr decode -`: the
-  input broke, or a line has more than 16777216 bytes; the lines before that are answered, and
-  so they are by `lsr step --live`.
+  The file or the input isn't there, is a folder, can't be opened or read, isn't UTF-8 where it
+  has to be text, or has more than 16777216 bytes; which of them it is and why stands after that,
+  and from which byte on it isn't UTF-8. Of `lsr decode -`: the input broke, is a folder, or a
+  line has more than 16777216 bytes; the lines before that are answered, and so they are by
+  `lsr step --live`.
   What to do: look at its name and its permissions; give it as text.
   See: docs/CONFIGURATION.md (Faults); docs/PROGRAM.md (`lsr decode`: what messages are made of)
 damaged

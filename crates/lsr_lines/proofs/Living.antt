@@ -1,13 +1,12 @@
 -- Lines that were served as they came, and one more.
 use Rattle.std.proofs.Common.{◌≡◌, ◌+◌, ◌≤◌, ◌^◌, ◌||◌, inl, inr, ℕ, List, [], ◌∷◌, ◌++◌, Bool, true, false, Option, Some, None, Ok, Err, refl, sym, ap, subst, ◌∙◌, arith, length, length-append, append-nil}
-use Rattle.std.specs.Str.{IsUtf8}
 use Rattle.std.specs.Io.KnownBytes.{Appends, Keeps}
 use Rattle.std.proofs.KnownBytes.{Appends-nil, Appends-trans}
 use Rattle.lsr_lines.specs.Forms.{bad_line_text}
 use Rattle.lsr_lines.specs.Live.{BecomesLive, Comes, Lives, Marks, ServesAll, is_told}
 use Rattle.lsr_lines.specs.Steps.{Prints, TakesMemory, is_remark}
 use Rattle.lsr_lines.specs.Streams.{Finds, Reads}
-use Rattle.lsr_lines.specs.Texts.{Stream}
+use Rattle.lsr_lines.specs.Texts.{IsTextUpTo, Stream}
 use Rattle.lsr_lines.specs.declared.input.InputFault.{InputFault}
 use Rattle.lsr_lines.specs.declared.input.InputFault.TheVariants as faults
 use Rattle.lsr_lines.specs.declared.lines.Request.{Request}
@@ -162,11 +161,12 @@ live_unread answers echo before first mid now output shown error said held line 
     (r.printed, r.told, r.shows, r.says, r.marks, (r.lines, session, inl (reads_short first mid now r.lines held line left fault r.reads breaks finds), r.serves))
 
 -- where it isn't UTF-8, too
-pub live_untext : {S : Type 0} (answers : S → Request → List ℕ → S → Type 0) (echo : Bool) (before : S) (first mid now : Stream) (output shown error said : Option (List ℕ)) (held line seen left : List ℕ) (count : ℕ) (bad : Bool) (session : S) (found : Found)
-    → IsLiveTo answers echo before first mid output shown error said held count bad session → (now.may_break ≡ true → mid.may_break ≡ true) → Finds mid now held line left (Ok found) → (found ≡ founds.End → ⊥) → seen ≡ line → (IsUtf8 seen → ⊥)
-    → Ends answers echo before first now output shown error said bad (endings.Unread faults.NotText)
-live_untext answers echo before first mid now output shown error said held line seen left count bad session found r breaks finds some same wrong =
-    (r.printed, r.told, r.shows, r.says, r.marks, (r.lines, session, inr (inl (refl, line, comes first mid now r.lines held line left found r.reads breaks some finds, subst (λ l. IsUtf8 l → ⊥) same wrong)), r.serves))
+pub live_untext : {S : Type 0} (answers : S → Request → List ℕ → S → Type 0) (echo : Bool) (before : S) (first mid now : Stream) (output shown error said : Option (List ℕ)) (held line seen left : List ℕ) (count number at : ℕ) (bad : Bool) (session : S) (found : Found)
+    → IsLiveTo answers echo before first mid output shown error said held count bad session → (now.may_break ≡ true → mid.may_break ≡ true) → Finds mid now held line left (Ok found) → (found ≡ founds.End → ⊥) → seen ≡ line → number ≡ count + 1 → IsTextUpTo seen at
+    → Ends answers echo before first now output shown error said bad (endings.Unread (faults.NotTextLine number at))
+live_untext answers echo before first mid now output shown error said held line seen left count number at bad session found r breaks finds some same n wrong =
+    let placed = ap (λ m. faults.NotTextLine m at) (n ∙ ap (λ m. m + 1) r.counted) in
+    (r.printed, r.told, r.shows, r.says, r.marks, (r.lines, session, inr (inl (line, at, placed, comes first mid now r.lines held line left found r.reads breaks some finds, subst (λ l. IsTextUpTo l at) same wrong)), r.serves))
 
 -- where there is no memory for it, too
 pub live_full : {S : Type 0} (answers : S → Request → List ℕ → S → Type 0) (echo : Bool) (before : S) (first mid now : Stream) (output shown shows error said says : Option (List ℕ)) (held line seen left : List ℕ) (count number : ℕ) (bad : Bool) (session : S)

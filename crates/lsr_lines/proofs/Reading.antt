@@ -118,10 +118,13 @@ ends_later line front left h (one, inl all) = (one_line line front h one, inl (a
 ends_later line front left h (one, inr (after, parts)) = (one_line line front h one, inr (after, ap (λ l. line ++ l) parts ∙ sym (append_assoc line front (10 ∷ after))))
 
 overfills_for : (may_break : Bool) (line front left : List ℕ) (fault : InputFault) → EndsIn (line ++ front) (line ++ left) → Overfills line front fault → length (line ++ left) ≤ 16777216 + 65536 → StopsFor may_break (line ++ left) fault
+overfills_for may_break line front left faults.Absent ends over late = absurd over
 overfills_for may_break line front left faults.Unopened ends over late = absurd over
+overfills_for may_break line front left faults.Folder ends over late = absurd over
 overfills_for may_break line front left faults.Broken ends over late = absurd over
 overfills_for may_break line front left faults.TooLong ends over late = (line ++ front, ends, over)
-overfills_for may_break line front left faults.NotText ends over late = absurd over
+overfills_for may_break line front left (faults.NotText at) ends over late = absurd over
+overfills_for may_break line front left (faults.NotTextLine number at) ends over late = absurd over
 overfills_for may_break line front left faults.Memory ends over late = ((line ++ front, ends, over), late)
 
 -- where the line can't grow it isn't given
@@ -133,9 +136,15 @@ found_short old now held line left any after fault r (front, ends, over) = (
       (overfills_for old.may_break line front left fault (ends_later line front left r.one ends) over (omega (arith, r.short, r.few, length-append line left))),
 )
 
+-- of a stream that may break no more than the beginning of a line was read
+line_broken : (old mid : Stream) (held line left whole : List ℕ) → (r : IsReadTo old mid held line left) → AllTaken line left whole → IsShort whole → mid.may_break ≡ true
+    → (old.may_break ≡ true) × IsOneLine (held ++ r.text) × IsShort (held ++ r.text)
+line_broken old mid held line left whole r t short broke =
+    subst (λ l. (old.may_break ≡ true) × IsOneLine l × IsShort l) (taken_whole line left whole t ∙ sym r.parts) (r.breaks broke, taken_one line left whole r.one t, short)
+
 -- nor where nothing more can be read
 pub found_broken : (old mid now : Stream) (held line left whole any after : List ℕ) (fault : InputFault) → IsReadTo old mid held line left → AllTaken line left whole → IsShort whole → Keeps mid.bytes now.bytes
-    → (fault ≡ faults.Memory) ⊎ ((fault ≡ faults.Broken) × (mid.may_break ≡ true)) → Finds old now held any after (Err fault)
+    → (fault ≡ faults.Memory) ⊎ (((fault ≡ faults.Broken) ⊎ (fault ≡ faults.Folder)) × (mid.may_break ≡ true)) → Finds old now held any after (Err fault)
 found_broken old mid now held line left whole any after fault r t short kept (inl memory) =
     let w = taken_whole line left whole t in (
       r.text,
@@ -143,13 +152,10 @@ found_broken old mid now held line left whole any after fault r t short kept (in
       subst (λ f. StopsFor old.may_break (held ++ r.text) f) (sym memory)
           (subst (λ l. StopsFor old.may_break l faults.Memory) (w ∙ sym r.parts) ((whole, (taken_one line left whole r.one t, inl refl), short), omega (arith, short))),
     )
-found_broken old mid now held line left whole any after fault r t short kept (inr (broken, broke)) =
-    let w = taken_whole line left whole t in (
-      r.text,
-      Consumes-kept _ _ _ _ r.consumed kept,
-      subst (λ f. StopsFor old.may_break (held ++ r.text) f) (sym broken)
-          (subst (λ l. StopsFor old.may_break l faults.Broken) (w ∙ sym r.parts) (r.breaks broke, taken_one line left whole r.one t, short)),
-    )
+found_broken old mid now held line left whole any after fault r t short kept (inr (inl broken, broke)) =
+    (r.text, Consumes-kept _ _ _ _ r.consumed kept, subst (λ f. StopsFor old.may_break (held ++ r.text) f) (sym broken) (line_broken old mid held line left whole r t short broke))
+found_broken old mid now held line left whole any after fault r t short kept (inr (inr folder, broke)) =
+    (r.text, Consumes-kept _ _ _ _ r.consumed kept, subst (λ f. StopsFor old.may_break (held ++ r.text) f) (sym folder) (line_broken old mid held line left whole r t short broke))
 
 -- before the first line nothing was read
 pub reads_none : (first : Stream) (left : List ℕ) → left ≡ [] → Reads first first [] left
@@ -195,10 +201,13 @@ reads_all first mid now lines held line left r (text, consumed, end, none) =
     }
 
 broke_first : (first mid : Bool) (left : List ℕ) (fault : InputFault) → (mid ≡ true → first ≡ true) → StopsFor mid left fault → StopsFor first left fault
+broke_first first mid left faults.Absent breaks s = s
 broke_first first mid left faults.Unopened breaks s = s
+broke_first first mid left faults.Folder breaks s = (breaks s.0, s.1, s.2)
 broke_first first mid left faults.Broken breaks s = (breaks s.0, s.1, s.2)
 broke_first first mid left faults.TooLong breaks s = s
-broke_first first mid left faults.NotText breaks s = s
+broke_first first mid left (faults.NotText at) breaks s = s
+broke_first first mid left (faults.NotTextLine line at) breaks s = s
 broke_first first mid left faults.Memory breaks s = s
 
 -- why no line more is given

@@ -1,12 +1,11 @@
 -- What a run prints and tells that answers each line as soon as it has come: the lines that ask for something are answered,
 -- one after the other, and of the others it is told that they ask for nothing; remarks are passed over.
 use Rattle.std.specs.Prelude.{◌≡◌, ◌+◌, ◌^◌, ◌≤◌, ◌⊎◌, ℕ, List, [], ◌∷◌, ◌++◌, Bool, true, false, length}
-use Rattle.std.specs.Str.{IsUtf8}
 use Rattle.lsr_lines.specs.Forms.{bad_line_text}
 use Rattle.lsr_lines.specs.Lines.{AsksFor}
 use Rattle.lsr_lines.specs.Steps.{Prints, ServesLine, TakesMemory, is_remark}
 use Rattle.lsr_lines.specs.Streams.{Reads, ReadsAll, StopsFor}
-use Rattle.lsr_lines.specs.Texts.{Stream}
+use Rattle.lsr_lines.specs.Texts.{IsTextUpTo, Stream}
 use Rattle.lsr_lines.specs.declared.input.InputFault.{InputFault}
 use Rattle.lsr_lines.specs.declared.input.InputFault.TheVariants as faults
 use Rattle.lsr_lines.specs.declared.lines.Request.{Request}
@@ -42,11 +41,11 @@ pub record ServesAll {S : Type 0} (answers : S → Request → List ℕ → S �
 abbrev pub Comes : Stream → Stream → List (List ℕ) → List ℕ → Type 0
 Comes first now lines line = ((left : List ℕ) × Reads first now (line ∷ lines) left) ⊎ ReadsAll first now (line ∷ lines)
 
--- Why no line after these is served: none is given; or it isn't UTF-8; or as many came as 64 bits count.
+-- Why no line after these is served: none is given; or it isn't UTF-8 from one of its bytes on; or as many came as 64 bits count.
 abbrev pub StopsAfter : Stream → Stream → List (List ℕ) → InputFault → Type 0
 StopsAfter first now lines fault =
     ((left : List ℕ) × Reads first now lines left × StopsFor first.may_break left fault)
-    ⊎ (((fault ≡ faults.NotText) × (line : List ℕ) × Comes first now lines line × (IsUtf8 line → ⊥))
+    ⊎ (((line : List ℕ) × (at : ℕ) × (fault ≡ faults.NotTextLine (length lines + 1) at) × Comes first now lines line × IsTextUpTo line at)
     ⊎ ((fault ≡ faults.TooLong) × ((left : List ℕ) × Reads first now lines left) × (2 ^ 64 ≤ length lines + 1)))
 
 -- How a run ends over the lines of a stream, which was the first one and is the other now: all of them were served; or those

@@ -36,11 +36,12 @@ EndsIn front bytes = IsOneLine front × ((bytes ≡ front) ⊎ ((after : List �
 abbrev pub StopsShort : List ℕ → List ℕ → InputFault → Type 0
 StopsShort line bytes fault = (front : List ℕ) × EndsIn front bytes × Overfills line front fault
 
--- Why no line is given of what came of a stream and is left: the stream may break; or the next line, as far as it came, has
+-- Why no line is given of what came of a stream and is left: the stream may break, as one that is a folder; or the next line, as far as it came, has
 -- more bytes than are given; or it hasn't and there is no memory for it: then that line and what came with the last read,
 -- which has at most 65,536 bytes, are all that is left.
 abbrev pub StopsFor : Bool → List ℕ → InputFault → Type 0
 StopsFor may_break left faults.Broken = (may_break ≡ true) × IsOneLine left × IsShort left
+StopsFor may_break left faults.Folder = (may_break ≡ true) × IsOneLine left × IsShort left
 StopsFor may_break left faults.TooLong = (front : List ℕ) × EndsIn front left × (16777216 < length front)
 StopsFor may_break left faults.Memory = ((front : List ℕ) × EndsIn front left × IsShort front) × (length left ≤ 16777216 + 65536)
 StopsFor may_break left fault = ⊥

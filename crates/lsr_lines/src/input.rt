@@ -1,14 +1,16 @@
 //! Reads the whole of an input, as bytes or as text, and tells why it wasn't taken.
-ghost use Rattle.std.specs.Prelude.{◌≡◌, ◌≤◌, ◌<◌, ◌++◌, ◌⊎◌, ℕ, List, true, false, Ok, IfOk, OnOk, IfErr, IfSome, length, string_bytes};
+ghost use Rattle.std.specs.Prelude.{◌≡◌, ◌≢◌, ◌≤◌, ◌<◌, ◌++◌, ◌⊎◌, ℕ, List, true, false, Ok, IfOk, OnOk, IfErr, IfSome, length, string_bytes};
 ghost use Rattle.std.specs.Io.KnownBytes.{Consumes, IsAtEnd};
 ghost use Rattle.std.specs.Io.KnownBytes.{Appends};
-ghost use Rattle.lsr_lines.specs.declared.input.InputFault.TheVariants.{Broken, Memory, TooLong};
+ghost use Rattle.std.specs.IoError.{error_kind};
+ghost use Rattle.std.specs.declared.io.ErrorKind.TheVariants.{IsADirectory};
+ghost use Rattle.lsr_lines.specs.declared.input.InputFault.TheVariants.{Broken, Folder, Memory, TooLong};
 ghost use Rattle.lsr_lines.specs.Texts.{IsTextOf, IsUnread, input_fault_text};
 
 use crate::stream::ByteStream;
 use std::alloc::{AllocError, Global};
 use std::io;
-use std::io::Write;
+use std::io::{ErrorKind, Write};
 
 /// The longest input that is taken, in bytes.
 pub const MAX_INPUT_LEN: usize = 16_777_216;
@@ -18,14 +20,25 @@ const CHUNK_LEN: usize = 65_536;
 /// Why an input wasn't taken.
 #[derive(Clone, Copy, Debug, PartialEq, Eq)]
 pub enum InputFault {
-    /// There is no such file, or it may not be opened.
+    /// There is no such file.
+    Absent,
+    /// It may not be opened.
     Unopened,
+    /// It is a folder.
+    Folder,
     /// It could not be read to its end.
     Broken,
     /// It has more than [`MAX_INPUT_LEN`] bytes.
     TooLong,
-    /// It isn't UTF-8.
-    NotText,
+    /// It isn't UTF-8 from this byte on. The first byte is 0.
+    NotText(usize),
+    /// A line of it isn't UTF-8.
+    NotTextLine {
+        /// The number of the line, from 1.
+        line: usize,
+        /// The byte of the line from which it isn't. The first byte is 0.
+        at: usize,
+    },
     /// There is no memory for it.
     Memory,
 }
@@ -35,6 +48,19 @@ impl From<AllocError> for InputFault {
 
     fn from(_error: AllocError) -> InputFault {
         InputFault::Memory
+    }
+}
+
+/// Why nothing more comes of a stream that gave this error.
+pub(crate) fn fault_of(error: &io::Error) -> InputFault
+    ensures folder { error_kind error.now ≡ IsADirectory → result ≡ Folder }
+    ensures broken { error_kind error.now ≢ IsADirectory → result ≡ Broken }
+    ensures either { (result ≡ Broken) ⊎ (result ≡ Folder) }
+{
+    if error.kind() == ErrorKind::IsADirectory {
+        InputFault::Folder
+    } else {
+        InputFault::Broken
     }
 }
 
@@ -51,12 +77,12 @@ fn read_more<S: ByteStream>(
     ensures end { result ≡ Ok true → IsAtEnd (S.stream input.new).bytes }
     ensures more { result ≡ Ok false → length bytes.old.items < length bytes.new.items }
     ensures breaks { (S.stream input.new).may_break ≡ true → (S.stream input.old).may_break ≡ true }
-    ensures fault { IfErr result (λ fault. (fault ≡ Memory) ⊎ (((fault ≡ Broken) × ((S.stream input.old).may_break ≡ true))
+    ensures fault { IfErr result (λ fault. (fault ≡ Memory) ⊎ ((((fault ≡ Broken) ⊎ (fault ≡ Folder)) × ((S.stream input.old).may_break ≡ true))
         ⊎ ((fault ≡ TooLong) × (more : List ℕ) × Consumes (S.stream input.old).bytes (S.stream input.new).bytes more × (MAX_INPUT_LEN < length (bytes.old.items ++ more))))) }
 {
     let count = match input.read_next(chunk) {
         Ok(count) => count,
-        Err(_) => return Err(InputFault::Broken),
+        Err(error) => return Err(fault_of(&error)),
     };
     if count > MAX_INPUT_LEN - bytes.len() {
         return Err(InputFault::TooLong);
@@ -96,7 +122,7 @@ pub fn read_text<S: ByteStream>(alloc: Global, input: &mut S) -> Result<String, 
 {
     match String::from_utf8(read_bytes(alloc, input)?) {
         Ok(text) => Ok(text),
-        Err(_) => Err(InputFault::NotText),
+        Err(error) => Err(InputFault::NotText(error.utf8_error().valid_up_to())),
     }
 }
 
@@ -105,10 +131,15 @@ pub fn tell_input_fault<E: Write>(error: &mut E, name: &str, fault: InputFault) 
     ensures { OnOk result (Appends (E.contents error.old) (E.contents error.new) (input_fault_text name.now fault)) }
 {
     match fault {
+        InputFault::Absent => write!(
+            error,
+            "unreadable\n  {name} isn't there: look at its name\n"
+        ),
         InputFault::Unopened => write!(
             error,
             "unreadable\n  {name} can't be opened: look at its name and its permissions\n"
         ),
+        InputFault::Folder => write!(error, "unreadable\n  {name} is a folder: give a file\n"),
         InputFault::Broken => write!(
             error,
             "unreadable\n  {name} can't be read to its end: look at where it comes from\n"
@@ -117,7 +148,14 @@ pub fn tell_input_fault<E: Write>(error: &mut E, name: &str, fault: InputFault) 
             error,
             "unreadable\n  {name} has more than 16777216 bytes: give it in parts\n"
         ),
-        InputFault::NotText => write!(error, "unreadable\n  {name} isn't UTF-8: give it as text\n"),
+        InputFault::NotText(at) => write!(
+            error,
+            "unreadable\n  {name} isn't UTF-8 from byte {at} on, where the first is byte 0: give it as text\n"
+        ),
+        InputFault::NotTextLine { line, at } => write!(
+            error,
+            "unreadable\n  {name}, line {line}, isn't UTF-8 from the line's byte {at} on, where the first is byte 0: give it as text\n"
+        ),
         InputFault::Memory => write!(error, "memory\n"),
     }
 }

@@ -87,8 +87,15 @@ pub fn serve_lines<A: Answers, S: ByteStream, W: Write, E: Write>(
         if let Found::End = found {
             return Ok((LiveEnding::Done, bad));
         }
-        let Ok(text) = str::from_utf8(line.as_slice()) else {
-            return Ok((LiveEnding::Unread(InputFault::NotText), bad));
+        let text = match str::from_utf8(line.as_slice()) {
+            Ok(text) => text,
+            Err(error) => {
+                let fault = InputFault::NotTextLine {
+                    line: count + 1,
+                    at: error.valid_up_to(),
+                };
+                return Ok((LiveEnding::Unread(fault), bad));
+            }
         };
         let (next, served) = serve_line(alloc, session, echo, count + 1, text, output, error)?;
         if let Served::Memory = served {

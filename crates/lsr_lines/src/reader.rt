@@ -3,9 +3,9 @@ ghost use Rattle.std.specs.Prelude.{◌≡◌, ◌≤◌, ◌<◌, ◌∷◌, �
 ghost use Rattle.std.specs.Bool.{MatchBool};
 ghost use Rattle.std.specs.Io.KnownBytes.{Consumes, IsAtEnd, Keeps};
 ghost use Rattle.lsr_lines.specs.Streams.{Finds, IsOneLine, Overfills, StopsShort, left_of};
-ghost use Rattle.lsr_lines.specs.declared.input.InputFault.TheVariants.{Broken, Memory};
+ghost use Rattle.lsr_lines.specs.declared.input.InputFault.TheVariants.{Broken, Folder, Memory};
 
-use crate::input::{InputFault, MAX_INPUT_LEN};
+use crate::input::{InputFault, MAX_INPUT_LEN, fault_of};
 use crate::newline::split_line;
 use crate::stream::ByteStream;
 use std::alloc::Global;
@@ -100,7 +100,7 @@ impl LineReader {
         ensures end { IfOk result (λ count. count ≡ 0 → IsAtEnd (S.stream input.new).bytes) }
         ensures breaks { (S.stream input.new).may_break ≡ true → (S.stream input.old).may_break ≡ true }
         ensures kept { OnErr result (Keeps (S.stream input.old).bytes (S.stream input.new).bytes) }
-        ensures fault { IfErr result (λ fault. (fault ≡ Memory) ⊎ ((fault ≡ Broken) × ((S.stream input.old).may_break ≡ true))) }
+        ensures fault { IfErr result (λ fault. (fault ≡ Memory) ⊎ (((fault ≡ Broken) ⊎ (fault ≡ Folder)) × ((S.stream input.old).may_break ≡ true))) }
     {
         self.came.resize(CHUNK_LEN, 0)?;
         match input.read_next(self.came.as_mut_slice()) {
@@ -109,9 +109,9 @@ impl LineReader {
                 self.given = 0;
                 Ok(count)
             }
-            Err(_) => {
+            Err(error) => {
                 self.came.clear();
-                Err(InputFault::Broken)
+                Err(fault_of(&error))
             }
         }
     }

@@ -1,6 +1,6 @@
 //! The lines of a text, answered one after the other.
 ghost use Rattle.std.specs.Prelude.{◌≡◌, ℕ, List, IfOk, OnOk, OnErr, string_bytes};
-ghost use Rattle.std.specs.Io.KnownBytes.{Appends};
+ghost use Rattle.std.specs.Io.KnownBytes.{Appends, Keeps, append_known};
 ghost use Rattle.lsr_lines.specs.declared.lines.Request.{Request};
 ghost use Rattle.lsr_lines.specs.Lines.{lines_of};
 ghost use Rattle.lsr_lines.specs.Steps.{Becomes, Ends, IsUntold, echo_text, is_passed, is_remark};
@@ -9,6 +9,9 @@ use crate::lines::{Request, next_line, read_request};
 use std::alloc::{AllocError, Global};
 use std::io;
 use std::io::Write;
+
+/// From so many bytes on what is printed is written, in one piece.
+const BLOCK_LEN: usize = 65_536;
 
 /// What answers requests.
 pub trait Answers: Drop {
@@ -99,8 +102,79 @@ pub(crate) fn step_line<A: Answers, W: Write>(
     }
 }
 
+/// Writes the block, where it has [`BLOCK_LEN`] bytes or more: it is empty then. The error is the output's.
+fn put_full<W: Write>(block: &mut Vec<u8>, output: &mut W) -> io::Result<()>
+    ensures { OnOk result (Keeps (append_known (W.contents output.old) block.old.items) (append_known (W.contents output.new) block.new.items)) }
+{
+    if block.len() < BLOCK_LEN {
+        return Ok(());
+    }
+    output.write_all(block.as_slice())?;
+    block.clear();
+    Ok(())
+}
+
+/// Answers the line as [`step_line`] does, and prints the answer to the block, which is written where it is full. The error is
+/// the output's, or that memory ran out for the block: then the answers before this one are written.
+fn step_into<A: Answers, W: Write>(
+    alloc: Global,
+    session: A,
+    echo: bool,
+    line: &str,
+    block: &mut Vec<u8>,
+    output: &mut W,
+) -> io::Result<(A, Served)>
+    ensures { IfOk result (λ r. (printed : List ℕ)
+        × Appends (append_known (W.contents output.old) block.old.items) (append_known (W.contents output.new) block.new.items) printed
+        × Becomes A.answers echo session line.now printed r.1 r.0) }
+{
+    let len = block.len();
+    match step_line(alloc, session, echo, line, block) {
+        Ok(stepped) => {
+            put_full(block, output)?;
+            Ok(stepped)
+        }
+        Err(fault) => {
+            block.truncate(len);
+            let _ = output.write_all(block.as_slice());
+            Err(fault)
+        }
+    }
+}
+
+/// Answers the lines as [`step_lines`] does. What is printed last and isn't written yet is in the block.
+fn step_all<'a, A: Answers, W: Write>(
+    alloc: Global,
+    session: A,
+    echo: bool,
+    text: &'a str,
+    block: &mut Vec<u8>,
+    output: &mut W,
+) -> io::Result<Ending<'a>>
+    ensures { IfOk result (λ ending. (printed : List ℕ)
+        × Appends (append_known (W.contents output.old) block.old.items) (append_known (W.contents output.new) block.new.items) printed
+        × Ends A.answers echo session (lines_of text.now) printed ending) }
+{
+    let mut session = session;
+    let mut rest = text;
+    let mut number = 0usize;
+    while let Some((line, others)) = next_line(rest) {
+        number += 1;
+        let (next, served) = step_into(alloc, session, echo, line, block, output)?;
+        session = next;
+        match served {
+            Served::Done => {}
+            Served::NoRequest => return Ok(Ending::BadLine(number, line)),
+            Served::Memory => return Ok(Ending::Memory),
+        }
+        rest = others;
+    }
+    Ok(Ending::Done)
+}
+
 /// Answers the lines of the text, one after the other, up to the first that asks for nothing. With `echo` each is printed
-/// before its answer, and empty lines and lines that begin with # are passed over. The error is the output's.
+/// before its answer, and empty lines and lines that begin with # are passed over. Many answers are written at once, and all
+/// are when this returns. The error is the output's, or that memory ran out for what is to be written.
 pub fn step_lines<'a, A: Answers, W: Write>(
     alloc: Global,
     session: A,
@@ -111,19 +185,8 @@ pub fn step_lines<'a, A: Answers, W: Write>(
     ensures { IfOk result (λ ending. (printed : List ℕ) × Appends (W.contents output.old) (W.contents output.new) printed
         × Ends A.answers echo session (lines_of text.now) printed ending) }
 {
-    let mut session = session;
-    let mut rest = text;
-    let mut number = 0usize;
-    while let Some((line, others)) = next_line(rest) {
-        number += 1;
-        let (next, served) = step_line(alloc, session, echo, line, output)?;
-        session = next;
-        match served {
-            Served::Done => {}
-            Served::NoRequest => return Ok(Ending::BadLine(number, line)),
-            Served::Memory => return Ok(Ending::Memory),
-        }
-        rest = others;
-    }
-    Ok(Ending::Done)
+    let mut block = Vec::new(alloc);
+    let ending = step_all(alloc, session, echo, text, &mut block, output)?;
+    output.write_all(block.as_slice())?;
+    Ok(ending)
 }

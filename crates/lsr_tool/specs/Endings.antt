@@ -6,12 +6,22 @@ use Rattle.lsr_config.specs.Faults.{fault_name, fault_word}
 use Rattle.lsr_config.specs.declared.fault.ConfigFault.{ConfigFault}
 use Rattle.lsr_lines.specs.Forms.{bad_line_text}
 use Rattle.lsr_lines.specs.Texts.{input_fault_text}
+use Rattle.lsr_lines.specs.declared.input.InputFault.{InputFault}
+use Rattle.lsr_lines.specs.declared.input.InputFault.TheVariants as faults
 use Rattle.lsr_lines.specs.declared.step.Ending.{Ending}
 use Rattle.lsr_lines.specs.declared.step.Ending.TheVariants as lines
+use Rattle.std.specs.declared.io.ErrorKind.{ErrorKind}
+use Rattle.std.specs.declared.io.ErrorKind.TheVariants as kinds
 use Rattle.lsr_tool.specs.declared.endings.Source.{Source}
 use Rattle.lsr_tool.specs.declared.endings.Source.TheVariants as sources
 use Rattle.lsr_tool.specs.declared.endings.RunEnding.{RunEnding}
 use Rattle.lsr_tool.specs.declared.endings.RunEnding.TheVariants as endings
+
+-- why a file isn't opened, by the kind of the error
+abbrev pub open_fault : ErrorKind → InputFault
+open_fault kinds.NotFound = faults.Absent
+open_fault kinds.OutOfMemory = faults.Memory
+open_fault kind = faults.Unopened
 
 -- a word after a space, where there is one
 abbrev pub next_word : Option (List ℕ) → List ℕ
@@ -48,6 +58,16 @@ ending_text config (endings.Ran ending) = lines_ending_text ending
 ending_text config (endings.Unread source fault) = input_fault_text (source_name config source) fault
 ending_text config endings.Memory = codes "memory\n"
 ending_text config (endings.BadConfig fault place) = config_fault_text fault place
+
+-- what is told where memory ran out, where a stream can't be written, and where a word isn't UTF-8
+abbrev pub memory_text : List ℕ
+memory_text = codes "memory\n"
+
+abbrev pub unwritable_text : List ℕ
+unwritable_text = codes "unwritable\n  the output or the error stream can't be written: look at where they go\n"
+
+abbrev pub unread_words_text : List ℕ
+unread_words_text = codes "error: a word isn't UTF-8; see lsr --help\n"
 
 -- the status: 1 wherever something is told
 abbrev pub status_of : RunEnding → ℕ

@@ -5,6 +5,7 @@ ghost use Rattle.std.specs.IoError.{error_kind};
 ghost use Rattle.std.specs.declared.io.ErrorKind.TheVariants.{OutOfMemory};
 ghost use Rattle.clap.specs.Words.{kind_of};
 ghost use Rattle.lsr_tool.specs.Commands.{Does, Runs, words_status};
+ghost use Rattle.lsr_tool.specs.Endings.{memory_text, unread_words_text, unwritable_text};
 
 use crate::configuring::run_config_of;
 use crate::decoding::run_decode_on;
@@ -63,7 +64,8 @@ fn tell_words<W: Write, E: Write>(fault: Error, output: &mut W, error: &mut E) -
     Ok(status)
 }
 
-/// Does what was asked for, and gives the status. Links are served by `rt`. The error is that a stream could not be written.
+/// Does what was asked for, and gives the status. Links are served by `rt`. The error is that a stream could not be
+/// written, or that memory ran out.
 pub fn run_asked<
     F: FilesByName,
     N: Net + Threads + Wait + Clock + Clone + Send + Sync + Drop,
@@ -104,7 +106,8 @@ pub fn run_asked<
     }
 }
 
-/// Does what the words ask for, and gives the status. Links are served by `rt`. The error is that a stream could not be written.
+/// Does what the words ask for, and gives the status. Links are served by `rt`. The error is that a stream could not be
+/// written, or that memory ran out.
 fn run_words<
     F: FilesByName,
     N: Net + Threads + Wait + Clock + Clone + Send + Sync + Drop,
@@ -156,6 +159,30 @@ pub fn run<
     run_words(&files, rt, alloc, words, input, output, error)
 }
 
+/// Tells of a run that an error of this kind ended. The error is the stream's.
+fn tell_failure<E: Write>(kind: io::ErrorKind, error: &mut E) -> io::Result<()>
+    ensures memory { kind ≡ OutOfMemory → OnOk result (Appends (E.contents error.old) (E.contents error.new) memory_text) }
+    ensures unwritable { kind ≢ OutOfMemory → OnOk result (Appends (E.contents error.old) (E.contents error.new) unwritable_text) }
+{
+    if kind == io::ErrorKind::OutOfMemory {
+        write!(error, "{OUT_OF_MEMORY}\n")
+    } else {
+        error.write_all(UNWRITABLE.as_bytes())
+    }
+}
+
+/// Tells of words that an error of this kind kept from being read. The error is the stream's.
+fn tell_unread<E: Write>(kind: io::ErrorKind, error: &mut E) -> io::Result<()>
+    ensures memory { kind ≡ OutOfMemory → OnOk result (Appends (E.contents error.old) (E.contents error.new) memory_text) }
+    ensures unread { kind ≢ OutOfMemory → OnOk result (Appends (E.contents error.old) (E.contents error.new) unread_words_text) }
+{
+    if kind == io::ErrorKind::OutOfMemory {
+        write!(error, "{OUT_OF_MEMORY}\n")
+    } else {
+        error.write_all(UNREAD_WORDS.as_bytes())
+    }
+}
+
 /// The status of a run that is over: the one that it gave; or 1 where a stream could not be written or memory ran out, which
 /// is told.
 pub fn end<E: Write>(ran: io::Result<u8>, error: &mut E) -> u8
@@ -165,11 +192,7 @@ pub fn end<E: Write>(ran: io::Result<u8>, error: &mut E) -> u8
     match ran {
         Ok(status) => status,
         Err(fault) => {
-            let _ = if fault.kind() == io::ErrorKind::OutOfMemory {
-                write!(error, "{OUT_OF_MEMORY}\n")
-            } else {
-                error.write_all(UNWRITABLE.as_bytes())
-            };
+            let _ = tell_failure(fault.kind(), error);
             FAILED
         }
     }
@@ -180,10 +203,9 @@ pub fn tell_unread_words<E: Write>(fault: &io::Error, error: &mut E) -> u8
     ensures memory { error_kind fault.now ≡ OutOfMemory → result ≡ 1 }
     ensures unread { error_kind fault.now ≢ OutOfMemory → result ≡ 2 }
 {
+    let _ = tell_unread(fault.kind(), error);
     if fault.kind() == io::ErrorKind::OutOfMemory {
-        let _ = write!(error, "{OUT_OF_MEMORY}\n");
         return FAILED;
     }
-    let _ = error.write_all(UNREAD_WORDS.as_bytes());
     BAD_WORDS
 }

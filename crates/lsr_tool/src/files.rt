@@ -1,11 +1,23 @@
 //! The files that words name.
 ghost use Rattle.std.specs.Prelude.{◌≡◌, ℕ, List, IfOk, IfErr};
 ghost use Rattle.lsr_lines.specs.declared.input.InputFault.{InputFault};
+ghost use Rattle.lsr_tool.specs.Endings.{open_fault};
 
 use lsr_lines::{ByteStream, InputFault};
 use std::fs;
 use std::io::ErrorKind;
 use std::rt::Files;
+
+/// Why a file isn't opened, by the kind of the error.
+fn open_fault(kind: ErrorKind) -> InputFault
+    ensures { result ≡ open_fault kind }
+{
+    match kind {
+        ErrorKind::NotFound => InputFault::Absent,
+        ErrorKind::OutOfMemory => InputFault::Memory,
+        _ => InputFault::Unopened,
+    }
+}
 
 /// Files that are opened by their names. `opens` says which file a name opens, `fails` why it may open none.
 pub trait FilesByName {
@@ -16,7 +28,7 @@ pub trait FilesByName {
 
     ghost fails: { Self → List ℕ → InputFault → Type 0 };
 
-    /// Opens the file of this name. The errors are that it can't be opened, or that memory ran out.
+    /// Opens the file of this name. The errors are that it isn't there, that it can't be opened, or that memory ran out.
     fn open(&self, name: &str) -> Result<Self::File, InputFault>
         ensures file { IfOk result (opens self.now name.now) }
         ensures fault { IfErr result (fails self.now name.now) };
@@ -48,11 +60,7 @@ impl<'a, F: Files> FilesByName for SystemFiles<'a, F> {
     fn open(&self, name: &str) -> Result<F::File, InputFault> {
         match fs::open(self.files, name) {
             Ok(file) => Ok(file),
-            Err(fault) => Err(if fault.kind() == ErrorKind::OutOfMemory {
-                InputFault::Memory
-            } else {
-                InputFault::Unopened
-            }),
+            Err(fault) => Err(open_fault(fault.kind())),
         }
     }
 }

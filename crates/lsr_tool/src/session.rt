@@ -110,7 +110,7 @@ fn prepare<'a, C: ByteStream + Drop, R: ByteStream>(
 /// `lsr step [--echo]`: answers the lines of the input by the router of the configuration, which has this name, or without
 /// one by the built-in router, one after the other, and prints what each is answered; with `echo` each line before that, and
 /// empty lines and lines that begin with # are passed over. Tells on the error stream how the run ended if it didn't end
-/// well, and gives the status, 0 or 1. The error is that a stream could not be written.
+/// well, and gives the status, 0 or 1. The error is that a stream could not be written, or that memory ran out.
 pub fn run_step<C: ByteStream + Drop, R: ByteStream, W: Write, E: Write>(
     alloc: Global,
     name: &str,

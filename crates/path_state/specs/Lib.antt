@@ -1,1 +1,2 @@
+pub mod Expiries
 pub mod Origins

@@ -10,19 +10,23 @@ ghost use Rattle.sorted_rows.specs.Edits.{edited};
 ghost use Rattle.sorted_rows.specs.Rows.{keys_of};
 ghost use Rattle.path_state.specs.Origins.{origins_of};
 
+use crate::expiry::Expiry;
 use lsr_facts::limits::MAX_LSPS;
-use lsr_facts::{Key, Origin, PathFact, expires, keep_living, lives_on};
+use lsr_facts::{Key, Origin, PathFact, keep_living, lives_on};
 use rsvp_objects::Session;
-use sorted_rows::{ReservedTable, Sweep, Table, TryCopy, copy_rows, make_edits};
+use slot_rows::Probe;
+use sorted_rows::{Sweep, Table, TryCopy};
 use std::alloc::{AllocError, Global};
+use std::cmp::Ordering;
 use std::marker::Model;
 use std::net::Ipv4Addr;
+use timed_rows::TimedTable;
 
 /// What a router knows of the path of each LSP (RFC 2205, 2.3): at most 1,024 LSPs, in the order of their keys.
 /// Contracts see the list of keys and facts.
 #[derive(Debug, Drop)]
 pub struct PathState {
-    rows: ReservedTable<Key, PathFact, MAX_LSPS>,
+    rows: TimedTable<Key, PathFact, Expiry, MAX_LSPS>,
 }
 
 impl Model for PathState {
@@ -32,7 +36,7 @@ impl Model for PathState {
 
     ghost Value = { List (Key × PathFact) };
 
-    ghost view = { λ s. s.rows };
+    ghost view = { λ s. s.rows.rows };
 }
 
 /// What lives on at a moment, in milliseconds, and what is left of it.
@@ -57,6 +61,22 @@ impl Sweep<Key, PathFact> for Survivors {
     }
 }
 
+/// The keys of a session.
+#[derive(Drop)]
+struct OfSession {
+    session: Session,
+}
+
+impl Probe<Key> for OfSession {
+    ghost use Rattle.lsr_facts.specs.Orders.{session_cmp};
+
+    ghost compares = { λ s key. session_cmp key.session s.session };
+
+    fn compare(&self, key: &Key) -> Ordering {
+        key.session.cmp(&self.session)
+    }
+}
+
 impl PathState {
     /// No paths. It reserves the memory of all paths that it may ever hold; the only error is that there is too
     /// little memory.
@@ -64,7 +84,7 @@ impl PathState {
         ensures { IfOk result (λ state. state ≡ []) }
     {
         Ok(PathState {
-            rows: ReservedTable::new(alloc)?,
+            rows: TimedTable::new(alloc, Expiry)?,
         })
     }
 
@@ -94,7 +114,7 @@ impl PathState {
     pub fn copied(&self, alloc: Global) -> Result<Table<Key, PathFact>, AllocError>
         ensures { IfOk result (λ paths. paths ≡ self.now) }
     {
-        Ok(Table::from_rows(copy_rows(alloc, self.rows.as_slice())?))
+        self.rows.copied(alloc)
     }
 
     /// The LSPs of whose paths a moment, in milliseconds, takes anything away (RFC 2205, 2.3), in the order of their
@@ -102,22 +122,16 @@ impl PathState {
     pub fn expiring(&self, alloc: Global, moment: u64) -> Result<Vec<Key>, AllocError>
         ensures { IfOk result (λ keys. keys.items ≡ keys_of (filter (expires moment) self.now)) }
     {
-        self.rows
-            .as_slice()
-            .iter()
-            .filter(|path| expires(moment, path))
-            .map(|path| path.0)
-            .collect(alloc)
+        self.rows.come(alloc, moment)
     }
 
     /// Whether a path of the session is known.
     pub fn knows_session(&self, session: &Session) -> bool
         ensures { result ≡ list_any (λ path. is_same_session session.now path.0.session) self.now }
     {
-        self.rows
-            .as_slice()
-            .binary_search_by(|path| path.0.session.cmp(session))
-            .is_ok()
+        // That the rows are in order: so the sessions are, and the search finds what there is.
+        self.rows.rows_are_in_order();
+        self.rows.search(&OfSession { session: *session }).is_ok()
     }
 
     /// What is known of an LSP's path, or `None` where the LSP isn't known.
@@ -159,7 +173,7 @@ impl PathState {
         requires { length (edited key_cmp edits self.old) ≤ 1024 }
         ensures { self.new ≡ edited key_cmp edits self.old }
     {
-        make_edits(&mut self.rows, edits);
+        self.rows.edit(edits);
     }
 
     /// Nothing is known of any LSP's path any more. Takes no memory.
@@ -167,6 +181,14 @@ impl PathState {
         ensures { self.new ≡ [] }
     {
         self.rows.clear();
+    }
+
+    /// Lets the wheel come up to this moment, in milliseconds, or to the first before it that takes anything away of a
+    /// path: then [`PathState::expiring`] has less to go over. Nothing changes.
+    pub fn advance(&mut self, moment: u64)
+        ensures { self.new ≡ self.old }
+    {
+        self.rows.advance(moment);
     }
 
     /// A moment comes, in milliseconds: each origin goes whose expiry isn't above it, and with its last origin a

@@ -6,17 +6,17 @@ ghost use Rattle.std.specs.Prelude.{◌≡◌, ◌≤◌, T, [], IfOk, length, n
 ghost use Rattle.sorted_rows.specs.Edits.{edited};
 ghost use Rattle.lsr_facts.specs.Lifetimes.{due_items};
 
-use lsr_facts::has_waited;
-use sorted_rows::{ReservedTable, Table, TryCopy, copy_plain_rows, make_edits};
+use crate::refresh::Refresh;
+use sorted_rows::{Table, TryCopy};
 use std::alloc::{AllocError, Global};
 use std::marker::Model;
+use timed_rows::TimedTable;
 
 /// When each message that a router keeps alive was last sent (RFC 2205, 3.7): at most `MOST` messages, in the order of
 /// their items. Contracts see the refresh period, and the list of items and moments. Moments are in milliseconds.
 #[derive(Debug, Drop)]
 pub struct RefreshTimers<I: Ord, const MOST: usize> {
-    refresh_ms: u32,
-    rows: ReservedTable<I, u64, MOST>,
+    rows: TimedTable<I, u64, Refresh, MOST>,
 }
 
 impl<I: Ord, const MOST: usize> Model for RefreshTimers<I, MOST> {
@@ -24,7 +24,7 @@ impl<I: Ord, const MOST: usize> Model for RefreshTimers<I, MOST> {
 
     ghost Value = { Timers I };
 
-    ghost view = { λ t. record { refresh_ms = t.refresh_ms; sent = t.rows } };
+    ghost view = { λ t. record { refresh_ms = t.rows.timing.period_ms; sent = t.rows.rows } };
 }
 
 impl<I: Ord + Copy + Drop, const MOST: usize> RefreshTimers<I, MOST> {
@@ -33,9 +33,11 @@ impl<I: Ord + Copy + Drop, const MOST: usize> RefreshTimers<I, MOST> {
     pub fn new(alloc: Global, refresh_ms: u32) -> Result<RefreshTimers<I, MOST>, AllocError>
         ensures { IfOk result (λ timers. timers ≡ record { refresh_ms = refresh_ms; sent = [] }) }
     {
+        let timing = Refresh {
+            period_ms: refresh_ms,
+        };
         Ok(RefreshTimers {
-            refresh_ms,
-            rows: ReservedTable::new(alloc)?,
+            rows: TimedTable::new(alloc, timing)?,
         })
     }
 
@@ -67,7 +69,7 @@ impl<I: Ord + Copy + Drop, const MOST: usize> RefreshTimers<I, MOST> {
     pub fn copied(&self, alloc: Global) -> Result<Table<I, u64>, AllocError>
         ensures { IfOk result (λ sent. sent ≡ self.now.sent) }
     {
-        Ok(Table::from_rows(copy_plain_rows(alloc, self.rows.as_slice())?))
+        self.rows.copied(alloc)
     }
 
     /// The moment at which a message was last sent, or `None` where it isn't kept.
@@ -102,7 +104,7 @@ impl<I: Ord + Copy + Drop, const MOST: usize> RefreshTimers<I, MOST> {
         requires room { length (edited I.cmp edits self.old.sent) ≤ MOST }
         ensures { self.new ≡ record self.old { sent = edited I.cmp edits self.old.sent } }
     {
-        make_edits(&mut self.rows, edits);
+        self.rows.edit(edits);
     }
 
     /// No message is kept any more. Takes no memory.
@@ -112,25 +114,26 @@ impl<I: Ord + Copy + Drop, const MOST: usize> RefreshTimers<I, MOST> {
         self.rows.clear();
     }
 
+    /// Lets the timers come as far as to `now`, or to the first message before it that is due. Nothing that they say
+    /// changes: `due` has less to go over then.
+    pub fn advance(&mut self, now: u64)
+        ensures { self.new ≡ self.old }
+    {
+        self.rows.advance(now);
+    }
+
     /// The messages that were last sent a refresh period ago or longer, in the order of the items. The only error
     /// is being out of memory.
     pub fn due(&self, alloc: Global, now: u64) -> Result<Vec<I>, AllocError>
         ensures { IfOk result (λ items. items.items ≡ due_items self.now.refresh_ms self.now.sent now) }
     {
-        let refresh_ms = self.refresh_ms;
-        self.rows
-            .as_slice()
-            .iter()
-            .filter(|row| has_waited(refresh_ms, row.1, now))
-            .map(|row| row.0)
-            .collect(alloc)
+        self.rows.come(alloc, now)
     }
 }
 
 impl<I: Ord + Copy + Drop, const MOST: usize> TryCopy for RefreshTimers<I, MOST> {
     fn try_copy(&self, alloc: Global) -> Result<RefreshTimers<I, MOST>, AllocError> {
         Ok(RefreshTimers {
-            refresh_ms: self.refresh_ms,
             rows: self.rows.try_copy(alloc)?,
         })
     }

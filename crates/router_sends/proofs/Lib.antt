@@ -1,4 +1,5 @@
 pub mod Asking
 pub mod Placing
+pub mod Repeating
 pub mod Searching
 pub mod Tears

@@ -1,8 +1,10 @@
 //! What is sent between what was wanted and what is, and when each item was sent last: for items of any kind.
 #![tactic(auto)]
 
+mod again;
 mod frames;
 mod rests;
 mod sends;
 
+pub use again::sends_again;
 pub use sends::{Sends, errors_out, sends_between};

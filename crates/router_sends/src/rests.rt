@@ -8,11 +8,11 @@ ghost use Rattle.abstract_paths.specs.Outputs.{is_due, is_same_frame, rests};
 
 use crate::frames::is_same_frame;
 use router_events::Output;
-use sorted_rows::{TryCopy, get_ref};
+use sorted_rows::get_ref;
 use std::alloc::{AllocError, Global};
 
 /// Whether an item is one of those that are due. They stand in the order of items: a binary search.
-fn is_due<I: Ord>(due: &[I], item: &I) -> bool
+pub(crate) fn is_due<I: Ord>(due: &[I], item: &I) -> bool
     requires { IsSorted I.cmp due.now }
     ensures { result ≡ is_due I.cmp due.now item.now }
 {
@@ -44,22 +44,21 @@ fn rests(
     is_known_frame(alloc, was, wants)
 }
 
-/// A copy of what is wanted, where it is sent: asked once, whether it rests.
-pub(crate) fn fresh<I: Ord + Copy>(
+/// What is wanted, where it is sent: asked once, whether it rests.
+pub(crate) fn fresh<I: Ord + Copy + Drop>(
     alloc: Global,
     due: &[I],
     was: &[(I, Output)],
-    wants: &(I, Output),
+    wants: (I, Output),
 ) -> Result<Option<(I, Output)>, AllocError>
     requires due { IsSorted I.cmp due.now }
     requires was { T (is_sorted I.cmp was.now) }
-    ensures fresh { IfOk result (λ row. row ≡ (if rests I.cmp due.now (find I.cmp wants.now.0 was.now) wants.now then None else Some wants.now)) }
+    ensures fresh { IfOk result (λ row. row ≡ (if rests I.cmp due.now (find I.cmp wants.0 was.now) wants then None else Some wants)) }
 {
     let is_due = is_due(due, &wants.0);
     let known = get_ref(was, &wants.0);
     if rests(alloc, is_due, known, &wants.1)? {
         return Ok(None);
     }
-    let output = wants.1.try_copy(alloc)?;
-    Ok(Some((wants.0, output)))
+    Ok(Some(wants))
 }

@@ -27,7 +27,7 @@ pub struct Sends<I: Ord> {
 }
 
 /// An output after others, if there is one.
-fn with_output(outputs: Outputs, output: Option<Output>) -> Result<Outputs, AllocError>
+pub(crate) fn with_output(outputs: Outputs, output: Option<Output>) -> Result<Outputs, AllocError>
     ensures { IfOk result (λ out. out ≡ outputs ++ option_to_list output) }
 {
     let mut out = outputs;
@@ -38,7 +38,7 @@ fn with_output(outputs: Outputs, output: Option<Output>) -> Result<Outputs, Allo
 }
 
 /// A moment among others, if there is one.
-fn with_moment<I: Ord + Drop>(
+pub(crate) fn with_moment<I: Ord + Drop>(
     moments: Table<I, Option<u64>>,
     row: Option<(I, Option<u64>)>,
 ) -> Result<Table<I, Option<u64>>, AllocError>
@@ -113,7 +113,7 @@ fn torn<I: Ord + Copy + Drop>(
 }
 
 /// The moment of what is sent, if it is.
-fn renewed<I: Copy>(moment: u64, sent: &Option<(I, Output)>) -> Option<(I, Option<u64>)>
+pub(crate) fn renewed<I: Copy>(moment: u64, sent: &Option<(I, Output)>) -> Option<(I, Option<u64>)>
     ensures { result ≡ option_map (λ row. (row.0, Some moment)) sent.now }
 {
     match sent {
@@ -123,7 +123,7 @@ fn renewed<I: Copy>(moment: u64, sent: &Option<(I, Output)>) -> Option<(I, Optio
 }
 
 /// The frame of what is sent, if it is.
-fn output_of<I: Drop>(sent: Option<(I, Output)>) -> Option<Output>
+pub(crate) fn output_of<I: Drop>(sent: Option<(I, Output)>) -> Option<Output>
     ensures { result ≡ option_map (λ row. row.1) sent }
 {
     match sent {
@@ -138,24 +138,28 @@ fn kept<I: Ord + Copy + Drop>(
     due: &[I],
     moment: u64,
     was: &[(I, Output)],
-    is: &[(I, Output)],
+    is: Vec<(I, Output)>,
     torn: Sends<I>,
 ) -> Result<Sends<I>, AllocError>
     requires due { IsSorted I.cmp due.now }
     requires was { T (is_sorted I.cmp was.now) }
     ensures tears { IfOk result (λ kept. kept.tears ≡ torn.tears) }
     ensures sends { IfOk result (λ kept. kept.sends ≡ torn.sends
-        ++ between I.cmp (send_for I.cmp due.now) is.now was.now) }
+        ++ between I.cmp (send_for I.cmp due.now) is.items was.now) }
     ensures moments { IfOk result (λ kept. kept.moments ≡ placed I.cmp torn.moments
         (between I.cmp (renewed I.cmp due.now moment)
-        is.now was.now)) }
+        is.items was.now)) }
 {
     let Sends {
         tears,
         mut sends,
         mut moments,
     } = torn;
-    for wants in is {
+
+    // From the last row on, once they are turned round: each is moved.
+    let mut left = is;
+    left.reverse();
+    while let Some(wants) = left.pop() {
         let going = fresh(alloc, due, was, wants)?;
         moments = with_moment(moments, renewed(moment, &going))?;
         sends = with_output(sends, output_of(going))?;
@@ -177,19 +181,19 @@ pub fn sends_between<I: Ord + Copy + Drop>(
     due: &[I],
     moment: u64,
     was: &[(I, Output)],
-    is: &[(I, Output)],
+    is: Vec<(I, Output)>,
 ) -> Result<Sends<I>, AllocError>
     requires due { IsSorted I.cmp due.now }
     requires was { T (is_sorted I.cmp was.now) }
-    requires is { T (is_sorted I.cmp is.now) }
-    ensures tears { IfOk result (λ sends. sends.tears ≡ between I.cmp (tear_for up.now) was.now is.now) }
+    requires is { T (is_sorted I.cmp is.items) }
+    ensures tears { IfOk result (λ sends. sends.tears ≡ between I.cmp (tear_for up.now) was.now is.items) }
     ensures sends { IfOk result (λ sends. sends.sends
-        ≡ between I.cmp (send_for I.cmp due.now) is.now was.now) }
+        ≡ between I.cmp (send_for I.cmp due.now) is.items was.now) }
     ensures moments { IfOk result (λ sends. (item : I) → find I.cmp item sends.moments ≡ find I.cmp item
         (moments_between I.cmp due.now moment
-        was.now is.now)) }
+        was.now is.items)) }
 {
-    let told = torn(alloc, up, was, is)?;
+    let told = torn(alloc, up, was, is.as_slice())?;
     let sends = kept(alloc, due, moment, was, is, told)?;
     Ok(sends)
 }

@@ -170,6 +170,17 @@ fn edit_actions(
     rows.table.edit_tunnels(tunnels);
 }
 
+/// Lets the wheels of all that expires or is to be sent again come up to the moment that the router was told last.
+fn advance(rows: &mut Rows)
+    ensures { rows.new ≡ rows.old }
+{
+    let moment = rows.moment;
+    rows.paths.advance(moment);
+    rows.bandwidth.advance(moment);
+    rows.timers.advance(moment);
+    rows.upstream.advance(moment);
+}
+
 /// Makes a change. Takes no memory, and always succeeds.
 pub(crate) fn apply(rows: &mut Rows, change: Change)
     requires tables { AreTables rows.old }
@@ -201,6 +212,7 @@ pub(crate) fn apply(rows: &mut Rows, change: Change)
     edit_held(rows, bandwidth, repairs, labels);
     edit_moments(rows, moments, upstream);
     edit_actions(rows, table, tunnel_table);
+    advance(rows);
 }
 
 /// What messages set up goes, and changes of tunnels that aren't over are given up. Takes no memory.

@@ -1,11 +1,12 @@
 -- What comes of the LSPs that a step touches is all that it sends, of each kind.
-use Rattle.std.specs.Prelude.{◌≡◌, ℕ, Bool, false, T, List, [], Option}
+use Rattle.std.specs.Prelude.{◌≡◌, ℕ, Bool, false, true, T, List, [], Option}
 use Rattle.std.specs.Cmp.{IsTotalOrder}
 use Rattle.std.specs.FinMap.Entries.{find, is_sorted, is_sorted-where_key, where_key}
 use Rattle.std.specs.declared.cmp.Ordering.{Ordering}
 use Rattle.std.specs.declared.cmp.Ordering.TheVariants.{Equal}
-use Rattle.std.proofs.Common.{subst}
+use Rattle.std.proofs.Common.{refl, subst, sym, ◌∙◌}
 use Rattle.sorted_rows.specs.Edits as edits
+use Rattle.sorted_rows.specs.ListLaws.{all-always, filter-all_pass}
 use Rattle.sorted_rows.specs.Rows.{keys_of}
 use Rattle.lsr_facts.specs.Orders.{key_cmp}
 use Rattle.lsr_facts.specs.declared.key.Key.{Key}
@@ -16,7 +17,9 @@ use Rattle.abstract_paths.specs.Soundness.{ArePaths}
 use Rattle.abstract_paths.specs.Stamps.{stamps}
 use Rattle.abstract_paths.specs.Touched.{is_among, moments_between}
 use Rattle.abstract_router.specs.Lsps.{Around, Lsp, around_of, lsps_of}
+use Rattle.abstract_router.specs.LspLaws.{lsps-elsewhere}
 use Rattle.abstract_router.specs.States.{State}
+use Rattle.abstract_router.specs.Touched.{IsSameElsewhere}
 use Rattle.state_views.specs.Edits.{edited}
 use Rattle.state_views.specs.declared.edits.Edits.{Edits}
 use Rattle.state_sends.specs.Touching.{AreAllTouched, is_lsp_of}
@@ -61,3 +64,15 @@ module _ {I : Type 0} (cmp : I → I → Ordering) (total : IsTotalOrder cmp) (e
         all_moments cmp total exact (λ item. is_among key_cmp lsps (of item)) due (all_rows s) (all_rows (edited e s)) (some_rows s) (some_rows (edited e s))
         (in_order r s before) (in_order r (edited e s) after) (same_wanted cmp of rows none parts r s e lsps are before.in_order) rest
         (parts r s (is_among key_cmp lsps)) (parts r (edited e s) (is_among key_cmp lsps)) sent now known moments become
+
+-- Where the same is known before and after, the same LSPs are there,
+same_lsps : (r : Router) (s t : State) → T (is_sorted key_cmp s.facts.paths) → T (is_sorted key_cmp t.facts.paths) → IsSameElsewhere r (λ key. false) s t → lsps_of s ≡ lsps_of t
+same_lsps r s t g h same = sym (all_left (lsps_of s)) ∙ lsps-elsewhere r (λ key. false) s t g h same ∙ all_left (lsps_of t)
+  where
+    all_left : (lsps : List (Key × Lsp)) → where_key key_cmp (λ key. true) lsps ≡ lsps
+    all_left lsps = filter-all_pass (λ lsp. true) lsps (all-always (λ lsp. true ≡ true) (λ lsp. refl) lsps)
+
+-- and of any of them the same is wanted.
+pub same_some : {I : Type 0} (rows : Around → List (Key × Lsp) → List (I × Output)) (r : Router) (s t : State) (touched : Key → Bool) → T (is_sorted key_cmp s.facts.paths) → T (is_sorted key_cmp t.facts.paths) → IsSameElsewhere r (λ key. false) s t
+    → rows (around_of r t) (where_key key_cmp touched (lsps_of t)) ≡ rows (around_of r s) (where_key key_cmp touched (lsps_of s))
+same_some rows r s t touched g h same = sym (λ i. rows (same.around i) (where_key key_cmp touched (same_lsps r s t g h same i)))

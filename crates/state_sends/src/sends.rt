@@ -2,7 +2,7 @@
 
 ghost use Rattle.std.specs.List.{AllByRecursion};
 ghost use Rattle.std.specs.List.Sorted.{IsSorted};
-ghost use Rattle.std.specs.Prelude.{◌≡◌, ◌++◌, ℕ, IfOk, List, false};
+ghost use Rattle.std.specs.Prelude.{◌≡◌, ◌++◌, ℕ, IfOk, List, false, true};
 ghost use Rattle.sorted_rows.specs.Edits as rows;
 ghost use Rattle.sorted_rows.specs.Rows.{keys_of};
 ghost use Rattle.lsr_facts.specs.Orders.{item_cmp, key_cmp};
@@ -15,16 +15,15 @@ ghost use Rattle.abstract_paths.specs.Touched.{is_among};
 ghost use Rattle.abstract_router.specs.Lsps.{around_of, lsps_of};
 ghost use Rattle.abstract_router.specs.Outputs.{item_stamps, outputs_of, upstream_stamps};
 ghost use Rattle.abstract_router.specs.Soundness.{IsResv, IsSound};
-ghost use Rattle.abstract_router.specs.Touched.{LeavesOtherLsps};
+ghost use Rattle.abstract_router.specs.Touched.{IsSameElsewhere, LeavesOtherLsps};
 ghost use Rattle.state_views.specs.Drafts.{due_by, upstream_due_by};
 ghost use Rattle.state_views.specs.Edits.{edited};
-ghost use Rattle.state_sends.specs.Touching.{AreAllTouched, is_lsp_of};
 
 use crate::kept_alive::KeptAlive;
-use crate::touched::{Lsps, changed_lsps, touched_by};
+use crate::touched::{Lsps, changed_lsps, is_same_everywhere, touched_by};
 use lsr_facts::{Item, Key};
 use resv_facts::Upstream;
-use router_sends::{Sends, errors_out, sends_between};
+use router_sends::{Sends, errors_out, sends_again, sends_between};
 use sorted_rows::Table;
 use state_views::{Changed, Edits, Outputs, StateView, WholeState};
 use std::alloc::{AllocError, Global};
@@ -81,17 +80,21 @@ fn due_resvs<V: WholeState>(
     }
 }
 
-/// What is sent of one kind, and torn down: it comes of these LSPs, which are all that the step touches. What is due stands
-/// in order. The only error is out of memory.
-fn sends_at<I: KeptAlive, V: StateView>(
+/// What is sent of one kind, and torn down: it comes of the LSPs that the step touches. Of these LSPs not the same is known
+/// after it; what is due stands in order. Where it is told that the same is known of all, what is wanted is built once. The
+/// only error is out of memory.
+fn sends_at<I: KeptAlive, V: WholeState>(
     alloc: Global,
     view: &V,
     edits: &Edits,
-    touched: &Lsps,
+    is_same: bool,
+    changed: &Lsps,
     due: &[I],
 ) -> Result<Sends<I>, AllocError>
-    requires touched { AreAllTouched (V.router view.now) (V.state view.now) edits.now touched.now }
-    requires lsps { (key : Key) → is_among key_cmp touched.now key ≡ false → is_lsp_of I.of due.now key ≡ false }
+    requires same { is_same ≡ true → IsSameElsewhere (V.router view.now) (λ key. false)
+        (V.state view.now) (edited edits.now (V.state view.now)) }
+    requires changed { LeavesOtherLsps (is_among key_cmp changed.now)
+        (V.state view.now) (edited edits.now (V.state view.now)) }
     requires due { IsSorted I.order due.now }
     requires before { IsSound (V.router view.now) (V.state view.now) }
     requires paths { ArePaths (V.router view.now)
@@ -124,17 +127,14 @@ fn sends_at<I: KeptAlive, V: StateView>(
     // That items are compared by the order that their rows stand in.
     I::are_in_order();
     let after = Changed { under: view, edits };
-    let was = I::wanted_of(alloc, view, touched)?;
-    let is = I::wanted_of(alloc, &after, touched)?;
+    let touched = touched_by(alloc, view, edits, changed, due)?;
+    let is = I::wanted_of(alloc, &after, &touched)?;
+    if is_same {
+        return sends_again(alloc, due, after.moment(), is);
+    }
+    let was = I::wanted_of(alloc, view, &touched)?;
     let up = up_after(view, edits);
-    sends_between(
-        alloc,
-        up,
-        due,
-        after.moment(),
-        was.as_slice(),
-        is.as_slice(),
-    )
+    sends_between(alloc, up, due, after.moment(), was.as_slice(), is)
 }
 
 /// Frames after others. The only error is out of memory.
@@ -185,24 +185,17 @@ pub fn sends_of<V: WholeState>(
     let due_paths = due_paths(alloc, view, due)?;
     let due_resvs = due_resvs(alloc, view, due)?;
     let changed = changed_lsps(alloc, view, edits)?;
-    let touched = touched_by(
-        alloc,
-        view,
-        edits,
-        &changed,
-        due_paths.as_slice(),
-        due_resvs.as_slice(),
-    )?;
+    let is_same = is_same_everywhere(view, edits, &changed);
     let Sends {
         tears: path_tears,
         sends: paths,
         moments,
-    } = sends_at(alloc, view, edits, &touched, due_paths.as_slice())?;
+    } = sends_at(alloc, view, edits, is_same, &changed, due_paths.as_slice())?;
     let Sends {
         tears: resv_tears,
         sends: resvs,
         moments: upstream,
-    } = sends_at(alloc, view, edits, &touched, due_resvs.as_slice())?;
+    } = sends_at(alloc, view, edits, is_same, &changed, due_resvs.as_slice())?;
     let going = errors_out(up_after(view, edits), errors);
     let torn = appended(appended(going, path_tears)?, resv_tears)?;
     let outputs = appended(appended(torn, paths)?, resvs)?;

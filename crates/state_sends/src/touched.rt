@@ -4,17 +4,16 @@
 ghost use Rattle.std.specs.Prelude.{◌≡◌, ◌||◌, IfOk, false, true};
 ghost use Rattle.lsr_facts.specs.Orders.{key_cmp};
 ghost use Rattle.lsr_facts.specs.declared.key.Key.{Key};
-ghost use Rattle.abstract_paths.specs.Touched.{is_among, key_of_item};
+ghost use Rattle.abstract_paths.specs.Touched.{is_among};
 ghost use Rattle.abstract_router.specs.Lsps.{lsp_at};
-ghost use Rattle.abstract_router.specs.Touched.{LeavesOtherLsps};
+ghost use Rattle.abstract_router.specs.Touched.{IsSameElsewhere, LeavesOtherLsps};
 ghost use Rattle.state_views.specs.Edits.{edited, is_edited};
 ghost use Rattle.state_sends.specs.Touching.{AreAllTouched, is_lsp_of};
 
 use crate::kept_alive::KeptAlive;
 use crate::same::is_same_lsp;
 use facility_backup::is_same_around;
-use lsr_facts::{Item, Key};
-use resv_facts::Upstream;
+use lsr_facts::Key;
 use sorted_rows::{Table, TryCopy};
 use state_views::{Edits, StateView, WholeState};
 use std::alloc::{AllocError, Global};
@@ -102,26 +101,37 @@ pub(crate) fn changed_lsps<V: StateView>(
     changed_among(alloc, view, edits, edited.as_slice())
 }
 
-/// All LSPs that a step touches: those of which not the same is known after its edits, those of these items, which are due,
-/// and all that are known, where its edits may change what all LSPs share. The only error is out of memory.
-pub(crate) fn touched_by<V: WholeState>(
+/// Whether the same is known of all LSPs before and after edits, but for when they expire, and of what they share. Those of
+/// which not the same is known are told.
+pub(crate) fn is_same_everywhere<V: StateView>(view: &V, edits: &Edits, changed: &Lsps) -> bool
+    requires { LeavesOtherLsps (is_among key_cmp changed.now)
+        (V.state view.now) (edited edits.now (V.state view.now)) }
+    ensures { result ≡ true → IsSameElsewhere (V.router view.now) (λ key. false)
+        (V.state view.now) (edited edits.now (V.state view.now)) }
+{
+    if !changed.as_slice().is_empty() {
+        return false;
+    }
+    is_same_around(view, edits)
+}
+
+/// All LSPs that a step touches, for items of one kind: those of which not the same is known after its edits, those of
+/// these items, which are due, and all that are known, where its edits may change what all LSPs share. The only error is out
+/// of memory.
+pub(crate) fn touched_by<I: KeptAlive, V: WholeState>(
     alloc: Global,
     view: &V,
     edits: &Edits,
     changed: &Lsps,
-    due: &[Item],
-    upstream_due: &[Upstream],
+    due: &[I],
 ) -> Result<Lsps, AllocError>
     requires changed { LeavesOtherLsps (is_among key_cmp changed.now)
         (V.state view.now) (edited edits.now (V.state view.now)) }
     ensures all { IfOk result (AreAllTouched (V.router view.now) (V.state view.now) edits.now) }
     ensures due { IfOk result (λ all. (key : Key) → is_among key_cmp all key ≡ false
-        → is_lsp_of key_of_item due.now key ≡ false) }
-    ensures upstream_due { IfOk result (λ all. (key : Key) → is_among key_cmp all key ≡ false
-        → is_lsp_of (λ u. u.key) upstream_due.now key ≡ false) }
+        → is_lsp_of I.of due.now key ≡ false) }
 {
-    let refreshed = with_lsps_of(changed.try_copy(alloc)?, due)?;
-    let touched = with_lsps_of(refreshed, upstream_due)?;
+    let touched = with_lsps_of(changed.try_copy(alloc)?, due)?;
     if !is_same_around(view, edits) {
         return with_known(view, touched);
     }

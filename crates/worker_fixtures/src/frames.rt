@@ -1,5 +1,7 @@
 //! Frames that come to the built-in router, and the links over which they come and go.
 
+use std::alloc::{AllocError, Global};
+
 /// The link over which Paths, PathTears and labelled frames come.
 pub const IN_LINK: u16 = 1;
 /// The link over which Resvs come and labelled frames leave.
@@ -37,3 +39,23 @@ pub const TEAR_FRAME: &[u8] = b"\x01\x10\x05\xb9\x88\xff\x00\x00\x30\x00\x10\x01
 
 /// A labelled frame with the label 16, the first that a router gives out, and a TTL of 64.
 pub const LABELLED_FRAME: &[u8] = b"\x02\x01\x00\x01\x01\x40\x00hello";
+
+/// The places of a message's checksum in its frame, where zeros say that there is none (RFC 2205, 3.1.1).
+const CHECKSUM_AT: usize = 3;
+/// Those of the number of its tunnel.
+const TUNNEL_AT: usize = 19;
+
+/// Puts bytes at a place of a frame, as far as it goes.
+pub fn put_bytes(frame: &mut [u8], at: usize, bytes: &[u8]) {
+    for (place, byte) in frame.iter_mut().skip(at).zip(bytes) {
+        *place = *byte;
+    }
+}
+
+/// One of these frames, without a checksum, with its message about the tunnel of this number. The only error is out of memory.
+pub fn about_tunnel(alloc: Global, frame: &[u8], tunnel: u16) -> Result<Vec<u8>, AllocError> {
+    let mut frame = Vec::from_slice(alloc, frame)?;
+    put_bytes(&mut frame, CHECKSUM_AT, &[0, 0]);
+    put_bytes(&mut frame, TUNNEL_AT, &tunnel.to_be_bytes());
+    Ok(frame)
+}

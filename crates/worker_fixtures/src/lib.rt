@@ -8,10 +8,16 @@ mod follower;
 mod frames;
 mod left;
 mod sockets;
+mod timing;
+mod words;
 
 pub use fault::Fault;
 pub use feeding::{Feed, feed_router, open_router};
 pub use follower::{Fate, Follower, followers};
-pub use frames::{IN_LINK, LABELLED_FRAME, OUT_LINK, PATH_FRAME, RESV_FRAME, TEAR_FRAME};
+pub use frames::{
+    IN_LINK, LABELLED_FRAME, OUT_LINK, PATH_FRAME, RESV_FRAME, TEAR_FRAME, about_tunnel, put_bytes,
+};
 pub use left::{Left, count_entries};
 pub use sockets::free_links;
+pub use timing::per_second;
+pub use words::{BAD_WORDS, DONE, FAILED, count_in, read_words, tell};

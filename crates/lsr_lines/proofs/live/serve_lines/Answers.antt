@@ -17,10 +17,11 @@ returns-in-End g c =
     live_all g.A.Answers.answers c.args.echo c.args.session (g.S.ByteStream.stream c.args.input.now) (g.S.ByteStream.stream c.lines.input) (g.S.ByteStream.stream c.read_line.new.input) _ _ _ _ (left_of c.lines.reader) c.read_line.new.line.items (left_of c.read_line.new.self)
     c.lines.count c.lines.bad c.lines.session c.in-Ok.found c.lines.invariant c.in-Ok.ensures.finds c.in-End.is
 
-pub returns-in_default-from_utf8 : goal.returns-in_default-from_utf8
-returns-in_default-from_utf8 g c =
+pub returns-in-Err-from_utf8 : goal.returns-in-Err-from_utf8
+returns-in-Err-from_utf8 g c =
     live_untext g.A.Answers.answers c.args.echo c.args.session (g.S.ByteStream.stream c.args.input.now) (g.S.ByteStream.stream c.lines.input) (g.S.ByteStream.stream c.read_line.new.input) _ _ _ _ (left_of c.lines.reader) c.read_line.new.line.items c.as_slice.result.now
-    (left_of c.read_line.new.self) c.lines.count c.lines.bad c.lines.session c.in-Ok.found c.lines.invariant c.in-Ok.ensures.breaks c.in-Ok.ensures.finds c.in_default.not-End c.as_slice.ensures.value c.in_default-from_utf8.ensures.cases.0
+    (left_of c.read_line.new.self) c.lines.count (c.lines.count + 1) c.valid_up_to.result c.lines.bad c.lines.session c.in-Ok.found c.lines.invariant c.in-Ok.ensures.breaks c.in-Ok.ensures.finds c.in_default.not-End c.as_slice.ensures.value refl
+    (c.in-Err-from_utf8.ensures.cases.0, c.valid_up_to.ensures ∙ c.in-Err-from_utf8.ensures.valid_len)
 
 pub returns-in-Memory : goal.returns-in-Memory
 returns-in-Memory g c =

@@ -8,7 +8,7 @@ use Rattle.router_sends.proofs.rests.fresh.Goals as goal
 
 pub returns-then-branch : goal.returns-then-branch
 returns-then-branch g c =
-    let wants = c.args.wants.now in
+    let wants = c.args.wants in
     let due = c.args.due.now in
     let so : c.in_ok-rests.field-0 ≡ rests g.I.Ord.cmp due (find g.I.Ord.cmp wants.0 c.args.was.now) wants =
     c.in_ok-rests.ensures ∙ (λ i. not (c.is_due-is_due.ensures i) && option_map_or (λ o. is_same_frame wants.1.frame o.frame) (c.get_ref-known.ensures.found i) false) in
@@ -16,8 +16,8 @@ returns-then-branch g c =
 
 pub returns : goal.returns
 returns g c =
-    let wants = c.args.wants.now in
+    let wants = c.args.wants in
     let due = c.args.due.now in
     let so : c.in_ok-rests.field-0 ≡ rests g.I.Ord.cmp due (find g.I.Ord.cmp wants.0 c.args.was.now) wants =
     c.in_ok-rests.ensures ∙ (λ i. not (c.is_due-is_due.ensures i) && option_map_or (λ o. is_same_frame wants.1.frame o.frame) (c.get_ref-known.ensures.found i) false) in
-    record { fresh = ap (λ o. Some (wants.0, o)) c.in_ok-output.ensures ∙ sym (ap (λ b. cond {A = Option (_ × Output)} b None (Some wants)) (sym so ∙ c.if-branch.false)) }
+    record { fresh = sym (ap (λ b. cond {A = Option (_ × Output)} b None (Some wants)) (sym so ∙ c.if-branch.false)) }

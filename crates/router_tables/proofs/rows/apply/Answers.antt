@@ -90,9 +90,9 @@ pub returns-clause-tables : goal.returns-clause-tables
 returns-clause-tables c =
     let t = c.args.rows.now in
     let last = all_made c.args.change t c.edit_place.new.rows c.edit_paths.new.rows c.edit_held.new.rows c.edit_moments.new.rows c.edit_actions.new.rows c.edit_place.ensures.rows c.edit_paths.ensures.rows c.edit_held.ensures.rows c.edit_moments.ensures.rows c.edit_actions.ensures.rows in
-    subst AreTables (sym last) (applied_are c.args.change t c.requires.tables c.requires.change)
+    subst AreTables (sym (c.advance.ensures ∙ last)) (applied_are c.args.change t c.requires.tables c.requires.change)
 
 pub returns-clause-state : goal.returns-clause-state
 returns-clause-state c =
     let t = c.args.rows.now in
-    ap state_of (all_made c.args.change t c.edit_place.new.rows c.edit_paths.new.rows c.edit_held.new.rows c.edit_moments.new.rows c.edit_actions.new.rows c.edit_place.ensures.rows c.edit_paths.ensures.rows c.edit_held.ensures.rows c.edit_moments.ensures.rows c.edit_actions.ensures.rows)
+    ap state_of (c.advance.ensures ∙ all_made c.args.change t c.edit_place.new.rows c.edit_paths.new.rows c.edit_held.new.rows c.edit_moments.new.rows c.edit_actions.new.rows c.edit_place.ensures.rows c.edit_paths.ensures.rows c.edit_held.ensures.rows c.edit_moments.ensures.rows c.edit_actions.ensures.rows)

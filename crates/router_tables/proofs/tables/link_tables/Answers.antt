@@ -18,3 +18,6 @@ from_rows-requires c =
     let up = c.in_ok-up.ensures ∙ ap (map (λ l. (l.0, l.1.up))) c.as_slice.ensures.rows in
     let keys = ap keys_of up ∙ keys-map (λ l. l.1.up) links in
     subst T (sym (is_sorted-both nat_cmp c.in_ok-up.up.items links keys)) c.requires
+
+pub returns-clause-up : goal.returns-clause-up
+returns-clause-up c = c.from_rows.ensures ∙ c.in_ok-up.ensures ∙ ap (map (λ l. (l.0, l.1.up))) c.as_slice.ensures.rows

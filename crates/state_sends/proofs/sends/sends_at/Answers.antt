@@ -12,7 +12,7 @@ use Rattle.abstract_paths.specs.Touched.{is_among, moments_between}
 use Rattle.abstract_router.specs.Lsps.{around_of, lsps_of}
 use Rattle.state_views.specs.Edits.{edited}
 use Rattle.state_sends.proofs.Lifting.{ok_weaker}
-use Rattle.state_sends.proofs.Sending.{sorted_some, step_moments, step_sends, step_tears}
+use Rattle.state_sends.proofs.Sending.{same_some, sorted_some, step_moments, step_sends, step_tears}
 use Rattle.state_sends.proofs.sends.sends_at.Goals as goal
 
 pub sends_between-requires-clause-was : goal.sends_between-requires-clause-was
@@ -23,7 +23,7 @@ sends_between-requires-clause-was g c =
     let kind = g.I.KeptAlive in
     subst (λ (cmp : _ → _ → Ordering). T (is_sorted cmp c.as_slice.result.now)) (sym c.are_in_order.ensures)
     (subst (λ (rows : List (_ × Output)). T (is_sorted kind.order rows)) (sym (c.as_slice.ensures.value ∙ c.in_ok-was.ensures.rows))
-    (sorted_some kind.order laws.total laws.exact kind.of kind.rows laws.none laws.parts laws.in_order r s c.args.edits.now c.args.touched.now s c.requires.before.paths.paths))
+    (sorted_some kind.order laws.total laws.exact kind.of kind.rows laws.none laws.parts laws.in_order r s c.args.edits.now c.in_ok-touched.touched s c.requires.before.paths.paths))
 
 pub sends_between-requires-clause-is : goal.sends_between-requires-clause-is
 sends_between-requires-clause-is g c =
@@ -31,9 +31,9 @@ sends_between-requires-clause-is g c =
     let s = g.V.StateView.state c.args.view.now in
     let laws = g.met.I.KeptAlive in
     let kind = g.I.KeptAlive in
-    subst (λ (cmp : _ → _ → Ordering). T (is_sorted cmp c.as_slice-2.result.now)) (sym c.are_in_order.ensures)
-    (subst (λ (rows : List (_ × Output)). T (is_sorted kind.order rows)) (sym (c.as_slice-2.ensures.value ∙ c.in_ok-is.ensures.rows))
-    (sorted_some kind.order laws.total laws.exact kind.of kind.rows laws.none laws.parts laws.in_order r s c.args.edits.now c.args.touched.now (edited c.args.edits.now s) c.requires.paths))
+    subst (λ (cmp : _ → _ → Ordering). T (is_sorted cmp c.in_ok-is.is'.items)) (sym c.are_in_order.ensures)
+    (subst (λ (rows : List (_ × Output)). T (is_sorted kind.order rows)) (sym c.in_ok-is.ensures.rows)
+    (sorted_some kind.order laws.total laws.exact kind.of kind.rows laws.none laws.parts laws.in_order r s c.args.edits.now c.in_ok-touched.touched (edited c.args.edits.now s) c.requires.paths))
 
 pub returns-clause-tears : goal.returns-clause-tears
 returns-clause-tears g c =
@@ -43,10 +43,10 @@ returns-clause-tears g c =
     let laws = g.met.I.KeptAlive in
     let kind = g.I.KeptAlive in
     let was = c.as_slice.ensures.value ∙ c.in_ok-was.ensures.rows in
-    let is = c.as_slice-2.ensures.value ∙ c.in_ok-is.ensures.rows in
+    let is = c.in_ok-is.ensures.rows in
     subst (λ (tears : List Output). IfOk c.sends_between.result (λ sends. sends.tears ≡ tears))
     ((λ i. between (c.are_in_order.ensures i) (tear_for (c.up_after-up.ensures i)) (was i) (is i))
-    ∙ step_tears kind.order laws.total laws.exact kind.of kind.rows laws.none laws.parts laws.in_order r s e c.args.touched.now c.requires.touched c.requires.before.paths.paths c.requires.paths c.args.due.now c.requires.lsps (edited e s).facts.up)
+    ∙ step_tears kind.order laws.total laws.exact kind.of kind.rows laws.none laws.parts laws.in_order r s e c.in_ok-touched.touched c.in_ok-touched.ensures.all c.requires.before.paths.paths c.requires.paths c.args.due.now c.in_ok-touched.ensures.due (edited e s).facts.up)
     c.sends_between.ensures.tears
 
 pub returns-clause-sends : goal.returns-clause-sends
@@ -57,10 +57,10 @@ returns-clause-sends g c =
     let laws = g.met.I.KeptAlive in
     let kind = g.I.KeptAlive in
     let was = c.as_slice.ensures.value ∙ c.in_ok-was.ensures.rows in
-    let is = c.as_slice-2.ensures.value ∙ c.in_ok-is.ensures.rows in
+    let is = c.in_ok-is.ensures.rows in
     subst (λ (out : List Output). IfOk c.sends_between.result (λ sends. sends.sends ≡ out))
     ((λ i. between (c.are_in_order.ensures i) (send_for (c.are_in_order.ensures i) c.args.due.now) (is i) (was i))
-    ∙ step_sends kind.order laws.total laws.exact kind.of kind.rows laws.none laws.parts laws.in_order r s e c.args.touched.now c.requires.touched c.requires.before.paths.paths c.requires.paths c.args.due.now c.requires.lsps)
+    ∙ step_sends kind.order laws.total laws.exact kind.of kind.rows laws.none laws.parts laws.in_order r s e c.in_ok-touched.touched c.in_ok-touched.ensures.all c.requires.before.paths.paths c.requires.paths c.args.due.now c.in_ok-touched.ensures.due)
     c.sends_between.ensures.sends
 
 pub returns-clause-moments : goal.returns-clause-moments
@@ -70,15 +70,77 @@ returns-clause-moments g c =
     let e = c.args.edits.now in
     let laws = g.met.I.KeptAlive in
     let kind = g.I.KeptAlive in
-    let all = c.args.touched.now in
+    let all = c.in_ok-touched.touched in
     let due = c.args.due.now in
     let was = c.as_slice.ensures.value ∙ c.in_ok-was.ensures.rows in
-    let is = c.as_slice-2.ensures.value ∙ c.in_ok-is.ensures.rows in
+    let is = c.in_ok-is.ensures.rows in
     ok_weaker c.sends_between.result
     (λ sends. (item : _) → find kind.order item sends.moments ≡ find kind.order item (moments_between kind.order due (edited e s).facts.moment (kind.rows (around_of r s) (where_key key_cmp (is_among key_cmp all) (lsps_of s))) (kind.rows (around_of r (edited e s)) (where_key key_cmp (is_among key_cmp all) (lsps_of (edited e s))))))
     (λ sends. (sent : List (_ × ℕ)) → keys_of sent ≡ keys_of (kind.rows (around_of r s) (lsps_of s)) → edits.edited kind.order sends.moments sent ≡ stamps kind.order due (kind.rows (around_of r s) (lsps_of s)) sent (edited e s).facts.moment (kind.rows (around_of r (edited e s)) (lsps_of (edited e s))))
-    (λ sends become. step_moments kind.order laws.total laws.exact kind.of kind.rows laws.none laws.parts laws.in_order r s e all c.requires.touched c.requires.before.paths.paths c.requires.paths due c.requires.lsps (edited e s).facts.moment sends.moments become)
+    (λ sends become. step_moments kind.order laws.total laws.exact kind.of kind.rows laws.none laws.parts laws.in_order r s e all c.in_ok-touched.ensures.all c.requires.before.paths.paths c.requires.paths due c.in_ok-touched.ensures.due (edited e s).facts.moment sends.moments become)
     (subst (λ (moments : List (_ × Option ℕ)). IfOk c.sends_between.result (λ sends. (item : _) → find kind.order item sends.moments ≡ find kind.order item moments))
-    (λ i. moments_between kind.order due (c.moment.ensures.moment i) (was i) (is i))
-    (subst (λ (cmp : _ → _ → Ordering). IfOk c.sends_between.result (λ sends. (item : _) → find cmp item sends.moments ≡ find cmp item (moments_between cmp due c.moment.result c.as_slice.result.now c.as_slice-2.result.now))) c.are_in_order.ensures
+    (λ i. moments_between kind.order due (c.moment-2.ensures.moment i) (was i) (is i))
+    (subst (λ (cmp : _ → _ → Ordering). IfOk c.sends_between.result (λ sends. (item : _) → find cmp item sends.moments ≡ find cmp item (moments_between cmp due c.moment-2.result c.as_slice.result.now c.in_ok-is.is'.items))) c.are_in_order.ensures
     c.sends_between.ensures.moments))
+
+-- Where the same is wanted before and after, what is built is both.
+pub sends_again-requires-clause-is : goal.sends_again-requires-clause-is
+sends_again-requires-clause-is g c =
+    let r = g.V.StateView.router c.args.view.now in
+    let s = g.V.StateView.state c.args.view.now in
+    let laws = g.met.I.KeptAlive in
+    let kind = g.I.KeptAlive in
+    subst (λ (cmp : _ → _ → Ordering). T (is_sorted cmp c.in_ok-is.is'.items)) (sym c.are_in_order.ensures)
+    (subst (λ (rows : List (_ × Output)). T (is_sorted kind.order rows)) (sym c.in_ok-is.ensures.rows)
+    (sorted_some kind.order laws.total laws.exact kind.of kind.rows laws.none laws.parts laws.in_order r s c.args.edits.now c.in_ok-touched.touched (edited c.args.edits.now s) c.requires.paths))
+
+pub returns-then-is_same-clause-tears : goal.returns-then-is_same-clause-tears
+returns-then-is_same-clause-tears g c =
+    let r = g.V.StateView.router c.args.view.now in
+    let s = g.V.StateView.state c.args.view.now in
+    let e = c.args.edits.now in
+    let laws = g.met.I.KeptAlive in
+    let kind = g.I.KeptAlive in
+    let up = (edited e s).facts.up in
+    let is = c.in_ok-is.ensures.rows in
+    let was = is ∙ same_some kind.rows r s (edited e s) (is_among key_cmp c.in_ok-touched.touched) c.requires.before.paths.paths.in_order c.requires.paths.in_order (c.requires.same c.if-is_same.true) in
+    ok_weaker c.sends_again.result _ (λ sends. sends.tears ≡ between kind.order (tear_for up) (kind.rows (around_of r s) (lsps_of s)) (kind.rows (around_of r (edited e s)) (lsps_of (edited e s))))
+    (λ sends told.
+    told up
+    ∙ (λ i. between (c.are_in_order.ensures i) (tear_for up) (was i) (is i))
+    ∙ step_tears kind.order laws.total laws.exact kind.of kind.rows laws.none laws.parts laws.in_order r s e c.in_ok-touched.touched c.in_ok-touched.ensures.all c.requires.before.paths.paths c.requires.paths c.args.due.now c.in_ok-touched.ensures.due up)
+    c.sends_again.ensures.tears
+
+pub returns-then-is_same-clause-sends : goal.returns-then-is_same-clause-sends
+returns-then-is_same-clause-sends g c =
+    let r = g.V.StateView.router c.args.view.now in
+    let s = g.V.StateView.state c.args.view.now in
+    let e = c.args.edits.now in
+    let laws = g.met.I.KeptAlive in
+    let kind = g.I.KeptAlive in
+    let is = c.in_ok-is.ensures.rows in
+    let was = is ∙ same_some kind.rows r s (edited e s) (is_among key_cmp c.in_ok-touched.touched) c.requires.before.paths.paths.in_order c.requires.paths.in_order (c.requires.same c.if-is_same.true) in
+    subst (λ (out : List Output). IfOk c.sends_again.result (λ sends. sends.sends ≡ out))
+    ((λ i. between (c.are_in_order.ensures i) (send_for (c.are_in_order.ensures i) c.args.due.now) (is i) (was i))
+    ∙ step_sends kind.order laws.total laws.exact kind.of kind.rows laws.none laws.parts laws.in_order r s e c.in_ok-touched.touched c.in_ok-touched.ensures.all c.requires.before.paths.paths c.requires.paths c.args.due.now c.in_ok-touched.ensures.due)
+    c.sends_again.ensures.sends
+
+pub returns-then-is_same-clause-moments : goal.returns-then-is_same-clause-moments
+returns-then-is_same-clause-moments g c =
+    let r = g.V.StateView.router c.args.view.now in
+    let s = g.V.StateView.state c.args.view.now in
+    let e = c.args.edits.now in
+    let laws = g.met.I.KeptAlive in
+    let kind = g.I.KeptAlive in
+    let all = c.in_ok-touched.touched in
+    let due = c.args.due.now in
+    let is = c.in_ok-is.ensures.rows in
+    let was = is ∙ same_some kind.rows r s (edited e s) (is_among key_cmp all) c.requires.before.paths.paths.in_order c.requires.paths.in_order (c.requires.same c.if-is_same.true) in
+    ok_weaker c.sends_again.result
+    (λ sends. (item : _) → find kind.order item sends.moments ≡ find kind.order item (moments_between kind.order due (edited e s).facts.moment (kind.rows (around_of r s) (where_key key_cmp (is_among key_cmp all) (lsps_of s))) (kind.rows (around_of r (edited e s)) (where_key key_cmp (is_among key_cmp all) (lsps_of (edited e s))))))
+    (λ sends. (sent : List (_ × ℕ)) → keys_of sent ≡ keys_of (kind.rows (around_of r s) (lsps_of s)) → edits.edited kind.order sends.moments sent ≡ stamps kind.order due (kind.rows (around_of r s) (lsps_of s)) sent (edited e s).facts.moment (kind.rows (around_of r (edited e s)) (lsps_of (edited e s))))
+    (λ sends become. step_moments kind.order laws.total laws.exact kind.of kind.rows laws.none laws.parts laws.in_order r s e all c.in_ok-touched.ensures.all c.requires.before.paths.paths c.requires.paths due c.in_ok-touched.ensures.due (edited e s).facts.moment sends.moments become)
+    (subst (λ (moments : List (_ × Option ℕ)). IfOk c.sends_again.result (λ sends. (item : _) → find kind.order item sends.moments ≡ find kind.order item moments))
+    (λ i. moments_between kind.order due (c.moment.ensures.moment i) (was i) (is i))
+    (subst (λ (cmp : _ → _ → Ordering). IfOk c.sends_again.result (λ sends. (item : _) → find cmp item sends.moments ≡ find cmp item (moments_between cmp due c.moment.result c.in_ok-is.is'.items c.in_ok-is.is'.items))) c.are_in_order.ensures
+    c.sends_again.ensures.moments))

@@ -4,10 +4,11 @@ use Rattle.std.proofs.lemmas.List.{map-id}
 use Rattle.lsr_facts.specs.declared.key.Key.{Key}
 use Rattle.resv_facts.specs.Reservations.{expire, lives_past}
 use Rattle.resv_facts.specs.declared.resv_fact.ResvFact.{ResvFact}
+use Rattle.timed_rows.specs.Timed.{TimedRows}
 use Rattle.admission.proofs.resv_state.ResvState.expire.Goals as goal
 
 pub returns : goal.returns
 unfolding expire
 returns c =
     let lives = λ (resv : Key × ResvFact). lives_past c.args.moment resv.1 in
-    c.sweep.ensures ∙ map-id (filter lives c.self.inside.rows) ∙ ap (filter lives) c.self.view_is
+    ap (λ (t : TimedRows _ _ _). t.rows) c.sweep.ensures ∙ map-id (filter lives c.self.inside.rows.rows) ∙ ap (filter lives) c.self.view_is

@@ -12,11 +12,11 @@ matched c =
     let row = row_matched c.args.key c.args.fact c.args.holding c.claim_of-claim.result c.claim_of-claim.ensures.claim c.requires.holding c.claim_of-claim.ensures.most in
     matched_put c.args.key c.args.fact c.claim_of-claim.result row c.self.inside.resvs c.self.inside.claims c.self.invariant
 
-pub set-requires : goal.set-requires
-set-requires c =
-    let same = matched_length _ _ (matched ((goal.at.set-requires c).After-put)) in
+pub set-requires-clause-room : goal.set-requires-clause-room
+set-requires-clause-room c =
+    let same = matched_length _ _ (matched ((goal.at.set-requires-clause-room c).After-put)) in
     let room : length (put key_cmp c.args.key c.args.fact c.self.inside.resvs) ≤ 1024 = rw (ap (λ (b : Bandwidth). b.resvs) c.self.view_is) c.requires.room in
-    (omega arith, omega (arith, same, room))
+    omega (arith, same, room)
 
 pub invariant_of-self : goal.invariant_of-self
 invariant_of-self c = rw (c.put.ensures, c.set.ensures) (matched ((goal.at.invariant_of-self c).After-put))

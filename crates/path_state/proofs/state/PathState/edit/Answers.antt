@@ -4,7 +4,7 @@ use Rattle.lsr_facts.specs.OrderLaws.{key_exact}
 use Rattle.sorted_rows.specs.Edits.{edited}
 use Rattle.path_state.proofs.state.PathState.edit.Goals as goal
 
-pub make_edits-requires : goal.make_edits-requires
-make_edits-requires c =
-    let fits : length (edited key_cmp c.args.edits c.self.inside.rows) ≤ 1024 = rw c.self.view_is c.requires in
+pub edit-requires : goal.edit-requires
+edit-requires c =
+    let fits : length (edited key_cmp c.args.edits c.self.inside.rows.rows) ≤ 1024 = rw c.self.view_is c.requires in
     (omega arith, (key_exact, fits))

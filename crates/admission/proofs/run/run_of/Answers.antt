@@ -1,0 +1,49 @@
+use Rattle.std.proofs.Common.{◌≡◌, ◌≤◌, ◌^◌, ◌-◌, T, List, arith, drop, length, of_calls, refl, rules, subst, sym, take, true}
+use Rattle.std.specs.FinMap.Entries.{is_sorted}
+use Rattle.std.specs.List.{AllByRecursion, filter}
+use Rattle.std.proofs.lemmas.List.Sorted.{IsPartitionPoint-from_clause}
+use Rattle.std.proofs.lemmas.List.Sums.{count_by-le-length, length-filter}
+use Rattle.sorted_rows.specs.ListLaws.{all-filter, all-filter_passes}
+use Rattle.sorted_rows.specs.RowsLaws.{is_sorted-filter}
+use Rattle.lsr_facts.specs.Orders.{key_cmp}
+use Rattle.lsr_facts.specs.declared.key.Key.{Key}
+use Rattle.resv_facts.specs.Claims.{is_of}
+use Rattle.resv_facts.specs.declared.claim.Claim.{Claim}
+use Rattle.admission.specs.Bandwidths.{AreRated}
+use Rattle.admission.proofs.Runs.{before_parts, comes_before, comes_upto, from_sorted, run_is, upto_parts}
+use Rattle.admission.proofs.run.run_of.Goals as goal
+use Rattle.admission.proofs.run.run_of.Goals.{After-partition_point-end}
+
+-- the claims that are handed out are those of the session
+run : (c : After-partition_point-end) → take c.partition_point-end.result (take (length c.args.claims.now - c.partition_point-start.result) (drop c.partition_point-start.result c.args.claims.now)) ≡ filter (is_of c.args.session.now) c.args.claims.now
+run c =
+    let session = c.args.session.now in
+    let claims = c.args.claims.now in
+    let h = c.requires.sorted in
+    let start = c.partition_point-start.result in
+    let within = c.partition_point-start.ensures.bound in
+    let from = take (length claims - start) (drop start claims) in
+    let point = IsPartitionPoint-from_clause (comes_before session) claims start c.partition_point-start.ensures.partitioned (before_parts session claims h) (λ a r q k. search (rules, of_calls)) in
+    let parts = upto_parts session from (from_sorted session claims h start within point from refl) in
+    let upto = IsPartitionPoint-from_clause (comes_upto session) from c.partition_point-end.result c.partition_point-end.ensures.partitioned parts (λ a r q k. search (rules, of_calls)) in
+    run_is session claims h start within point from refl c.partition_point-end.result c.partition_point-end.ensures.bound upto
+
+pub returns-clause-run : goal.returns-clause-run
+returns-clause-run c = run ((goal.at.returns-clause-run c).After-partition_point-end)
+
+pub returns-clause-sorted : goal.returns-clause-sorted
+returns-clause-sorted c =
+    subst (λ rows. T (is_sorted key_cmp rows)) (sym (run ((goal.at.returns-clause-sorted c).After-partition_point-end))) (is_sorted-filter key_cmp (is_of c.args.session.now) c.args.claims.now c.requires.sorted)
+
+pub returns-clause-rated : goal.returns-clause-rated
+returns-clause-rated c =
+    subst AreRated (sym (run ((goal.at.returns-clause-rated c).After-partition_point-end))) (all-filter (λ (row : Key × Claim). row.1.rate ≤ 2 ^ 50) (is_of c.args.session.now) c.args.claims.now c.requires.rated)
+
+pub returns-clause-few : goal.returns-clause-few
+returns-clause-few c =
+    subst (λ (rows : List (Key × Claim)). length rows ≤ length c.args.claims.now) (sym (run ((goal.at.returns-clause-few c).After-partition_point-end))) (omega (arith, length-filter (is_of c.args.session.now) c.args.claims.now, count_by-le-length (is_of c.args.session.now) c.args.claims.now))
+
+pub returns-clause-own : goal.returns-clause-own
+returns-clause-own c =
+    let own = λ (row : Key × Claim). is_of c.args.session.now row ≡ true in
+    subst (AllByRecursion own) (sym (run ((goal.at.returns-clause-own c).After-partition_point-end))) (all-filter_passes own (is_of c.args.session.now) (λ row passes. passes) c.args.claims.now)

@@ -1,0 +1,15 @@
+use Rattle.std.proofs.Common.{◌<◌, arith, length}
+use Rattle.admission.proofs.Keeping.{map_next}
+use Rattle.admission.specs.Running.{less}
+use Rattle.admission.specs.declared.running.LinkSum.{LinkSum}
+use Rattle.admission.proofs.running.take_off.Goals as goal
+
+pub loop-sum-preserved : goal.loop-sum-preserved
+loop-sum-preserved c =
+    let before = c.args.sums.now.items in
+    let sums = c.loop-sum.sum-items in
+    let at = c.loop-sum.sum-index in
+    let none : LinkSum = record { link = 0; priority = 0; total = 0 } in
+    let within : at < length before = omega arith in
+    let inside : at < length sums = omega arith in
+    map_next (less c.args.touched.now c.args.claims.now) before sums at none c.take_off.new.self within inside c.loop-sum.invariant c.take_off.ensures

@@ -1,0 +1,6 @@
+pub mod Changes
+pub mod Filled
+pub mod Places
+pub mod RunRows
+pub mod SlotReads
+pub mod Swept

@@ -1,0 +1,68 @@
+use Rattle.std.proofs.Common.{◌≡◌, ◌++◌, ◌∷◌, [], suc, drop, refl, true, false, take, sym, subst, ap, ◌∙◌, arith}
+use Rattle.std.specs.Option.{IsSome}
+use Rattle.std.specs.Prelude.{vec_capacity}
+use Rattle.slab.specs.Slab.{get}
+use Rattle.slot_rows.specs.Slots.{rows_of}
+use Rattle.slot_rows.proofs.Filled.{length_read}
+use Rattle.slot_rows.proofs.Changes.{changed_at, gone_at, has_row, row_of_place, that_row}
+use Rattle.slot_rows.proofs.Swept.{swept, swept_goes, swept_stays}
+use Rattle.slot_rows.proofs.slots.OrderedSlots.sweep_place.Goals as goal
+
+pub remove-requires : goal.remove-requires
+remove-requires g c =
+    let s = c.args.self.now in
+    let gone = c.remove-emptied in
+    let there = has_row g.K.Ord.cmp g.row.MOST g.met.K.Ord.total s.slots s.slots s.by_key.items (vec_capacity s.by_key) c.requires.slotted c.args.place gone.result c.requires.within gone.ensures.value in
+    subst IsSome (sym there) refl
+
+pub returns-then-stays_at : goal.returns-then-stays_at
+returns-then-stays_at g c =
+    let s = c.args.self.now in
+    let t = c.leave_at.new.slots in
+    let order = s.by_key.items in
+    let rows = rows_of s.slots order in
+    let capacity = vec_capacity s.by_key in
+    let at = c.index-slot.result.now in
+    let place = c.args.place in
+    let kept = c.requires.slotted in
+    let stays = g.S.Sweep.stays c.args.sweep.now in
+    let left : g.row.K.Denot × g.row.V.Denot → g.row.K.Denot × g.row.V.Denot = λ row. (row.0, g.S.Sweep.left c.args.sweep.now row.1) in
+    let row = row_of_place g.K.Ord.cmp g.row.MOST g.met.K.Ord.total s.slots t order capacity kept place c.requires.within in
+    let there = has_row g.K.Ord.cmp g.row.MOST g.met.K.Ord.total s.slots t order capacity kept place at c.requires.within c.index-slot.ensures in
+    let updates = c.leave_at.ensures.written row there in
+    let now = changed_at g.K.Ord.cmp g.row.MOST g.met.K.Ord.total s.slots t order capacity kept (g.S.Sweep.left c.args.sweep.now row.1) place at c.requires.within c.index-slot.ensures updates c.leave_at.ensures.len c.leave_at.ensures.capacity in
+    let is : stays row ≡ true = sym (c.stays_at.ensures row there) ∙ c.if-stays_at.true in
+    record {
+      slotted = now.slotted;
+      rows = λ d.
+          now.rows_are
+          ∙ swept_stays stays left rows place row (omega (arith, c.requires.within, length_read (get s.slots) order rows kept.filled)) is
+          ∙ ap (λ r. take place rows ++ swept stays left (r ∷ []) ++ drop (suc place) rows) (that_row g.K.Ord.cmp g.row.MOST g.met.K.Ord.total s.slots t order capacity kept place c.requires.within d);
+      capacity = c.leave_at.ensures.capacity;
+    }
+
+pub returns-else-stays_at : goal.returns-else-stays_at
+returns-else-stays_at g c =
+    let s = c.args.self.now in
+    let t = c.remove.new.self in
+    let order = s.by_key.items in
+    let rows = rows_of s.slots order in
+    let capacity = vec_capacity s.by_key in
+    let at = c.index-slot.result.now in
+    let place = c.args.place in
+    let kept = c.requires.slotted in
+    let stays = g.S.Sweep.stays c.args.sweep.now in
+    let left : g.row.K.Denot × g.row.V.Denot → g.row.K.Denot × g.row.V.Denot = λ row. (row.0, g.S.Sweep.left c.args.sweep.now row.1) in
+    let row = row_of_place g.K.Ord.cmp g.row.MOST g.met.K.Ord.total s.slots t order capacity kept place c.requires.within in
+    let there = has_row g.K.Ord.cmp g.row.MOST g.met.K.Ord.total s.slots t order capacity kept place at c.requires.within c.index-slot.ensures in
+    let is : stays row ≡ false = sym (c.stays_at.ensures row there) ∙ c.if-stays_at.false in
+    let gone = c.remove-emptied in
+    let now = gone_at g.K.Ord.cmp g.row.MOST g.met.K.Ord.total s.slots t order capacity kept place gone.result (vec_capacity gone.new.self) gone.new.self.items c.requires.within gone.ensures.value gone.ensures.items c.remove.ensures.updates c.remove.ensures.len c.remove.ensures.capacity gone.ensures.capacity in
+    record {
+      slotted = now.slotted;
+      rows = λ d.
+          now.rows_are
+          ∙ swept_goes stays left rows place row is
+          ∙ ap (λ r. take place rows ++ swept stays left (r ∷ []) ++ drop (suc place) rows) (that_row g.K.Ord.cmp g.row.MOST g.met.K.Ord.total s.slots t order capacity kept place c.requires.within d);
+      capacity = c.remove.ensures.capacity;
+    }

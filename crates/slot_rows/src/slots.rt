@@ -1,0 +1,169 @@
+// Rows in slots, with the slots in the order of the keys.
+ghost use Rattle.std.specs.FinMap.Entries.{find, is_sorted, put, where_key};
+ghost use Rattle.std.specs.Option.{option_copied, option_map_or};
+ghost use Rattle.std.specs.Ordering.{is_eq};
+ghost use Rattle.std.specs.declared.cmp.Ordering.TheVariants.{Equal, Less};
+ghost use Rattle.std.specs.Prelude.{◌≡◌, ◌≢◌, ◌<◌, ◌≤◌, ℕ, T, Some, None, [], IfErr, IfNone, IfOk, IfSome, IsSome, IsSomeAnd, insert, length, not, remove, slice_get, slice_index_or, slice_set, vec_capacity};
+ghost use Rattle.slab.specs.Slab.{Updates, get, slab_len};
+ghost use Rattle.slot_rows.specs.Slots.{AreFilled, IsSlotted, rows_of};
+
+use slab::Slab;
+use std::alloc::{AllocError, Global};
+use std::cmp::Ordering;
+
+/// Rows of a key and a value, each in a slot that it keeps, and the slots in the order of the keys. Its functions ask
+/// that the parts belong together, and leave them so: at most `MOST` rows, in memory that `new` takes.
+#[derive(Debug, Drop)]
+pub struct OrderedSlots<K, V, const MOST: usize> {
+    /// The rows, by slot.
+    pub slots: Slab<(K, V)>,
+    /// The slots that have a row, in the order of the keys.
+    pub by_key: Vec<usize>,
+}
+
+/// How a slot's row compares with a key: below it where the slot has none.
+fn cmp_at<K: Ord, V>(slots: &Slab<(K, V)>, slot: usize, key: &K) -> Ordering
+    ensures { result ≡ option_map_or (λ row. K.cmp row.0 key.now) (get slots.now slot) Less }
+{
+    match slots.get(slot) {
+        Some(row) => row.0.cmp(key),
+        None => Ordering::Less,
+    }
+}
+
+/// The place of a key's slot among the slots in the order of the keys, or the place where it belongs, and what an edit
+/// there does to the rows. A binary search.
+pub fn place<K: Ord, V>(slots: &Slab<(K, V)>, by_key: &[usize], key: &K) -> Result<usize, usize>
+    requires filled { AreFilled slots.now by_key.now }
+    requires in_order { T (is_sorted K.cmp (rows_of slots.now by_key.now)) }
+    ensures found { IfOk result (λ i. (i < length by_key.now)
+        × ((d : K × V) → find K.cmp key.now (rows_of slots.now by_key.now)
+        ≡ Some (slice_index_or (rows_of slots.now by_key.now) i d).1)
+        × ((v : V) (d : K × V) → put K.cmp key.now v (rows_of slots.now by_key.now)
+        ≡ slice_set (rows_of slots.now by_key.now) i ((slice_index_or (rows_of slots.now by_key.now) i d).0, v))
+        × (where_key K.cmp (λ k. not (is_eq (K.cmp key.now k))) (rows_of slots.now by_key.now)
+        ≡ remove (rows_of slots.now by_key.now) i)) }
+    ensures ties { IfOk result (λ i. (d : K × V) →
+        K.cmp (slice_index_or (rows_of slots.now by_key.now) i d).0 key.now ≡ Equal) }
+    ensures absent { IfErr result (λ i. (i ≤ length by_key.now)
+        × (find K.cmp key.now (rows_of slots.now by_key.now) ≡ None)
+        × ((v : V) → put K.cmp key.now v (rows_of slots.now by_key.now)
+        ≡ insert (rows_of slots.now by_key.now) i (key.now, v))
+        × (where_key K.cmp (λ k. not (is_eq (K.cmp key.now k))) (rows_of slots.now by_key.now)
+        ≡ rows_of slots.now by_key.now)) }
+{
+    by_key.binary_search_by(|slot| cmp_at(slots, *slot, key))
+}
+
+/// Sets the value of a slot's row, and changes no other slot.
+pub fn write_value<K, V: Drop>(slots: &mut Slab<(K, V)>, slot: usize, value: V)
+    ensures written { (row : K × V) → get slots.old slot ≡ Some row → Updates slots.old slots.new slot (Some (row.0, value)) }
+    ensures len { slab_len slots.new ≡ slab_len slots.old }
+    ensures capacity { slots.new.capacity ≡ slots.old.capacity }
+{
+    if let Some(row) = slots.get_mut(slot) {
+        row.1 = value;
+    }
+}
+
+impl<K: Ord, V, const MOST: usize> OrderedSlots<K, V, MOST> {
+    /// No rows. Takes the memory of all rows that there may ever be; the only error is that there is too little.
+    pub fn new(alloc: Global) -> Result<OrderedSlots<K, V, MOST>, AllocError>
+        ensures slotted { IfOk result (λ s. IsSlotted K.cmp MOST s.slots s.by_key.items (vec_capacity s.by_key)) }
+        ensures empty { IfOk result (λ s. s.by_key.items ≡ []) }
+    {
+        // The index first: it is let go where the slots get no memory.
+        let by_key = Vec::with_capacity(alloc, MOST)?;
+        Ok(OrderedSlots {
+            slots: Slab::with_capacity(alloc, MOST)?,
+            by_key,
+        })
+    }
+
+    /// The row at a place, in the order of the keys, from 0 on; `None` past the last.
+    pub fn row(&self, place: usize) -> Option<&(K, V)>
+        requires { AreFilled self.now.slots self.now.by_key.items }
+        ensures { option_copied result ≡ slice_get (rows_of self.now.slots self.now.by_key.items) place }
+    {
+        if place < self.by_key.len() {
+            self.slots.get(self.by_key[place])
+        } else {
+            None
+        }
+    }
+
+    /// The value under a key, or `None` where there is no such key.
+    pub fn get(&self, key: &K) -> Option<&V>
+        requires { IsSlotted K.cmp MOST self.now.slots self.now.by_key.items (vec_capacity self.now.by_key) }
+        ensures { option_copied result ≡ find K.cmp key.now (rows_of self.now.slots self.now.by_key.items) }
+    {
+        match place(&self.slots, &self.by_key, key) {
+            Ok(index) => match self.slots.get(self.by_key[index]) {
+                Some(row) => Some(&row.1),
+                None => None,
+            },
+            Err(_) => None,
+        }
+    }
+}
+
+impl<K: Ord + Drop, V: Drop, const MOST: usize> OrderedSlots<K, V, MOST> {
+    /// Sets the value under a key, and answers the slot of its row. It asks that there are at most `MOST` rows then.
+    pub fn set(&mut self, key: K, value: V) -> usize
+        requires slotted { IsSlotted K.cmp MOST self.old.slots self.old.by_key.items (vec_capacity self.old.by_key) }
+        requires few { length (put K.cmp key value (rows_of self.old.slots self.old.by_key.items)) ≤ MOST }
+        ensures slotted { IsSlotted K.cmp MOST self.new.slots self.new.by_key.items (vec_capacity self.new.by_key) }
+        ensures rows { rows_of self.new.slots self.new.by_key.items
+            ≡ put K.cmp key value (rows_of self.old.slots self.old.by_key.items) }
+        // The slot has the value now, under this key or one that compares as equal, and no other slot changed.
+        ensures slot { IsSomeAnd (get self.new.slots result) (λ row. (row.1 ≡ value) × (K.cmp row.0 key ≡ Equal)) }
+        ensures others { (other : ℕ) → other ≢ result → get self.new.slots other ≡ get self.old.slots other }
+        ensures capacity { self.new.slots.capacity ≡ self.old.slots.capacity }
+    {
+        match place(&self.slots, &self.by_key, &key) {
+            Ok(index) => {
+                let slot = self.by_key[index];
+                write_value(&mut self.slots, slot, value);
+                slot
+            }
+            Err(index) => {
+                let slot = self.slots.insert_reserved((key, value));
+                self.by_key.insert(index, slot).unwrap();
+                slot
+            }
+        }
+    }
+
+    /// Removes a key and its value, and answers the slot that is empty now; `None` where there is no such key.
+    pub fn remove(&mut self, key: &K) -> Option<usize>
+        requires { IsSlotted K.cmp MOST self.old.slots self.old.by_key.items (vec_capacity self.old.by_key) }
+        ensures slotted { IsSlotted K.cmp MOST self.new.slots self.new.by_key.items (vec_capacity self.new.by_key) }
+        ensures rows { rows_of self.new.slots self.new.by_key.items
+            ≡ where_key K.cmp (λ k. not (is_eq (K.cmp key.now k))) (rows_of self.old.slots self.old.by_key.items) }
+        ensures slot { IfSome result (λ slot. Updates self.old.slots self.new.slots slot None) }
+        ensures was { IfSome result (λ slot. IsSome (get self.old.slots slot)) }
+        ensures capacity { self.new.slots.capacity ≡ self.old.slots.capacity }
+        ensures absent { IfNone result (self.new ≡ self.old) }
+    {
+        match place(&self.slots, &self.by_key, key) {
+            Ok(index) => {
+                let slot = self.by_key.remove(index);
+                self.slots.remove(slot);
+                Some(slot)
+            }
+            Err(_) => None,
+        }
+    }
+
+    /// Removes all rows. Takes no memory.
+    pub fn clear(&mut self)
+        requires { IsSlotted K.cmp MOST self.old.slots self.old.by_key.items (vec_capacity self.old.by_key) }
+        ensures slotted { IsSlotted K.cmp MOST self.new.slots self.new.by_key.items (vec_capacity self.new.by_key) }
+        ensures empty { self.new.by_key.items ≡ [] }
+        ensures slots { self.new.slots.slots ≡ [] }
+        ensures capacity { self.new.slots.capacity ≡ self.old.slots.capacity }
+    {
+        self.slots.clear();
+        self.by_key.clear();
+    }
+}

@@ -1,0 +1,13 @@
+use Rattle.std.proofs.Common.{◌≡◌, ℕ, ◌<◌, List, ◌++◌, filter, length, take}
+use Rattle.timer_wheel.specs.Due.{is_due}
+use Rattle.timer_wheel.specs.Rings.{IsRing}
+use Rattle.timer_wheel.proofs.Passing.{IsAt}
+use Rattle.timer_wheel.proofs.walks.push_due.Given as goal
+
+-- those of the slots that were passed that are due were added
+abbrev pub invariant-loop-passed : goal.invariant-loop-passed
+invariant-loop-passed l =
+    record {
+      within : l.at < length l.after;
+      passed : (slots : List ℕ) → IsRing l.after (length l.moments) l.head slots → IsAt l.after l.head slots l._passed l.at × (l.due.items ≡ l.fn.due.items ++ filter (is_due l.now l.moments) (take l._passed slots));
+    }

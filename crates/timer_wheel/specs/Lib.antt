@@ -1,0 +1,4 @@
+pub mod Due
+pub mod Rings
+pub mod TimedLaws
+pub mod Wheels

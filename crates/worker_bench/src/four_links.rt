@@ -1,0 +1,132 @@
+//! A router with four links over sockets, and its neighbours.
+
+use crate::sending::Sender;
+use lsr_config::BUILT_IN;
+use lsr_serve::LinkSockets;
+use sorted_rows::Table;
+use std::alloc::{AllocError, Global};
+use std::net::{Net, UdpSocket};
+use std::sync::atomic::AtomicU64;
+use worker_fixtures::{Fault, LABELLED_FRAME, OUT_LINK, PATH_FRAME, RESV_FRAME, about_tunnel};
+
+/// How many links the router has.
+pub const LINKS: u16 = 4;
+
+/// Those that the built-in router hasn't. Its link 2 leads on to where the Path of [`PATH_FRAME`] goes.
+const MORE_LINKS: &str = r#"
+[[link]]
+number = 3
+address = "10.3.0.2"
+peer = "10.3.0.5"
+peer_router = "10.0.0.5"
+limit = 1250000
+
+[[link]]
+number = 4
+address = "10.4.0.2"
+peer = "10.4.0.7"
+peer_router = "10.0.0.7"
+limit = 1250000
+"#;
+
+/// The configuration of the router. The only error is out of memory.
+pub fn four_links(alloc: Global) -> Result<String, AllocError> {
+    format!(in alloc; "{BUILT_IN}{MORE_LINKS}")
+}
+
+/// The tunnels whose Paths come where frames are forwarded, each over the link of its number. Whichever comes first has the label of
+/// [`LABELLED_FRAME`], so the Resvs of all three come.
+const TUNNELS: [u16; 3] = [1, 3, 4];
+/// How many labelled frames come for each message, where frames are forwarded.
+const FRAMES_A_MESSAGE: usize = 15;
+
+/// What the neighbours send.
+#[derive(Clone, Copy)]
+pub enum Traffic {
+    /// Each its own Path, again and again.
+    Paths,
+    /// Labelled frames, and for 15 of them a message: of link 2 the Resvs of the others' Paths, one after the other, else a Path.
+    Frames,
+}
+
+/// Adds a message about a tunnel, and so many labelled frames after it.
+fn push_round(
+    alloc: Global,
+    frames: &mut Vec<Vec<u8>>,
+    message: &[u8],
+    tunnel: u16,
+    labelled: usize,
+) -> Result<(), AllocError> {
+    frames.push(about_tunnel(alloc, message, tunnel)?)?;
+    for _ in 0..labelled {
+        frames.push(Vec::from_slice(alloc, LABELLED_FRAME)?)?;
+    }
+    Ok(())
+}
+
+/// The frames that the neighbour of link 2 sends round and round, where frames are forwarded.
+fn resvs_and_frames(alloc: Global) -> Result<Vec<Vec<u8>>, AllocError> {
+    let mut frames = Vec::new(alloc);
+    for tunnel in TUNNELS {
+        push_round(alloc, &mut frames, RESV_FRAME, tunnel, FRAMES_A_MESSAGE)?;
+    }
+    Ok(frames)
+}
+
+/// The frames that the neighbour of a link sends round and round.
+fn frames_of(alloc: Global, traffic: Traffic, link: u16) -> Result<Vec<Vec<u8>>, AllocError> {
+    let labelled = match (traffic, link) {
+        (Traffic::Frames, OUT_LINK) => return resvs_and_frames(alloc),
+        (Traffic::Frames, _) => FRAMES_A_MESSAGE,
+        (Traffic::Paths, _) => 0,
+    };
+    let mut frames = Vec::new(alloc);
+    push_round(alloc, &mut frames, PATH_FRAME, link, labelled)?;
+    Ok(frames)
+}
+
+/// The neighbour of a link, which sends so many frames. The fault is that its socket can't be had, or memory ran out.
+fn open_sender<'a, R: Net>(
+    net: &R,
+    alloc: Global,
+    link: u16,
+    sockets: LinkSockets,
+    traffic: Traffic,
+    taken: &'a AtomicU64,
+    count: u32,
+) -> Result<Sender<'a>, Fault> {
+    let frames = frames_of(alloc, traffic, link)?;
+    match UdpSocket::bind(net, sockets.send) {
+        Ok(socket) => Ok(Sender {
+            socket,
+            to: sockets.listen,
+            frames,
+            taken,
+            count,
+        }),
+        Err(_) => Err(Fault::Socket(link)),
+    }
+}
+
+/// Puts one more neighbour to the others. The only error is out of memory.
+fn add_sender<'a>(senders: &mut Vec<Sender<'a>>, sender: Sender<'a>) -> Result<(), AllocError> {
+    senders.push(sender)?;
+    Ok(())
+}
+
+/// The neighbours of the links, each of which sends so many frames, with how many of them were taken.
+pub fn open_senders<'a, R: Net>(
+    net: &R,
+    alloc: Global,
+    links: &Table<u16, LinkSockets>,
+    traffic: Traffic,
+    counts: &'a [AtomicU64],
+    count: u32,
+) -> Result<Vec<Sender<'a>>, Fault> {
+    let mut senders = Vec::new(alloc);
+    for (row, taken) in links.as_slice().iter().zip(counts) {
+        let sender = open_sender(net, alloc, row.0, row.1, traffic, taken, count)?;
+        add_sender(&mut senders, sender)?;
+    }
+    Ok(senders)
+}
