@@ -1,5 +1,6 @@
 -- The claims of a session stand together in the order of keys.
-use Rattle.std.proofs.Common.{◌≡◌, ℕ, zero, suc, ◌-◌, ◌<◌, ◌≤◌, T, Bool, true, false, cond, not, ◌&&◌, List, [], ◌∷◌, length, get_or, take, drop, refl, sym, ap, subst, ◌∙◌, arith}
+use borrow.Author.Count.{below_more}
+use Rattle.std.proofs.Common.{◌≡◌, ℕ, zero, suc, ◌-◌, ◌<◌, ◌≤◌, T, Bool, true, false, cond, not, ◌&&◌, List, [], ◌∷◌, ◌+◌, length, get_or, take, drop, refl, sym, ap, subst, ◌∙◌, arith}
 use Rattle.std.specs.FinMap.Entries.{is_sorted}
 use Rattle.std.specs.List.{filter}
 use Rattle.std.specs.List.Sorted.{IsPartitionPoint, IsPartitionedBy}
@@ -7,7 +8,7 @@ use Rattle.std.specs.Ordering.{is_eq, is_gt, is_le, is_lt, ordering_reverse}
 use Rattle.std.specs.declared.cmp.Ordering.{Ordering}
 use Rattle.std.specs.declared.cmp.Ordering.TheVariants.{Less, Equal, Greater}
 use Rattle.std.proofs.lemmas.Cmp.{tied_itself}
-use Rattle.std.proofs.lemmas.List.{take_rest}
+use Rattle.std.proofs.lemmas.List.{get_or_default, take_rest}
 use Rattle.std.proofs.lemmas.List.Elements.{All-from_recursion, filter_agree}
 use Rattle.rsvp_objects.specs.declared.values.Session.{Session}
 use Rattle.sorted_rows.specs.RowsLaws.{all-below, first, is_sorted-filter, second}
@@ -77,6 +78,35 @@ before_parts session claims h i j d low within is =
 pub upto_parts : (session : Session) (claims : List (Key × Claim)) → T (is_sorted key_cmp claims) → IsPartitionedBy (comes_upto session) claims
 upto_parts session claims h i j d low within is =
     within_too (get_or claims i d).0.session (get_or claims j d).0.session session (session_cmp (get_or claims j d).0.session session) refl (rise claims i j d h low within) is
+
+-- what is not above is within
+within_is : (o : Ordering) (above : Bool) → is_gt o ≡ above → is_le o ≡ not above
+within_is Less above is = ap not is
+within_is Equal above is = ap not is
+within_is Greater above is = ap not is
+
+-- the claims of sessions up to one, counted from the first on
+module _ (session : Session) (claims : List (Key × Claim)) (i : ℕ) (e : Key × Claim) (within : i < length claims) (upto : (k : ℕ) (d : Key × Claim) → k < i → comes_upto session (get_or claims k d) ≡ true) where
+  -- whatever stands for the row at the place, if there were none
+  here : (above : Bool) → is_gt (session_cmp (get_or claims i e).0.session session) ≡ above → (d : Key × Claim) → comes_upto session (get_or claims i d) ≡ not above
+  here above is d =
+      ap (comes_upto session) (get_or_default claims i d e within) ∙ within_is (session_cmp (get_or claims i e).0.session session) above is
+
+  -- one more is
+  pub upto_more : is_gt (session_cmp (get_or claims i e).0.session session) ≡ false → (k : ℕ) (d : Key × Claim) → k < i + 1 → comes_upto session (get_or claims k d) ≡ true
+  upto_more is k d below =
+      below_more (λ n. (row : Key × Claim) → comes_upto session (get_or claims n row) ≡ true) i (λ n low row. upto n row low) (here false is) k below d
+
+  -- and where the next isn't, no other one is
+  pub upto_ends : T (is_sorted key_cmp claims) → is_gt (session_cmp (get_or claims i e).0.session session) ≡ true → IsPartitionPoint (λ (row : Key × Claim). comes_upto session row ≡ true) (λ (row : Key × Claim). comes_upto session row ≡ false) claims i
+  upto_ends h is = (
+    λ k d low below. upto k d below,
+    λ k d from inside. fails (comes_upto session (get_or claims k d)) (λ passes. upto_parts session claims h i k d from inside passes) (here true is d),
+  )
+    where
+      fails : (b : Bool) {a : Bool} → (b ≡ true → a ≡ true) → a ≡ false → b ≡ false
+      fails true front not_front = sym (front refl) ∙ not_front
+      fails false front not_front = refl
 
 -- a session that is neither before another nor behind it is that one
 one_session : (session : Session) (row : Key × Claim) → (not (comes_before session row) && comes_upto session row) ≡ is_of session row

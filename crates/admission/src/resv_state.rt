@@ -12,7 +12,7 @@ ghost use Rattle.sorted_rows.specs.Rows.{keys_of};
 
 use lsr_facts::Key;
 use lsr_facts::limits::MAX_LSPS;
-use resv_facts::{ResvFact, ResvStyle, is_same_session, is_same_style};
+use resv_facts::{KeyNumber, ResvFact, ResvStyle, is_same_session, is_same_style};
 use rsvp_objects::Session;
 use slot_rows::{Probe, RowTest};
 use sorted_rows::{Sweep, Table, TryCopy};
@@ -25,7 +25,7 @@ use timed_rows::{Timed, TimedTable};
 /// Contracts see the list of keys and facts.
 #[derive(Debug, Drop)]
 pub(crate) struct ResvState {
-    rows: TimedTable<Key, ResvFact, Expiry, MAX_LSPS>,
+    rows: TimedTable<Key, ResvFact, Expiry, KeyNumber, MAX_LSPS>,
 }
 
 impl Model for ResvState {

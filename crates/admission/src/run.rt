@@ -2,8 +2,10 @@
 
 ghost use Rattle.std.specs.FinMap.Entries.{is_sorted};
 ghost use Rattle.std.specs.List.{AllByRecursion};
-ghost use Rattle.std.specs.Prelude.{◌≡◌, ◌+◌, ◌^◌, ◌<◌, ◌≤◌, max, T, filter, if◌then◌else◌, length, true};
-ghost use Rattle.lsr_facts.specs.Orders.{key_cmp};
+ghost use Rattle.std.specs.List.Sorted.{IsPartitionPoint};
+ghost use Rattle.std.specs.Ordering.{is_le};
+ghost use Rattle.std.specs.Prelude.{◌≡◌, ◌+◌, ◌^◌, ◌<◌, ◌≤◌, max, T, false, filter, if◌then◌else◌, length, true};
+ghost use Rattle.lsr_facts.specs.Orders.{key_cmp, session_cmp};
 ghost use Rattle.resv_facts.specs.Claims.{is_fixed, is_of, is_shared, reserved_of};
 ghost use Rattle.admission.specs.Bandwidths.{AreRated};
 
@@ -12,7 +14,22 @@ use lsr_facts::Key;
 use resv_facts::{Claim, ResvStyle};
 use rsvp_objects::Session;
 
-/// The claims of a session, which stand together in the order of keys. Two binary searches.
+/// How many of the claims, from the first one on, are of a session or of those before it. It goes over these alone.
+fn count_upto(claims: &[(Key, Claim)], session: &Session) -> usize
+    requires { T (is_sorted key_cmp claims.now) }
+    ensures bound { result ≤ length claims.now }
+    ensures upto { IsPartitionPoint (λ row. is_le (session_cmp row.0.session session.now) ≡ true)
+        (λ row. is_le (session_cmp row.0.session session.now) ≡ false) claims.now result }
+{
+    for (count, row) in claims.iter().enumerate() {
+        if row.0.session.cmp(session).is_gt() {
+            return count;
+        }
+    }
+    claims.len()
+}
+
+/// The claims of a session, which stand together in the order of keys. A binary search, and then it goes over them.
 pub fn run_of<'a>(claims: &'a [(Key, Claim)], session: &Session) -> &'a [(Key, Claim)]
     requires sorted { T (is_sorted key_cmp claims.now) }
     requires rated { AreRated claims.now }
@@ -24,7 +41,7 @@ pub fn run_of<'a>(claims: &'a [(Key, Claim)], session: &Session) -> &'a [(Key, C
 {
     let start = claims.partition_point(|row| row.0.session.cmp(session).is_lt());
     let from = &claims[start..];
-    let end = from.partition_point(|row| row.0.session.cmp(session).is_le());
+    let end = count_upto(from, session);
     &from[..end]
 }
 

@@ -25,7 +25,10 @@ pub fn copy_behind<T: Subobject>(
     requires { length (flat_map T.spelling (first ∷ items.now)) ≤ 65528 }
     ensures { IfOk result (λ copy. copy ≡ first ∷ items.now) }
 {
-    let mut copy = Vec::from_clones(alloc, items)?;
-    copy.insert(0, first)?;
+    let mut copy = Vec::with_capacity(alloc, items.len().saturating_add(1))?;
+    copy.push(first)?;
+    for item in items {
+        copy.push(item.clone()?)?;
+    }
     Ok(Subobjects::from_vec(copy))
 }

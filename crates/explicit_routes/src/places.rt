@@ -8,7 +8,7 @@ ghost use Rattle.lsr_facts.specs.Routers.{is_same, link_at};
 ghost use Rattle.abstract_paths.specs.Places.{contains, is_here, is_own, is_up, neighbour};
 ghost use Rattle.abstract_paths.specs.Places.{place_at};
 
-use lsr_facts::{Link, Node, Router};
+use lsr_facts::{Link, Node, Router, is_same_address};
 use rsvp_routes::Prefix;
 use sorted_rows::Table;
 use std::net::Ipv4Addr;
@@ -25,7 +25,7 @@ fn is_link_address(router: &Router, address: Ipv4Addr) -> bool
         .as_slice()
         .iter()
         .map(|row| row.1.address)
-        .any(|own| address == own)
+        .any(|own| is_same_address(address, own))
 }
 
 /// Whether an address is the router's own: its id, or its address on a link.
@@ -33,7 +33,7 @@ fn is_link_address(router: &Router, address: Ipv4Addr) -> bool
 pub fn is_own(router: &Router, address: Ipv4Addr) -> bool
     ensures { result ≡ is_own router.now address }
 {
-    address == router.id || is_link_address(router, address)
+    is_same_address(address, router.id) || is_link_address(router, address)
 }
 
 /// The prefix of one node, by its address.

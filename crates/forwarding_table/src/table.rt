@@ -9,7 +9,8 @@ ghost use Rattle.forwarding_table.specs.Forwarding.{forward_of};
 use crate::action::Action;
 use crate::forwarding::{Forwarding, LabelActions, forward};
 use label_stacks::Stack;
-use sorted_rows::{ReservedTable, Table, TryCopy, copy_plain_rows, make_edits};
+use slot_rows::{OwnNumber, SlotTable, make_edits};
+use sorted_rows::{Table, TryCopy};
 use std::alloc::{AllocError, Global};
 use std::marker::Model;
 
@@ -22,8 +23,8 @@ pub const MAX_TUNNEL_ROWS: usize = 256;
 /// 3.12), by number, at most [`MAX_TUNNEL_ROWS`]; each in order. Contracts see both lists.
 #[derive(Debug, Drop)]
 pub struct ForwardingTable {
-    labels: ReservedTable<u32, Action, MAX_LABEL_ROWS>,
-    tunnels: ReservedTable<u16, Action, MAX_TUNNEL_ROWS>,
+    labels: SlotTable<u32, Action, OwnNumber, MAX_LABEL_ROWS>,
+    tunnels: SlotTable<u16, Action, OwnNumber, MAX_TUNNEL_ROWS>,
 }
 
 impl Model for ForwardingTable {
@@ -43,8 +44,8 @@ impl ForwardingTable {
         ensures { IfOk result (λ table. table ≡ record { labels = []; tunnels = [] }) }
     {
         Ok(ForwardingTable {
-            labels: ReservedTable::new(alloc)?,
-            tunnels: ReservedTable::new(alloc)?,
+            labels: SlotTable::new(alloc)?,
+            tunnels: SlotTable::new(alloc)?,
         })
     }
 
@@ -52,7 +53,7 @@ impl ForwardingTable {
     pub fn labels_copied(&self, alloc: Global) -> Result<Table<u32, Action>, AllocError>
         ensures { IfOk result (λ labels. labels ≡ self.now.labels) }
     {
-        Ok(Table::from_rows(copy_plain_rows(alloc, self.labels.as_slice())?))
+        self.labels.copied(alloc)
     }
 
     /// How many labels have an action.

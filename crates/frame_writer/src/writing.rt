@@ -12,6 +12,9 @@ use rsvp_contents::Reading;
 use std::alloc::AllocError;
 use std::net::Ipv4Addr;
 
+/// Most frames are written in fewer bytes: room for these is taken at once.
+const USUAL_LEN: usize = 256;
+
 /// Appends the payload's kind and the payload.
 fn put_payload(payload: &Payload, out: &mut Vec<u8>) -> Result<(), AllocError>
     ensures ok { OnOk result (out.new.items ≡ out.old.items ++ payload_bytes payload.now) }
@@ -87,6 +90,7 @@ pub fn write_frame(frame: &Frame, out: &mut Vec<u8>) -> Result<(), AllocError>
     ensures carried { OnOk result (CarriesAgain frame.now) }
     ensures err { OnErr result (out.new.items ≡ out.old.items) }
 {
+    out.reserve(USUAL_LEN)?;
     let start = out.len();
     if let Err(error) = put_frame(frame, out) {
         out.truncate(start);

@@ -1,3 +1,4 @@
 pub mod ChecksumLaws
 pub mod Checksums
 pub mod OnesSums
+pub mod WideSums

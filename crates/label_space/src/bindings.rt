@@ -15,7 +15,9 @@ ghost use Rattle.label_space.specs.Turns.{CanHold, MayHold, emptied};
 use crate::space::LabelSpace;
 use lsr_facts::limits::MAX_LSPS;
 use lsr_facts::{Key, LabelRange};
-use sorted_rows::{ReservedTable, Table, TryCopy, copy_plain_rows};
+use resv_facts::KeyNumber;
+use slot_rows::SlotTable;
+use sorted_rows::{Table, TryCopy};
 use std::alloc::{AllocError, Global};
 use std::marker::Model;
 
@@ -24,7 +26,7 @@ use std::marker::Model;
 /// the list of keys and labels in the order of the keys.
 #[derive(Debug, Drop)]
 pub struct LabelBindings {
-    by_lsp: ReservedTable<Key, u32, MAX_LSPS>,
+    by_lsp: SlotTable<Key, u32, KeyNumber, MAX_LSPS>,
     space: LabelSpace,
 }
 
@@ -39,13 +41,15 @@ impl Model for LabelBindings {
 }
 
 /// All labels that LSPs hold are free again. The rows are of the LSPs, each with its label.
-fn release_held(space: &mut LabelSpace, rows: &[(Key, u32)])
+fn release_held(space: &mut LabelSpace, rows: &SlotTable<Key, u32, KeyNumber, MAX_LSPS>)
     requires { AreBound space.old rows.now }
     ensures free { AreBound space.new [] }
     ensures range { space.new.range ≡ space.old.range }
 {
-    for row in rows {
-        space.release(row.1);
+    for place in 0..rows.len() {
+        if let Some(row) = rows.row(place) {
+            space.release(row.1);
+        }
     }
 }
 
@@ -57,7 +61,7 @@ impl LabelBindings {
         ensures { IfOk result (λ bindings. bindings ≡ record { range = range; labels = [] }) }
     {
         Ok(LabelBindings {
-            by_lsp: ReservedTable::new(alloc)?,
+            by_lsp: SlotTable::new(alloc)?,
             space: LabelSpace::new(alloc, range)?,
         })
     }
@@ -97,7 +101,7 @@ impl LabelBindings {
     pub fn copied(&self, alloc: Global) -> Result<Table<Key, u32>, AllocError>
         ensures { IfOk result (λ labels. labels ≡ self.now.labels) }
     {
-        Ok(Table::from_rows(copy_plain_rows(alloc, self.by_lsp.as_slice())?))
+        self.by_lsp.copied(alloc)
     }
 
     /// A label of the range that no LSP holds: of these the one that has been free longest. `None` where LSPs hold all.
@@ -168,7 +172,7 @@ impl LabelBindings {
     pub fn clear(&mut self)
         ensures { self.new ≡ record self.old { labels = [] } }
     {
-        release_held(&mut self.space, self.by_lsp.as_slice());
+        release_held(&mut self.space, &self.by_lsp);
         self.by_lsp.clear();
     }
 }

@@ -31,5 +31,6 @@ pub use refusal::Refusal;
 pub use reply::Reply;
 pub use router::{LabelRange, Link, Router};
 pub use rsvp_contents::Passing;
+pub use rsvp_objects::is_same_address;
 pub use same::Same;
 pub use tunnel::{Noted, Tunnel, TunnelLsp};

@@ -3,6 +3,7 @@ ghost use Rattle.lsr_facts.specs.Timeless.{timeless_origin, timeless_path};
 
 use crate::same::Same;
 use rsvp_contents::{Attr, FastReroute, Hop, LabelRequest, Passing, Record, Route, Tspec};
+use rsvp_objects::is_same_address;
 use sorted_rows::{Table, TryCopy};
 use std::alloc::{AllocError, Global};
 use std::net::Ipv4Addr;
@@ -108,11 +109,20 @@ impl Drop for PathFact {
     }
 }
 
+/// Whether two hops are one.
+fn is_same_hop(hop: &Hop, other: &Hop) -> bool
+    ensures { result ≡ true → hop.now ≡ other.now }
+{
+    is_same_address(hop.address, other.address) && hop.interface == other.interface
+}
+
 /// Whether these are the same origins, but for when they expire.
 fn is_same_origin(origin: &(Ipv4Addr, Origin), other: &(Ipv4Addr, Origin)) -> bool
     ensures { result ≡ true → timeless_origin origin.now ≡ timeless_origin other.now }
 {
-    origin.0 == other.0 && origin.1.via == other.1.via && origin.1.hop == other.1.hop
+    is_same_address(origin.0, other.0)
+        && origin.1.via == other.1.via
+        && is_same_hop(&origin.1.hop, &other.1.hop)
 }
 
 /// Whether these are the same origins in the same order, but for when they expire.

@@ -3,6 +3,7 @@
 ghost use Rattle.std.specs.Prelude.{◌≡◌, find, take, false};
 ghost use Rattle.std.specs.Option.{option_map, option_map_or};
 ghost use Rattle.rsvp_objects.specs.Objects.{raw_of};
+ghost use Rattle.rsvp_objects.specs.declared.object.Object.TheVariants.{Other};
 ghost use Rattle.rsvp_flows.specs.Flows.{is_flow};
 ghost use Rattle.rsvp_flows.specs.Styles.{is_other};
 ghost use Rattle.rsvp_contents.specs.Behind.{is_misplaced, looked_at, up_to_style};
@@ -12,7 +13,7 @@ ghost use Rattle.rsvp_contents.specs.Values.{picked, as_style};
 use rsvp_contents::numbers::*;
 use rsvp_flows::is_other;
 use rsvp_objects::numbers::*;
-use rsvp_objects::{Kind, Object, Style, Treatment};
+use rsvp_objects::{Kind, Object, Opaque, Style, Treatment};
 
 /// What the object is, as far as its class and C-Type tell.
 fn object_kind(object: &Object) -> Kind
@@ -98,14 +99,25 @@ fn is_used_by_resv(class: u8) -> bool
     )
 }
 
-/// Whether a message of this type with the object is one that isn't known (RFC 2205, 3.10 and B, 13 and 14).
+/// Whether a message of this type with an object that is kept as its bytes is one that isn't known (RFC 2205, 3.10
+/// and B, 13 and 14).
+fn refuses_kept(kind: u8, other: &Opaque) -> bool
+    ensures { result ≡ refuses kind (Other other.now) }
+{
+    match other.kind() {
+        Kind::Unknown(Treatment::Reject) => kind == TYPE_PATH || kind == TYPE_RESV,
+        Kind::Unlisted if kind == TYPE_PATH => is_used_by_path(other.class()),
+        Kind::Unlisted => kind == TYPE_RESV && is_used_by_resv(other.class()),
+        _ => false,
+    }
+}
+
+/// Whether a message of this type with the object is one that isn't known. An object that is read is known.
 fn refuses(kind: u8, object: &Object) -> bool
     ensures { result ≡ refuses kind object.now }
 {
-    match object_kind(object) {
-        Kind::Unknown(Treatment::Reject) => kind == TYPE_PATH || kind == TYPE_RESV,
-        Kind::Unlisted if kind == TYPE_PATH => is_used_by_path(object.class()),
-        Kind::Unlisted => kind == TYPE_RESV && is_used_by_resv(object.class()),
+    match object {
+        Object::Other(other) => refuses_kept(kind, other),
         _ => false,
     }
 }

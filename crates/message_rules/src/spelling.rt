@@ -30,6 +30,8 @@ pub(crate) fn is_same<T: Subobject>(
         (λ x y. pointwise nat_eq (flat_map T.spelling x) (flat_map T.spelling y)) a.now b.now) }
 {
     match (a, b) {
+        // The same subobjects are written as the same bytes.
+        (Some(a), Some(b)) if a == b => Ok(true),
         (Some(a), Some(b)) => {
             let first = bytes_of(alloc, a.as_slice())?;
             let second = bytes_of(alloc, b.as_slice())?;

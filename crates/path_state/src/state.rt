@@ -13,6 +13,7 @@ ghost use Rattle.path_state.specs.Origins.{origins_of};
 use crate::expiry::Expiry;
 use lsr_facts::limits::MAX_LSPS;
 use lsr_facts::{Key, Origin, PathFact, keep_living, lives_on};
+use resv_facts::KeyNumber;
 use rsvp_objects::Session;
 use slot_rows::Probe;
 use sorted_rows::{Sweep, Table, TryCopy};
@@ -26,7 +27,7 @@ use timed_rows::TimedTable;
 /// Contracts see the list of keys and facts.
 #[derive(Debug, Drop)]
 pub struct PathState {
-    rows: TimedTable<Key, PathFact, Expiry, MAX_LSPS>,
+    rows: TimedTable<Key, PathFact, Expiry, KeyNumber, MAX_LSPS>,
 }
 
 impl Model for PathState {

@@ -69,20 +69,18 @@ fn path_by(
     requires { moment ≤ 2 ^ 62 }
     ensures { IfOk result (λ fact. fact ≡ path_by moment (option_copied known.entry) link path.now way) }
 {
-    let origins = origins_by(alloc, moment, known, link, path)?;
-    let copy = path.clone()?;
     Ok(PathFact {
         role: role_of(&way),
-        origins,
+        origins: origins_by(alloc, moment, known, link, path)?,
         out_link: link_of(&way),
-        given: copy.route,
+        given: path.route.clone()?,
         rest: rest_of(way),
-        recorded: copy.recorded,
-        label_request: copy.label_request,
-        tspec: copy.tspec,
-        attr: copy.attr,
-        fast_reroute: copy.fast_reroute,
-        passing: copy.passing,
+        recorded: path.recorded.clone()?,
+        label_request: path.label_request,
+        tspec: path.tspec.clone()?,
+        attr: path.attr.clone()?,
+        fast_reroute: path.fast_reroute,
+        passing: path.passing.clone()?,
     })
 }
 
@@ -90,8 +88,10 @@ fn path_by(
 pub(crate) fn path_edit(alloc: Global, key: Key, now: Option<PathFact>) -> Result<Edits, AllocError>
     ensures { IfOk result (λ edits. edits ≡ record unedited { paths = (key, now) ∷ [] }) }
 {
+    let mut rows = Vec::with_capacity(alloc, 1)?;
+    rows.push((key, now))?;
     let mut edits = Edits::none(alloc);
-    edits.paths.set(key, now)?;
+    edits.paths = Table::from_rows(rows);
     Ok(edits)
 }
 

@@ -7,6 +7,7 @@ ghost use Rattle.sorted_rows.specs.Edits.{edited};
 ghost use Rattle.lsr_facts.specs.Lifetimes.{due_items};
 
 use crate::refresh::Refresh;
+use resv_facts::{KeyNumber, Numbered};
 use sorted_rows::{Table, TryCopy};
 use std::alloc::{AllocError, Global};
 use std::marker::Model;
@@ -15,11 +16,11 @@ use timed_rows::TimedTable;
 /// When each message that a router keeps alive was last sent (RFC 2205, 3.7): at most `MOST` messages, in the order of
 /// their items. Contracts see the refresh period, and the list of items and moments. Moments are in milliseconds.
 #[derive(Debug, Drop)]
-pub struct RefreshTimers<I: Ord, const MOST: usize> {
-    rows: TimedTable<I, u64, Refresh, MOST>,
+pub struct RefreshTimers<I: Numbered, const MOST: usize> {
+    rows: TimedTable<I, u64, Refresh, KeyNumber, MOST>,
 }
 
-impl<I: Ord, const MOST: usize> Model for RefreshTimers<I, MOST> {
+impl<I: Numbered, const MOST: usize> Model for RefreshTimers<I, MOST> {
     ghost use Rattle.refresh_timers.specs.Timers.{Timers};
 
     ghost Value = { Timers I };
@@ -27,7 +28,7 @@ impl<I: Ord, const MOST: usize> Model for RefreshTimers<I, MOST> {
     ghost view = { λ t. record { refresh_ms = t.rows.timing.period_ms; sent = t.rows.rows } };
 }
 
-impl<I: Ord + Copy + Drop, const MOST: usize> RefreshTimers<I, MOST> {
+impl<I: Numbered + Copy + Drop, const MOST: usize> RefreshTimers<I, MOST> {
     /// No messages, to be sent again every so many milliseconds. It reserves the memory of all messages that it may
     /// ever hold; the only error is that there is too little memory.
     pub fn new(alloc: Global, refresh_ms: u32) -> Result<RefreshTimers<I, MOST>, AllocError>
@@ -131,7 +132,7 @@ impl<I: Ord + Copy + Drop, const MOST: usize> RefreshTimers<I, MOST> {
     }
 }
 
-impl<I: Ord + Copy + Drop, const MOST: usize> TryCopy for RefreshTimers<I, MOST> {
+impl<I: Numbered + Copy + Drop, const MOST: usize> TryCopy for RefreshTimers<I, MOST> {
     fn try_copy(&self, alloc: Global) -> Result<RefreshTimers<I, MOST>, AllocError> {
         Ok(RefreshTimers {
             rows: self.rows.try_copy(alloc)?,

@@ -37,7 +37,7 @@ use Rattle.resv_arrivals.proofs.Gone.{edited_without}
 use Rattle.resv_arrivals.proofs.Renewing.{granted_again}
 use Rattle.resv_arrivals.proofs.Judging.{granted_may_be_put}
 use Rattle.resv_arrivals.proofs.Telling.{told_in_turn}
-use Rattle.resv_arrivals.specs.Progresses.{IsOwn, IsReached, IsRenewed, claims_at, fact_at, reached, resvs_at, told_of, without_edit}
+use Rattle.resv_arrivals.specs.Progresses.{IsOwn, IsReached, IsRenewed, claims_at, fact_at, reached, resvs_at, told_of, without_edits}
 use Rattle.resv_arrivals.specs.declared.asked.Asked.{Asked}
 use Rattle.resv_arrivals.specs.declared.progress.Progress.{Progress}
 
@@ -74,12 +74,12 @@ still_reached r s p now claims edits is = record {
   on_paths = subst (λ (es : List (Key × Option ResvFact)). AllByRecursion (λ (resv : Key × ResvFact). is_some (find key_cmp resv.0 s.facts.paths) ≡ true) (edited key_cmp es s.resvs)) (sym edits) is.on_paths;
 }
 
-module _ (r : Router) (s : State) (p now : Progress) (key : Key) (fact : ResvFact) (gone : List Key) (is : IsReached r s p) (may : verdict_of r (reached s p).state key fact ≡ reserving.Granted) (edits : now.edits ≡ put key_cmp key (Some fact) (fold without_edit p.edits gone)) where
+module _ (r : Router) (s : State) (p now : Progress) (key : Key) (fact : ResvFact) (gone : List Key) (is : IsReached r s p) (may : verdict_of r (reached s p).state key fact ≡ reserving.Granted) (edits : now.edits ≡ put key_cmp key (Some fact) (without_edits p.edits gone)) where
   -- what is reserved once it is granted
   resvs_then : resvs_at s now ≡ put key_cmp key fact (filter (λ resv. not (is_one_of gone resv.0)) (resvs_at s p))
   resvs_then =
       ap (λ (es : List (Key × Option ResvFact)). edited key_cmp es s.resvs) edits
-      ∙ edited-put key_cmp key_total key_exact key (Some fact) (fold without_edit p.edits gone) s.resvs is.held.in_order
+      ∙ edited-put key_cmp key_total key_exact key (Some fact) (without_edits p.edits gone) s.resvs is.held.in_order
       ∙ ap (put key_cmp key fact) (edited_without gone p.edits s.resvs is.held.in_order)
 
   -- what holds of the granted one, and of each that was there, holds of each
@@ -121,7 +121,7 @@ pub granted_leads : (r : Router) (s : State) (p : Progress) (asked : Asked) (is_
     → gone ≡ victims_of (limit_of r request.claim.link) request (claims_at s p)
     → fact ≡ fact_at s.facts.moment asked
     → errors ≡ fold (told_of r (resvs_at s p)) p.errors gone
-    → edits ≡ put key_cmp request.key (Some fact) (fold without_edit p.edits gone)
+    → edits ≡ put key_cmp request.key (Some fact) (without_edits p.edits gone)
     → (is_last ≡ false → claims ≡ Some (granted request (without gone (unwrap_or p.claims (claims_of s.facts.paths s.resvs)))))
     → let now : Progress = record { claims = claims; edits = edits; errors = errors; first = p.first; has_granted = true } in
     (reached s now ≡ carried_on r asked.link asked.resv.now asked.descriptor.now (fact_at s.facts.moment asked) (reached s p) reserving.Granted) × (is_last ≡ false → IsReached r s now)
@@ -129,7 +129,7 @@ granted_leads r s p asked is_last request gone fact errors edits claims is own m
     let key = asked.key in
     let wanted = fact_at s.facts.moment asked in
     let now : Progress = record { claims = claims; edits = edits; errors = errors; first = p.first; has_granted = true } in
-    let put_so : edits ≡ put key_cmp key (Some wanted) (fold without_edit p.edits gone) = edited_so ∙ (λ i. put key_cmp (asks i).key (Some (same i)) (fold without_edit p.edits gone)) in
+    let put_so : edits ≡ put key_cmp key (Some wanted) (without_edits p.edits gone) = edited_so ∙ (λ i. put key_cmp (asks i).key (Some (same i)) (without_edits p.edits gone)) in
     let gives_so : gone ≡ giving_way r (reached s p).state key wanted = gives ∙ ap (λ (q : Request). victims_of (limit_of r q.claim.link) q (claims_at s p)) asks in
     let counted : is_last ≡ false → unwrap_or claims (claims_of s.facts.paths s.resvs) ≡ granted (request_of s.facts.paths key wanted) (without gone (claims_at s p)) =
     λ more. ap (λ (o : Option (List (Key × Claim))). unwrap_or o (claims_of s.facts.paths s.resvs)) (claimed_so more) ∙ (λ i. granted (asks i) (without gone (is.claimed i))) in (

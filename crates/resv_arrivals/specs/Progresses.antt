@@ -1,5 +1,5 @@
 -- What some of a Resv's flow descriptors have led to, as it is kept.
-use Rattle.std.specs.Prelude.{◌≡◌, ℕ, ◌^◌, ◌≤◌, ◌++◌, ◌||◌, [], not, Bool, true, T, List, length, Option, Some, None, is_some, IsOk}
+use Rattle.std.specs.Prelude.{◌≡◌, ℕ, ◌^◌, ◌≤◌, ◌++◌, ◌||◌, ◌∷◌, [], not, Bool, true, T, List, length, Option, Some, None, is_some, IsOk}
 use Rattle.std.specs.FinMap.Entries.{find, is_sorted, put, where_key}
 use Rattle.std.specs.List.{AllByRecursion}
 use Rattle.std.specs.Option.{option_and_then, option_to_list, unwrap_or}
@@ -47,9 +47,10 @@ reached s p = record { state = record s { resvs = resvs_at s p }; errors = p.err
 unfoldable pub without_row : List (Key × Claim) → Key → List (Key × Claim)
 without_row claims key = where_key key_cmp (λ other. not (is_eq (key_cmp key other))) claims
 
--- the edits, and then an LSP has no reservation
-abbrev pub without_edit : List (Key × Option ResvFact) → Key → List (Key × Option ResvFact)
-without_edit edits key = put key_cmp key None edits
+-- the edits, and then these LSPs have no reservation, the last of them first
+abbrev pub without_edits : List (Key × Option ResvFact) → List Key → List (Key × Option ResvFact)
+without_edits edits [] = edits
+without_edits edits (key ∷ gone) = put key_cmp key None (without_edits edits gone)
 
 -- errors, and then that of an LSP that loses its reservation to another
 unfoldable pub told_of : Router → List (Key × ResvFact) → List Output → Key → List Output

@@ -152,8 +152,10 @@ fn renewed<V: WholeState>(
         asked.resv,
         asked.descriptor,
     )?;
+    let mut edits = progress.edits;
+    edits.set(asked.key, Some(fact))?;
     Ok(Progress {
-        edits: edits_with(progress.edits, &[], asked.key, fact)?,
+        edits,
         has_granted: true,
         ..progress
     })
@@ -197,10 +199,10 @@ fn granted<V: WholeState>(
         ..
     } = progress;
     let errors = with_preempted(alloc, view, &edits, errors, &gone)?;
-    let edits = edits_with(edits, &gone, request.key, fact)?;
+    let claims = claims_for_next(alloc, view, claims, &gone, request, is_last)?;
     Ok(Progress {
-        claims: claims_for_next(alloc, view, claims, &gone, request, is_last)?,
-        edits,
+        claims,
+        edits: edits_with(edits, gone, request.key, fact)?,
         errors,
         first,
         has_granted: true,

@@ -4,6 +4,8 @@ pub mod ClaimLaws
 pub mod Claims
 pub mod Conflicts
 pub mod Holdings
+pub mod NumberLaws
+pub mod Numbers
 pub mod Priorities
 pub mod RateLaws
 pub mod Reservations

@@ -4,6 +4,8 @@
 
 mod claim;
 pub mod laws;
+mod numbering;
+mod numbers;
 mod priorities;
 mod repair;
 mod resv_fact;
@@ -12,6 +14,8 @@ mod state;
 mod upstream;
 
 pub use claim::{Claim, Request};
+pub use numbering::KeyNumber;
+pub use numbers::Numbered;
 pub use priorities::{WORST_PRIORITY, holding_of, setup_of};
 pub use repair::{Detour, Over, Repair, Selected};
 pub use resv_fact::{ResvFact, ResvStyle, is_same_style};

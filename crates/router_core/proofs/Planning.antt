@@ -49,6 +49,8 @@ use Rattle.router_core.specs.Plans.{IsPlanOf, IsSendingPlan, after_plan, drafted
 use Rattle.router_core.specs.declared.plan.Plan.{Plan}
 use Rattle.router_tables.specs.Changes.{IsChange, changed}
 use Rattle.router_tables.specs.declared.change.Change.{Change}
+use Rattle.std.specs.Prelude.{Box}
+use Rattle.std.specs.declared.alloc.Global.{Global}
 use Rattle.router_tables.specs.Below.views.Drafts.{IsDraft}
 use Rattle.router_tables.specs.Below.views.Edits.{edited}
 use Rattle.router_tables.specs.Below.views.declared.draft.Draft.{Draft}
@@ -152,16 +154,18 @@ module _ (r : Router) (s : State) (is : IsSound r s) (draft : Draft) (may : IsDr
       };
     }
 
-    -- The plan of a draft that isn't silent.
-    pub sending : (outputs : List Output) → outputs ≡ outputs_of r s (errors_in r s o) o.due o.upstream_due (edited x s) → AreEdits bandwidth → rows.edited key_cmp (claim_edits bandwidth) (claims_of s.facts.paths s.resvs) ≡ claims_of (edited x s).facts.paths (edited x s).resvs → AreTableEdits r s (edited x s) table → AreTunnelEdits r s (edited x s) tunnel_table
-        → IsSendingPlan r s o (record { reply = o.reply; outputs = outputs; chosen = chosen; change = Some change })
-    sending outputs sends edits claims are are_tunnels = record {
-      chosen = labelling;
-      replied = refl;
-      changed = changed_is ∙ ap (λ t. with_moments r s o t) settles;
-      sent = sends ∙ sent_alike r s o (edited x s) ∙ ap (λ t. outputs_of r s (errors_in r s o) o.due o.upstream_due t) (sym changed_is);
-      change = change_is edits claims are are_tunnels;
-    }
+    -- The plan of a draft that isn't silent, which has the change in a box.
+    pub sending : (boxed : Box Change Global) → boxed.value ≡ change → (outputs : List Output) → outputs ≡ outputs_of r s (errors_in r s o) o.due o.upstream_due (edited x s) → AreEdits bandwidth → rows.edited key_cmp (claim_edits bandwidth) (claims_of s.facts.paths s.resvs) ≡ claims_of (edited x s).facts.paths (edited x s).resvs → AreTableEdits r s (edited x s) table → AreTunnelEdits r s (edited x s) tunnel_table
+        → IsSendingPlan r s o (record { reply = o.reply; outputs = outputs; chosen = chosen; change = Some boxed })
+    sending boxed is_boxed outputs sends edits claims are are_tunnels =
+        let is : changed boxed.value s ≡ with_moments r s o (edited x s) = ap (λ c. changed c s) is_boxed ∙ changed_is in
+        record {
+          chosen = labelling;
+          replied = refl;
+          changed = is ∙ ap (λ t. with_moments r s o t) settles;
+          sent = sends ∙ sent_alike r s o (edited x s) ∙ ap (λ t. outputs_of r s (errors_in r s o) o.due o.upstream_due t) (sym is);
+          change = subst (IsChange r s) (sym is_boxed) (change_is edits claims are are_tunnels);
+        }
 
 module _ (r : Router) (s : State) (event : Event) (draft : Draft) (runs : s.facts.cold ≡ false) (possible : IsEvent event) (passes : exceeds_hop_limit r s.facts event ≡ false) (is : IsDraft draft (outcome r s event) r s) where
   -- The plan of a silent event: nothing changes, and nothing is sent.

@@ -39,13 +39,13 @@ made_by event plan = record { event = event; labels = plan.chosen; reply = plan.
 
 -- what is known once it is made
 abbrev pub after_plan : Plan → State → State
-after_plan plan s = option_map_or (λ change. changed change s) plan.change s
+after_plan plan s = option_map_or (λ change. changed change.value s) plan.change s
 
 -- The plan is that of this event's step from this state: its answer, what it sends, and what is known after it; and its
 -- change is one of the router's tables.
 pub record IsPlanOf (s : RouterState) (event : Event) (plan : Plan) : Type 0 where
   pub step : Step s.router s.state (made_by event plan) (after_plan plan s.state)
-  pub change : IfSome plan.change (IsChange s.router s.state)
+  pub change : IfSome plan.change (λ change. IsChange s.router s.state change.value)
 
 -- what a draft says that an event does of itself
 abbrev pub drafted : Draft → Router → State → Outcome
@@ -65,4 +65,4 @@ pub record IsSendingPlan (r : Router) (s : State) (o : Outcome) (plan : Plan) : 
   pub replied : plan.reply ≡ o.reply
   pub changed : after_plan plan s ≡ with_moments r s o (settled r plan.chosen o.after)
   pub sent : plan.outputs ≡ outputs_of r s (o.errors ++ told_repaired r (taken_over r o.after)) o.due o.upstream_due (after_plan plan s)
-  pub change : IfSome plan.change (IsChange r s)
+  pub change : IfSome plan.change (λ change. IsChange r s change.value)

@@ -48,8 +48,8 @@ pub struct Plan {
     pub(crate) outputs: Outputs,
     /// The labels that were chosen: of each LSP that is new its own.
     pub(crate) chosen: Table<Key, u32>,
-    /// What changes, where something does.
-    pub(crate) change: Option<Change>,
+    /// What changes, where something does. It is large, and a plan is moved often.
+    pub(crate) change: Option<Box<Change>>,
 }
 
 /// Written out, so that it is dropped by one call, whatever it holds.
@@ -66,7 +66,7 @@ impl Drop for Plan {
 
 impl Plan {
     /// The labels that were chosen, what is sent, and what changes.
-    pub(crate) fn into_parts(self) -> (Table<Key, u32>, Outputs, Option<Change>)
+    pub(crate) fn into_parts(self) -> (Table<Key, u32>, Outputs, Option<Box<Change>>)
         ensures { result ≡ (self.chosen, self.outputs, self.change) }
     {
         let Plan {
@@ -243,19 +243,20 @@ fn sending_plan(alloc: Global, tables: &Tables, draft: Draft) -> Result<Plan, Al
     let mut edits = settled.edits;
     let resvs = mem::replace(&mut edits.resvs, Table::new(alloc));
     let bandwidth = bandwidth_edits(alloc, tables, &edits.paths, resvs)?;
+    let change = change_of(
+        alloc,
+        edits,
+        bandwidth,
+        sends.moments,
+        sends.upstream,
+        table,
+        tunnel_table,
+    );
     Ok(Plan {
         reply: draft.reply,
         outputs: sends.outputs,
         chosen: settled.chosen,
-        change: Some(change_of(
-            alloc,
-            edits,
-            bandwidth,
-            sends.moments,
-            sends.upstream,
-            table,
-            tunnel_table,
-        )),
+        change: Some(Box::new(alloc, change)?),
     })
 }
 

@@ -122,7 +122,7 @@ impl Running {
     {
         let (chosen, outputs, change) = plan.into_parts();
         if let Some(change) = change {
-            self.tables.make(change);
+            self.tables.make(Box::into_inner(change));
         }
         (chosen, outputs)
     }

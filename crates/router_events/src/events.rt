@@ -112,6 +112,10 @@ impl Outputs {
         ensures ok { OnOk result (self.new ≡ self.old ++ output ∷ []) }
         ensures err { OnErr result (self.new ≡ self.old) }
     {
+        // Most steps send one frame, if any.
+        if self.items.is_empty() {
+            self.items.reserve_exact(1)?;
+        }
         self.items.push(output)?;
         Ok(())
     }

@@ -1,6 +1,6 @@
 //! A router that is cold or runs.
 
-ghost use Rattle.std.specs.Prelude.{◌≡◌, IfErr, IfOk, OnErr, false};
+ghost use Rattle.std.specs.Prelude.{◌≡◌, IfErr, IfOk, OnErr, false, true};
 ghost use Rattle.lsr_facts.specs.Routers.{IsRouter};
 ghost use Rattle.resv_facts.specs.Claims.{reserved_of};
 ghost use Rattle.abstract_router.specs.Detours.{detours_of, over_at};
@@ -9,10 +9,13 @@ ghost use Rattle.abstract_router.specs.Soundness.{IsSound};
 ghost use Rattle.abstract_router.specs.Steps.{Run, Step, opening};
 ghost use Rattle.abstract_router.specs.Tables.{forwarded, look_tunnel};
 ghost use Rattle.datagrams.specs.Datagrams.{IsDatagram};
-ghost use Rattle.router_core.specs.States.{opened};
+ghost use Rattle.router_core.specs.Plans.{after_plan, made_by, quiet};
+ghost use Rattle.router_core.specs.States.{emptied, opened};
 ghost use Rattle.router_machine.specs.Below.labels.Rows.{IsTableOf};
 ghost use Rattle.router_events.specs.declared.events.Event.{Event};
-ghost use Rattle.router_machine.specs.Readies.{IsReady, after_ready, made_of};
+ghost use Rattle.router_events.specs.declared.events.Event.TheVariants as events;
+ghost use Rattle.router_machine.specs.Readies.{IsReady, after_ready, made_of, with_cold};
+ghost use Rattle.router_machine.specs.declared.ready.Ready.TheVariants as readies;
 ghost use Rattle.router_machine.specs.Machines.{AreAnswered, IsCopyServed, IsDatagramServed, IsEventLeft, IsEventServed, IsInputServed, IsMadeFor, IsThere, state_in, steps_in};
 
 use crate::forwarding::Labels;
@@ -23,7 +26,7 @@ use forwarding_table::Action;
 use lsr_config::Config;
 use lsr_facts::{Key, Refusal, Router};
 use resv_facts::{Over, State};
-use router_core::{Cold, Running, Tables};
+use router_core::{Cold, Plan, Running, Tables};
 use router_events::{Event, Made, Outputs};
 use sorted_rows::Table;
 use std::alloc::{AllocError, Global};
@@ -91,41 +94,83 @@ fn cold_step(router: &Cold, event: &Event) -> Result<Ready, Refusal>
     Err(Refusal::IsCold)
 }
 
-/// Makes a step that is made ready for a router that is there: the router after it, the labels that it gives, and what it
-/// sends. Takes no memory.
-fn made(phase: Phase, alloc: Global, ready: Ready) -> (Phase, (Table<Key, u32>, Outputs))
-    requires there { IsThere phase }
-    requires ready { (event : Event) × IsReady (state_in phase) event ready }
-    ensures there { IsThere result.0 }
-    ensures after { state_in result.0 ≡ record (state_in phase) { state = after_ready ready (state_in phase).state } }
-    ensures step { (event : Event) → IsReady (state_in phase) event ready →
-        Step (state_in phase).router (state_in phase).state (made_of event ready) (state_in result.0).state }
-    ensures labels { (event : Event) → result.1.0 ≡ (made_of event ready).labels }
-    ensures outputs { (event : Event) → result.1.1 ≡ (made_of event ready).outputs }
+/// Makes a plan's step on a router that is there, in place, and gives the labels that it chose and what it sends. Takes no
+/// memory.
+fn commit(phase: &mut Phase, plan: Plan) -> (Table<Key, u32>, Outputs)
+    requires there { IsThere phase.old }
+    requires ready { (event : Event) × IsReady (state_in phase.old) event (readies.Plan plan) }
+    ensures there { IsThere phase.new }
+    ensures after { state_in phase.new ≡ record (state_in phase.old) { state = after_plan plan (state_in phase.old).state } }
+    ensures step { (event : Event) → IsReady (state_in phase.old) event (readies.Plan plan) →
+        Step (state_in phase.old).router (state_in phase.old).state
+        (record (made_by event plan) { labels = result.0; outputs = result.1 }) (state_in phase.new).state }
+    ensures labels { result.0 ≡ plan.chosen }
+    ensures outputs { result.1 ≡ plan.outputs }
 {
-    match (phase, ready) {
-        (Phase::Running(mut router), Ready::Plan(plan)) => {
-            let sent = router.commit(plan);
-            (Phase::Running(router), sent)
-        }
-        (Phase::Running(router), Ready::Restart { .. }) => (
-            Phase::Cold(router.restart()),
-            (Table::new(alloc), Outputs::new(alloc)),
-        ),
-        (Phase::Cold(router), Ready::Start) => (
-            Phase::Running(router.start()),
-            (Table::new(alloc), Outputs::new(alloc)),
-        ),
-        (Phase::Running(router), Ready::Start) => {
+    match phase {
+        Phase::Running(router) => router.commit(plan),
+        Phase::Cold(router) => {
             router.soundness();
             unreachable!()
         }
-        (Phase::Cold(router), _) => {
-            router.soundness();
-            unreachable!()
-        }
-        (Phase::Between, _) => unreachable!(),
+        Phase::Between => unreachable!(),
     }
+}
+
+/// A running router that is there, once it is restarted. Takes no memory.
+fn restarted(phase: Phase) -> Phase
+    requires there { IsThere phase }
+    requires running { (state_in phase).state.facts.cold ≡ false }
+    ensures there { IsThere result }
+    ensures after { state_in result ≡ record (state_in phase) { state = with_cold true (emptied (state_in phase).state) } }
+    ensures step { Step (state_in phase).router (state_in phase).state (quiet events.Restart) (state_in result).state }
+{
+    match phase {
+        Phase::Running(router) => Phase::Cold(router.restart()),
+        Phase::Cold(router) => {
+            router.soundness();
+            unreachable!()
+        }
+        Phase::Between => unreachable!(),
+    }
+}
+
+/// A cold router that is there, once it is started. Takes no memory.
+fn started(phase: Phase) -> Phase
+    requires there { IsThere phase }
+    requires cold { (state_in phase).state.facts.cold ≡ true }
+    ensures there { IsThere result }
+    ensures after { state_in result ≡ record (state_in phase) { state = with_cold false (state_in phase).state } }
+    ensures step { Step (state_in phase).router (state_in phase).state (quiet events.Start) (state_in result).state }
+{
+    match phase {
+        Phase::Cold(router) => Phase::Running(router.start()),
+        Phase::Running(router) => {
+            router.soundness();
+            unreachable!()
+        }
+        Phase::Between => unreachable!(),
+    }
+}
+
+/// Makes a step that is made ready on a router that is there, and gives the labels that it chose and what it sends. A plan's
+/// is made in place, since a router is large. Takes no memory.
+fn make_in(phase: &mut Phase, alloc: Global, ready: Ready) -> (Table<Key, u32>, Outputs)
+    requires there { IsThere phase.old }
+    requires ready { (event : Event) × IsReady (state_in phase.old) event ready }
+    ensures there { IsThere phase.new }
+    ensures after { state_in phase.new ≡ record (state_in phase.old) { state = after_ready ready (state_in phase.old).state } }
+    ensures step { (event : Event) → IsReady (state_in phase.old) event ready →
+        Step (state_in phase.old).router (state_in phase.old).state (made_of event ready) (state_in phase.new).state }
+    ensures labels { (event : Event) → result.0 ≡ (made_of event ready).labels }
+    ensures outputs { (event : Event) → result.1 ≡ (made_of event ready).outputs }
+{
+    match ready {
+        Ready::Plan(plan) => return commit(phase, plan),
+        Ready::Restart { .. } => *phase = restarted(mem::replace(phase, Phase::Between)),
+        Ready::Start => *phase = started(mem::replace(phase, Phase::Between)),
+    }
+    (Table::new(alloc), Outputs::new(alloc))
 }
 
 impl Machine {
@@ -185,9 +230,7 @@ impl Machine {
         ensures labels { (event : Event) → result.0 ≡ (made_of event ready).labels }
         ensures outputs { (event : Event) → result.1 ≡ (made_of event ready).outputs }
     {
-        let (phase, sent) = made(mem::replace(&mut self.phase, Phase::Between), alloc, ready);
-        self.phase = phase;
-        sent
+        make_in(&mut self.phase, alloc, ready)
     }
 
     /// Serves an event, and gives the step that was made. What is refused, as [`Machine::ready`] refuses it, changes

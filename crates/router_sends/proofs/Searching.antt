@@ -13,7 +13,7 @@ use Rattle.abstract_paths.specs.Outputs.{is_due}
 
 module _ {I : Type 0} (cmp : I → I → Ordering) (total : IsTotalOrder cmp) (item : I) where
   -- an element that ties is one of them
-  tied_at : (due : List I) (i : ℕ) (d : I) → i < length due → cmp (get_or due i d) item ≡ Equal → is_due cmp due item ≡ true
+  pub tied_at : (due : List I) (i : ℕ) (d : I) → i < length due → cmp (get_or due i d) item ≡ Equal → is_due cmp due item ≡ true
   tied_at [] i d within tie = absurd (omega (arith, within))
   tied_at (x ∷ xs) zero d within tie = ap (λ o. is_eq o || is_due cmp xs item) (tied_back total x item tie)
   tied_at (x ∷ xs) (suc i) d within tie = by (eq_by_cmp cmp item x) (tied_at xs i d (omega (arith, within)) tie)

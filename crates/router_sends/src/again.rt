@@ -9,18 +9,19 @@ ghost use Rattle.abstract_paths.specs.Touched.{moments_between};
 ghost use Rattle.router_sends.specs.Going.{going};
 ghost use Rattle.router_sends.specs.Placing.{placed};
 
-use crate::rests::is_due;
+use crate::rests::is_due_near;
+use crate::rows::place_after;
 use crate::sends::{Sends, output_of, renewed, with_moment, with_output};
 use router_events::{Output, Outputs};
 use sorted_rows::Table;
 use std::alloc::{AllocError, Global};
 
-/// A row, where its item is due.
-fn going<I: Ord + Drop>(due: &[I], row: (I, Output)) -> Option<(I, Output)>
+/// A row, where its item is due: mostly it stands at a place among those that are.
+fn going<I: Ord + Drop>(due: &[I], place: usize, row: (I, Output)) -> Option<(I, Output)>
     requires { IsSorted I.cmp due.now }
     ensures { result ≡ going I.cmp due.now row }
 {
-    if !is_due(due, &row.0) {
+    if !is_due_near(due, place, &row.0) {
         return None;
     }
     Some(row)
@@ -46,8 +47,10 @@ fn all_going<I: Ord + Copy + Drop>(
     // From the last row on, once they are turned round: each is moved.
     let mut left = is;
     left.reverse();
+    let mut place = 0_usize;
     while let Some(row) = left.pop() {
-        let sent = going(due, row);
+        let sent = going(due, place, row);
+        place = place_after(place, sent.as_ref());
         moments = with_moment(moments, renewed(moment, &sent))?;
         sends = with_output(sends, output_of(sent))?;
     }

@@ -13,6 +13,9 @@ use rsvp_contents::{Content, Message, Path, PathTear, Reading, Resv, ResvTear};
 use rsvp_flows::{Filters, FlowDescriptor};
 use std::alloc::{AllocError, Global};
 
+/// So many bytes are taken for a frame before it is written: few frames are longer.
+const FRAME_ROOM: usize = 256;
+
 /// The LSPs that flow descriptors name.
 fn filters_of(alloc: Global, descriptors: &[FlowDescriptor]) -> Result<Filters, AllocError>
     ensures { IfOk result (λ filters. filters ≡ map (λ d. d.filter) descriptors.now) }
@@ -102,10 +105,10 @@ pub(crate) fn tear_by(alloc: Global, was: &Output) -> Result<Option<Output>, All
 fn bytes_of(alloc: Global, frame: &Frame) -> Result<Vec<u8>, AllocError>
     ensures { IfOk result (λ bytes. bytes.items ≡ frame_bytes frame.now) }
 {
-    let mut bytes = Vec::new(alloc);
     if let Frame::Hop(Reading::Unknown(..)) = frame {
-        return Ok(bytes);
+        return Ok(Vec::new(alloc));
     }
+    let mut bytes = Vec::with_capacity(alloc, FRAME_ROOM)?;
     write_frame(frame, &mut bytes)?;
     Ok(bytes)
 }

@@ -4,6 +4,7 @@
 mod again;
 mod frames;
 mod rests;
+mod rows;
 mod sends;
 
 pub use again::sends_again;

@@ -10,9 +10,10 @@ ghost use Rattle.router_sends.specs.Placing.{placed};
 
 use crate::frames::tear_by;
 use crate::rests::fresh;
+use crate::rows::{get_near, place_after};
 use message_rules::is_up;
 use router_events::{Output, Outputs};
-use sorted_rows::{Table, get_ref};
+use sorted_rows::Table;
 use std::alloc::{AllocError, Global};
 
 /// What a comparison of what was wanted with what is leads to.
@@ -99,8 +100,10 @@ fn torn<I: Ord + Copy + Drop>(
 {
     let mut tears = Outputs::new(alloc);
     let mut moments = Table::new(alloc);
+    let mut place = 0_usize;
     for row in was {
-        let found = get_ref(is, &row.0);
+        let found = get_near(is, place, &row.0);
+        place = place_after(place, found);
         let tear = tear_for(alloc, up, found, row)?;
         tears = with_output(tears, tear)?;
         moments = with_moment(moments, forgotten(found, row))?;
@@ -159,8 +162,11 @@ fn kept<I: Ord + Copy + Drop>(
     // From the last row on, once they are turned round: each is moved.
     let mut left = is;
     left.reverse();
+    let mut place = 0_usize;
     while let Some(wants) = left.pop() {
-        let going = fresh(alloc, due, was, wants)?;
+        let known = get_near(was, place, &wants.0);
+        place = place_after(place, known);
+        let going = fresh(alloc, due, known, wants)?;
         moments = with_moment(moments, renewed(moment, &going))?;
         sends = with_output(sends, output_of(going))?;
     }

@@ -3,7 +3,6 @@
 ghost use Rattle.std.specs.Prelude.{◌≡◌, IfOk};
 ghost use Rattle.router_tables.specs.States.{state_of};
 
-use crate::repairs::repairs_copied;
 use crate::rows::Rows;
 use crate::tunnels::tunnels_copied;
 use lsr_facts::Facts;
@@ -40,7 +39,7 @@ pub(crate) fn export(alloc: Global, rows: &Rows) -> Result<State, AllocError>
     let labels = rows.labels.copied(alloc)?;
     let sent_upstream = rows.upstream.copied(alloc)?;
     let resvs = rows.bandwidth.resvs_copied(alloc)?;
-    let repairs = repairs_copied(alloc, &rows.repairs)?;
+    let repairs = rows.repairs.copied(alloc)?;
     let facts = facts_of(alloc, rows)?;
     Ok(State {
         facts,

@@ -6,21 +6,28 @@ ghost use Rattle.sorted_rows.specs.Rows.{keys_of};
 
 use lsr_facts::Key;
 use lsr_facts::limits::MAX_LSPS;
-use resv_facts::Repair;
-use sorted_rows::{ReservedTable, Table, copy_rows};
+use resv_facts::{KeyNumber, Repair};
+use slot_rows::{RowTest, SlotTable};
 use std::alloc::{AllocError, Global};
 
 /// Repairs by LSP.
-pub(crate) type Repairs = ReservedTable<Key, Repair, MAX_LSPS>;
+pub(crate) type Repairs = SlotTable<Key, Repair, KeyNumber, MAX_LSPS>;
 
-/// A copy of repairs, as a table of their own. The only error is out of memory.
-pub(crate) fn repairs_copied(
-    alloc: Global,
-    repairs: &Repairs,
-) -> Result<Table<Key, Repair>, AllocError>
-    ensures { IfOk result (λ copy. copy ≡ repairs.now) }
-{
-    Ok(Table::from_rows(copy_rows(alloc, repairs.as_slice())?))
+/// The repairs that expire at a moment, in milliseconds.
+#[derive(Drop)]
+struct ExpiresAt {
+    moment: u64,
+}
+
+impl RowTest<Key, Repair> for ExpiresAt {
+    ghost use Rattle.std.specs.Prelude.{not};
+    ghost use Rattle.resv_facts.specs.Reservations.{lives_past};
+
+    ghost passes = { λ test repair. not (lives_past test.moment repair.1.resv) };
+
+    fn passes(&self, repair: &(Key, Repair)) -> bool {
+        !repair.1.resv.lives_past(self.moment)
+    }
 }
 
 /// The LSPs whose repairs expire at a moment, in milliseconds, in the order of their keys. The only error is out of memory.
@@ -32,10 +39,5 @@ pub(crate) fn expiring(
     ensures { IfOk result (λ keys. keys.items
         ≡ keys_of (filter (λ repair. not (lives_past moment repair.1.resv)) repairs.now)) }
 {
-    repairs
-        .as_slice()
-        .iter()
-        .filter(|repair| !repair.1.resv.lives_past(moment))
-        .map(|repair| repair.0)
-        .collect(alloc)
+    repairs.keys_where(alloc, &ExpiresAt { moment })
 }

@@ -25,7 +25,8 @@ use path_state::PathState;
 use refresh_timers::RefreshTimers;
 use resv_facts::{Repair, Upstream};
 use rsvp_routes::Prefix;
-use sorted_rows::{Table, make_edits};
+use slot_rows::make_edits;
+use sorted_rows::Table;
 
 /// Resvs that a router keeps alive upstream: one for each of the four origins of each of 1,024 LSPs.
 pub(crate) const MAX_UPSTREAM: usize = 4_096;

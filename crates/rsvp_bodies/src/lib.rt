@@ -7,7 +7,7 @@ mod body;
 mod fault;
 mod kept;
 
-pub use address::address_of;
+pub use address::{address_of, is_same_address};
 pub use body::{Body, BodyRule};
 pub use fault::ObjectFault;
 pub use kept::{Kept, Rule};

@@ -19,7 +19,7 @@ pub use laws::{one_object, written_no_longer};
 pub use object::Object;
 pub use opaque::Opaque;
 pub use reading::read_object;
-pub use rsvp_bodies::{Body, ObjectFault};
+pub use rsvp_bodies::{Body, ObjectFault, is_same_address};
 pub use rsvp_routes::{
     OtherStep, OtherTrace, Prefix, Record, Route, Step, Subobject, Subobjects, Trace,
 };

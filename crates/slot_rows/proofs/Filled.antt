@@ -84,7 +84,7 @@ module _ {R : Type 0} where
 
 module _ {K X : Type 0} (cmp : K → K → Ordering) (total : IsTotalOrder cmp) where
   -- rows above another lie at other places
-  above_apart : (of : ℕ → Option (K × X)) (s : ℕ) (row : K × X) → of s ≡ Some row → (order : List ℕ) (rows : List (K × X)) → map of order ≡ map Some rows → AllByRecursion (λ other. cmp row.0 other.0 ≡ Less) rows → AllByRecursion (λ o. o ≢ s) order
+  pub above_apart : (of : ℕ → Option (K × X)) (s : ℕ) (row : K × X) → of s ≡ Some row → (order : List ℕ) (rows : List (K × X)) → map of order ≡ map Some rows → AllByRecursion (λ other. cmp row.0 other.0 ≡ Less) rows → AllByRecursion (λ o. o ≢ s) order
   above_apart of s row some [] rows h above = tt
   above_apart of s row some (o ∷ order) [] h above = cc
   above_apart of s row some (o ∷ order) (other ∷ rows) h above =

@@ -4,7 +4,7 @@ use Rattle.std.specs.Cmp.{IsTotalOrder}
 use Rattle.std.specs.FinMap.Entries.{find, is_sorted, put, where_key}
 use Rattle.std.specs.List.{insert, remove}
 use Rattle.std.specs.List.Sorted.{IsBinarySearchResult, IsNonDecreasingBy, IsPartitionPoint, IsPartitionedBy, IsSearchInRange}
-use Rattle.std.specs.Option.{option_map_or}
+use Rattle.std.specs.Option.{option_map, option_map_or}
 use Rattle.std.specs.Ordering.{is_eq, is_lt, ordering_index}
 use Rattle.std.specs.declared.cmp.Ordering.{Ordering}
 use Rattle.std.specs.declared.cmp.Ordering.TheVariants.{Less}
@@ -82,8 +82,10 @@ module _ {K X : Type 0} (of : ℕ → Option (K × X)) (order : List ℕ) (rows 
       let both : Some row ≡ Some (get_or rows i row) = sym is ∙ row_at of order rows h i a row within in
       cc
 
-  pub value_there : (i a : ℕ) (row : K × X) (value : Option X) → i < length order → of (get_or order i a) ≡ Some row → ((d : K × X) → value ≡ Some (get_or rows i d).1) → Some row.1 ≡ value
-  value_there i a row value within is found = ap (λ (r : K × X). Some r.1) (row_there i a row within is) ∙ sym (found row)
+  pub value_at : (i a : ℕ) (value : Option X) → i < length order → ((d : K × X) → value ≡ Some (get_or rows i d).1) → option_map (λ row. row.1) (of (get_or order i a)) ≡ value
+  value_at i a value within found =
+      let d = some_of rows i (omega (arith, within, length_read of order rows h)) in
+      ap (option_map (λ row. row.1)) (row_at of order rows h i a d within) ∙ sym (found d)
 
   -- a slot in order has a row
   pub has_row : (i a : ℕ) → i < length order → of (get_or order i a) ≡ None → ⊥

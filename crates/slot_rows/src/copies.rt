@@ -3,8 +3,10 @@ ghost use Rattle.std.specs.FinMap.Entries.{is_sorted};
 ghost use Rattle.std.specs.List.{cons_option};
 ghost use Rattle.std.specs.Prelude.{◌≡◌, ◌<◌, ◌∷◌, ◌++◌, T, [], IfOk, OnOk, length, vec_capacity};
 ghost use Rattle.slab.specs.Slab.{get};
+ghost use Rattle.slot_rows.specs.Marks.{IsMarked};
 ghost use Rattle.slot_rows.specs.Slots.{IsSlotted, rows_of};
 
+use crate::numbering::Numbering;
 use crate::slots::OrderedSlots;
 use slab::Slab;
 use sorted_rows::TryCopy;
@@ -25,7 +27,7 @@ fn push_copy<K: Copy, V: TryCopy + Drop>(
     Ok(())
 }
 
-impl<K: Ord + Copy, V: TryCopy + Drop, const MOST: usize> OrderedSlots<K, V, MOST> {
+impl<K: Ord + Copy, V: TryCopy + Drop, N, const MOST: usize> OrderedSlots<K, V, N, MOST> {
     /// The rows in the order of the keys: a copy. The only error is out of memory.
     pub fn copied(&self, alloc: Global) -> Result<Vec<(K, V)>, AllocError>
         ensures { IfOk result (λ rows. rows.items ≡ rows_of self.now.slots self.now.by_key.items) }
@@ -38,22 +40,31 @@ impl<K: Ord + Copy, V: TryCopy + Drop, const MOST: usize> OrderedSlots<K, V, MOS
     }
 }
 
-impl<K: Ord, V, const MOST: usize> OrderedSlots<K, V, MOST> {
+impl<K: Ord, V, N: Numbering<K>, const MOST: usize> OrderedSlots<K, V, N, MOST> {
     /// A row comes whose key is above those of all rows.
     fn push_row(&mut self, row: (K, V))
         requires slotted { IsSlotted K.cmp MOST self.old.slots self.old.by_key.items (vec_capacity self.old.by_key) }
+        requires marked { IsMarked N.number self.old.marks self.old.slots }
         requires room { length self.old.by_key.items < MOST }
         requires in_order { T (is_sorted K.cmp (rows_of self.old.slots self.old.by_key.items ++ row ∷ [])) }
         ensures slotted { IsSlotted K.cmp MOST self.new.slots self.new.by_key.items (vec_capacity self.new.by_key) }
+        ensures marked { IsMarked N.number self.new.marks self.new.slots }
         ensures rows { rows_of self.new.slots self.new.by_key.items
             ≡ rows_of self.old.slots self.old.by_key.items ++ row ∷ [] }
     {
+        let number = N::number(&row.0);
         let slot = self.slots.insert_reserved(row);
         self.by_key.push(slot).unwrap();
+        self.marks.come(number, slot);
     }
 }
 
-impl<K: Ord + Copy, V: TryCopy + Drop, const MOST: usize> OrderedSlots<K, V, MOST> {
+impl<K: Ord + Copy, V: TryCopy + Drop, N: Numbering<K>, const MOST: usize> OrderedSlots<
+    K,
+    V,
+    N,
+    MOST,
+> {
     /// A copy comes of a row of other slots, whose key is above those of all rows. An empty slot adds none.
     fn push_copy_of(
         &mut self,
@@ -62,11 +73,13 @@ impl<K: Ord + Copy, V: TryCopy + Drop, const MOST: usize> OrderedSlots<K, V, MOS
         slot: usize,
     ) -> Result<(), AllocError>
         requires slotted { IsSlotted K.cmp MOST self.old.slots self.old.by_key.items (vec_capacity self.old.by_key) }
+        requires marked { IsMarked N.number self.old.marks self.old.slots }
         requires room { length self.old.by_key.items < MOST }
         requires in_order { T (is_sorted K.cmp
             (rows_of self.old.slots self.old.by_key.items ++ cons_option (get slots.now slot) [])) }
         ensures slotted { OnOk result
             (IsSlotted K.cmp MOST self.new.slots self.new.by_key.items (vec_capacity self.new.by_key)) }
+        ensures marked { OnOk result (IsMarked N.number self.new.marks self.new.slots) }
         ensures rows { OnOk result (rows_of self.new.slots self.new.by_key.items
             ≡ rows_of self.old.slots self.old.by_key.items ++ cons_option (get slots.now slot) []) }
     {
@@ -78,9 +91,10 @@ impl<K: Ord + Copy, V: TryCopy + Drop, const MOST: usize> OrderedSlots<K, V, MOS
     }
 
     /// A copy with the same rows, in slots of its own, with memory for as many. The only error is out of memory.
-    pub fn try_copy(&self, alloc: Global) -> Result<OrderedSlots<K, V, MOST>, AllocError>
+    pub fn try_copy(&self, alloc: Global) -> Result<OrderedSlots<K, V, N, MOST>, AllocError>
         requires { IsSlotted K.cmp MOST self.now.slots self.now.by_key.items (vec_capacity self.now.by_key) }
         ensures slotted { IfOk result (λ s. IsSlotted K.cmp MOST s.slots s.by_key.items (vec_capacity s.by_key)) }
+        ensures marked { IfOk result (λ s. IsMarked N.number s.marks s.slots) }
         ensures rows { IfOk result (λ s. rows_of s.slots s.by_key.items
             ≡ rows_of self.now.slots self.now.by_key.items) }
     {

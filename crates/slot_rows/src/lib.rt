@@ -2,9 +2,17 @@
 #![tactic(auto)]
 
 mod copies;
+mod edits;
+mod marks;
+mod numbering;
 mod searches;
+mod slot_table;
 mod slots;
 mod sweeps;
 
+pub use edits::{EditRows, make_edits};
+pub use marks::{Mark, Marks};
+pub use numbering::{Numbering, OwnNumber};
 pub use searches::{Probe, RowTest, push_passing};
+pub use slot_table::SlotTable;
 pub use slots::{OrderedSlots, place, write_value};

@@ -10,6 +10,7 @@ ghost use Rattle.slot_rows.specs.Runs.{RisesBy};
 ghost use Rattle.slot_rows.specs.Slots.{AreFilled, IsSlotted, rows_of};
 ghost use Rattle.sorted_rows.specs.Rows.{keys_of};
 
+use crate::numbering::Numbering;
 use crate::slots::OrderedSlots;
 use slab::Slab;
 use std::alloc::{AllocError, Global};
@@ -63,7 +64,7 @@ fn compare_at<K, V, P: Probe<K>>(slots: &Slab<(K, V)>, slot: usize, probe: &P) -
     }
 }
 
-impl<K, V, const MOST: usize> OrderedSlots<K, V, MOST> {
+impl<K, V, N, const MOST: usize> OrderedSlots<K, V, N, MOST> {
     /// The place of a row that compares as equal with what is sought, or the place where it would stand. A binary search:
     /// it asks for nothing, and finds what there is where the keys that rise don't fall by the probe.
     pub fn search<P: Probe<K>>(&self, probe: &P) -> Result<usize, usize>
@@ -94,7 +95,7 @@ impl<K, V, const MOST: usize> OrderedSlots<K, V, MOST> {
     }
 }
 
-impl<K: Ord, V, const MOST: usize> OrderedSlots<K, V, MOST> {
+impl<K: Ord, V, N: Numbering<K>, const MOST: usize> OrderedSlots<K, V, N, MOST> {
     /// The first row that passes a test, of those that compare as equal with what is sought. It looks at these rows
     /// alone.
     pub fn find_in_run<P: Probe<K>, T: RowTest<K, V>>(&self, probe: &P, test: &T) -> Option<&(K, V)>
@@ -118,7 +119,7 @@ impl<K: Ord, V, const MOST: usize> OrderedSlots<K, V, MOST> {
     }
 }
 
-impl<K: Copy, V, const MOST: usize> OrderedSlots<K, V, MOST> {
+impl<K: Copy, V, N, const MOST: usize> OrderedSlots<K, V, N, MOST> {
     /// The keys of the rows that pass a test, in their order. The only error is out of memory.
     pub fn keys_where<T: RowTest<K, V>>(
         &self,

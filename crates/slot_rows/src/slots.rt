@@ -1,24 +1,31 @@
 // Rows in slots, with the slots in the order of the keys.
 ghost use Rattle.std.specs.FinMap.Entries.{find, is_sorted, put, where_key};
-ghost use Rattle.std.specs.Option.{option_copied, option_map_or};
+ghost use Rattle.std.specs.Option.{option_copied, option_map, option_map_or};
 ghost use Rattle.std.specs.Ordering.{is_eq};
 ghost use Rattle.std.specs.declared.cmp.Ordering.TheVariants.{Equal, Less};
-ghost use Rattle.std.specs.Prelude.{◌≡◌, ◌≢◌, ◌<◌, ◌≤◌, ℕ, T, Some, None, [], IfErr, IfNone, IfOk, IfSome, IsSome, IsSomeAnd, insert, length, not, remove, slice_get, slice_index_or, slice_set, vec_capacity};
+ghost use Rattle.std.specs.Prelude.{◌≡◌, ◌≢◌, ◌<◌, ◌≤◌, ℕ, T, false, Some, None, [], IfErr, IfNone, IfOk, IfSome, IsSome, IsSomeAnd, insert, length, not, remove, slice_get, slice_index_or, slice_set, vec_capacity};
 ghost use Rattle.slab.specs.Slab.{Updates, get, slab_len};
+ghost use Rattle.slot_rows.specs.Marks.{Admits, IsMarked, is_shared};
 ghost use Rattle.slot_rows.specs.Slots.{AreFilled, IsSlotted, rows_of};
 
+use crate::marks::{Mark, Marks};
+use crate::numbering::Numbering;
 use slab::Slab;
 use std::alloc::{AllocError, Global};
 use std::cmp::Ordering;
+use std::marker::PhantomData;
 
 /// Rows of a key and a value, each in a slot that it keeps, and the slots in the order of the keys. Its functions ask
 /// that the parts belong together, and leave them so: at most `MOST` rows, in memory that `new` takes.
 #[derive(Debug, Drop)]
-pub struct OrderedSlots<K, V, const MOST: usize> {
+pub struct OrderedSlots<K, V, N, const MOST: usize> {
     /// The rows, by slot.
     pub slots: Slab<(K, V)>,
     /// The slots that have a row, in the order of the keys.
     pub by_key: Vec<usize>,
+    /// Marks of the slots that have a row, by the numbers of their keys.
+    pub marks: Marks,
+    numbering: PhantomData<N>,
 }
 
 /// How a slot's row compares with a key: below it where the slot has none.
@@ -66,17 +73,21 @@ pub fn write_value<K, V: Drop>(slots: &mut Slab<(K, V)>, slot: usize, value: V)
     }
 }
 
-impl<K: Ord, V, const MOST: usize> OrderedSlots<K, V, MOST> {
+impl<K: Ord, V, N: Numbering<K>, const MOST: usize> OrderedSlots<K, V, N, MOST> {
     /// No rows. Takes the memory of all rows that there may ever be; the only error is that there is too little.
-    pub fn new(alloc: Global) -> Result<OrderedSlots<K, V, MOST>, AllocError>
+    pub fn new(alloc: Global) -> Result<OrderedSlots<K, V, N, MOST>, AllocError>
         ensures slotted { IfOk result (λ s. IsSlotted K.cmp MOST s.slots s.by_key.items (vec_capacity s.by_key)) }
+        ensures marked { IfOk result (λ s. IsMarked N.number s.marks s.slots) }
         ensures empty { IfOk result (λ s. s.by_key.items ≡ []) }
     {
-        // The index first: it is let go where the slots get no memory.
+        // The indexes first: they are let go where the slots get no memory.
         let by_key = Vec::with_capacity(alloc, MOST)?;
+        let marks = Marks::new(alloc, MOST)?;
         Ok(OrderedSlots {
             slots: Slab::with_capacity(alloc, MOST)?,
             by_key,
+            marks,
+            numbering: PhantomData,
         })
     }
 
@@ -92,24 +103,69 @@ impl<K: Ord, V, const MOST: usize> OrderedSlots<K, V, MOST> {
         }
     }
 
+    /// The slot that a mark names, if its row has the key.
+    fn named(&self, mark: Mark, key: &K) -> Option<usize>
+        ensures found { IfSome result (λ slot. IsSomeAnd (get self.now.slots slot) (λ row. K.cmp row.0 key.now ≡ Equal)) }
+        // Where it names none, no slot that it admits has such a row, unless it is shared.
+        ensures absent { IfNone result (is_shared mark ≡ false → (slot : ℕ) (row : K × V) →
+            get self.now.slots slot ≡ Some row → K.cmp row.0 key.now ≡ Equal → Admits mark slot → ⊥) }
+    {
+        match mark {
+            Mark::Free => None,
+            Mark::Sole(slot) | Mark::Shared(slot) => {
+                if cmp_at(&self.slots, slot, key).is_eq() {
+                    Some(slot)
+                } else {
+                    None
+                }
+            }
+        }
+    }
+
+    /// The slot of a key's row, or `None` where there is no such key. Where the mark doesn't say it, a binary search.
+    fn slot_of(&self, key: &K) -> Option<usize>
+        requires slotted { IsSlotted K.cmp MOST self.now.slots self.now.by_key.items (vec_capacity self.now.by_key) }
+        requires marked { IsMarked N.number self.now.marks self.now.slots }
+        ensures found { IfSome result (λ slot. option_map (λ row. row.1) (get self.now.slots slot)
+            ≡ find K.cmp key.now (rows_of self.now.slots self.now.by_key.items)) }
+        ensures absent { IfNone result (find K.cmp key.now (rows_of self.now.slots self.now.by_key.items) ≡ None) }
+    {
+        let mark = self.marks.mark(N::number(key));
+        match self.named(mark, key) {
+            Some(slot) => Some(slot),
+            None => {
+                if mark.is_shared() {
+                    match place(&self.slots, &self.by_key, key) {
+                        Ok(index) => Some(self.by_key[index]),
+                        Err(_) => None,
+                    }
+                } else {
+                    None
+                }
+            }
+        }
+    }
+
     /// The value under a key, or `None` where there is no such key.
     pub fn get(&self, key: &K) -> Option<&V>
-        requires { IsSlotted K.cmp MOST self.now.slots self.now.by_key.items (vec_capacity self.now.by_key) }
+        requires slotted { IsSlotted K.cmp MOST self.now.slots self.now.by_key.items (vec_capacity self.now.by_key) }
+        requires marked { IsMarked N.number self.now.marks self.now.slots }
         ensures { option_copied result ≡ find K.cmp key.now (rows_of self.now.slots self.now.by_key.items) }
     {
-        match place(&self.slots, &self.by_key, key) {
-            Ok(index) => match self.slots.get(self.by_key[index]) {
+        match self.slot_of(key) {
+            Some(slot) => match self.slots.get(slot) {
                 Some(row) => Some(&row.1),
                 None => None,
             },
-            Err(_) => None,
+            None => None,
         }
     }
 }
 
-impl<K: Ord + Drop, V: Drop, const MOST: usize> OrderedSlots<K, V, MOST> {
-    /// Sets the value under a key, and answers the slot of its row. It asks that there are at most `MOST` rows then.
-    pub fn set(&mut self, key: K, value: V) -> usize
+impl<K: Ord + Drop, V: Drop, N: Numbering<K>, const MOST: usize> OrderedSlots<K, V, N, MOST> {
+    /// Sets the value under a key, which a binary search finds, and answers the slot of its row. It asks that there are
+    /// at most `MOST` rows then.
+    fn set_by_search(&mut self, key: K, value: V) -> usize
         requires slotted { IsSlotted K.cmp MOST self.old.slots self.old.by_key.items (vec_capacity self.old.by_key) }
         requires few { length (put K.cmp key value (rows_of self.old.slots self.old.by_key.items)) ≤ MOST }
         ensures slotted { IsSlotted K.cmp MOST self.new.slots self.new.by_key.items (vec_capacity self.new.by_key) }
@@ -119,6 +175,7 @@ impl<K: Ord + Drop, V: Drop, const MOST: usize> OrderedSlots<K, V, MOST> {
         ensures slot { IsSomeAnd (get self.new.slots result) (λ row. (row.1 ≡ value) × (K.cmp row.0 key ≡ Equal)) }
         ensures others { (other : ℕ) → other ≢ result → get self.new.slots other ≡ get self.old.slots other }
         ensures capacity { self.new.slots.capacity ≡ self.old.slots.capacity }
+        ensures marks { self.new.marks ≡ self.old.marks }
     {
         match place(&self.slots, &self.by_key, &key) {
             Ok(index) => {
@@ -134,10 +191,40 @@ impl<K: Ord + Drop, V: Drop, const MOST: usize> OrderedSlots<K, V, MOST> {
         }
     }
 
+    /// Sets the value under a key, and answers the slot of its row. It asks that there are at most `MOST` rows then.
+    pub fn set(&mut self, key: K, value: V) -> usize
+        requires slotted { IsSlotted K.cmp MOST self.old.slots self.old.by_key.items (vec_capacity self.old.by_key) }
+        requires marked { IsMarked N.number self.old.marks self.old.slots }
+        requires few { length (put K.cmp key value (rows_of self.old.slots self.old.by_key.items)) ≤ MOST }
+        ensures slotted { IsSlotted K.cmp MOST self.new.slots self.new.by_key.items (vec_capacity self.new.by_key) }
+        ensures marked { IsMarked N.number self.new.marks self.new.slots }
+        ensures rows { rows_of self.new.slots self.new.by_key.items
+            ≡ put K.cmp key value (rows_of self.old.slots self.old.by_key.items) }
+        // The slot has the value now, under this key or one that compares as equal, and no other slot changed.
+        ensures slot { IsSomeAnd (get self.new.slots result) (λ row. (row.1 ≡ value) × (K.cmp row.0 key ≡ Equal)) }
+        ensures others { (other : ℕ) → other ≢ result → get self.new.slots other ≡ get self.old.slots other }
+        ensures capacity { self.new.slots.capacity ≡ self.old.slots.capacity }
+    {
+        let number = N::number(&key);
+        match self.named(self.marks.mark(number), &key) {
+            Some(slot) => {
+                write_value(&mut self.slots, slot, value);
+                slot
+            }
+            None => {
+                let slot = self.set_by_search(key, value);
+                self.marks.come(number, slot);
+                slot
+            }
+        }
+    }
+
     /// Removes a key and its value, and answers the slot that is empty now; `None` where there is no such key.
     pub fn remove(&mut self, key: &K) -> Option<usize>
-        requires { IsSlotted K.cmp MOST self.old.slots self.old.by_key.items (vec_capacity self.old.by_key) }
+        requires slotted { IsSlotted K.cmp MOST self.old.slots self.old.by_key.items (vec_capacity self.old.by_key) }
+        requires marked { IsMarked N.number self.old.marks self.old.slots }
         ensures slotted { IsSlotted K.cmp MOST self.new.slots self.new.by_key.items (vec_capacity self.new.by_key) }
+        ensures marked { IsMarked N.number self.new.marks self.new.slots }
         ensures rows { rows_of self.new.slots self.new.by_key.items
             ≡ where_key K.cmp (λ k. not (is_eq (K.cmp key.now k))) (rows_of self.old.slots self.old.by_key.items) }
         ensures slot { IfSome result (λ slot. Updates self.old.slots self.new.slots slot None) }
@@ -149,6 +236,7 @@ impl<K: Ord + Drop, V: Drop, const MOST: usize> OrderedSlots<K, V, MOST> {
             Ok(index) => {
                 let slot = self.by_key.remove(index);
                 self.slots.remove(slot);
+                self.marks.go(N::number(key), slot);
                 Some(slot)
             }
             Err(_) => None,
@@ -157,13 +245,16 @@ impl<K: Ord + Drop, V: Drop, const MOST: usize> OrderedSlots<K, V, MOST> {
 
     /// Removes all rows. Takes no memory.
     pub fn clear(&mut self)
-        requires { IsSlotted K.cmp MOST self.old.slots self.old.by_key.items (vec_capacity self.old.by_key) }
+        requires slotted { IsSlotted K.cmp MOST self.old.slots self.old.by_key.items (vec_capacity self.old.by_key) }
+        requires marked { IsMarked N.number self.old.marks self.old.slots }
         ensures slotted { IsSlotted K.cmp MOST self.new.slots self.new.by_key.items (vec_capacity self.new.by_key) }
+        ensures marked { IsMarked N.number self.new.marks self.new.slots }
         ensures empty { self.new.by_key.items ≡ [] }
         ensures slots { self.new.slots.slots ≡ [] }
         ensures capacity { self.new.slots.capacity ≡ self.old.slots.capacity }
     {
         self.slots.clear();
         self.by_key.clear();
+        self.marks.clear();
     }
 }

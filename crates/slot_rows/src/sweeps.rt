@@ -1,8 +1,10 @@
 // What becomes of all rows of a table in slots at once.
 ghost use Rattle.std.specs.Prelude.{◌≡◌, ◌<◌, ◌∷◌, ◌++◌, Some, [], drop, filter, length, map, slice_index_or, suc, take, vec_capacity};
 ghost use Rattle.slab.specs.Slab.{Updates, get, slab_len};
+ghost use Rattle.slot_rows.specs.Marks.{IsMarked};
 ghost use Rattle.slot_rows.specs.Slots.{IsSlotted, rows_of};
 
+use crate::numbering::Numbering;
 use crate::slots::OrderedSlots;
 use slab::Slab;
 use sorted_rows::Sweep;
@@ -29,12 +31,14 @@ fn leave_at<K, V, S: Sweep<K, V>>(slots: &mut Slab<(K, V)>, slot: usize, sweep: 
     }
 }
 
-impl<K: Ord + Drop, V: Drop, const MOST: usize> OrderedSlots<K, V, MOST> {
+impl<K: Ord + Drop, V: Drop, N: Numbering<K>, const MOST: usize> OrderedSlots<K, V, N, MOST> {
     /// The row at a place goes, or its value becomes what is left of it.
     fn sweep_place<S: Sweep<K, V>>(&mut self, place: usize, sweep: &S)
         requires slotted { IsSlotted K.cmp MOST self.old.slots self.old.by_key.items (vec_capacity self.old.by_key) }
+        requires marked { IsMarked N.number self.old.marks self.old.slots }
         requires within { place < length self.old.by_key.items }
         ensures slotted { IsSlotted K.cmp MOST self.new.slots self.new.by_key.items (vec_capacity self.new.by_key) }
+        ensures marked { IsMarked N.number self.new.marks self.new.slots }
         ensures rows { (d : K × V) → rows_of self.new.slots self.new.by_key.items
             ≡ take place (rows_of self.old.slots self.old.by_key.items)
             ++ map (λ row. (row.0, S.left sweep.now row.1)) (filter (S.stays sweep.now)
@@ -47,14 +51,17 @@ impl<K: Ord + Drop, V: Drop, const MOST: usize> OrderedSlots<K, V, MOST> {
             leave_at(&mut self.slots, slot, sweep);
         } else {
             let emptied = self.by_key.remove(place);
-            self.slots.remove(emptied);
+            let row = self.slots.remove(emptied);
+            self.marks.go(N::number(&row.0), emptied);
         }
     }
 
     /// The rows that stay, each with what is left of its value. Takes no memory.
     pub fn sweep<S: Sweep<K, V>>(&mut self, sweep: &S)
-        requires { IsSlotted K.cmp MOST self.old.slots self.old.by_key.items (vec_capacity self.old.by_key) }
+        requires slotted { IsSlotted K.cmp MOST self.old.slots self.old.by_key.items (vec_capacity self.old.by_key) }
+        requires marked { IsMarked N.number self.old.marks self.old.slots }
         ensures slotted { IsSlotted K.cmp MOST self.new.slots self.new.by_key.items (vec_capacity self.new.by_key) }
+        ensures marked { IsMarked N.number self.new.marks self.new.slots }
         ensures rows { rows_of self.new.slots self.new.by_key.items
             ≡ map (λ row. (row.0, S.left sweep.now row.1))
             (filter (S.stays sweep.now) (rows_of self.old.slots self.old.by_key.items)) }

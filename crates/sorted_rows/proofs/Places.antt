@@ -1,5 +1,5 @@
 -- What is found at a key's place among rows in order, and what an edit at that place does.
-use Rattle.std.proofs.Common.{◌≡◌, ℕ, zero, suc, ◌<◌, ◌≤◌, T, false, not, cond, List, [], ◌∷◌, length, get_or, set, Some, None, Result, Ok, Err, IfOk, IfErr, add-one, refl, sym, ap, subst, inl, inr, ◌∙◌, arith}
+use Rattle.std.proofs.Common.{◌≡◌, ℕ, zero, suc, ◌+◌, ◌<◌, ◌≤◌, T, false, true, not, cond, List, [], ◌∷◌, ◌++◌, length, get_or, set, Some, None, Result, Ok, Err, IfOk, IfErr, add-one, refl, sym, ap, subst, inl, inr, ◌∙◌, arith}
 use Rattle.std.specs.Cmp.{IsTotalOrder}
 use Rattle.std.specs.FinMap.Entries.{by_order, put, find, where_key, is_sorted}
 use Rattle.std.specs.List.{AllByRecursion, insert, remove}
@@ -22,6 +22,12 @@ each_at P (x ∷ xs) (suc i) d h within = each_at P xs i d h.1 (omega (arith, wi
 -- a comparison the other way round
 turned : {K : Type 0} (cmp : K → K → Ordering) → IsTotalOrder cmp → (x y : K) (o : Ordering) → cmp x y ≡ o → cmp y x ≡ ordering_reverse o
 turned cmp total x y o is = total.antisymm y x ∙ ap ordering_reverse is
+
+-- a comparison that says so is of a lesser one
+pub lesser : (o : Ordering) → is_lt o ≡ true → o ≡ Less
+lesser Less is = refl
+lesser Equal is = absurd (let e = is in cc)
+lesser Greater is = absurd (let e = is in cc)
 
 module _ {K X : Type 0} (cmp : K → K → Ordering) (total : IsTotalOrder cmp) where
   -- rows in order are sorted as a binary search asks
@@ -90,6 +96,19 @@ module _ {K X : Type 0} (cmp : K → K → Ordering) (total : IsTotalOrder cmp) 
   put_in_gap q v (e ∷ es) (suc i) within gap =
       ap (λ r. by_order r ((q, v) ∷ e ∷ es) ((e.0, v) ∷ es) (e ∷ put cmp q v es)) (turned cmp total e.0 q Less (gap.0 0 e (omega arith) (omega arith)))
       ∙ ap (λ rest. e ∷ rest) (put_in_gap q v es i (omega (arith, within)) (λ k d from below. gap.0 (suc k) d (omega arith) (omega (arith, below)), λ k d from below. gap.1 (suc k) d (omega (arith, from)) (omega (arith, below))))
+
+  -- a row of a key above the last goes behind all
+  pub put_last : (q : K) (es : List (K × X)) (i : ℕ) (d : K × X) → T (is_sorted cmp es) → i + 1 ≡ length es → cmp (get_or es i d).0 q ≡ Less → (v : X) → put cmp q v es ≡ es ++ (q, v) ∷ []
+  put_last q [] i d h last above v = refl
+  put_last q (e ∷ []) zero d h last above v =
+      ap (λ r. by_order r ((q, v) ∷ e ∷ []) ((e.0, v) ∷ []) (e ∷ (q, v) ∷ [])) (turned cmp total e.0 q Less above)
+  put_last q (e ∷ []) (suc i) d h last above v = absurd (omega (arith, last))
+  put_last q (e ∷ f ∷ es) zero d h last above v = absurd (omega (arith, last))
+  put_last q (e ∷ f ∷ es) (suc i) d h last above v =
+      let inside : i < length (f ∷ es) = omega (arith, last) in
+      let here : cmp e.0 q ≡ Less = total.trans e.0 (get_or (f ∷ es) i d).0 q (each_at (λ (row : K × X). cmp e.0 row.0 ≡ Less) (f ∷ es) i d (all-below cmp e.0 (f ∷ es) (first _ _ h)) inside) above in
+      ap (λ r. by_order r ((q, v) ∷ e ∷ f ∷ es) ((e.0, v) ∷ f ∷ es) (e ∷ put cmp q v (f ∷ es))) (turned cmp total e.0 q Less here)
+      ∙ ap (λ rest. e ∷ rest) (put_last q (f ∷ es) i d (second _ _ h) (omega (arith, last)) above v)
 
   removed_within : (q : K) (es : List (K × X)) (i : ℕ) → T (is_sorted cmp es) → i < length es → ((d : K × X) → cmp (get_or es i d).0 q ≡ Equal) → where_key cmp (λ k. not (is_eq (cmp q k))) es ≡ remove es i
   removed_within q [] i h within tie = absurd (omega (arith, within))

@@ -5,19 +5,17 @@ ghost use Rattle.std.specs.FinMap.Entries.{find, is_sorted, put, where_key};
 ghost use Rattle.std.specs.List.{items_where_true};
 ghost use Rattle.std.specs.Option.{option_copied};
 ghost use Rattle.std.specs.Ordering.{is_eq};
-ghost use Rattle.std.specs.Prelude.{◌≡◌, ◌<◌, ◌≤◌, Bool, List, T, Some, None, not, filter, insert, length, remove, slice_index_or, slice_set, vec_capacity, IsOk, IfOk, is_some, IfErr, OnOk, OnErr};
+ghost use Rattle.std.specs.Prelude.{◌≡◌, ◌<◌, ◌≤◌, ◌∷◌, ◌++◌, [], Bool, List, T, Some, None, not, true, filter, insert, length, remove, slice_index_or, slice_set, vec_capacity, IsOk, IfOk, is_some, IfErr, OnOk, OnErr};
 ghost use Rattle.sorted_rows.specs.Closures.{ComputesTest};
 
 use std::alloc::AllocError;
 
 mod copies;
-mod edits;
 pub mod laws;
 mod reserved;
 mod table;
 
 pub use copies::{TryCopy, copy_plain_rows, copy_rows};
-pub use edits::make_edits;
 pub use reserved::{ReservedTable, Sweep};
 pub use table::Table;
 
@@ -63,6 +61,15 @@ fn place<K: Ord, V>(rows: &[(K, V)], key: &K) -> Result<usize, usize>
     rows.binary_search_by(|row| row.0.cmp(key))
 }
 
+// Whether a key comes after all rows in order. One comparison.
+fn comes_last<K: Ord, V>(rows: &[(K, V)], key: &K) -> bool
+    requires { T (is_sorted K.cmp rows.now) }
+    ensures { result ≡ true → (v : V) → put K.cmp key.now v rows.now ≡ rows.now ++ (key.now, v) ∷ [] }
+{
+    let count = rows.len();
+    count == 0 || rows[count - 1].0.cmp(key).is_lt()
+}
+
 /// Sets the value under a key of rows in order: in place where they have the key, and else as a new row where its
 /// key belongs. Fails only when out of memory, and only where it needs a row more than there is room for.
 pub fn set<K: Ord + Drop, V: Drop>(
@@ -76,6 +83,11 @@ pub fn set<K: Ord + Drop, V: Drop>(
     ensures room { length (put K.cmp key value rows.old.items) ≤ vec_capacity rows.old → IsOk result }
     ensures capacity { vec_capacity rows.old ≤ vec_capacity rows.new }
 {
+    // Rows are often made in the order of their keys.
+    if comes_last(rows, &key) {
+        rows.push((key, value))?;
+        return Ok(());
+    }
     match place(rows, &key) {
         Ok(index) => {
             rows[index].1 = value;

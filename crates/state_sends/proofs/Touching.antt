@@ -1,23 +1,24 @@
 -- One more key among others, and what is known of those that aren't among them.
 use Rattle.std.specs.Prelude.{◌≡◌, ◌+◌, ◌<◌, ◌||◌, ◌++◌, ℕ, zero, suc, slice_get, Bool, true, false, cond, List, [], ◌∷◌, Option, Some, None, is_some, length, take}
 use Rattle.std.specs.FinMap.Entries.{find, find-put, put}
-use Rattle.std.specs.Option.{option_or}
+use Rattle.std.specs.Option.{option_map, option_or}
 use Rattle.std.specs.Ordering.{eq_by_cmp}
 use Rattle.std.proofs.Common.{get_or, refl, sym, ap, subst, arith, ◌∙◌}
 use Rattle.std.proofs.lemmas.List.{take_more}
 use Rattle.std.proofs.lemmas.List.Folds.{list_any-append}
+use Rattle.sorted_rows.specs.Edits.{over}
 use Rattle.sorted_rows.specs.RowsLaws.{find-append}
 use Rattle.lsr_facts.specs.OrderLaws.{key_exact, key_total}
 use Rattle.lsr_facts.specs.Orders.{key_cmp}
 use Rattle.lsr_facts.specs.declared.key.Key.{Key}
-use Rattle.abstract_paths.specs.StampLaws.{ties}
+use Rattle.abstract_paths.specs.StampLaws.{none-is, ties}
 use Rattle.abstract_paths.specs.Touched.{is_among}
-use Rattle.abstract_router.specs.Lsps.{lsp_at}
+use Rattle.abstract_router.specs.Lsps.{Lsp, lsp_at}
 use Rattle.abstract_router.specs.States.{State}
-use Rattle.state_views.specs.EditLaws.{neither, same_unedited}
+use Rattle.state_views.specs.EditLaws.{neither, path_edited, same_unedited}
 use Rattle.state_views.specs.Edits.{edited, is_edited}
 use Rattle.state_views.specs.declared.edits.Edits.{Edits}
-use Rattle.state_sends.specs.Touching.{is_lsp_of}
+use Rattle.state_sends.specs.Touching.{AreAllLsps, IsSaidAgain, is_lsp_of, said_by_resvs}
 
 -- a key is among rows with one more after them
 among-more : {E : Type 0} (key : Key) (rows : List (Key × E)) (row : Key × E) → is_among key_cmp (rows ++ row ∷ []) key ≡ (is_among key_cmp rows key || eq_by_cmp key_cmp key row.0)
@@ -79,6 +80,11 @@ one_changed P lsps i row changed after within is holds put known_key known apart
     let none = neither (eq_by_cmp key_cmp known_key row.0) (is_among key_cmp changed known_key) (sym (among-put known_key row.0 changed) ∙ sym (ap (λ keys. is_among key_cmp keys known_key) put) ∙ apart) in
     holds known_key (sym (or_false (is_among key_cmp (take i lsps) known_key)) ∙ ap (λ b. is_among key_cmp (take i lsps) known_key || b) (sym none.0) ∙ sym (among_next lsps i row within is known_key) ∙ known) none.1
 
+-- One more of the LSPs that are known is put among those before it.
+pub one_known : {E : Type 0} (rows : List (Key × E)) (i : ℕ) (row : Key × E) (all after : List (Key × Unit {0})) → i < length rows → row ≡ get_or rows i row → after ≡ put key_cmp row.0 tt all → ((key : Key) → is_among key_cmp all key ≡ is_among key_cmp (take i rows) key) → (key : Key) → is_among key_cmp after key ≡ is_among key_cmp (take (i + 1) rows) key
+one_known rows i row all after within is put known key =
+    one_more rows i row [] all after within is put (λ k. known k ∙ sym (or_false (is_among key_cmp (take i rows) k))) key ∙ or_false (is_among key_cmp (take (i + 1) rows) key)
+
 -- each place of a list has an element
 pub none_past : {A : Type 0} (xs : List A) (i : ℕ) → i < length xs → slice_get xs i ≡ None → ⊥
 none_past [] i within none = omega (arith, within)
@@ -98,12 +104,33 @@ one_item {I} of items i item lsp keys all after within is is_lsp put known key =
     ∙ sym (list_any-append (λ (x : I). eq_by_cmp key_cmp key (of x)) (take i items) (item ∷ []))
     ∙ sym (ap (λ (xs : List I). is_lsp_of of xs key) (take_more items i item within ∙ ap (λ x. take i items ++ x ∷ []) (sym is))))
 
+-- What is known is the same where Resvs say the same, which may say all.
+known_again : (s t : State) (key : Key) → IsSaidAgain said_by_resvs s t key → lsp_at s key ≡ lsp_at t key
+known_again s t key same = sym (whole (lsp_at s key)) ∙ same ∙ whole (lsp_at t key)
+  where
+    whole : (o : Option Lsp) → option_map said_by_resvs o ≡ o
+    whole None = refl
+    whole (Some lsp) = refl
+
 -- And so of those that aren't among the edited LSPs of which not the same is known.
 pub same_apart : (s : State) (e : Edits) (lsps changed : List (Key × Unit {0})) → ((key : Key) → is_among key_cmp lsps key ≡ is_edited e key)
-    → ((key : Key) → is_among key_cmp lsps key ≡ true → is_among key_cmp changed key ≡ false → lsp_at s key ≡ lsp_at (edited e s) key)
+    → ((key : Key) → is_among key_cmp lsps key ≡ true → is_among key_cmp changed key ≡ false → IsSaidAgain said_by_resvs s (edited e s) key)
     → (key : Key) → is_among key_cmp changed key ≡ false → lsp_at s key ≡ lsp_at (edited e s) key
 same_apart s e lsps changed known same key apart = by (is_among key_cmp lsps key) refl
   where
     by : (b : Bool) → is_among key_cmp lsps key ≡ b → lsp_at s key ≡ lsp_at (edited e s) key
-    by true is = same key is apart
+    by true is = known_again s (edited e s) key (same key is apart)
     by false is = same_unedited s e key (sym (known key) ∙ is)
+
+-- LSPs that are known before, and those whose path has an edit, are all that are known before or after.
+pub known_after : (s : State) (e : Edits) (known all : List (Key × Unit {0})) → ((key : Key) → is_among key_cmp known key ≡ is_among key_cmp s.facts.paths key) → ((key : Key) → is_among key_cmp all key ≡ (is_among key_cmp e.paths key || is_among key_cmp known key))
+    → AreAllLsps s all × AreAllLsps (edited e s) all
+known_after s e known all before after = (
+  λ key away. none-is (find key_cmp key s.facts.paths) (gone key away).1,
+  λ key away. path_edited key e.paths s.facts.paths ∙ (λ i. over (none-is (find key_cmp key e.paths) (gone key away).0 i) (none-is (find key_cmp key s.facts.paths) (gone key away).1 i)),
+)
+  where
+    gone : (key : Key) → is_among key_cmp all key ≡ false → (is_among key_cmp e.paths key ≡ false) × (is_among key_cmp s.facts.paths key ≡ false)
+    gone key away =
+        let none = neither (is_among key_cmp e.paths key) (is_among key_cmp known key) (sym (after key) ∙ away) in
+        (none.0, sym (before key) ∙ none.1)

@@ -2,7 +2,7 @@
 
 ghost use Rattle.std.specs.FinMap.Entries.{is_sorted, where_key};
 ghost use Rattle.std.specs.List.{AllByRecursion};
-ghost use Rattle.std.specs.Prelude.{◌≡◌, [], Bool, IfOk, List, T};
+ghost use Rattle.std.specs.Prelude.{◌≡◌, [], Bool, IfOk, List, T, true};
 ghost use Rattle.std.specs.Cmp.{IsTotalOrder};
 ghost use Rattle.std.specs.declared.cmp.Ordering.{Ordering};
 ghost use Rattle.std.specs.declared.cmp.Ordering.TheVariants.{Equal};
@@ -15,12 +15,16 @@ ghost use Rattle.abstract_paths.specs.Touched.{is_among};
 ghost use Rattle.abstract_router.specs.Lsps.{Around, Lsp, around_of, lsps_of};
 ghost use Rattle.abstract_router.specs.Soundness.{IsResv};
 ghost use Rattle.abstract_router.specs.States.{State};
+ghost use Rattle.state_views.specs.Edits.{edited};
+ghost use Rattle.state_sends.specs.KeptAlive.{all_said};
+ghost use Rattle.state_sends.specs.Touching.{IsSaidAgain};
 
+use crate::same::{is_same_downstream, is_same_lsp};
 use crate::touched::Lsps;
 use lsr_facts::laws::items_are_in_order;
 use lsr_facts::{Item, Key};
 use resv_facts::Upstream;
-use state_views::{Output, StateView};
+use state_views::{Edits, Output, StateView};
 use std::alloc::{AllocError, Global};
 use wanted_messages::{items_at_keys, upstream_at_keys};
 
@@ -32,6 +36,9 @@ pub(crate) trait KeptAlive: Ord + Copy + Drop {
     // the order that they stand in
     ghost order: { Self → Self → Ordering };
 
+    // what its messages say of an LSP
+    ghost said: { Lsp → Lsp };
+
     // all that LSPs want, of what they share
     ghost rows: { Around → List (Key × Lsp) → List (Self × Output) };
 
@@ -42,6 +49,11 @@ pub(crate) trait KeptAlive: Ord + Copy + Drop {
     /// The LSP.
     fn lsp(&self) -> Key
         ensures { result ≡ of self.now };
+
+    /// Whether its messages say the same of an LSP before and after edits.
+    fn is_same<V: StateView>(view: &V, edits: &Edits, lsp: &Key) -> bool
+        ensures { result ≡ true → IsSaidAgain said
+            (V.state view.now) (edited edits.now (V.state view.now)) lsp.now };
 
     /// All that these LSPs want, in the order of items. The paths are those of a router, and each reservation is as it
     /// should be, also one that a repair keeps. The only error is out of memory.
@@ -56,6 +68,9 @@ pub(crate) trait KeptAlive: Ord + Copy + Drop {
             (V.state view.now).repairs }
         ensures rows { IfOk result (λ wanted. wanted.items ≡ rows (around_of (V.router view.now) (V.state view.now))
             (where_key key_cmp (is_among key_cmp lsps.now) (lsps_of (V.state view.now)))) };
+
+    // what LSPs want comes of what is said of them
+    ghost from_said: { (a : Around) (lsps : List (Key × Lsp)) → rows a (all_said said lsps) ≡ rows a lsps };
 
     // the order is total
     ghost total: { IsTotalOrder order };
@@ -81,13 +96,18 @@ impl KeptAlive for Item {
     ghost use Rattle.lsr_facts.specs.Orders.{item_cmp};
     ghost use Rattle.abstract_paths.specs.Touched.{key_of_item};
     ghost use Rattle.abstract_router.specs.Wanted.{item_rows};
-    ghost use Rattle.state_sends.specs.KeptAlive.{item_parts, items_in_order, no_item_rows};
+    ghost use Rattle.state_sends.specs.KeptAlive.{item_parts, items_in_order, items_said, no_item_rows};
+    ghost use Rattle.state_sends.specs.Touching.{said_by_paths};
 
     ghost of = { key_of_item };
 
     ghost order = { item_cmp };
 
+    ghost said = { said_by_paths };
+
     ghost rows = { item_rows };
+
+    ghost from_said = { items_said };
 
     ghost total = { item_total };
 
@@ -107,6 +127,10 @@ impl KeptAlive for Item {
         *self.key()
     }
 
+    fn is_same<V: StateView>(view: &V, edits: &Edits, lsp: &Key) -> bool {
+        is_same_downstream(view, edits, lsp)
+    }
+
     #[tactic(auto, unfolding(abstract_router::specs::Wanted::items_at))]
     fn wanted_of<V: StateView>(
         alloc: Global,
@@ -120,13 +144,18 @@ impl KeptAlive for Item {
 impl KeptAlive for Upstream {
     ghost use Rattle.resv_facts.specs.UpstreamOrder.{upstream_exact, upstream_total};
     ghost use Rattle.resv_facts.specs.Upstreams.{upstream_cmp};
-    ghost use Rattle.state_sends.specs.KeptAlive.{no_resv_rows, resv_parts, resv_rows, resvs_in_order};
+    ghost use Rattle.state_sends.specs.KeptAlive.{no_resv_rows, resv_parts, resv_rows, resvs_in_order, resvs_said};
+    ghost use Rattle.state_sends.specs.Touching.{said_by_resvs};
 
     ghost of = { λ u. u.key };
 
     ghost order = { upstream_cmp };
 
+    ghost said = { said_by_resvs };
+
     ghost rows = { resv_rows };
+
+    ghost from_said = { resvs_said };
 
     ghost total = { upstream_total };
 
@@ -142,6 +171,10 @@ impl KeptAlive for Upstream {
 
     fn lsp(&self) -> Key {
         self.key
+    }
+
+    fn is_same<V: StateView>(view: &V, edits: &Edits, lsp: &Key) -> bool {
+        is_same_lsp(view, edits, lsp)
     }
 
     #[tactic(auto, unfolding(abstract_router::specs::Upstreams::upstream_at))]

@@ -2,7 +2,7 @@
 
 ghost use Rattle.std.specs.List.{AllByRecursion};
 ghost use Rattle.std.specs.List.Sorted.{IsSorted};
-ghost use Rattle.std.specs.Prelude.{◌≡◌, ◌++◌, ℕ, IfOk, List, false, true};
+ghost use Rattle.std.specs.Prelude.{◌≡◌, ◌++◌, [], ℕ, IfOk, List, false, true};
 ghost use Rattle.sorted_rows.specs.Edits as rows;
 ghost use Rattle.sorted_rows.specs.Rows.{keys_of};
 ghost use Rattle.lsr_facts.specs.Orders.{item_cmp, key_cmp};
@@ -15,12 +15,15 @@ ghost use Rattle.abstract_paths.specs.Touched.{is_among};
 ghost use Rattle.abstract_router.specs.Lsps.{around_of, lsps_of};
 ghost use Rattle.abstract_router.specs.Outputs.{item_stamps, outputs_of, upstream_stamps};
 ghost use Rattle.abstract_router.specs.Soundness.{IsResv, IsSound};
-ghost use Rattle.abstract_router.specs.Touched.{IsSameElsewhere, LeavesOtherLsps};
+ghost use Rattle.abstract_router.specs.Touched.{LeavesOtherLsps};
 ghost use Rattle.state_views.specs.Drafts.{due_by, upstream_due_by};
 ghost use Rattle.state_views.specs.Edits.{edited};
+ghost use Rattle.state_sends.specs.Touching.{AreAllSharing, LeavesOthersSaid};
 
 use crate::kept_alive::KeptAlive;
-use crate::touched::{Lsps, changed_lsps, is_same_everywhere, touched_by};
+use crate::touched::{
+    Lsps, changed_for, changed_lsps, is_same_everywhere, sharing_lsps, touched_by,
+};
 use lsr_facts::{Item, Key};
 use resv_facts::Upstream;
 use router_sends::{Sends, errors_out, sends_again, sends_between};
@@ -80,21 +83,33 @@ fn due_resvs<V: WholeState>(
     }
 }
 
-/// What is sent of one kind, and torn down: it comes of the LSPs that the step touches. Of these LSPs not the same is known
-/// after it; what is due stands in order. Where it is told that the same is known of all, what is wanted is built once. The
-/// only error is out of memory.
+/// Nothing is sent, and nothing torn down. Takes no memory.
+fn nothing_sent<I: Ord>(alloc: Global) -> Sends<I>
+    ensures tears { result.tears ≡ [] }
+    ensures sends { result.sends ≡ [] }
+    ensures moments { result.moments ≡ [] }
+{
+    Sends {
+        tears: Outputs::new(alloc),
+        sends: Outputs::new(alloc),
+        moments: Table::new(alloc),
+    }
+}
+
+/// What is sent of one kind, and torn down: it comes of the LSPs that the step touches. Of these LSPs its messages don't say
+/// the same after it, and all are told where they may share something else; what is due stands in order. Where the same is
+/// wanted of all, it is built once. The only error is out of memory.
 fn sends_at<I: KeptAlive, V: WholeState>(
     alloc: Global,
     view: &V,
     edits: &Edits,
-    is_same: bool,
     changed: &Lsps,
+    sharing: &Option<Lsps>,
     due: &[I],
 ) -> Result<Sends<I>, AllocError>
-    requires same { is_same ≡ true → IsSameElsewhere (V.router view.now) (λ key. false)
+    requires changed { LeavesOthersSaid I.said (is_among key_cmp changed.now)
         (V.state view.now) (edited edits.now (V.state view.now)) }
-    requires changed { LeavesOtherLsps (is_among key_cmp changed.now)
-        (V.state view.now) (edited edits.now (V.state view.now)) }
+    requires sharing { AreAllSharing (V.router view.now) (V.state view.now) edits.now sharing.now }
     requires due { IsSorted I.order due.now }
     requires before { IsSound (V.router view.now) (V.state view.now) }
     requires paths { ArePaths (V.router view.now)
@@ -124,12 +139,16 @@ fn sends_at<I: KeptAlive, V: WholeState>(
         (I.rows (around_of (V.router view.now) (edited edits.now (V.state view.now)))
         (lsps_of (edited edits.now (V.state view.now))))) }
 {
+    let touched = touched_by(alloc, view, edits, changed, sharing, due)?;
+    if touched.as_slice().is_empty() {
+        return Ok(nothing_sent(alloc));
+    }
+
     // That items are compared by the order that their rows stand in.
     I::are_in_order();
     let after = Changed { under: view, edits };
-    let touched = touched_by(alloc, view, edits, changed, due)?;
     let is = I::wanted_of(alloc, &after, &touched)?;
-    if is_same {
+    if is_same_everywhere::<I, V>(view, edits, changed, sharing) {
         return sends_again(alloc, due, after.moment(), is);
     }
     let was = I::wanted_of(alloc, view, &touched)?;
@@ -137,11 +156,14 @@ fn sends_at<I: KeptAlive, V: WholeState>(
     sends_between(alloc, up, due, after.moment(), was.as_slice(), is)
 }
 
-/// Frames after others. The only error is out of memory.
+/// Frames after others. Where there are no others, none moves. The only error is out of memory.
 pub fn appended(outputs: Outputs, more: Outputs) -> Result<Outputs, AllocError>
     ensures { IfOk result (λ all. all ≡ outputs ++ more) }
 {
     let mut all = outputs.into_vec();
+    if all.is_empty() {
+        return Ok(more);
+    }
     let mut more = more.into_vec();
     all.append(&mut more)?;
     Ok(Outputs::from_vec(all))
@@ -185,17 +207,25 @@ pub fn sends_of<V: WholeState>(
     let due_paths = due_paths(alloc, view, due)?;
     let due_resvs = due_resvs(alloc, view, due)?;
     let changed = changed_lsps(alloc, view, edits)?;
-    let is_same = is_same_everywhere(view, edits, &changed);
+    let of_paths = changed_for::<Item, V>(alloc, view, edits, &changed)?;
+    let sharing = sharing_lsps(alloc, view, edits)?;
     let Sends {
         tears: path_tears,
         sends: paths,
         moments,
-    } = sends_at(alloc, view, edits, is_same, &changed, due_paths.as_slice())?;
+    } = sends_at(
+        alloc,
+        view,
+        edits,
+        &of_paths,
+        &sharing,
+        due_paths.as_slice(),
+    )?;
     let Sends {
         tears: resv_tears,
         sends: resvs,
         moments: upstream,
-    } = sends_at(alloc, view, edits, is_same, &changed, due_resvs.as_slice())?;
+    } = sends_at(alloc, view, edits, &changed, &sharing, due_resvs.as_slice())?;
     let going = errors_out(up_after(view, edits), errors);
     let torn = appended(appended(going, path_tears)?, resv_tears)?;
     let outputs = appended(appended(torn, paths)?, resvs)?;

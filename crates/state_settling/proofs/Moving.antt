@@ -1,17 +1,30 @@
 -- One more of the LSPs whose paths are edited.
-use Rattle.std.specs.Prelude.{◌≡◌, ◌+◌, ◌<◌, ℕ, Bool, true, false, cond, List, Option, Some, None, is_some, length, take}
+use Rattle.std.specs.Prelude.{◌≡◌, ◌==◌, ◌+◌, ◌<◌, ℕ, Bool, true, false, cond, List, Option, Some, None, is_some, length, take}
 use Rattle.std.specs.FinMap.Entries.{find, put}
-use Rattle.std.specs.Option.{option_map, option_map_or, option_or}
+use Rattle.std.specs.Option.{option_and_then, option_map, option_map_or, option_or}
 use Rattle.std.specs.Ordering.{eq_by_cmp}
 use Rattle.std.proofs.Common.{get_or, refl, sym, ap, subst, ◌∙◌}
 use Rattle.sorted_rows.specs.RowsLaws.{find-put_other, find-put_same, ties}
 use Rattle.lsr_facts.specs.OrderLaws.{key_exact, key_total}
 use Rattle.lsr_facts.specs.Orders.{key_cmp}
 use Rattle.lsr_facts.specs.declared.key.Key.{Key}
+use Rattle.lsr_facts.specs.declared.path_fact.PathFact.{PathFact}
+use Rattle.resv_facts.specs.declared.resv_fact.ResvFact.{ResvFact}
 use Rattle.admission.specs.Bandwidths.{Edit}
-use Rattle.state_settling.specs.Keeping.{edit_at, with_edit}
+use Rattle.state_settling.specs.Keeping.{edit_at, holding_at, moved, with_edit}
 use Rattle.state_settling.specs.SwitchingLaws.{or_none}
 use Rattle.state_settling.proofs.Places.{find-one_more}
+
+-- What an LSP has is not moved where its path has it kept at the same priority.
+pub unmoved : (before after : List (Key × PathFact)) (resvs : List (Key × ResvFact)) (key : Key) → (holding_at after key == holding_at before key) ≡ true → moved before after resvs key ≡ None
+unmoved before after resvs key same = by (find key_cmp key resvs)
+  where
+    kept : ResvFact → Edit
+    kept fact = Some (fact, holding_at after key)
+
+    by : (o : Option ResvFact) → option_and_then (λ (fact : ResvFact). cond (holding_at after key == holding_at before key) None (kept fact)) o ≡ None
+    by None = refl
+    by (Some fact) = ap (λ (b : Bool). cond b None (kept fact)) same
 
 -- the same, or itself
 or_same : {A : Type 0} (o : Option A) → option_or o o ≡ o

@@ -100,6 +100,7 @@ fn kept_edits<V: StateView>(
 }
 
 /// What an LSP has, where its path has it kept at another priority after the edits of paths.
+#[tactic(auto, using(crate::proofs::Moving::unmoved))]
 fn moved<V: StateView>(
     alloc: Global,
     view: &V,
@@ -109,13 +110,13 @@ fn moved<V: StateView>(
     ensures { IfOk result (λ edit. edit ≡ moved (V.state view.now).facts.paths
         (edited key_cmp paths.now (V.state view.now).facts.paths) (V.state view.now).resvs key.now) }
 {
-    let Some(fact) = view.resv(key) else {
-        return Ok(None);
-    };
     let holding = holding_after(view, paths, key);
     if holding == holding_at(view, key) {
         return Ok(None);
     }
+    let Some(fact) = view.resv(key) else {
+        return Ok(None);
+    };
     Ok(Some((fact.try_copy(alloc)?, holding)))
 }
 

@@ -2,7 +2,7 @@
 
 ghost use Rattle.std.specs.FinMap.Entries.{is_sorted};
 ghost use Rattle.std.specs.Option.{option_map};
-ghost use Rattle.std.specs.Prelude.{◌≡◌, ◌∷◌, [], IfOk, T, filter_map, find as find_first, not};
+ghost use Rattle.std.specs.Prelude.{◌≡◌, ◌∷◌, [], IfOk, OnOk, T, filter_map, find as find_first, not};
 ghost use Rattle.sorted_rows.specs.Rows.{keys_of};
 ghost use Rattle.sorted_rows.specs.Edits as rows;
 ghost use Rattle.lsr_facts.specs.Orders.{key_cmp};
@@ -116,18 +116,18 @@ fn label_edits<V: StateView>(
 /// Edits, and then an LSP that is new has the label that was chosen for it, and the labels of those that went are free. It
 /// asks for edits that leave the labels as they are. The only error is out of memory.
 #[tactic(auto, using(crate::specs::RelabellingLaws::labels_given))]
-pub(crate) fn labelled<V: StateView>(
+pub(crate) fn give_labels<V: StateView>(
     alloc: Global,
     view: &V,
     chosen: &Table<Key, u32>,
-    mut edits: Edits,
-) -> Result<Edits, AllocError>
+    edits: &mut Edits,
+) -> Result<(), AllocError>
     requires order { T (is_sorted key_cmp (V.state view.now).facts.paths) }
     requires held { keys_of (V.state view.now).labels ≡ labelled_keys (V.state view.now).facts.paths }
-    requires labels { (edited edits (V.state view.now)).labels ≡ (V.state view.now).labels }
-    ensures { IfOk result (λ e. edited e (V.state view.now)
-        ≡ labelled chosen.now (edited edits (V.state view.now))) }
+    requires labels { (edited edits.old (V.state view.now)).labels ≡ (V.state view.now).labels }
+    ensures { OnOk result (edited edits.new (V.state view.now)
+        ≡ labelled chosen.now (edited edits.old (V.state view.now))) }
 {
     edits.labels = label_edits(alloc, view, chosen, edits.paths.as_slice())?;
-    Ok(edits)
+    Ok(())
 }

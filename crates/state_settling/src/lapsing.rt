@@ -3,7 +3,7 @@
 ghost use Rattle.std.specs.FinMap.Entries.{is_sorted};
 ghost use Rattle.std.specs.List.{AllByRecursion};
 ghost use Rattle.std.specs.Option.{option_and_then};
-ghost use Rattle.std.specs.Prelude.{◌≡◌, ◌++◌, true, IfOk, T, filter_map, slice_get};
+ghost use Rattle.std.specs.Prelude.{◌≡◌, ◌++◌, true, IfOk, OnOk, T, filter_map, slice_get};
 ghost use Rattle.lsr_facts.specs.Orders.{key_cmp};
 ghost use Rattle.lsr_facts.specs.declared.key.Key.{Key};
 ghost use Rattle.abstract_router.specs.Repairing.{repair_stands, repairs_left};
@@ -108,19 +108,22 @@ fn lapsed<V: WholeState>(alloc: Global, view: &V, edits: &Edits) -> Result<Vec<K
 /// Edits, and then those repairs go that stand no more. It asks that all there were before the edits stood. The only error is
 /// out of memory.
 #[tactic(auto, using(crate::specs::FallingLaws::repairs_standing_left))]
-pub(crate) fn repairs_left<V: WholeState>(
+pub(crate) fn take_lapsed<V: WholeState>(
     alloc: Global,
     view: &V,
-    mut edits: Edits,
-) -> Result<Edits, AllocError>
+    edits: &mut Edits,
+) -> Result<(), AllocError>
     requires order { T (is_sorted key_cmp (V.state view.now).repairs) }
     requires stood { AllByRecursion (λ repair. repair_stands (V.router view.now) (V.state view.now) repair ≡ true)
         (V.state view.now).repairs }
-    ensures { IfOk result (λ e. edited e (V.state view.now)
-        ≡ repairs_left (V.router view.now) (edited edits (V.state view.now))) }
+    ensures { OnOk result (edited edits.new (V.state view.now)
+        ≡ repairs_left (V.router view.now) (edited edits.old (V.state view.now))) }
 {
-    let gone = lapsed(alloc, view, &edits)?;
+    let gone = lapsed(alloc, view, edits)?;
+    if gone.is_empty() {
+        return Ok(());
+    }
     let repairs = mem::replace(&mut edits.repairs, Table::new(alloc));
     edits.repairs = without_rows(repairs, &gone)?;
-    Ok(edits)
+    Ok(())
 }

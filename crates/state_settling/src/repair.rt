@@ -3,7 +3,7 @@
 ghost use Rattle.std.specs.FinMap.Entries.{find, is_sorted, put};
 ghost use Rattle.std.specs.List.{AllByRecursion, flat_map};
 ghost use Rattle.std.specs.Option.{option_and_then, option_map, option_map_or, option_or};
-ghost use Rattle.std.specs.Prelude.{◌≡◌, Some, true, IfOk, T, map};
+ghost use Rattle.std.specs.Prelude.{◌≡◌, None, Some, true, IfOk, OnOk, T, map};
 ghost use Rattle.lsr_facts.specs.Orders.{key_cmp};
 ghost use Rattle.lsr_facts.specs.declared.key.Key.{Key};
 ghost use Rattle.abstract_paths.specs.MessageLaws.{LeavesRoom};
@@ -77,20 +77,25 @@ fn with_repair<A: StateView>(
     Ok(all)
 }
 
-/// Repairs, and then those of the LSPs of these rows. The only error is out of memory.
-fn with_repairs<A: StateView, E>(
+/// Repairs, and then those of the LSPs of which these edits leave a reservation. It asks that the others have none. The only
+/// error is out of memory.
+fn with_repairs<A: StateView>(
     alloc: Global,
     repairs: Table<Key, Repair>,
     after: &A,
-    rows: &[(Key, E)],
+    rows: &[(Key, Option<ResvFact>)],
 ) -> Result<Table<Key, Repair>, AllocError>
+    requires order { T (is_sorted key_cmp rows.now) }
+    requires gone { (key : Key) → find key_cmp key rows.now ≡ Some None → find key_cmp key (A.state after.now).resvs ≡ None }
     ensures { IfOk result (λ all. (key : Key) → find key_cmp key all
         ≡ option_or (option_and_then (λ row. repair_at (A.router after.now) (A.state after.now) key) (find key_cmp key rows.now))
         (find key_cmp key repairs)) }
 {
     let mut all = repairs;
     for row in rows {
-        all = with_repair(alloc, all, after, row.0)?;
+        if row.1.is_some() {
+            all = with_repair(alloc, all, after, row.0)?;
+        }
     }
     Ok(all)
 }
@@ -224,28 +229,27 @@ fn with_put(
 /// Edits, and then what a lost link takes away is repaired; and the errors that this tells, in the order of the LSPs (RFC
 /// 4090, 6.4 and 6.5). It asks that all reservations stood before the edits, and that each path after them leaves room for an
 /// error that names it. The only error is out of memory.
-pub(crate) fn repaired<V: WholeState>(
+pub(crate) fn repair_all<V: WholeState>(
     alloc: Global,
     view: &V,
-    edits: Edits,
-) -> Result<(Edits, Outputs), AllocError>
+    edits: &mut Edits,
+) -> Result<Outputs, AllocError>
     requires order { T (is_sorted key_cmp (V.state view.now).resvs) }
     requires stood { AllByRecursion (λ resv. stands (V.state view.now).facts resv ≡ true) (V.state view.now).resvs }
     requires repairs { T (is_sorted key_cmp (V.state view.now).repairs) }
-    requires room { AllByRecursion (λ path. LeavesRoom (Some path.1.tspec)) (edited edits (V.state view.now)).facts.paths }
-    ensures after { IfOk result (λ x. edited x.0 (V.state view.now)
-        ≡ repaired (V.router view.now) (edited edits (V.state view.now))) }
-    ensures told { IfOk result (λ x. x.1
-        ≡ told_repaired (V.router view.now) (edited edits (V.state view.now))) }
+    requires room { AllByRecursion (λ path. LeavesRoom (Some path.1.tspec)) (edited edits.old (V.state view.now)).facts.paths }
+    ensures after { OnOk result (edited edits.new (V.state view.now)
+        ≡ repaired (V.router view.now) (edited edits.old (V.state view.now))) }
+    ensures told { IfOk result (λ told. told
+        ≡ told_repaired (V.router view.now) (edited edits.old (V.state view.now))) }
 {
-    let repairs = new_repairs(alloc, view, &edits)?;
-    let after = Changed {
-        under: view,
-        edits: &edits,
-    };
+    let repairs = new_repairs(alloc, view, edits)?;
+    if repairs.as_slice().is_empty() {
+        return Ok(Outputs::new(alloc));
+    }
+    let after = Changed { under: view, edits };
     let told = told_of_all(alloc, &after, repairs.as_slice())?;
-    let mut edits = edits;
     let was = mem::replace(&mut edits.repairs, Table::new(alloc));
     edits.repairs = with_put(alloc, was, repairs)?;
-    Ok((edits, told))
+    Ok(told)
 }

@@ -9,11 +9,11 @@ ghost use Rattle.abstract_router.specs.Soundness.{IsSound};
 ghost use Rattle.abstract_router.specs.Steps.{settled, taken_over};
 ghost use Rattle.state_views.specs.Edits.{edited};
 
-use crate::labels::{chosen_labels, labelled};
-use crate::lapsing::repairs_left;
-use crate::repair::repaired;
-use crate::standing::resvs_left;
-use crate::takeover::taken_over;
+use crate::labels::{chosen_labels, give_labels};
+use crate::lapsing::take_lapsed;
+use crate::repair::repair_all;
+use crate::standing::take_fallen;
+use crate::takeover::take_over;
 use lsr_facts::Key;
 use sorted_rows::Table;
 use state_views::{Edits, Outputs, WholeState};
@@ -49,12 +49,13 @@ pub fn settle<V: WholeState>(alloc: Global, view: &V, edits: Edits) -> Result<Se
     ensures chosen { IfOk result (λ x. IsLabelling (V.router view.now) (V.state view.now).labels
         (edited edits (V.state view.now)).facts.paths x.chosen) }
 {
+    let mut edits = edits;
     let chosen = chosen_labels(alloc, view, edits.paths.as_slice())?;
-    let edits = taken_over(alloc, view, edits)?;
-    let (edits, told) = repaired(alloc, view, edits)?;
-    let edits = resvs_left(alloc, view, edits)?;
-    let edits = repairs_left(alloc, view, edits)?;
-    let edits = labelled(alloc, view, &chosen, edits)?;
+    take_over(alloc, view, &mut edits)?;
+    let told = repair_all(alloc, view, &mut edits)?;
+    take_fallen(alloc, view, &mut edits)?;
+    take_lapsed(alloc, view, &mut edits)?;
+    give_labels(alloc, view, &chosen, &mut edits)?;
     Ok(Settled {
         edits,
         chosen,

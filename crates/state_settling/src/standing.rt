@@ -3,7 +3,7 @@
 ghost use Rattle.std.specs.FinMap.Entries.{is_sorted};
 ghost use Rattle.std.specs.List.{AllByRecursion};
 ghost use Rattle.std.specs.Option.{option_and_then};
-ghost use Rattle.std.specs.Prelude.{◌≡◌, ◌++◌, true, IfOk, T, filter_map, slice_get};
+ghost use Rattle.std.specs.Prelude.{◌≡◌, ◌++◌, true, IfOk, OnOk, T, filter_map, slice_get};
 ghost use Rattle.lsr_facts.specs.Orders.{key_cmp};
 ghost use Rattle.lsr_facts.specs.declared.key.Key.{Key};
 ghost use Rattle.abstract_router.specs.States.{is_one_of};
@@ -106,17 +106,20 @@ fn fallen<V: WholeState>(alloc: Global, view: &V, edits: &Edits) -> Result<Vec<K
 /// Edits, and then those reservations go that stand no more. It asks that all there were before the edits stood. The only
 /// error is out of memory.
 #[tactic(auto, using(crate::specs::FallingLaws::standing_left))]
-pub(crate) fn resvs_left<V: WholeState>(
+pub(crate) fn take_fallen<V: WholeState>(
     alloc: Global,
     view: &V,
-    mut edits: Edits,
-) -> Result<Edits, AllocError>
+    edits: &mut Edits,
+) -> Result<(), AllocError>
     requires order { T (is_sorted key_cmp (V.state view.now).resvs) }
     requires stood { AllByRecursion (λ resv. stands (V.state view.now).facts resv ≡ true) (V.state view.now).resvs }
-    ensures { IfOk result (λ e. edited e (V.state view.now) ≡ resvs_left (edited edits (V.state view.now))) }
+    ensures { OnOk result (edited edits.new (V.state view.now) ≡ resvs_left (edited edits.old (V.state view.now))) }
 {
-    let gone = fallen(alloc, view, &edits)?;
+    let gone = fallen(alloc, view, edits)?;
+    if gone.is_empty() {
+        return Ok(());
+    }
     let resvs = mem::replace(&mut edits.resvs, Table::new(alloc));
     edits.resvs = without_rows(resvs, &gone)?;
-    Ok(edits)
+    Ok(())
 }

@@ -3,7 +3,7 @@
 ghost use Rattle.std.specs.FinMap.Entries.{find, is_sorted};
 ghost use Rattle.std.specs.Option.{option_and_then, option_copied, option_or};
 ghost use Rattle.std.specs.Ordering.{nat_cmp};
-ghost use Rattle.std.specs.Prelude.{◌≡◌, ℕ, IfOk, T, filter};
+ghost use Rattle.std.specs.Prelude.{◌≡◌, ℕ, IfOk, OnOk, T, filter};
 ghost use Rattle.lsr_facts.specs.Orders.{key_cmp};
 ghost use Rattle.abstract_router.specs.Steps.{is_ready, taken_over};
 ghost use Rattle.state_views.specs.Edits.{edited};
@@ -78,49 +78,47 @@ fn ready_tunnels<V: WholeState>(
 
 /// Edits, and then a tunnel goes over to its new LSP, and the path of the one that carried its traffic goes. The only error
 /// is out of memory.
-fn with_switched(
+fn switch_one(
     router: &Router,
-    mut edits: Edits,
+    edits: &mut Edits,
     number: u16,
     mut tunnel: Tunnel,
-) -> Result<Edits, AllocError>
-    ensures { IfOk result (λ e. e ≡ with_switched router.now (number, tunnel) edits) }
+) -> Result<(), AllocError>
+    ensures { OnOk result (edits.new ≡ with_switched router.now (number, tunnel) edits.old) }
 {
     edits.paths.set(current_key(router, number, &tunnel), None)?;
     switch(&mut tunnel);
-    edits.tunnels.set(number, Some(tunnel))?;
-    Ok(edits)
+    edits.tunnels.set(number, Some(tunnel))
 }
 
 /// And so of all these. Takes no memory where there is none; the only error is out of memory.
-fn with_all_switched(
+fn switch_all(
     router: &Router,
-    edits: Edits,
+    edits: &mut Edits,
     mut tunnels: Vec<(u16, Tunnel)>,
-) -> Result<Edits, AllocError>
-    ensures { IfOk result (λ e. e ≡ with_all_switched router.now edits tunnels.items) }
+) -> Result<(), AllocError>
+    ensures { OnOk result (edits.new ≡ with_all_switched router.now edits.old tunnels.items) }
 {
-    let mut all = edits;
     while let Some((number, tunnel)) = tunnels.pop() {
-        all = with_switched(router, all, number, tunnel)?;
+        switch_one(router, edits, number, tunnel)?;
     }
-    Ok(all)
+    Ok(())
 }
 
 /// Edits, and then each tunnel whose new LSP has its reservation goes over to it, and the path of the LSP that carried its
 /// traffic goes (RFC 3209, 2.5). Where there is none, the edits stay as they are, and no memory is taken. The only error is
 /// out of memory.
 #[tactic(auto, using(crate::specs::SwitchingLaws::switched_over))]
-pub(crate) fn taken_over<V: WholeState>(
+pub(crate) fn take_over<V: WholeState>(
     alloc: Global,
     view: &V,
-    edits: Edits,
-) -> Result<Edits, AllocError>
+    edits: &mut Edits,
+) -> Result<(), AllocError>
     requires tunnels { T (is_sorted nat_cmp (V.state view.now).facts.tunnels) }
     requires paths { T (is_sorted key_cmp (V.state view.now).facts.paths) }
-    ensures { IfOk result (λ e. edited e (V.state view.now)
-        ≡ taken_over (V.router view.now) (edited edits (V.state view.now))) }
+    ensures { OnOk result (edited edits.new (V.state view.now)
+        ≡ taken_over (V.router view.now) (edited edits.old (V.state view.now))) }
 {
-    let ready = ready_tunnels(alloc, view, &edits)?;
-    with_all_switched(node_of(view).router, edits, ready)
+    let ready = ready_tunnels(alloc, view, edits)?;
+    switch_all(node_of(view).router, edits, ready)
 }

@@ -13,7 +13,7 @@ use crate::edits::{give_values, take_keys};
 use crate::gathered::{keys_at, places_of};
 use crate::moments::{slots_are_in_reach, wheel_of, write_moment, write_moments};
 use crate::timing::{HasCome, Timed};
-use slot_rows::{OrderedSlots, Probe, RowTest};
+use slot_rows::{Numbering, OrderedSlots, Probe, RowTest};
 use sorted_rows::{Sweep, Table, TryCopy};
 use std::alloc::{AllocError, Global};
 use std::cmp::Ordering;
@@ -26,14 +26,27 @@ const FEW: usize = 64;
 /// Rows of a key and a value in the order of their keys, with no key twice: at most `MOST` of them. Each value has a
 /// moment at which it is to be looked at, or none. Their memory is taken when the table is made, and no change takes
 /// more. Contracts see what gives the moments, and the list of rows.
-#[derive(Debug, Drop)]
-pub struct TimedTable<K: Ord, V, M: Timed<V>, const MOST: usize> {
-    rows: OrderedSlots<K, V, MOST>,
+#[derive(Debug)]
+pub struct TimedTable<K: Ord, V, M: Timed<V>, N: Numbering<K>, const MOST: usize> {
+    rows: OrderedSlots<K, V, N, MOST>,
     wheel: Wheel,
     timing: M,
 }
 
-impl<K: Ord, V, M: Timed<V>, const MOST: usize> Model for TimedTable<K, V, M, MOST> {
+/// Written out, so that a crate above drops a table by one call, whatever it holds.
+impl<K: Ord + Drop, V: Drop, M: Timed<V> + Drop, N: Numbering<K>, const MOST: usize> Drop
+    for TimedTable<K, V, M, N, MOST> {
+    fn drop(self) {
+        let TimedTable {
+            rows: _rows,
+            wheel: _wheel,
+            timing: _timing,
+        } = self;
+    }
+}
+
+impl<K: Ord, V, M: Timed<V>, N: Numbering<K>, const MOST: usize> Model
+    for TimedTable<K, V, M, N, MOST> {
     ghost use Rattle.std.specs.Prelude.{vec_capacity};
     ghost use Rattle.slot_rows.specs.Slots.{rows_of};
     ghost use Rattle.timed_rows.specs.Timed.{IsTimed, TimedRows};
@@ -42,10 +55,10 @@ impl<K: Ord, V, M: Timed<V>, const MOST: usize> Model for TimedTable<K, V, M, MO
 
     ghost view = { λ t. record { timing = t.timing; rows = rows_of t.rows.slots t.rows.by_key.items } };
 
-    ghost invariant = { λ t. IsTimed K.cmp MOST (M.at t.timing) t.rows.slots t.rows.by_key.items (vec_capacity t.rows.by_key) t.wheel };
+    ghost invariant = { λ t. IsTimed K.cmp MOST N.number (M.at t.timing) t.rows.slots t.rows.by_key.items (vec_capacity t.rows.by_key) t.rows.marks t.wheel };
 }
 
-impl<K: Ord, V, M: Timed<V>, const MOST: usize> TimedTable<K, V, M, MOST> {
+impl<K: Ord, V, M: Timed<V>, N: Numbering<K>, const MOST: usize> TimedTable<K, V, M, N, MOST> {
     /// How many rows there are.
     pub fn len(&self) -> usize
         ensures { result ≡ length self.now.rows }
@@ -103,7 +116,13 @@ impl<K: Ord, V, M: Timed<V>, const MOST: usize> TimedTable<K, V, M, MOST> {
     }
 }
 
-impl<K: Ord + Copy, V, M: Timed<V> + Copy, const MOST: usize> TimedTable<K, V, M, MOST> {
+impl<K: Ord + Copy, V, M: Timed<V> + Copy, N: Numbering<K>, const MOST: usize> TimedTable<
+    K,
+    V,
+    M,
+    N,
+    MOST,
+> {
     /// The keys of the rows whose moment isn't after `now`, in milliseconds, in the order of the keys. Where there are
     /// few, it looks at these rows alone. The only error is out of memory.
     pub fn come(&self, alloc: Global, now: u64) -> Result<Vec<K>, AllocError>
@@ -126,9 +145,15 @@ impl<K: Ord + Copy, V, M: Timed<V> + Copy, const MOST: usize> TimedTable<K, V, M
     }
 }
 
-impl<K: Ord + Drop, V: Drop, M: Timed<V> + Copy, const MOST: usize> TimedTable<K, V, M, MOST> {
+impl<K: Ord + Drop, V: Drop, M: Timed<V> + Copy, N: Numbering<K>, const MOST: usize> TimedTable<
+    K,
+    V,
+    M,
+    N,
+    MOST,
+> {
     /// No rows. Takes the memory of all rows that the table may ever hold; the only error is that there is too little.
-    pub fn new(alloc: Global, timing: M) -> Result<TimedTable<K, V, M, MOST>, AllocError>
+    pub fn new(alloc: Global, timing: M) -> Result<TimedTable<K, V, M, N, MOST>, AllocError>
         ensures { IfOk result (λ table. table ≡ record { timing = timing; rows = [] }) }
     {
         let rows = OrderedSlots::new(alloc)?;
@@ -197,12 +222,13 @@ impl<K: Ord + Drop, V: Drop, M: Timed<V> + Copy, const MOST: usize> TimedTable<K
     }
 }
 
-impl<K: Ord + Copy, V: TryCopy + Drop, M: Timed<V> + Copy, const MOST: usize> TimedTable<
-    K,
-    V,
-    M,
-    MOST,
-> {
+impl<
+    K: Ord + Copy,
+    V: TryCopy + Drop,
+    M: Timed<V> + Copy,
+    N: Numbering<K>,
+    const MOST: usize,
+> TimedTable<K, V, M, N, MOST> {
     /// The rows as a table of their own: a copy. The only error is out of memory.
     pub fn copied(&self, alloc: Global) -> Result<Table<K, V>, AllocError>
         ensures { IfOk result (λ table. table ≡ self.now.rows) }
@@ -211,9 +237,14 @@ impl<K: Ord + Copy, V: TryCopy + Drop, M: Timed<V> + Copy, const MOST: usize> Ti
     }
 }
 
-impl<K: Ord + Copy, V: TryCopy + Drop, M: Timed<V> + Copy, const MOST: usize> TryCopy
-    for TimedTable<K, V, M, MOST> {
-    fn try_copy(&self, alloc: Global) -> Result<TimedTable<K, V, M, MOST>, AllocError> {
+impl<
+    K: Ord + Copy,
+    V: TryCopy + Drop,
+    M: Timed<V> + Copy,
+    N: Numbering<K>,
+    const MOST: usize,
+> TryCopy for TimedTable<K, V, M, N, MOST> {
+    fn try_copy(&self, alloc: Global) -> Result<TimedTable<K, V, M, N, MOST>, AllocError> {
         let rows = self.rows.try_copy(alloc)?;
         let wheel = wheel_of(alloc, &rows.slots, &self.timing)?;
         Ok(TimedTable {

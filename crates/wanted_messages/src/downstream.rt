@@ -102,7 +102,8 @@ fn asked_in_turn<V: StateView, E>(
         ≡ filter_map (λ e. downstream_at (V.router view.now) (V.state view.now) e.0) touched.now
         ++ filter_map (λ e. backup_at (V.router view.now) (V.state view.now) e.0) touched.now) }
 {
-    let mut rows = Vec::new(alloc);
+    let room = Vec::with_capacity(alloc, touched.len())?;
+    let mut rows = room;
     let mut backups = Vec::new(alloc);
     for row in touched {
         rows = with_row(rows, downstream_at(alloc, view, &row.0)?)?;

@@ -17,6 +17,9 @@ use std::alloc::{AllocError, Global};
 /// The flag of a label that holds on every link of its node (RFC 3209, 4.4.1.3).
 const GLOBAL_LABEL: u8 = 0x01;
 
+/// How many entries a router puts before the others at most: its id, and its label.
+const OWN_ENTRIES: usize = 2;
+
 /// The entry of this router's label.
 fn label_entry(label: u32) -> Trace
     ensures { result ≡ label_entry label }
@@ -48,11 +51,13 @@ fn after_own(
 ) -> Result<Vec<Trace>, AllocError>
     ensures { IfOk result (λ entries. entries.items ≡ own_entries router.now flags path.now label ++ recorded.now) }
 {
-    let mut entries = Vec::from_clones(alloc, recorded.as_slice())?;
+    let recorded = recorded.as_slice();
+    let mut entries = Vec::with_capacity(alloc, recorded.len().saturating_add(OWN_ENTRIES))?;
+    entries.push(flagged_entry(router, flags))?;
     if records_labels(&path.attr) {
-        entries.insert(0, label_entry(label))?;
+        entries.push(label_entry(label))?;
     }
-    entries.insert(0, flagged_entry(router, flags))?;
+    entries.extend_from_slice(recorded)?;
     Ok(entries)
 }
 

@@ -38,7 +38,7 @@ fn told_each<V: StateView>(
         (lsp.now.key.now, lsp_of (V.state view.now) lsp.now.key.now lsp.now.path.now)
         lsp.now.label (said lsp.now.reserved)) origins.now) }
 {
-    let mut rows = Vec::new(alloc);
+    let mut rows = Vec::with_capacity(alloc, origins.len())?;
     for origin in origins {
         if let Some(row) = upstream_row(alloc, view, lsp, origin)? {
             rows.push(row)?;
@@ -110,7 +110,8 @@ fn asked_in_turn<V: StateView, E>(
     ensures rows { IfOk result (λ rows. rows.items ≡ flat_map
         (λ e. upstream_at_key (V.router view.now) (V.state view.now) e.0) touched.now) }
 {
-    let mut rows = Vec::new(alloc);
+    let room = Vec::with_capacity(alloc, touched.len())?;
+    let mut rows = room;
     for row in touched {
         let mut more = upstream_at_key(alloc, view, &row.0)?;
         rows.append(&mut more)?;

@@ -10,12 +10,20 @@ use Rattle.lsr_facts.specs.declared.key.Key.{Key}
 use Rattle.resv_facts.specs.Claims.{is_of}
 use Rattle.resv_facts.specs.declared.claim.Claim.{Claim}
 use Rattle.admission.specs.Bandwidths.{AreRated}
-use Rattle.admission.proofs.Runs.{before_parts, comes_before, comes_upto, from_sorted, run_is, upto_parts}
+use Rattle.admission.proofs.Runs.{before_parts, comes_before, from_sorted, run_is}
 use Rattle.admission.proofs.run.run_of.Goals as goal
-use Rattle.admission.proofs.run.run_of.Goals.{After-partition_point-end}
+use Rattle.admission.proofs.run.run_of.Goals.{After-count_upto-end}
+
+pub count_upto-end-requires : goal.count_upto-end-requires
+count_upto-end-requires c =
+    let session = c.args.session.now in
+    let claims = c.args.claims.now in
+    let start = c.partition_point-start.result in
+    let point = IsPartitionPoint-from_clause (comes_before session) claims start c.partition_point-start.ensures.partitioned (before_parts session claims c.requires.sorted) (λ a r q k. search (rules, of_calls)) in
+    from_sorted session claims c.requires.sorted start c.partition_point-start.ensures.bound point _ refl
 
 -- the claims that are handed out are those of the session
-run : (c : After-partition_point-end) → take c.partition_point-end.result (take (length c.args.claims.now - c.partition_point-start.result) (drop c.partition_point-start.result c.args.claims.now)) ≡ filter (is_of c.args.session.now) c.args.claims.now
+run : (c : After-count_upto-end) → take c.count_upto-end.result (take (length c.args.claims.now - c.partition_point-start.result) (drop c.partition_point-start.result c.args.claims.now)) ≡ filter (is_of c.args.session.now) c.args.claims.now
 run c =
     let session = c.args.session.now in
     let claims = c.args.claims.now in
@@ -24,26 +32,24 @@ run c =
     let within = c.partition_point-start.ensures.bound in
     let from = take (length claims - start) (drop start claims) in
     let point = IsPartitionPoint-from_clause (comes_before session) claims start c.partition_point-start.ensures.partitioned (before_parts session claims h) (λ a r q k. search (rules, of_calls)) in
-    let parts = upto_parts session from (from_sorted session claims h start within point from refl) in
-    let upto = IsPartitionPoint-from_clause (comes_upto session) from c.partition_point-end.result c.partition_point-end.ensures.partitioned parts (λ a r q k. search (rules, of_calls)) in
-    run_is session claims h start within point from refl c.partition_point-end.result c.partition_point-end.ensures.bound upto
+    run_is session claims h start within point from refl c.count_upto-end.result c.count_upto-end.ensures.bound c.count_upto-end.ensures.upto
 
 pub returns-clause-run : goal.returns-clause-run
-returns-clause-run c = run ((goal.at.returns-clause-run c).After-partition_point-end)
+returns-clause-run c = run ((goal.at.returns-clause-run c).After-count_upto-end)
 
 pub returns-clause-sorted : goal.returns-clause-sorted
 returns-clause-sorted c =
-    subst (λ rows. T (is_sorted key_cmp rows)) (sym (run ((goal.at.returns-clause-sorted c).After-partition_point-end))) (is_sorted-filter key_cmp (is_of c.args.session.now) c.args.claims.now c.requires.sorted)
+    subst (λ rows. T (is_sorted key_cmp rows)) (sym (run ((goal.at.returns-clause-sorted c).After-count_upto-end))) (is_sorted-filter key_cmp (is_of c.args.session.now) c.args.claims.now c.requires.sorted)
 
 pub returns-clause-rated : goal.returns-clause-rated
 returns-clause-rated c =
-    subst AreRated (sym (run ((goal.at.returns-clause-rated c).After-partition_point-end))) (all-filter (λ (row : Key × Claim). row.1.rate ≤ 2 ^ 50) (is_of c.args.session.now) c.args.claims.now c.requires.rated)
+    subst AreRated (sym (run ((goal.at.returns-clause-rated c).After-count_upto-end))) (all-filter (λ (row : Key × Claim). row.1.rate ≤ 2 ^ 50) (is_of c.args.session.now) c.args.claims.now c.requires.rated)
 
 pub returns-clause-few : goal.returns-clause-few
 returns-clause-few c =
-    subst (λ (rows : List (Key × Claim)). length rows ≤ length c.args.claims.now) (sym (run ((goal.at.returns-clause-few c).After-partition_point-end))) (omega (arith, length-filter (is_of c.args.session.now) c.args.claims.now, count_by-le-length (is_of c.args.session.now) c.args.claims.now))
+    subst (λ (rows : List (Key × Claim)). length rows ≤ length c.args.claims.now) (sym (run ((goal.at.returns-clause-few c).After-count_upto-end))) (omega (arith, length-filter (is_of c.args.session.now) c.args.claims.now, count_by-le-length (is_of c.args.session.now) c.args.claims.now))
 
 pub returns-clause-own : goal.returns-clause-own
 returns-clause-own c =
     let own = λ (row : Key × Claim). is_of c.args.session.now row ≡ true in
-    subst (AllByRecursion own) (sym (run ((goal.at.returns-clause-own c).After-partition_point-end))) (all-filter_passes own (is_of c.args.session.now) (λ row passes. passes) c.args.claims.now)
+    subst (AllByRecursion own) (sym (run ((goal.at.returns-clause-own c).After-count_upto-end))) (all-filter_passes own (is_of c.args.session.now) (λ row passes. passes) c.args.claims.now)

@@ -7,22 +7,24 @@ use Rattle.message_reader.proofs.counts.read_objects.Goals as goal
 
 pub returns-in_err-object-clause-fault : goal.returns-in_err-object-clause-fault
 returns-in_err-object-clause-fault c =
-    let p = err_from_is_err_and c.from_residual.result c.from_residual.ensures.1 in
+    let p = err_from_is_err_and c.from_residual-in_err-object.result c.from_residual-in_err-object.ensures.1 in
     rw (p.1, p.2)
     (no_object c.args.kind c.args.bytes.now c.loop-rest.kept.items c.loop-rest.rest.now _
     (λ e. let h = rw e at c.loop-rest-test.ensures in cc)
-    c.in_err-object.ensures c.loop-rest.invariant)
+    c.in_err-object.ensures c.loop-rest.invariant.0)
 
 pub loop-rest-preserved : goal.loop-rest-preserved
 loop-rest-preserved c =
-    let counts = c.in_ok-count_in.ensures in
-    let front = c.in_ok-object.ensures.found in
-    rw (counts, c.split_at.ensures.back)
-    (one_more_counted c.args.kind c.args.bytes.now c.loop-rest.kept.items c.loop-rest.rest.now c.in_ok-object.object c.in_ok-object.len front
-    c.loop-rest.invariant)
+    let counts = c.in_ok-count_in.ensures.counted in
+    let front = c.in_ok-object.ensures.found in (
+      rw (counts, c.split_at.ensures.back)
+          (one_more_counted c.args.kind c.args.bytes.now c.loop-rest.kept.items c.loop-rest.rest.now c.in_ok-object.object c.in_ok-object.len front
+          c.loop-rest.invariant.0),
+      c.in_ok-count_in.ensures.classes,
+    )
 
 pub returns-clause-found : goal.returns-clause-found
 returns-clause-found c =
     all_counted c.args.kind c.args.bytes.now c.loop-rest.kept.items c.loop-rest.rest.now
     (nil_from_length _ (eqb-true _ _ (sym c.loop-rest-test.ensures)))
-    c.loop-rest.invariant
+    c.loop-rest.invariant.0

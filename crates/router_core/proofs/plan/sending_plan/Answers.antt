@@ -12,7 +12,6 @@ use Rattle.abstract_router.specs.Outputs.{outputs_of}
 use Rattle.router_events.specs.declared.events.Output.{Output}
 use Rattle.router_tables.specs.Below.views.Drafts.{due_by, upstream_due_by}
 use Rattle.router_tables.specs.Below.views.Edits.{edited}
-use Rattle.router_tables.specs.declared.change.Change.{Change}
 use Rattle.router_core.specs.Plans.{IsSendingPlan, drafted}
 use Rattle.router_core.proofs.Planning.{next_labels, next_paths, next_rates, next_repairs, next_resvs, sending}
 use Rattle.router_core.proofs.plan.sending_plan.Goals as goal
@@ -86,12 +85,11 @@ returns c =
     let sends = c.in_ok-sends in
     let bandwidth = c.in_ok-bandwidth in
     let resvs = c.replace-resvs.ensures.value in
-    subst (λ (change : Change). IsSendingPlan t.router t.state (drafted c.args.draft t.router t.state) (record { reply = c.args.draft.reply; outputs = sends.sends.outputs; chosen = x.settled.chosen; change = Some change }))
-    (sym c.change_of.ensures)
-    (sending t.router t.state c.soundness.ensures.sound c.args.draft c.requires x.settled.edits x.settled.chosen x.ensures.after x.ensures.chosen
+    sending t.router t.state c.soundness.ensures.sound c.args.draft c.requires x.settled.edits x.settled.chosen x.ensures.after x.ensures.chosen
     bandwidth.bandwidth sends.sends.moments sends.sends.upstream c.in_ok-table.table c.in_ok-tunnel_table.tunnel_table sends.ensures.moments sends.ensures.upstream
     (bandwidth.ensures.resvs ∙ ap (λ (edits : List (Key × Option ResvFact)). rows.edited key_cmp edits t.state.resvs) resvs)
+    c.in_ok-new.field-0 (c.in_ok-new.ensures.ok ∙ c.change_of-change.ensures)
     sends.sends.outputs (sends.ensures.outputs ∙ ap (λ (errors : List Output). outputs_of t.router t.state errors (due_by c.args.draft.due t.router t.state) (upstream_due_by c.args.draft.due t.router t.state) (edited x.settled.edits t.state)) (c.in_ok-errors.ensures ∙ ap (λ (told : List Output). c.args.draft.errors ++ told) x.ensures.told))
     bandwidth.ensures.edits
     (bandwidth.ensures.claims ∙ ap (λ (edits : List (Key × Option ResvFact)). claims_of (edited x.settled.edits t.state).facts.paths (rows.edited key_cmp edits t.state.resvs)) resvs)
-    c.in_ok-table.ensures c.in_ok-tunnel_table.ensures)
+    c.in_ok-table.ensures c.in_ok-tunnel_table.ensures

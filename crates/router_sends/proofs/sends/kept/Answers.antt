@@ -27,7 +27,8 @@ loop-wants-preserved g c =
     let before = c.loop-wants.left.items in
     let left = c.pop.new.self.items in
     let popped : before ≡ left ++ wants ∷ [] = search rules in
-    let so = rests cmp due (find cmp wants.0 was) wants in (
-      one_sent before left wants popped (λ row. send_for cmp due (find cmp row.0 was) row) _ _ _ (c.output_of.ensures ∙ ap (option_map (λ row. row.1)) c.in_ok-going.ensures.fresh ∙ output_then so wants) c.in_ok-sends.ensures ∙ c.loop-wants.invariant.0,
-      one_renewed before left wants popped cmp (λ row. renewed cmp due moment (find cmp row.0 was) row) _ _ _ (c.renewed.ensures ∙ ap (option_map (λ row. (row.0, Some moment))) c.in_ok-going.ensures.fresh ∙ moment_then so moment wants) c.in_ok-moments.ensures ∙ c.loop-wants.invariant.1,
+    let so = rests cmp due (find cmp wants.0 was) wants in
+    let fresh = c.in_ok-going.ensures ∙ ap (λ o. cond {A = Option (_ × Output)} (rests cmp due o wants) None (Some wants)) c.get_near-known.ensures.found in (
+      one_sent before left wants popped (λ row. send_for cmp due (find cmp row.0 was) row) _ _ _ (c.output_of.ensures ∙ ap (option_map (λ row. row.1)) fresh ∙ output_then so wants) c.in_ok-sends.ensures ∙ c.loop-wants.invariant.0,
+      one_renewed before left wants popped cmp (λ row. renewed cmp due moment (find cmp row.0 was) row) _ _ _ (c.renewed.ensures ∙ ap (option_map (λ row. (row.0, Some moment))) fresh ∙ moment_then so moment wants) c.in_ok-moments.ensures ∙ c.loop-wants.invariant.1,
     )

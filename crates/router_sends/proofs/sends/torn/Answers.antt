@@ -16,8 +16,8 @@ loop-row-preserved g c =
     let rows = c.args.was.now in
     let at = c.loop-row.row-index in
     let row = c.row-item.result in (
-      one_behind (λ row. tear_for up (find cmp row.0 is) row) rows at row c.loop-row-test.true c.row-item.is [] _ _ _ c.loop-row.invariant.0 (c.in_ok-tear.ensures ∙ ap (λ o. tear_for up o row) c.get_ref-found.ensures.found) c.in_ok-tears.ensures,
-      one_placed cmp (λ row. forgotten (find cmp row.0 is) row) rows at row c.loop-row-test.true c.row-item.is _ _ _ _ c.loop-row.invariant.1 (c.forgotten.ensures ∙ ap (λ o. forgotten o row) c.get_ref-found.ensures.found) c.in_ok-moments.ensures,
+      one_behind (λ row. tear_for up (find cmp row.0 is) row) rows at row c.loop-row-test.true c.row-item.is [] _ _ _ c.loop-row.invariant.0 (c.in_ok-tear.ensures ∙ ap (λ o. tear_for up o row) c.get_near-found.ensures.found) c.in_ok-tears.ensures,
+      one_placed cmp (λ row. forgotten (find cmp row.0 is) row) rows at row c.loop-row-test.true c.row-item.is _ _ _ _ c.loop-row.invariant.1 (c.forgotten.ensures ∙ ap (λ o. forgotten o row) c.get_near-found.ensures.found) c.in_ok-moments.ensures,
     )
 
 pub returns-clause-tears : goal.returns-clause-tears

@@ -1,8 +1,11 @@
 -- The LSPs that are asked are all that can be repaired.
-use Rattle.std.proofs.Common.{◌≡◌, Option, ◌∙◌}
+use Rattle.std.proofs.Common.{◌≡◌, Option, ap, sym, ◌∙◌}
 use Rattle.std.proofs.lemmas.Result.{IfOk-weaker}
 use Rattle.std.specs.FinMap.Entries.{find}
 use Rattle.std.specs.Option.{option_and_then, option_or}
+use Rattle.sorted_rows.specs.EditLaws.{find-edited}
+use Rattle.sorted_rows.specs.Edits.{over}
+use Rattle.lsr_facts.specs.OrderLaws.{key_total}
 use Rattle.lsr_facts.specs.Orders.{key_cmp}
 use Rattle.lsr_facts.specs.declared.key.Key.{Key}
 use Rattle.resv_facts.specs.declared.resv_fact.ResvFact.{ResvFact}
@@ -10,6 +13,12 @@ use Rattle.state_views.specs.Edits.{edited}
 use Rattle.state_settling.specs.Repairs.{repair_at}
 use Rattle.state_settling.specs.RepairsLaws.{repairs_of_all, repairs_of_edits}
 use Rattle.state_settling.proofs.repair.known_repairs.Goals as goal
+
+pub with_repairs-requires-clause-gone : goal.with_repairs-requires-clause-gone
+with_repairs-requires-clause-gone g c q gone =
+    let s = g.V.StateView.state c.args.view.now in
+    let e = c.args.edits.now in
+    find-edited key_cmp key_total q e.resvs s.resvs ∙ ap (λ (edit : Option (Option ResvFact)). over edit (find key_cmp q s.resvs)) (ap (find key_cmp q) (sym c.as_slice.ensures.rows) ∙ gone)
 
 pub returns-in-Some : goal.returns-in-Some
 returns-in-Some g c =

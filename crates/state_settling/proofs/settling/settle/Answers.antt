@@ -14,19 +14,19 @@ use Rattle.state_settling.specs.RepairsLaws.{labels-repaired, rooms-taken_over}
 use Rattle.state_settling.specs.SwitchingLaws.{labels-taken_over}
 use Rattle.state_settling.proofs.settling.settle.Goals as goal
 
-pub repaired-requires-clause-room : goal.repaired-requires-clause-room
-repaired-requires-clause-room g c =
+pub repair_all-requires-clause-room : goal.repair_all-requires-clause-room
+repair_all-requires-clause-room g c =
     let r = g.V.StateView.router c.args.view.now in
     let s = g.V.StateView.state c.args.view.now in
-    subst (λ (after : State). AllByRecursion (λ (path : Key × PathFact). LeavesRoom (Some path.1.tspec)) after.facts.paths) (sym c.in_ok-edits.ensures)
+    subst (λ (after : State). AllByRecursion (λ (path : Key × PathFact). LeavesRoom (Some path.1.tspec)) after.facts.paths) (sym c.in_ok-take_over.ensures)
     (rooms-taken_over r (edited c.args.edits s) c.requires.paths)
 
-pub labelled-requires-clause-labels : goal.labelled-requires-clause-labels
-labelled-requires-clause-labels g c =
+pub give_labels-requires-clause-labels : goal.give_labels-requires-clause-labels
+give_labels-requires-clause-labels g c =
     let r = g.V.StateView.router c.args.view.now in
     let s = g.V.StateView.state c.args.view.now in
     let before = edited c.args.edits s in
-    ap (λ (after : State). after.labels) (c.in_ok-edits-4.ensures ∙ ap (repairs_left r) (c.in_ok-edits-3.ensures ∙ ap resvs_left (c.in_ok-edits-2.ensures.after ∙ ap (repaired r) c.in_ok-edits.ensures)))
+    ap (λ (after : State). after.labels) (c.in_ok-take_lapsed.ensures ∙ ap (repairs_left r) (c.in_ok-take_fallen.ensures ∙ ap resvs_left (c.in_ok-told.ensures.after ∙ ap (repaired r) c.in_ok-take_over.ensures)))
     ∙ labels-repairs_left r (resvs_left (repaired r (taken_over r before)))
     ∙ labels-repaired r (taken_over r before)
     ∙ labels-taken_over r before

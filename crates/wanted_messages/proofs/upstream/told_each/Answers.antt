@@ -22,12 +22,12 @@ loop-origin-preserved g c =
     let lsp = c.args.lsp.now in
     let told = upstream_row (around_of r s) (lsp.key.now, lsp_of s lsp.key.now lsp.path.now) lsp.label (said lsp.reserved) in
     let before = c.loop-origin.rows.items in
-    let after = c.match-branch-2.rows.items in
+    let after = c.match-branch-3.rows.items in
     let origins = c.args.origins.now in
     let at = c.loop-origin.origin-index in
     let origin = get_or origins at no_origin in
     let is = get_or_default origins at no_origin origin c.loop-origin-test.true in
-    elim c.match-branch-2.branch [
+    elim c.match-branch-3.branch [
       | in-Some+in_ok-push w ↦ one_more told before after origins at origin (Some w.in-Some.row) c.loop-origin-test.true is c.loop-origin.invariant (sym w.in-Some.is ∙ c.in_ok-row.ensures) ((λ k. (w.rows-is k).items) ∙ w.in_ok-push.ensures.items)
       | in_default w ↦ one_more told before after origins at origin None c.loop-origin-test.true is c.loop-origin.invariant (sym w.in_default.is ∙ c.in_ok-row.ensures) ((λ k. (w.rows-is k).items) ∙ sym (append-nil before))
     ]

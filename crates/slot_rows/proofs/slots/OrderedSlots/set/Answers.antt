@@ -1,43 +1,37 @@
-use Rattle.std.proofs.Common.{◌≡◌, refl, sym, subst, rules}
-use Rattle.std.specs.List.{insert}
-use Rattle.std.specs.Option.{IsSomeAnd}
+use Rattle.std.proofs.Common.{◌≡◌, ℕ, subst}
 use Rattle.std.specs.Prelude.{vec_capacity}
 use Rattle.std.specs.declared.cmp.Ordering.TheVariants.{Equal}
-use Rattle.slot_rows.proofs.Changes.{added, has_row, of_that_row, over}
+use Rattle.slab.specs.Slab.{get}
+use Rattle.slot_rows.specs.Marks.{Admits, mark_of}
+use Rattle.slot_rows.specs.declared.marks.Marks.{Marks}
+use Rattle.slot_rows.proofs.Marked.{marked_come, marked_written}
+use Rattle.slot_rows.proofs.Named.{set_by_slot, there_is}
 use Rattle.slot_rows.proofs.slots.OrderedSlots.set.Goals as goal
 
-pub returns-in-Ok : goal.returns-in-Ok
-returns-in-Ok g c =
+pub returns-in-Some-clause-slotted : goal.returns-in-Some-clause-slotted
+returns-in-Some-clause-slotted g c =
     let s = c.args.self.now in
-    let t = c.write_value.new.slots in
-    let capacity = vec_capacity s.by_key in
-    let place = rw c.deref.ensures.value at c.in-Ok.ensures.found in
-    let ties = rw c.deref.ensures.value at c.in-Ok.ensures.ties in
-    let at = c.index-slot.result.now in
-    let there = has_row g.K.Ord.cmp g.row.MOST g.met.K.Ord.total s.slots t s.by_key.items capacity c.requires.slotted c.in-Ok.index at place.0 c.index-slot.ensures in
-    let updates = c.write_value.ensures.written _ there in
-    let left = over g.K.Ord.cmp g.row.MOST g.met.K.Ord.total s.slots t s.by_key.items capacity c.requires.slotted c.args.key c.args.value c.in-Ok.index at place.0 c.index-slot.ensures updates c.write_value.ensures.len c.write_value.ensures.capacity (place.2 c.args.value) c.requires.few in
-    let tie = of_that_row g.K.Ord.cmp g.row.MOST g.met.K.Ord.total s.slots t s.by_key.items capacity c.requires.slotted (λ row. g.K.Ord.cmp row.0 c.args.key ≡ Equal) c.in-Ok.index place.0 ties in
-    record {
-      slotted = left.slotted;
-      rows = left.rows_are;
-      slot = subst (λ o. IsSomeAnd o (λ row. (row.1 ≡ c.args.value) × (g.K.Ord.cmp row.0 c.args.key ≡ Equal))) (sym updates.changed) (refl, tie);
-      others = updates.others;
-      capacity = c.write_value.ensures.capacity;
-    }
+    let there = there_is (λ (row : g.row.K.Denot × g.row.V.Denot). g.K.Ord.cmp row.0 c.args.key ≡ Equal) (get s.slots c.in-Some.slot) c.in-Some.ensures.found in
+    (set_by_slot g.K.Ord.cmp g.met.K.Ord.total g.row.MOST s.slots s.by_key.items (vec_capacity s.by_key) c.requires.slotted c.args.key c.in-Some.slot there.0 there.1.0 there.1.1 c.write_value.new.slots c.args.value (c.write_value.ensures.written _ there.1.0) c.write_value.ensures.len c.write_value.ensures.capacity c.requires.few).slotted
 
-pub returns-in-Err-clause-slotted : goal.returns-in-Err-clause-slotted
-returns-in-Err-clause-slotted g c =
+pub returns-in-Some-clause-rows : goal.returns-in-Some-clause-rows
+returns-in-Some-clause-rows g c =
     let s = c.args.self.now in
-    let new = c.insert_reserved-slot in
-    let place = rw c.deref.ensures.value at c.in-Err.ensures.absent in
-    let items : c.insert.new.self.items ≡ insert s.by_key.items c.in-Err.index new.result = search rules in
-    (added g.K.Ord.cmp g.row.MOST g.met.K.Ord.total s.slots new.new.self s.by_key.items (vec_capacity s.by_key) c.requires.slotted c.args.key c.args.value c.in-Err.index new.result (vec_capacity c.insert.new.self) c.insert.new.self.items place.0 items new.ensures.was_vacant new.ensures.updates new.ensures.len new.ensures.capacity c.insert.ensures.capacity (place.2 c.args.value) c.requires.few).slotted
+    let there = there_is (λ (row : g.row.K.Denot × g.row.V.Denot). g.K.Ord.cmp row.0 c.args.key ≡ Equal) (get s.slots c.in-Some.slot) c.in-Some.ensures.found in
+    (set_by_slot g.K.Ord.cmp g.met.K.Ord.total g.row.MOST s.slots s.by_key.items (vec_capacity s.by_key) c.requires.slotted c.args.key c.in-Some.slot there.0 there.1.0 there.1.1 c.write_value.new.slots c.args.value (c.write_value.ensures.written _ there.1.0) c.write_value.ensures.len c.write_value.ensures.capacity c.requires.few).rows_are
 
-pub returns-in-Err-clause-rows : goal.returns-in-Err-clause-rows
-returns-in-Err-clause-rows g c =
+pub returns-in-Some-clause-marked : goal.returns-in-Some-clause-marked
+returns-in-Some-clause-marked g c =
     let s = c.args.self.now in
-    let new = c.insert_reserved-slot in
-    let place = rw c.deref.ensures.value at c.in-Err.ensures.absent in
-    let items : c.insert.new.self.items ≡ insert s.by_key.items c.in-Err.index new.result = search rules in
-    (added g.K.Ord.cmp g.row.MOST g.met.K.Ord.total s.slots new.new.self s.by_key.items (vec_capacity s.by_key) c.requires.slotted c.args.key c.args.value c.in-Err.index new.result (vec_capacity c.insert.new.self) c.insert.new.self.items place.0 items new.ensures.was_vacant new.ensures.updates new.ensures.len new.ensures.capacity c.insert.ensures.capacity (place.2 c.args.value) c.requires.few).rows_are
+    let there = there_is (λ (row : g.row.K.Denot × g.row.V.Denot). g.K.Ord.cmp row.0 c.args.key ≡ Equal) (get s.slots c.in-Some.slot) c.in-Some.ensures.found in
+    marked_written g.N.Numbering.number s.slots c.write_value.new.slots s.marks c.in-Some.slot there.0 c.args.value c.requires.marked there.1.0 (c.write_value.ensures.written _ there.1.0)
+
+pub returns-in-None-clause-marked : goal.returns-in-None-clause-marked
+returns-in-None-clause-marked g c =
+    let s = c.args.self.now in
+    let put = c.set_by_search-slot in
+    let t = put.new.self in
+    let there = there_is (λ (row : g.row.K.Denot × g.row.V.Denot). (row.1 ≡ c.args.value) × (g.K.Ord.cmp row.0 c.args.key ≡ Equal)) (get t.slots put.result) put.ensures.slot in
+    let own = rw c.number-number.ensures at c.come.ensures.own in
+    let still = subst (λ (marks : Marks). (n other : ℕ) → Admits (mark_of marks n) other → Admits (mark_of c.come.new.self n) other) put.ensures.marks c.come.ensures.others in
+    marked_come g.N.Numbering.number g.K.Ord.cmp g.met.N.Numbering.same c.args.key s.slots t.slots s.marks c.come.new.self put.result there.0 c.requires.marked put.ensures.others there.1.0 there.1.1.1 own still

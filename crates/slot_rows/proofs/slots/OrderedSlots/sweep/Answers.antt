@@ -18,6 +18,7 @@ loop-left-preserved g c =
     let so_far = subst (λ m. before ≡ take m all ++ swept stays left (drop m all)) step c.loop-left.invariant.rows in
     record {
       slotted = c.sweep_place.ensures.slotted;
+      marked = c.sweep_place.ensures.marked;
       within = omega (arith, c.loop-left.invariant.within);
       rows = swept_more stays left all before _ (n - 1) d within so_far (c.sweep_place.ensures.rows d);
       capacity = c.sweep_place.ensures.capacity ∙ c.loop-left.invariant.capacity;

@@ -5,11 +5,12 @@ use Rattle.slab.specs.Slab.{get}
 use Rattle.slot_rows.specs.Slots.{rows_of}
 use Rattle.slot_rows.proofs.Filled.{length_read}
 use Rattle.slot_rows.proofs.Changes.{changed_at, gone_at, has_row, row_of_place, that_row}
+use Rattle.slot_rows.proofs.Marked.{marked_gone, marked_written}
 use Rattle.slot_rows.proofs.Swept.{swept, swept_goes, swept_stays}
 use Rattle.slot_rows.proofs.slots.OrderedSlots.sweep_place.Goals as goal
 
-pub remove-requires : goal.remove-requires
-remove-requires g c =
+pub remove-row-requires : goal.remove-row-requires
+remove-row-requires g c =
     let s = c.args.self.now in
     let gone = c.remove-emptied in
     let there = has_row g.K.Ord.cmp g.row.MOST g.met.K.Ord.total s.slots s.slots s.by_key.items (vec_capacity s.by_key) c.requires.slotted c.args.place gone.result c.requires.within gone.ensures.value in
@@ -34,6 +35,7 @@ returns-then-stays_at g c =
     let is : stays row ≡ true = sym (c.stays_at.ensures row there) ∙ c.if-stays_at.true in
     record {
       slotted = now.slotted;
+      marked = marked_written g.N.Numbering.number s.slots t s.marks at row (g.S.Sweep.left c.args.sweep.now row.1) c.requires.marked there updates;
       rows = λ d.
           now.rows_are
           ∙ swept_stays stays left rows place row (omega (arith, c.requires.within, length_read (get s.slots) order rows kept.filled)) is
@@ -44,7 +46,7 @@ returns-then-stays_at g c =
 pub returns-else-stays_at : goal.returns-else-stays_at
 returns-else-stays_at g c =
     let s = c.args.self.now in
-    let t = c.remove.new.self in
+    let t = c.remove-row.new.self in
     let order = s.by_key.items in
     let rows = rows_of s.slots order in
     let capacity = vec_capacity s.by_key in
@@ -57,12 +59,13 @@ returns-else-stays_at g c =
     let there = has_row g.K.Ord.cmp g.row.MOST g.met.K.Ord.total s.slots t order capacity kept place at c.requires.within c.index-slot.ensures in
     let is : stays row ≡ false = sym (c.stays_at.ensures row there) ∙ c.if-stays_at.false in
     let gone = c.remove-emptied in
-    let now = gone_at g.K.Ord.cmp g.row.MOST g.met.K.Ord.total s.slots t order capacity kept place gone.result (vec_capacity gone.new.self) gone.new.self.items c.requires.within gone.ensures.value gone.ensures.items c.remove.ensures.updates c.remove.ensures.len c.remove.ensures.capacity gone.ensures.capacity in
+    let now = gone_at g.K.Ord.cmp g.row.MOST g.met.K.Ord.total s.slots t order capacity kept place gone.result (vec_capacity gone.new.self) gone.new.self.items c.requires.within gone.ensures.value gone.ensures.items c.remove-row.ensures.updates c.remove-row.ensures.len c.remove-row.ensures.capacity gone.ensures.capacity in
     record {
       slotted = now.slotted;
+      marked = marked_gone g.N.Numbering.number s.slots t s.marks c.go.new.self gone.result c.requires.marked c.remove-row.ensures.updates c.go.ensures;
       rows = λ d.
           now.rows_are
           ∙ swept_goes stays left rows place row is
           ∙ ap (λ r. take place rows ++ swept stays left (r ∷ []) ++ drop (suc place) rows) (that_row g.K.Ord.cmp g.row.MOST g.met.K.Ord.total s.slots t order capacity kept place c.requires.within d);
-      capacity = c.remove.ensures.capacity;
+      capacity = c.remove-row.ensures.capacity;
     }
