@@ -1,6 +1,6 @@
 -- What a change of one LSP's claim makes of what is reserved: only the claims of its session change.
-use Rattle.std.proofs.Common.{◌≡◌, ◌≢◌, ℕ, ◌+◌, ◌-◌, ◌≤◌, T, Bool, true, false, cond, not, List, [], ◌∷◌, Some, refl, sym, ap, subst, ◌∙◌, arith}
-use Rattle.std.specs.FinMap.Entries.{by_order, find, is_sorted, put, where_key}
+use Rattle.std.proofs.Common.{◌≡◌, ◌≢◌, ℕ, ◌+◌, ◌-◌, ◌≤◌, T, Bool, true, false, cond, not, List, [], ◌∷◌, Some, None, refl, sym, ap, subst, ◌∙◌, arith}
+use Rattle.std.specs.FinMap.Entries.{by_order, find, find-where_key, is_sorted, put, where_key}
 use Rattle.std.specs.List.{filter}
 use Rattle.std.specs.Ordering.{is_eq}
 use Rattle.std.specs.Prelude.{IfSome}
@@ -63,6 +63,13 @@ module _ (key : Key) where
 
   pub others_removed : (claims : List (Key × Claim)) → others key.session (where_key key_cmp (λ other. not (is_eq (key_cmp key other))) claims) ≡ others key.session claims
   others_removed = others-removed key_cmp (λ k. not (is_same_session key.session k.session)) key same_out
+
+  -- What an LSP takes is found among the claims of its session.
+  pub find_mine : (claims run : List (Key × Claim)) → run ≡ mine key.session claims → find key_cmp key claims ≡ find key_cmp key run
+  find_mine claims run own =
+      let same : Key → Bool = λ k. is_same_session key.session k.session in
+      let kept = ap (λ b. cond b (find key_cmp key claims) None) (ap is_eq (tied_itself session_total key.session)) in
+      sym (ap (find key_cmp key) own ∙ find-where_key key_cmp same key (λ x tie. ap same (sym (key_exact key x tie))) claims ∙ kept)
 
 -- The claims of a request's session, once it is granted, are those of before with it granted.
 pub mine_granted : (request : Request) (claims : List (Key × Claim)) → T (is_sorted key_cmp claims) → mine request.key.session (granted request claims) ≡ granted request (mine request.key.session claims)

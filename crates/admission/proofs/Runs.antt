@@ -2,7 +2,7 @@
 use borrow.Author.Count.{below_more}
 use Rattle.std.proofs.Common.{◌≡◌, ℕ, zero, suc, ◌-◌, ◌<◌, ◌≤◌, T, Bool, true, false, cond, not, ◌&&◌, List, [], ◌∷◌, ◌+◌, length, get_or, take, drop, refl, sym, ap, subst, ◌∙◌, arith}
 use Rattle.std.specs.FinMap.Entries.{is_sorted}
-use Rattle.std.specs.List.{filter}
+use Rattle.std.specs.List.{HoldsAt, filter}
 use Rattle.std.specs.List.Sorted.{IsPartitionPoint, IsPartitionedBy}
 use Rattle.std.specs.Ordering.{is_eq, is_gt, is_le, is_lt, ordering_reverse}
 use Rattle.std.specs.declared.cmp.Ordering.{Ordering}
@@ -19,6 +19,7 @@ use Rattle.resv_facts.specs.ClaimLaws.{session_upto, upto_below}
 use Rattle.resv_facts.specs.Claims.{is_of}
 use Rattle.resv_facts.specs.SumLaws.{filter-filter}
 use Rattle.resv_facts.specs.declared.claim.Claim.{Claim}
+use Rattle.admission.specs.Runs.{IsStart, comes_before}
 
 -- a list that a point parts: those before it are those that pass, and those from it on are those that fail
 module _ {A : Type 0} (p : A → Bool) where
@@ -61,14 +62,11 @@ within_too x y s Equal tie upto is = subst (λ z. is_le (session_cmp x z) ≡ tr
     not_above Greater h = absurd cc
 within_too x y s Greater tie upto is = absurd cc
 
--- the tests of the two searches
-abbrev pub comes_before : Session → Key × Claim → Bool
-comes_before session row = is_lt (session_cmp row.0.session session)
-
+-- the claim is of the session, or of a lesser one
 abbrev pub comes_upto : Session → Key × Claim → Bool
 comes_upto session row = is_le (session_cmp row.0.session session)
 
--- Each of them parts claims in order.
+-- Both tests part claims in order.
 pub before_parts : (session : Session) (claims : List (Key × Claim)) → T (is_sorted key_cmp claims) → IsPartitionedBy (comes_before session) claims
 before_parts session claims h i j d low within is =
     let x = (get_or claims i d).0.session in
@@ -78,6 +76,18 @@ before_parts session claims h i j d low within is =
 pub upto_parts : (session : Session) (claims : List (Key × Claim)) → T (is_sorted key_cmp claims) → IsPartitionedBy (comes_upto session) claims
 upto_parts session claims h i j d low within is =
     within_too (get_or claims i d).0.session (get_or claims j d).0.session session (session_cmp (get_or claims j d).0.session session) refl (rise claims i j d h low within) is
+
+-- what fails where another test passes fails with it
+fails : {a : Bool} (b : Bool) → (b ≡ true → a ≡ true) → a ≡ false → b ≡ false
+fails true front not_front = sym (front refl) ∙ not_front
+fails false front not_front = refl
+
+-- The row before a place and the one there tell that a session's claims begin at it.
+pub starts_at : (session : Session) (claims : List (Key × Claim)) → T (is_sorted key_cmp claims) → (i : ℕ) → i ≤ length claims → ((k : ℕ) → k + 1 ≡ i → HoldsAt (λ row. comes_before session row ≡ true) claims k) → (i < length claims → HoldsAt (λ row. comes_before session row ≡ false) claims i) → IsStart session claims i
+starts_at session claims h i within before from = (
+  λ k d low below. before_parts session claims h k (i - 1) d (omega (arith, below)) (omega (arith, below, within)) (before (i - 1) (omega (arith, below)) d),
+  λ k d low inside. fails (comes_before session (get_or claims k d)) (λ passes. before_parts session claims h i k d low inside passes) (from (omega (arith, low, inside)) d),
+)
 
 -- what is not above is within
 within_is : (o : Ordering) (above : Bool) → is_gt o ≡ above → is_le o ≡ not above
@@ -103,19 +113,15 @@ module _ (session : Session) (claims : List (Key × Claim)) (i : ℕ) (e : Key �
     λ k d low below. upto k d below,
     λ k d from inside. fails (comes_upto session (get_or claims k d)) (λ passes. upto_parts session claims h i k d from inside passes) (here true is d),
   )
-    where
-      fails : (b : Bool) {a : Bool} → (b ≡ true → a ≡ true) → a ≡ false → b ≡ false
-      fails true front not_front = sym (front refl) ∙ not_front
-      fails false front not_front = refl
 
--- a session that is neither before another nor behind it is that one
+-- a session that is neither before another nor after it is that one
 one_session : (session : Session) (row : Key × Claim) → (not (comes_before session row) && comes_upto session row) ≡ is_of session row
 one_session session row =
     elim (session_cmp row.0.session session) as (λ o. (not (is_lt o) && is_le o) ≡ is_eq (ordering_reverse o)) [ Less ↦ refl | Equal ↦ refl | Greater ↦ refl ]
     ∙ ap is_eq (sym (session_total.antisymm session row.0.session))
 
-module _ (session : Session) (claims : List (Key × Claim)) (h : T (is_sorted key_cmp claims)) (start : ℕ) (within : start ≤ length claims) (point : IsPartitionPoint (λ row. comes_before session row ≡ true) (λ row. comes_before session row ≡ false) claims start) (from : List (Key × Claim)) (is : from ≡ take (length claims - start) (drop start claims)) where
-  -- the claims from the first search on are those that don't come before
+module _ (session : Session) (claims : List (Key × Claim)) (h : T (is_sorted key_cmp claims)) (start : ℕ) (within : start ≤ length claims) (point : IsStart session claims start) (from : List (Key × Claim)) (is : from ≡ take (length claims - start) (drop start claims)) where
+  -- the claims from the start on are those that don't come before
   pub from_is : from ≡ filter (λ row. not (comes_before session row)) claims
   from_is =
       is ∙ take_rest claims start
@@ -125,7 +131,7 @@ module _ (session : Session) (claims : List (Key × Claim)) (h : T (is_sorted ke
   pub from_sorted : T (is_sorted key_cmp from)
   from_sorted = subst (λ rows. T (is_sorted key_cmp rows)) (sym from_is) (is_sorted-filter key_cmp (λ row. not (comes_before session row)) claims h)
 
-  -- And those up to the second are the session's.
+  -- And those up to where greater sessions begin are the session's.
   pub run_is : (end : ℕ) → end ≤ length from → IsPartitionPoint (λ row. comes_upto session row ≡ true) (λ row. comes_upto session row ≡ false) from end → take end from ≡ filter (is_of session) claims
   run_is end inside upto =
       (parted (comes_upto session) from end inside (λ k d below. upto.0 k d (omega arith) below) (λ k d above low. upto.1 k d above low)).0

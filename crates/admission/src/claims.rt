@@ -11,12 +11,12 @@ ghost use Rattle.admission.specs.Bandwidths.{AreRated, claims_of};
 
 use crate::reserved::{reserved, reserved_with};
 use crate::resv_state::ResvState;
-use crate::run::{part_of, run_of};
+use crate::run::{part_of, run_from, run_of, start_of};
 use crate::running::{LinkSum, Touched, add, add_up, sum_at, sums_of, take_off};
 use lsr_facts::Key;
 use lsr_facts::limits::MAX_LSPS;
 use resv_facts::{Claim, Request, is_same_style};
-use sorted_rows::{ReservedTable, Sweep, Table};
+use sorted_rows::{ReservedTable, Sweep, Table, get_ref};
 use std::alloc::{AllocError, Global};
 use std::marker::Model;
 
@@ -26,6 +26,8 @@ use std::marker::Model;
 pub struct Claims {
     rows: ReservedTable<Key, Claim, MAX_LSPS>,
     sums: Vec<LinkSum>,
+    /// Where the claims of the session that changed last began. The next change is mostly there or just after it.
+    last: usize,
 }
 
 impl Model for Claims {
@@ -88,6 +90,7 @@ impl Claims {
         Ok(Claims {
             rows: ReservedTable::new(alloc)?,
             sums: sums_of(alloc, limits)?,
+            last: 0,
         })
     }
 
@@ -123,26 +126,23 @@ impl Claims {
         requires most { claim.rate ≤ 2 ^ 50 }
         ensures { self.new ≡ put key_cmp key claim self.old }
     {
+        let start = start_of(self.rows.as_slice(), self.last, &key.session);
+        let run = run_from(self.rows.as_slice(), start, &key.session);
+        let was = get_ref(run, &key).copied();
         // What an LSP takes already stands in its place, because the rows are in order.
-        self.rows.rows_are_in_order();
-        let was = self.rows.get(&key).copied();
         if takes(was, &claim) {
             return;
         }
         let touched = Touched::by(was, &claim);
-        take_off(
-            &mut self.sums,
-            run_of(self.rows.as_slice(), &key.session),
-            &key.session,
-            &touched,
-        );
+        take_off(&mut self.sums, run, &key.session, &touched);
         self.rows.set(key, claim);
         add(
             &mut self.sums,
-            run_of(self.rows.as_slice(), &key.session),
+            run_of(self.rows.as_slice(), start, &key.session),
             &key.session,
             &touched,
         );
+        self.last = start;
     }
 
     /// An LSP takes nothing any more. Where it takes nothing, nothing changes; else it goes over the claims of its
@@ -150,26 +150,24 @@ impl Claims {
     pub fn remove(&mut self, key: &Key)
         ensures { self.new ≡ where_key key_cmp (λ k. not (is_eq (key_cmp key.now k))) self.old }
     {
-        let Some(was) = self.rows.get(key).copied() else {
+        let start = start_of(self.rows.as_slice(), self.last, &key.session);
+        let run = run_from(self.rows.as_slice(), start, &key.session);
+        let Some(was) = get_ref(run, key).copied() else {
             return;
         };
         let touched = Touched {
             before: was.link,
             after: was.link,
         };
-        take_off(
-            &mut self.sums,
-            run_of(self.rows.as_slice(), &key.session),
-            &key.session,
-            &touched,
-        );
+        take_off(&mut self.sums, run, &key.session, &touched);
         self.rows.remove(key);
         add(
             &mut self.sums,
-            run_of(self.rows.as_slice(), &key.session),
+            run_of(self.rows.as_slice(), start, &key.session),
             &key.session,
             &touched,
         );
+        self.last = start;
     }
 
     /// No LSP takes anything any more. Takes no memory.
@@ -210,7 +208,7 @@ impl Claims {
         ensures { result ≡ reserved_of request.now.claim.link priority (granted request.now self.now) }
     {
         let link = request.claim.link;
-        let run = run_of(self.rows.as_slice(), &request.key.session);
+        let run = run_of(self.rows.as_slice(), self.last, &request.key.session);
         let others = self.reserved(link, priority)
             - part_of(run, &request.key.session, link, priority);
         others + reserved_with(request, run, priority)

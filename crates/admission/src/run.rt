@@ -1,13 +1,14 @@
 //! The claims of one session.
 
 ghost use Rattle.std.specs.FinMap.Entries.{is_sorted};
-ghost use Rattle.std.specs.List.{AllByRecursion};
+ghost use Rattle.std.specs.List.{AllByRecursion, HoldsAt};
 ghost use Rattle.std.specs.List.Sorted.{IsPartitionPoint};
 ghost use Rattle.std.specs.Ordering.{is_le};
-ghost use Rattle.std.specs.Prelude.{◌≡◌, ◌+◌, ◌^◌, ◌<◌, ◌≤◌, max, T, false, filter, if◌then◌else◌, length, true};
+ghost use Rattle.std.specs.Prelude.{◌≡◌, ◌+◌, ◌^◌, ◌<◌, ◌≤◌, max, T, IfSome, IsFalse, IsTrue, false, filter, if◌then◌else◌, length, true};
 ghost use Rattle.lsr_facts.specs.Orders.{key_cmp, session_cmp};
 ghost use Rattle.resv_facts.specs.Claims.{is_fixed, is_of, is_shared, reserved_of};
 ghost use Rattle.admission.specs.Bandwidths.{AreRated};
+ghost use Rattle.admission.specs.Runs.{IsStart, comes_before};
 
 use crate::sum::counts;
 use lsr_facts::Key;
@@ -29,8 +30,74 @@ fn count_upto(claims: &[(Key, Claim)], session: &Session) -> usize
     claims.len()
 }
 
-/// The claims of a session, which stand together in the order of keys. A binary search, and then it goes over them.
-pub fn run_of<'a>(claims: &'a [(Key, Claim)], session: &Session) -> &'a [(Key, Claim)]
+/// Whether there is a claim of a lesser session at a place.
+fn is_lesser_at(claims: &[(Key, Claim)], place: usize, session: &Session) -> bool
+    ensures lesser { IsTrue result → (place < length claims.now)
+        × HoldsAt (λ row. comes_before session.now row ≡ true) claims.now place }
+    ensures other { IsFalse result → place < length claims.now →
+        HoldsAt (λ row. comes_before session.now row ≡ false) claims.now place }
+{
+    if place < claims.len() {
+        claims[place].0.session.cmp(session).is_lt()
+    } else {
+        false
+    }
+}
+
+/// The place where the claims of a session begin, if it is this one or the next.
+fn start_beside(claims: &[(Key, Claim)], near: usize, session: &Session) -> Option<usize>
+    requires { T (is_sorted key_cmp claims.now) }
+    ensures { IfSome result (λ start. (start ≤ length claims.now) × IsStart session.now claims.now start) }
+{
+    if is_lesser_at(claims, near, session) {
+        if is_lesser_at(claims, near + 1, session) {
+            return None;
+        }
+        return Some(near + 1);
+    }
+    if near == 0 || is_lesser_at(claims, near - 1, session) {
+        return Some(near);
+    }
+    None
+}
+
+/// The place where the claims of a session begin, or would begin if it had any. It looks first at a place and at the
+/// next; where it is neither, a binary search.
+pub fn start_of(claims: &[(Key, Claim)], near: usize, session: &Session) -> usize
+    requires { T (is_sorted key_cmp claims.now) }
+    ensures bound { result ≤ length claims.now }
+    ensures start { IsStart session.now claims.now result }
+{
+    match start_beside(claims, near, session) {
+        Some(start) => start,
+        None => claims.partition_point(|row| row.0.session.cmp(session).is_lt()),
+    }
+}
+
+/// The claims of a session, which stand together in the order of keys, from the place on where they begin. It goes over
+/// these alone.
+pub fn run_from<'a>(
+    claims: &'a [(Key, Claim)],
+    start: usize,
+    session: &Session,
+) -> &'a [(Key, Claim)]
+    requires sorted { T (is_sorted key_cmp claims.now) }
+    requires rated { AreRated claims.now }
+    requires bound { start ≤ length claims.now }
+    requires start { IsStart session.now claims.now start }
+    ensures run { result.now ≡ filter (is_of session.now) claims.now }
+    ensures sorted { T (is_sorted key_cmp result.now) }
+    ensures rated { AreRated result.now }
+    ensures few { length result.now ≤ length claims.now }
+    ensures own { AllByRecursion (λ row. is_of session.now row ≡ true) result.now }
+{
+    let from = &claims[start..];
+    let end = count_upto(from, session);
+    &from[..end]
+}
+
+/// The claims of a session. It looks first at a place and at the next for where they begin.
+pub fn run_of<'a>(claims: &'a [(Key, Claim)], near: usize, session: &Session) -> &'a [(Key, Claim)]
     requires sorted { T (is_sorted key_cmp claims.now) }
     requires rated { AreRated claims.now }
     ensures run { result.now ≡ filter (is_of session.now) claims.now }
@@ -39,10 +106,7 @@ pub fn run_of<'a>(claims: &'a [(Key, Claim)], session: &Session) -> &'a [(Key, C
     ensures few { length result.now ≤ length claims.now }
     ensures own { AllByRecursion (λ row. is_of session.now row ≡ true) result.now }
 {
-    let start = claims.partition_point(|row| row.0.session.cmp(session).is_lt());
-    let from = &claims[start..];
-    let end = count_upto(from, session);
-    &from[..end]
+    run_from(claims, start_of(claims, near, session), session)
 }
 
 /// What claims of one session take, in bytes per second.

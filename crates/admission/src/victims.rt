@@ -9,7 +9,7 @@ ghost use Rattle.resv_facts.specs.Claims.{is_of, reserved_of};
 ghost use Rattle.admission.specs.Bandwidths.{AreRated};
 
 use crate::reserved::reserved_with;
-use crate::run::{part_of, run_of};
+use crate::run::{part_of, run_of, start_of};
 use lsr_facts::Key;
 use resv_facts::{Claim, Request, WORST_PRIORITY};
 use rsvp_objects::Session;
@@ -60,14 +60,15 @@ fn in_turn(
     Ok(keys)
 }
 
-/// What the claims of a session reserve on a link at the worst priority, in bytes per second.
-fn own_part(claims: &[(Key, Claim)], session: &Session, link: u16) -> u64
+/// What the claims of a session reserve on a link at the worst priority, in bytes per second. It looks first at a place
+/// and at the next for where they begin.
+fn own_part(claims: &[(Key, Claim)], near: usize, session: &Session, link: u16) -> u64
     requires sorted { T (is_sorted key_cmp claims.now) }
     requires rated { AreRated claims.now }
     requires few { length claims.now ≤ 1025 }
     ensures { result ≡ reserved_of link 7 (filter (is_of session.now) claims.now) }
 {
-    part_of(run_of(claims, session), session, link, WORST_PRIORITY)
+    part_of(run_of(claims, near, session), session, link, WORST_PRIORITY)
 }
 
 /// Takes an LSP's claim away, and gives what is reserved of a link then, in bytes per second: the total before, without
@@ -80,9 +81,10 @@ fn take_away(left: &mut Vec<(Key, Claim)>, key: &Key, link: u16, total: u64) -> 
     ensures left { left.new.items ≡ where_key key_cmp (λ k. not (is_eq (key_cmp key.now k))) left.old.items }
     ensures total { result ≡ reserved_of link 7 left.new.items }
 {
-    let others = total - own_part(left, &key.session, link);
+    let start = start_of(left, 0, &key.session);
+    let others = total - own_part(left, start, &key.session, link);
     sorted_rows::remove(left, key);
-    others + own_part(left, &key.session, link)
+    others + own_part(left, start, &key.session, link)
 }
 
 /// How many of these LSPs have to give way, from the first on, so that it is enough for a request: all, where it never

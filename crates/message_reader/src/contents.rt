@@ -198,14 +198,18 @@ pub fn content_of(
     }
 }
 
-/// The message with this content, read as one that isn't known where an object was refused.
-pub fn reading_of(content: Content, refused: Option<(u8, u8)>) -> Reading
+/// The message with this content, read as one that isn't known where an object was refused. The only error is out of memory.
+pub fn reading_of(
+    alloc: Global,
+    content: Content,
+    refused: Option<(u8, u8)>,
+) -> Result<Reading, AllocError>
     requires { IsMessage content }
-    ensures { result ≡ reading_with content refused }
+    ensures { IfOk result (λ reading. reading ≡ reading_with content refused) }
 {
-    let message = Message::new(content);
+    let message = Message::new(alloc, content)?;
     match refused {
-        None => Reading::Whole(message),
-        Some((class, ctype)) => Reading::Unknown(message, class, ctype),
+        None => Ok(Reading::Whole(message)),
+        Some((class, ctype)) => Ok(Reading::Unknown(message, class, ctype)),
     }
 }

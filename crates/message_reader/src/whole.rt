@@ -47,9 +47,12 @@ fn read_kept(alloc: Global, kind: u8, objects: Vec<Object>) -> Result<Reading, D
     let Ok(content) = content_of(alloc, kind, parts, passing, misplaced, flows.as_slice()) else {
         return Err(Dropped::NoMemory);
     };
-    match content {
-        Some(content) => Ok(reading_of(content, refused)),
-        None => Err(Dropped::MissingObject),
+    let Some(content) = content else {
+        return Err(Dropped::MissingObject);
+    };
+    match reading_of(alloc, content, refused) {
+        Ok(reading) => Ok(reading),
+        Err(_no_memory) => Err(Dropped::NoMemory),
     }
 }
 

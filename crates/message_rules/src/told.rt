@@ -26,13 +26,14 @@ use std::alloc::{AllocError, Global};
 /// Bytes of an IPv4 address.
 const ADDRESS_LEN: usize = 4;
 
-/// A ResvErr. It asks for descriptors that leave room for the rest of the message.
-pub fn resv_err(error: ResvErr) -> Message
+/// A ResvErr. It asks for descriptors that leave room for the rest of the message. The only error is out of memory.
+pub fn resv_err(alloc: Global, error: ResvErr) -> Result<Message, AllocError>
     requires counted { IsTrue (counts_on false error.descriptors) }
     requires room { HaveRoom error.descriptors }
-    ensures { result ≡ contents.ResvErr error }
+    ensures { IfOk result (λ message. message ≡ contents.ResvErr error) }
 {
-    Message::checked(Content::ResvErr(error)).unwrap()
+    let content = Box::new(alloc, Content::ResvErr(error))?;
+    Ok(Message::checked(content).unwrap())
 }
 
 /// The descriptors of a ResvErr that names this LSP, or none. The only error is out of memory.
@@ -67,7 +68,7 @@ pub fn told_downstream(
     let Some(there) = link_at(router, link) else {
         return Ok(None);
     };
-    let message = resv_err(ResvErr {
+    let error = ResvErr {
         session,
         hop: Hop {
             address: there.address,
@@ -76,7 +77,8 @@ pub fn told_downstream(
         error,
         style,
         descriptors: listed(alloc, descriptor)?,
-    });
+    };
+    let message = resv_err(alloc, error)?;
     Ok(Some(sent_by(link, message)))
 }
 

@@ -22,10 +22,16 @@ use state_views::{Draft, Edits, StateView, node_of};
 use std::alloc::{AllocError, Global};
 use std::net::Ipv4Addr;
 
-/// A PathErr. It asks for a Tspec, if any, that leaves room for the rest of the message.
-fn path_err(session: Session, sender: Template, tspec: Option<Tspec>, error: ErrorSpec) -> Message
+/// A PathErr. It asks for a Tspec, if any, that leaves room for the rest of the message. The only error is out of memory.
+fn path_err(
+    alloc: Global,
+    session: Session,
+    sender: Template,
+    tspec: Option<Tspec>,
+    error: ErrorSpec,
+) -> Result<Message, AllocError>
     requires { LeavesRoom tspec }
-    ensures { result ≡ path_err session sender tspec error }
+    ensures { IfOk result (λ message. message ≡ path_err session sender tspec error) }
 {
     let content = Content::PathErr(PathErr {
         session,
@@ -33,12 +39,13 @@ fn path_err(session: Session, sender: Template, tspec: Option<Tspec>, error: Err
         sender,
         tspec,
     });
-    Message::checked(content).unwrap()
+    Ok(Message::checked(Box::new(alloc, content)?).unwrap())
 }
 
 /// An error of a path, told to one of its origins, under the sender that the origin's Paths name; nothing where no way
 /// leads there.
 fn told_to(
+    alloc: Global,
     node: &Node,
     key: &Key,
     tspec: &Option<Tspec>,
@@ -52,7 +59,7 @@ fn told_to(
         sender: origin.0,
         lsp: key.sender.lsp,
     };
-    let message = path_err(key.session, sender, tspec.clone()?, error);
+    let message = path_err(alloc, key.session, sender, tspec.clone()?, error)?;
     Ok(sent_back(node, origin.1.via, origin.1.hop.address, message))
 }
 
@@ -72,7 +79,7 @@ pub fn told_upstream(
 {
     let mut told = Outputs::new(alloc);
     for origin in fact.origins.as_slice() {
-        if let Some(output) = told_to(node, key, tspec, error, origin)? {
+        if let Some(output) = told_to(alloc, node, key, tspec, error, origin)? {
             told.push(output)?;
         }
     }
@@ -114,7 +121,7 @@ fn answer<V: StateView>(
     let node = node_of(view);
     let tspec = Some(path.tspec.clone()?);
     let error = found_here(node.router, error);
-    let message = path_err(path.session, path.sender, tspec, error);
+    let message = path_err(alloc, path.session, path.sender, tspec, error)?;
     let mut errors = Outputs::new(alloc);
     if let Some(output) = sent_back(&node, via, path.hop.address, message) {
         errors.push(output)?;

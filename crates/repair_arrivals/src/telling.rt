@@ -21,29 +21,33 @@ use state_views::StateView;
 use std::alloc::{AllocError, Global};
 
 /// A ResvErr for a repaired LSP, as it goes through the bypass, where that is up (RFC 4090, 6.4.3). It asks for descriptors
-/// that leave room for the rest of the message. Takes no memory.
+/// that leave room for the rest of the message. The only error is out of memory.
 pub fn told_through<V: StateView>(
+    alloc: Global,
     view: &V,
     repair: &Repair,
     session: Session,
     error: ErrorSpec,
     style: Style,
     descriptors: ErrorDescriptors,
-) -> Option<Output>
+) -> Result<Option<Output>, AllocError>
     requires held { AreHeld (V.router view.now) (V.state view.now) }
     requires counted { IsTrue (counts_on false descriptors) }
     requires room { HaveRoom descriptors }
-    ensures { result ≡ told_through (around_of (V.router view.now) (V.state view.now)) repair.now session error style descriptors }
+    ensures { IfOk result (λ told. told
+        ≡ told_through (around_of (V.router view.now) (V.state view.now)) repair.now session error style descriptors) }
 {
-    let over = over_at(view, repair.bypass)?;
-    let message = resv_err(ResvErr {
+    let Some(over) = over_at(view, repair.bypass) else {
+        return Ok(None);
+    };
+    let error = ResvErr {
         session,
         hop: hop_through(view.node().router, repair),
         error,
         style,
         descriptors,
-    });
-    Some(labelled_by(over, message))
+    };
+    Ok(Some(labelled_by(over, resv_err(alloc, error)?)))
 }
 
 /// The error of a flow descriptor of a Resv that is for a repair: it goes back through the bypass. What the repair keeps stays
@@ -65,6 +69,14 @@ pub(crate) fn told_back<V: StateView>(
     let found = reservation_error(view.node().router, true, error);
     let mut descriptors = ErrorDescriptors::new(alloc);
     descriptors.push(named(descriptor)?)?;
-    let told = told_through(view, repair, resv.session, found, resv.style, descriptors);
+    let told = told_through(
+        alloc,
+        view,
+        repair,
+        resv.session,
+        found,
+        resv.style,
+        descriptors,
+    )?;
     Ok(told)
 }

@@ -4,12 +4,12 @@ use lsr_facts::Key;
 /// What an LSP takes of a link's bandwidth.
 #[derive(Clone, Copy, Debug, PartialEq, Eq)]
 pub struct Claim {
+    /// Bytes per second, at most 2^50.
+    pub rate: u64,
     /// The number of the link.
     pub link: u16,
     /// Whether the LSPs of its session share it.
     pub style: ResvStyle,
-    /// Bytes per second, at most 2^50.
-    pub rate: u64,
     /// The priority at which it is kept, 0 (best) to 7.
     pub holding: u8,
 }

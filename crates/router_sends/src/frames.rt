@@ -27,16 +27,16 @@ fn filters_of(alloc: Global, descriptors: &[FlowDescriptor]) -> Result<Filters, 
     Ok(filters)
 }
 
-/// The message that ends what a Path set up.
-fn path_tear_of(path: &Path) -> Message
-    ensures { Some result ≡ tear_of (contents.Path path.now) }
+/// The message that ends what a Path set up. The only error is out of memory.
+fn path_tear_of(alloc: Global, path: &Path) -> Result<Message, AllocError>
+    ensures { IfOk result (λ tear. Some tear ≡ tear_of (contents.Path path.now)) }
 {
     let tear = Content::PathTear(PathTear {
         session: path.session,
         hop: path.hop,
         sender: path.sender,
     });
-    Message::checked(tear).unwrap()
+    Ok(Message::checked(Box::new(alloc, tear)?).unwrap())
 }
 
 /// The message that ends what a Resv set up; none, where it names no LSP. It asks that the Resv is a message: then the
@@ -56,7 +56,7 @@ fn resv_tear_of(alloc: Global, resv: &Resv) -> Result<Option<Message>, AllocErro
         style: resv.style,
         filters,
     });
-    Ok(Some(Message::checked(tear).unwrap()))
+    Ok(Some(Message::checked(Box::new(alloc, tear)?).unwrap()))
 }
 
 /// The message that ends what a message set up.
@@ -64,7 +64,7 @@ fn tear_of(alloc: Global, message: &Message) -> Result<Option<Message>, AllocErr
     ensures { IfOk result (λ tear. tear ≡ tear_of message.now) }
 {
     match message.content() {
-        Content::Path(path) => Ok(Some(path_tear_of(path))),
+        Content::Path(path) => Ok(Some(path_tear_of(alloc, path)?)),
         Content::Resv(resv) => resv_tear_of(alloc, resv),
         _ => Ok(None),
     }

@@ -81,7 +81,15 @@ fn err_through<V: StateView>(
         return Ok(None);
     };
     let named = one_named(alloc, descriptor, head_through(filter, link))?;
-    let told = told_through(view, repair, error.session, error.error, error.style, named);
+    let told = told_through(
+        alloc,
+        view,
+        repair,
+        error.session,
+        error.error,
+        error.style,
+        named,
+    )?;
     Ok(told)
 }
 

@@ -2,14 +2,15 @@ ghost use Rattle.std.specs.Prelude.{◌≡◌, ◌↔◌, IsTrue, IsOk, IfOk, If
 
 use crate::fitting::fits;
 use crate::messages::Content;
-use std::alloc::AllocError;
+use std::alloc::{AllocError, Global};
 use std::marker::Model;
 
 /// A message: content whose parts are within their limits, and which is written in at most 4,096 bytes
 /// that are read again as the same content. Contracts see the content.
 #[derive(Debug)]
 pub struct Message {
-    content: Content,
+    // A message is large, and moved often.
+    content: Box<Content>,
 }
 
 /// Written out, so that a message is dropped by one call, whatever it says.
@@ -24,23 +25,25 @@ impl Model for Message {
 
     ghost Value = { Content };
 
-    ghost view = { λ m. m.content };
+    ghost view = { λ m. m.content.value };
 
     ghost use Rattle.rsvp_contents.specs.Spelling.{IsMessage};
 
-    ghost invariant = { λ m. IsMessage m.content };
+    ghost invariant = { λ m. IsMessage m.content.value };
 }
 
 impl Message {
     ghost use Rattle.rsvp_contents.specs.Fitting.{HasRoom, fits_parts};
     ghost use Rattle.rsvp_contents.specs.Spelling.{IsMessage};
 
-    /// The message with this content. Takes no memory.
-    pub fn new(content: Content) -> Message
+    /// The message with this content. The only error is out of memory.
+    pub fn new(alloc: Global, content: Content) -> Result<Message, AllocError>
         requires { IsMessage content }
-        ensures { result ≡ content }
+        ensures { IfOk result (λ message. message ≡ content) }
     {
-        Message { content }
+        Ok(Message {
+            content: Box::new(alloc, content)?,
+        })
     }
 
     /// Whether the content is a message: its parts fit, and it is written in at most
@@ -56,15 +59,15 @@ impl Message {
 
     /// The message with this content, where it is one ([`Message::fits`]). Where it is none, it is given
     /// back. Takes no memory.
-    pub fn checked(content: Content) -> Result<Message, Content>
-        ensures ok { IfOk result (λ message. (message ≡ content) × IsMessage content) }
-        ensures err { IfErr result (λ back. (back ≡ content) × ¬ IsMessage content) }
+    pub fn checked(content: Box<Content>) -> Result<Message, Box<Content>>
+        ensures ok { IfOk result (λ message. (message ≡ content.value) × IsMessage content.value) }
+        ensures err { IfErr result (λ back. (back ≡ content) × ¬ IsMessage content.value) }
 
         // Only a long Tspec makes a message too long whose parts fit.
-        ensures room { IsTrue (fits_parts content) → HasRoom content → IsOk result }
+        ensures room { IsTrue (fits_parts content.value) → HasRoom content.value → IsOk result }
     {
         if Message::fits(&content) {
-            Ok(Message::new(content))
+            Ok(Message { content })
         } else {
             Err(content)
         }
@@ -84,7 +87,7 @@ impl Message {
         ensures fits { IsMessage self }
     {
         let Message { content } = self;
-        content
+        Box::into_inner(content)
     }
 }
 

@@ -16,7 +16,8 @@
 //! };
 //! if let Content::PathTear(tear) = message.content() {
 //!     let passed_on = PathTear { hop, ..*tear };
-//!     if let Ok(message) = Message::checked(Content::PathTear(passed_on)) {
+//!     let content = Box::new(alloc, Content::PathTear(passed_on))?;
+//!     if let Ok(message) = Message::checked(content) {
 //!         write_message(&message, &mut out)?;
 //!     }
 //! }

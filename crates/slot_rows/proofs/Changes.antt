@@ -20,8 +20,8 @@ pub record Gives {K X : Type 0} (cmp : K → K → Ordering) (most : ℕ) (slots
   pub rows_are : rows_of slots order ≡ rows
 
 module _ {K X : Type 0} (cmp : K → K → Ordering) (most : ℕ) where
-  pub gives : (slots : Slab (K × X)) (order : List ℕ) (capacity : ℕ) (rows : List (K × X)) → map (get slots) order ≡ map Some rows → T (is_sorted cmp rows) → slab_len slots ≡ length order → length rows ≤ most → most ≤ slots.capacity → most ≤ capacity → Gives cmp most slots order capacity rows
-  gives slots order capacity rows h sorted used few slots_room index_room =
+  pub gives : (slots : Slab (K × X)) (order : List ℕ) (capacity : ℕ) (rows : List (K × X)) → map (get slots) order ≡ map Some rows → T (is_sorted cmp rows) → slab_len slots ≡ length order → length rows ≤ most → most ≤ slots.capacity → most ≤ capacity → slots.capacity ≤ 65536 → Gives cmp most slots order capacity rows
+  gives slots order capacity rows h sorted used few slots_room index_room numbered =
       let are = read (get slots) order rows h in
       let long = length_read (get slots) order rows h in
       record {
@@ -32,6 +32,7 @@ module _ {K X : Type 0} (cmp : K → K → Ordering) (most : ℕ) where
           few = omega (arith, long, few);
           slots_room = slots_room;
           index_room = index_room;
+          numbered = numbered;
         };
         rows_are = are;
       }
@@ -69,14 +70,14 @@ module _ {K X : Type 0} (cmp : K → K → Ordering) (most : ℕ) where
         let d = some_of before i (omega (arith, within, length_read (get s) order before kept.filled)) in
         let there = get_or_default order i 0 at within ∙ sym is in
         let now = written cmp total (get s) (get t) at ((row_of_place i within).0, v) updates.changed updates.others order before kept.filled kept.in_order i within there in
-        gives t order capacity (put cmp q v before) (now ∙ ap (map Some) (sym (puts d))) (is_sorted-put cmp total q v before kept.in_order) (len ∙ kept.used) few (omega (arith, room, kept.slots_room)) kept.index_room
+        gives t order capacity (put cmp q v before) (now ∙ ap (map Some) (sym (puts d))) (is_sorted-put cmp total q v before kept.in_order) (len ∙ kept.used) few (omega (arith, room, kept.slots_room)) kept.index_room (omega (arith, room, kept.numbered))
 
     -- a row came
     pub added : (q : K) (v : X) (i at now : ℕ) (order_now : List ℕ) → i ≤ length order → order_now ≡ insert order i at → get s at ≡ None → Updates s t at (Some (q, v)) → slab_len t ≡ slab_len s + 1 → t.capacity ≡ s.capacity → capacity ≤ now → put cmp q v (rows_of s order) ≡ insert (rows_of s order) i (q, v) → length (put cmp q v (rows_of s order)) ≤ most → Gives cmp most t order_now now (put cmp q v (rows_of s order))
     added q v i at now order_now within is_now none updates len room more puts few =
         let is = inserted (get s) (get t) at (q, v) none updates.changed updates.others order before kept.filled i within in
         let long = length-insert order i at within in
-        gives t order_now now (put cmp q v before) (ap (map (get t)) is_now ∙ is ∙ ap (map Some) (sym puts)) (is_sorted-put cmp total q v before kept.in_order) (omega (arith, len, kept.used, long, ap length is_now)) few (omega (arith, room, kept.slots_room)) (omega (arith, more, kept.index_room))
+        gives t order_now now (put cmp q v before) (ap (map (get t)) is_now ∙ is ∙ ap (map Some) (sym puts)) (is_sorted-put cmp total q v before kept.in_order) (omega (arith, len, kept.used, long, ap length is_now)) few (omega (arith, room, kept.slots_room)) (omega (arith, more, kept.index_room)) (omega (arith, room, kept.numbered))
 
     -- a row went
     pub gone : (q : K) (i at now : ℕ) (order_now : List ℕ) → i < length order → at ≡ get_or order i at → order_now ≡ remove order i → Updates s t at None → slab_len t + 1 ≡ slab_len s → t.capacity ≡ s.capacity → now ≡ capacity → where_key cmp (λ k. not (is_eq (cmp q k))) (rows_of s order) ≡ remove (rows_of s order) i → Gives cmp most t order_now now (where_key cmp (λ k. not (is_eq (cmp q k))) (rows_of s order))
@@ -87,7 +88,7 @@ module _ {K X : Type 0} (cmp : K → K → Ordering) (most : ℕ) where
         let slots_left = length-remove order i within in
         let same = length_read (get s) order before kept.filled in
         let rows_left = length-remove before i (omega (arith, within, same)) in
-        gives t order_now now left (ap (map (get t)) is_now ∙ without ∙ ap (map Some) (sym leaves)) (is_sorted-where_key cmp (λ k. not (is_eq (cmp q k))) before kept.in_order) (omega (arith, len, kept.used, slots_left, ap length is_now)) (omega (arith, ap length leaves, rows_left, same, kept.few)) (omega (arith, room, kept.slots_room)) (omega (arith, same_room, kept.index_room))
+        gives t order_now now left (ap (map (get t)) is_now ∙ without ∙ ap (map Some) (sym leaves)) (is_sorted-where_key cmp (λ k. not (is_eq (cmp q k))) before kept.in_order) (omega (arith, len, kept.used, slots_left, ap length is_now)) (omega (arith, ap length leaves, rows_left, same, kept.few)) (omega (arith, room, kept.slots_room)) (omega (arith, same_room, kept.index_room)) (omega (arith, room, kept.numbered))
 
     -- a row came whose key is above those of all
     pub pushed : (row : K × X) (at now : ℕ) (order_now : List ℕ) → length order < most → order_now ≡ order ++ at ∷ [] → get s at ≡ None → Updates s t at (Some row) → slab_len t ≡ slab_len s + 1 → t.capacity ≡ s.capacity → capacity ≤ now → T (is_sorted cmp (rows_of s order ++ row ∷ [])) → Gives cmp most t order_now now (rows_of s order ++ row ∷ [])
@@ -96,7 +97,7 @@ module _ {K X : Type 0} (cmp : K → K → Ordering) (most : ℕ) where
         let same = stays (get s) (get t) at updates.others order apart ∙ kept.filled in
         let read_now = ap (map (get t)) is_now ∙ map-append (get t) order (at ∷ []) ∙ (λ i. same i ++ updates.changed i ∷ []) ∙ sym (map-append Some before (row ∷ [])) in
         let long = length_read (get s) order before kept.filled in
-        gives t order_now now (before ++ row ∷ []) read_now sorted (omega (arith, len, kept.used, ap length is_now, length-append order (at ∷ []))) (omega (arith, length-append before (row ∷ []), long, free)) (omega (arith, room, kept.slots_room)) (omega (arith, more, kept.index_room))
+        gives t order_now now (before ++ row ∷ []) read_now sorted (omega (arith, len, kept.used, ap length is_now, length-append order (at ∷ []))) (omega (arith, length-append before (row ∷ []), long, free)) (omega (arith, room, kept.slots_room)) (omega (arith, more, kept.index_room)) (omega (arith, room, kept.numbered))
 
     -- the key of a slot's row ties with itself
     tied_there : (i : ℕ) (within : i < length order) (d : K × X) → cmp (get_or before i d).0 (row_of_place i within).0 ≡ Equal

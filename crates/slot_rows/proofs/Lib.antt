@@ -1,3 +1,4 @@
+pub mod Beside
 pub mod Changes
 pub mod Filled
 pub mod Marked

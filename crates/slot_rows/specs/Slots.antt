@@ -13,7 +13,7 @@ abbrev pub AreFilled : {R : Type 0} → Slab R → List ℕ → Type 0
 AreFilled slots order = map (get slots) order ≡ map Some (rows_of slots order)
 
 -- The slots that are named have a row each, in the order of the keys, and no other slot has one. There are not more
--- than the most, and there is room for so many.
+-- than the most, and there is room for so many. The number of a slot fits in two bytes.
 pub record IsSlotted {K X : Type 0} (cmp : K → K → Ordering) (most : ℕ) (slots : Slab (K × X)) (order : List ℕ) (capacity : ℕ) : Type 0 where
   pub filled : AreFilled slots order
   pub in_order : T (is_sorted cmp (rows_of slots order))
@@ -21,3 +21,4 @@ pub record IsSlotted {K X : Type 0} (cmp : K → K → Ordering) (most : ℕ) (s
   pub few : length order ≤ most
   pub slots_room : most ≤ slots.capacity
   pub index_room : most ≤ capacity
+  pub numbered : slots.capacity ≤ 65536

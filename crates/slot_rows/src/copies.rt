@@ -34,7 +34,7 @@ impl<K: Ord + Copy, V: TryCopy + Drop, N, const MOST: usize> OrderedSlots<K, V, 
     {
         let mut rows = Vec::with_capacity(alloc, self.by_key.len())?;
         for slot in &self.by_key {
-            push_copy(alloc, &mut rows, &self.slots, *slot)?;
+            push_copy(alloc, &mut rows, &self.slots, usize::from(*slot))?;
         }
         Ok(rows)
     }
@@ -54,7 +54,7 @@ impl<K: Ord, V, N: Numbering<K>, const MOST: usize> OrderedSlots<K, V, N, MOST> 
     {
         let number = N::number(&row.0);
         let slot = self.slots.insert_reserved(row);
-        self.by_key.push(slot).unwrap();
+        self.by_key.push(slot as u16).unwrap();
         self.marks.come(number, slot);
     }
 }
@@ -100,7 +100,7 @@ impl<K: Ord + Copy, V: TryCopy + Drop, N: Numbering<K>, const MOST: usize> Order
     {
         let mut copy = OrderedSlots::new(alloc)?;
         for slot in &self.by_key {
-            copy.push_copy_of(alloc, &self.slots, *slot)?;
+            copy.push_copy_of(alloc, &self.slots, usize::from(*slot))?;
         }
         Ok(copy)
     }

@@ -3,6 +3,7 @@
 
 mod copies;
 mod edits;
+mod finding;
 mod marks;
 mod numbering;
 mod searches;
@@ -11,8 +12,9 @@ mod slots;
 mod sweeps;
 
 pub use edits::{EditRows, make_edits};
+pub use finding::place;
 pub use marks::{Mark, Marks};
 pub use numbering::{Numbering, OwnNumber};
 pub use searches::{Probe, RowTest, push_passing};
 pub use slot_table::SlotTable;
-pub use slots::{OrderedSlots, place, write_value};
+pub use slots::{OrderedSlots, write_value};

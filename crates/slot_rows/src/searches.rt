@@ -75,7 +75,7 @@ impl<K, V, N, const MOST: usize> OrderedSlots<K, V, N, MOST> {
     {
         let slots = &self.slots;
         self.by_key
-            .binary_search_by(|slot| compare_at(slots, *slot, probe))
+            .binary_search_by(|slot| compare_at(slots, usize::from(*slot), probe))
     }
 
     /// The place of the first row that doesn't stand before what is sought, or how many rows there are. A binary
@@ -90,8 +90,7 @@ impl<K, V, N, const MOST: usize> OrderedSlots<K, V, N, MOST> {
             (rows_of self.now.slots self.now.by_key.items) result }
     {
         let slots = &self.slots;
-        self.by_key
-            .partition_point(|slot| compare_at(slots, *slot, probe).is_lt())
+        self.by_key.partition_point(|slot| compare_at(slots, usize::from(*slot), probe).is_lt())
     }
 }
 
@@ -131,7 +130,7 @@ impl<K: Copy, V, N, const MOST: usize> OrderedSlots<K, V, N, MOST> {
     {
         let mut keys = Vec::new(alloc);
         for slot in &self.by_key {
-            push_passing(&mut keys, &self.slots, *slot, test)?;
+            push_passing(&mut keys, &self.slots, usize::from(*slot), test)?;
         }
         Ok(keys)
     }

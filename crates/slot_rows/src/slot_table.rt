@@ -40,15 +40,6 @@ impl<K: Ord, V, N: Numbering<K>, const MOST: usize> Model for SlotTable<K, V, N,
 }
 
 impl<K: Ord, V, N: Numbering<K>, const MOST: usize> SlotTable<K, V, N, MOST> {
-    /// No rows. Takes the memory of all rows that the table may ever hold; the only error is that there is too little.
-    pub fn new(alloc: Global) -> Result<SlotTable<K, V, N, MOST>, AllocError>
-        ensures { IfOk result (λ table. table ≡ []) }
-    {
-        Ok(SlotTable {
-            rows: OrderedSlots::new(alloc)?,
-        })
-    }
-
     /// How many rows there are.
     pub fn len(&self) -> usize
         ensures { result ≡ length self.now }
@@ -84,6 +75,16 @@ impl<K: Ord, V, N: Numbering<K>, const MOST: usize> SlotTable<K, V, N, MOST> {
 }
 
 impl<K: Ord + Drop, V: Drop, N: Numbering<K>, const MOST: usize> SlotTable<K, V, N, MOST> {
+    /// No rows. Takes the memory of all rows that the table may ever hold; the only error is that there is too little.
+    /// That is its answer for more than 65,536 rows too.
+    pub fn new(alloc: Global) -> Result<SlotTable<K, V, N, MOST>, AllocError>
+        ensures { IfOk result (λ table. table ≡ []) }
+    {
+        Ok(SlotTable {
+            rows: OrderedSlots::new(alloc)?,
+        })
+    }
+
     /// Sets the value under a key. It asks that the table has at most `MOST` rows then.
     pub fn set(&mut self, key: K, value: V)
         requires { length (put K.cmp key value self.old) ≤ MOST }

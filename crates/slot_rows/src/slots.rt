@@ -1,19 +1,22 @@
 // Rows in slots, with the slots in the order of the keys.
-ghost use Rattle.std.specs.FinMap.Entries.{find, is_sorted, put, where_key};
-ghost use Rattle.std.specs.Option.{option_copied, option_map, option_map_or};
+ghost use Rattle.std.specs.FinMap.Entries.{find, put, where_key};
+ghost use Rattle.std.specs.Option.{option_copied, option_map};
 ghost use Rattle.std.specs.Ordering.{is_eq};
-ghost use Rattle.std.specs.declared.cmp.Ordering.TheVariants.{Equal, Less};
-ghost use Rattle.std.specs.Prelude.{◌≡◌, ◌≢◌, ◌<◌, ◌≤◌, ℕ, T, false, Some, None, [], IfErr, IfNone, IfOk, IfSome, IsSome, IsSomeAnd, insert, length, not, remove, slice_get, slice_index_or, slice_set, vec_capacity};
+ghost use Rattle.std.specs.declared.cmp.Ordering.TheVariants.{Equal};
+ghost use Rattle.std.specs.Prelude.{◌≡◌, ◌≢◌, ◌≤◌, ℕ, false, Some, None, [], IfNone, IfOk, IfSome, IsSome, IsSomeAnd, length, not, slice_get, vec_capacity};
 ghost use Rattle.slab.specs.Slab.{Updates, get, slab_len};
 ghost use Rattle.slot_rows.specs.Marks.{Admits, IsMarked, is_shared};
 ghost use Rattle.slot_rows.specs.Slots.{AreFilled, IsSlotted, rows_of};
 
+use crate::finding::{cmp_at, place};
 use crate::marks::{Mark, Marks};
 use crate::numbering::Numbering;
 use slab::Slab;
 use std::alloc::{AllocError, Global};
-use std::cmp::Ordering;
 use std::marker::PhantomData;
+
+/// There are no more slots: the number of each fits in two bytes.
+const MOST_SLOTS: usize = 1 << 16;
 
 /// Rows of a key and a value, each in a slot that it keeps, and the slots in the order of the keys. Its functions ask
 /// that the parts belong together, and leave them so: at most `MOST` rows, in memory that `new` takes.
@@ -22,44 +25,12 @@ pub struct OrderedSlots<K, V, N, const MOST: usize> {
     /// The rows, by slot.
     pub slots: Slab<(K, V)>,
     /// The slots that have a row, in the order of the keys.
-    pub by_key: Vec<usize>,
+    pub by_key: Vec<u16>,
     /// Marks of the slots that have a row, by the numbers of their keys.
     pub marks: Marks,
+    /// Where a key came or went last: the next is looked for there first.
+    last: usize,
     numbering: PhantomData<N>,
-}
-
-/// How a slot's row compares with a key: below it where the slot has none.
-fn cmp_at<K: Ord, V>(slots: &Slab<(K, V)>, slot: usize, key: &K) -> Ordering
-    ensures { result ≡ option_map_or (λ row. K.cmp row.0 key.now) (get slots.now slot) Less }
-{
-    match slots.get(slot) {
-        Some(row) => row.0.cmp(key),
-        None => Ordering::Less,
-    }
-}
-
-/// The place of a key's slot among the slots in the order of the keys, or the place where it belongs, and what an edit
-/// there does to the rows. A binary search.
-pub fn place<K: Ord, V>(slots: &Slab<(K, V)>, by_key: &[usize], key: &K) -> Result<usize, usize>
-    requires filled { AreFilled slots.now by_key.now }
-    requires in_order { T (is_sorted K.cmp (rows_of slots.now by_key.now)) }
-    ensures found { IfOk result (λ i. (i < length by_key.now)
-        × ((d : K × V) → find K.cmp key.now (rows_of slots.now by_key.now)
-        ≡ Some (slice_index_or (rows_of slots.now by_key.now) i d).1)
-        × ((v : V) (d : K × V) → put K.cmp key.now v (rows_of slots.now by_key.now)
-        ≡ slice_set (rows_of slots.now by_key.now) i ((slice_index_or (rows_of slots.now by_key.now) i d).0, v))
-        × (where_key K.cmp (λ k. not (is_eq (K.cmp key.now k))) (rows_of slots.now by_key.now)
-        ≡ remove (rows_of slots.now by_key.now) i)) }
-    ensures ties { IfOk result (λ i. (d : K × V) →
-        K.cmp (slice_index_or (rows_of slots.now by_key.now) i d).0 key.now ≡ Equal) }
-    ensures absent { IfErr result (λ i. (i ≤ length by_key.now)
-        × (find K.cmp key.now (rows_of slots.now by_key.now) ≡ None)
-        × ((v : V) → put K.cmp key.now v (rows_of slots.now by_key.now)
-        ≡ insert (rows_of slots.now by_key.now) i (key.now, v))
-        × (where_key K.cmp (λ k. not (is_eq (K.cmp key.now k))) (rows_of slots.now by_key.now)
-        ≡ rows_of slots.now by_key.now)) }
-{
-    by_key.binary_search_by(|slot| cmp_at(slots, *slot, key))
 }
 
 /// Sets the value of a slot's row, and changes no other slot.
@@ -74,30 +45,13 @@ pub fn write_value<K, V: Drop>(slots: &mut Slab<(K, V)>, slot: usize, value: V)
 }
 
 impl<K: Ord, V, N: Numbering<K>, const MOST: usize> OrderedSlots<K, V, N, MOST> {
-    /// No rows. Takes the memory of all rows that there may ever be; the only error is that there is too little.
-    pub fn new(alloc: Global) -> Result<OrderedSlots<K, V, N, MOST>, AllocError>
-        ensures slotted { IfOk result (λ s. IsSlotted K.cmp MOST s.slots s.by_key.items (vec_capacity s.by_key)) }
-        ensures marked { IfOk result (λ s. IsMarked N.number s.marks s.slots) }
-        ensures empty { IfOk result (λ s. s.by_key.items ≡ []) }
-    {
-        // The indexes first: they are let go where the slots get no memory.
-        let by_key = Vec::with_capacity(alloc, MOST)?;
-        let marks = Marks::new(alloc, MOST)?;
-        Ok(OrderedSlots {
-            slots: Slab::with_capacity(alloc, MOST)?,
-            by_key,
-            marks,
-            numbering: PhantomData,
-        })
-    }
-
     /// The row at a place, in the order of the keys, from 0 on; `None` past the last.
     pub fn row(&self, place: usize) -> Option<&(K, V)>
         requires { AreFilled self.now.slots self.now.by_key.items }
         ensures { option_copied result ≡ slice_get (rows_of self.now.slots self.now.by_key.items) place }
     {
         if place < self.by_key.len() {
-            self.slots.get(self.by_key[place])
+            self.slots.get(usize::from(self.by_key[place]))
         } else {
             None
         }
@@ -122,7 +76,7 @@ impl<K: Ord, V, N: Numbering<K>, const MOST: usize> OrderedSlots<K, V, N, MOST> 
         }
     }
 
-    /// The slot of a key's row, or `None` where there is no such key. Where the mark doesn't say it, a binary search.
+    /// The slot of a key's row, or `None` where there is no such key. Where the mark doesn't say it, its place is looked for.
     fn slot_of(&self, key: &K) -> Option<usize>
         requires slotted { IsSlotted K.cmp MOST self.now.slots self.now.by_key.items (vec_capacity self.now.by_key) }
         requires marked { IsMarked N.number self.now.marks self.now.slots }
@@ -135,8 +89,8 @@ impl<K: Ord, V, N: Numbering<K>, const MOST: usize> OrderedSlots<K, V, N, MOST> 
             Some(slot) => Some(slot),
             None => {
                 if mark.is_shared() {
-                    match place(&self.slots, &self.by_key, key) {
-                        Ok(index) => Some(self.by_key[index]),
+                    match place(&self.slots, &self.by_key, self.last, key) {
+                        Ok(index) => Some(usize::from(self.by_key[index])),
                         Err(_) => None,
                     }
                 } else {
@@ -163,7 +117,27 @@ impl<K: Ord, V, N: Numbering<K>, const MOST: usize> OrderedSlots<K, V, N, MOST> 
 }
 
 impl<K: Ord + Drop, V: Drop, N: Numbering<K>, const MOST: usize> OrderedSlots<K, V, N, MOST> {
-    /// Sets the value under a key, which a binary search finds, and answers the slot of its row. It asks that there are
+    /// No rows. Takes the memory of all rows that there may ever be; the only error is that there is too little. That is
+    /// its answer for more than 65,536 rows too: then a slot's number wouldn't fit in two bytes.
+    pub fn new(alloc: Global) -> Result<OrderedSlots<K, V, N, MOST>, AllocError>
+        ensures slotted { IfOk result (λ s. IsSlotted K.cmp MOST s.slots s.by_key.items (vec_capacity s.by_key)) }
+        ensures marked { IfOk result (λ s. IsMarked N.number s.marks s.slots) }
+        ensures empty { IfOk result (λ s. s.by_key.items ≡ []) }
+    {
+        let slots = Slab::with_capacity(alloc, MOST)?;
+        if slots.capacity() > MOST_SLOTS {
+            return Err(AllocError);
+        }
+        Ok(OrderedSlots {
+            slots,
+            by_key: Vec::with_capacity(alloc, MOST)?,
+            marks: Marks::new(alloc, MOST)?,
+            last: 0,
+            numbering: PhantomData,
+        })
+    }
+
+    /// Sets the value under a key, whose place is looked for, and answers the slot of its row. It asks that there are
     /// at most `MOST` rows then.
     fn set_by_search(&mut self, key: K, value: V) -> usize
         requires slotted { IsSlotted K.cmp MOST self.old.slots self.old.by_key.items (vec_capacity self.old.by_key) }
@@ -177,15 +151,16 @@ impl<K: Ord + Drop, V: Drop, N: Numbering<K>, const MOST: usize> OrderedSlots<K,
         ensures capacity { self.new.slots.capacity ≡ self.old.slots.capacity }
         ensures marks { self.new.marks ≡ self.old.marks }
     {
-        match place(&self.slots, &self.by_key, &key) {
+        match place(&self.slots, &self.by_key, self.last, &key) {
             Ok(index) => {
-                let slot = self.by_key[index];
+                let slot = usize::from(self.by_key[index]);
                 write_value(&mut self.slots, slot, value);
                 slot
             }
             Err(index) => {
                 let slot = self.slots.insert_reserved((key, value));
-                self.by_key.insert(index, slot).unwrap();
+                self.by_key.insert(index, slot as u16).unwrap();
+                self.last = index;
                 slot
             }
         }
@@ -232,11 +207,14 @@ impl<K: Ord + Drop, V: Drop, N: Numbering<K>, const MOST: usize> OrderedSlots<K,
         ensures capacity { self.new.slots.capacity ≡ self.old.slots.capacity }
         ensures absent { IfNone result (self.new ≡ self.old) }
     {
-        match place(&self.slots, &self.by_key, key) {
+        // Most keys that aren't there are known by the mark.
+        self.slot_of(key)?;
+        match place(&self.slots, &self.by_key, self.last, key) {
             Ok(index) => {
-                let slot = self.by_key.remove(index);
+                let slot = usize::from(self.by_key.remove(index));
                 self.slots.remove(slot);
                 self.marks.go(N::number(key), slot);
+                self.last = index;
                 Some(slot)
             }
             Err(_) => None,

@@ -46,11 +46,11 @@ impl<K: Ord + Drop, V: Drop, N: Numbering<K>, const MOST: usize> OrderedSlots<K,
             ++ drop (suc place) (rows_of self.old.slots self.old.by_key.items) }
         ensures capacity { self.new.slots.capacity ≡ self.old.slots.capacity }
     {
-        let slot = self.by_key[place];
+        let slot = usize::from(self.by_key[place]);
         if stays_at(&self.slots, slot, sweep) {
             leave_at(&mut self.slots, slot, sweep);
         } else {
-            let emptied = self.by_key.remove(place);
+            let emptied = usize::from(self.by_key.remove(place));
             let row = self.slots.remove(emptied);
             self.marks.go(N::number(&row.0), emptied);
         }

@@ -11,14 +11,19 @@ use slab::Slab;
 use slot_rows::{RowTest, place, push_passing};
 use std::alloc::{AllocError, Global};
 
-/// The place of a slot among the slots in the order of the keys. A binary search.
-fn place_of<K: Ord, V>(slots: &Slab<(K, V)>, by_key: &[usize], slot: usize) -> Option<usize>
+/// The place of a slot among the slots in the order of the keys. It is looked for near a place first.
+fn place_of<K: Ord, V>(
+    slots: &Slab<(K, V)>,
+    by_key: &[u16],
+    near: usize,
+    slot: usize,
+) -> Option<usize>
     requires filled { AreFilled slots.now by_key.now }
     requires in_order { T (is_sorted K.cmp (rows_of slots.now by_key.now)) }
     ensures { (k : ℕ) → k < length by_key.now → slice_index_or by_key.now k 0 ≡ slot → result ≡ Some k }
 {
     match slots.get(slot) {
-        Some(row) => match place(slots, by_key, &row.0) {
+        Some(row) => match place(slots, by_key, near, &row.0) {
             Ok(index) => Some(index),
             Err(_) => None,
         },
@@ -30,7 +35,7 @@ fn place_of<K: Ord, V>(slots: &Slab<(K, V)>, by_key: &[usize], slot: usize) -> O
 pub(crate) fn places_of<K: Ord, V>(
     alloc: Global,
     slots: &Slab<(K, V)>,
-    by_key: &[usize],
+    by_key: &[u16],
     named: &[usize],
 ) -> Result<Vec<usize>, AllocError>
     requires filled { AreFilled slots.now by_key.now }
@@ -39,7 +44,8 @@ pub(crate) fn places_of<K: Ord, V>(
 {
     let mut places = Vec::new(alloc);
     for slot in named {
-        if let Some(place) = place_of(slots, by_key, *slot) {
+        let near = places.last().copied().unwrap_or(0);
+        if let Some(place) = place_of(slots, by_key, near, *slot) {
             places.push(place)?;
         }
     }
@@ -51,7 +57,7 @@ pub(crate) fn places_of<K: Ord, V>(
 pub(crate) fn keys_at<K: Copy, V, R: RowTest<K, V>>(
     alloc: Global,
     slots: &Slab<(K, V)>,
-    by_key: &[usize],
+    by_key: &[u16],
     places: &[usize],
     test: &R,
 ) -> Result<Vec<K>, AllocError>
@@ -69,7 +75,7 @@ pub(crate) fn keys_at<K: Copy, V, R: RowTest<K, V>>(
         if by_key.len() <= *place {
             continue;
         }
-        push_passing(&mut keys, slots, by_key[*place], test)?;
+        push_passing(&mut keys, slots, usize::from(by_key[*place]), test)?;
         next = *place + 1;
     }
     Ok(keys)

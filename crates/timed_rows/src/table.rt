@@ -153,6 +153,7 @@ impl<K: Ord + Drop, V: Drop, M: Timed<V> + Copy, N: Numbering<K>, const MOST: us
     MOST,
 > {
     /// No rows. Takes the memory of all rows that the table may ever hold; the only error is that there is too little.
+    /// That is its answer for more than 65,536 rows too.
     pub fn new(alloc: Global, timing: M) -> Result<TimedTable<K, V, M, N, MOST>, AllocError>
         ensures { IfOk result (λ table. table ≡ record { timing = timing; rows = [] }) }
     {

@@ -98,7 +98,8 @@ fn backup_over<V: StateView>(
         return Ok(None);
     };
     let backup = backup_path(alloc, &node, key, path, repair, detour, link)?;
-    let message = Message::checked(Content::Path(backup)).unwrap();
+    let content = Box::new(alloc, Content::Path(backup))?;
+    let message = Message::checked(content).unwrap();
     Ok(Some(labelled_by(over, message)))
 }
 

@@ -44,7 +44,8 @@ fn downstream_row<V: StateView>(
         return Ok(None);
     };
     let onward = path_onward(alloc, &node, key, path, link)?;
-    let message = Message::checked(Content::Path(onward)).unwrap();
+    let content = Box::new(alloc, Content::Path(onward))?;
+    let message = Message::checked(content).unwrap();
     Ok(Some((
         Item::Down(*key, path.out_link),
         sent_by(path.out_link, message),

@@ -109,7 +109,8 @@ fn message_to(
 {
     let resv = resv_to(alloc, router, lsp, origin, address)?;
     has_four_octets(origin.0);
-    Ok(Message::checked(Content::Resv(resv)).unwrap())
+    let content = Box::new(alloc, Content::Resv(resv))?;
+    Ok(Message::checked(content).unwrap())
 }
 
 /// The item of an origin.

@@ -35,7 +35,7 @@ changed : (c : After-own_part) (more : ℕ) → more ≡ reserved_of c.args.link
 changed c more is =
     let key = c.args.key.now in
     let rows = c.args.left.now.items in
-    let own = c.own_part.ensures ∙ ap (λ held. reserved_of c.args.link 7 (mine key.session held)) c.deref.ensures.value in
+    let own = c.own_part.ensures ∙ ap (λ held. reserved_of c.args.link 7 (mine key.session held)) c.deref-2.ensures.value in
     exchanged c.args.link 7 key.session rows (left_rows c) c.requires.sorted (sorted c) (others_removed key rows) (rated c) (few c) c.args.total c.own_part.result more c.requires.total own is
 
 pub overflow_sub-others : goal.overflow_sub-others
@@ -43,20 +43,20 @@ overflow_sub-others c = (changed ((goal.at.overflow_sub-others c).After-own_part
 
 pub own_part-requires-2-clause-sorted : goal.own_part-requires-2-clause-sorted
 own_part-requires-2-clause-sorted c =
-    subst (λ rows. T (is_sorted key_cmp rows)) (sym (c.deref-2.ensures.value ∙ c.remove.ensures.removed)) (sorted ((goal.at.own_part-requires-2-clause-sorted c).After-own_part))
+    subst (λ rows. T (is_sorted key_cmp rows)) (sym (c.deref-3.ensures.value ∙ c.remove.ensures.removed)) (sorted ((goal.at.own_part-requires-2-clause-sorted c).After-own_part))
 
 pub own_part-requires-2-clause-rated : goal.own_part-requires-2-clause-rated
 own_part-requires-2-clause-rated c =
-    subst AreRated (sym (c.deref-2.ensures.value ∙ c.remove.ensures.removed)) (rated ((goal.at.own_part-requires-2-clause-rated c).After-own_part))
+    subst AreRated (sym (c.deref-3.ensures.value ∙ c.remove.ensures.removed)) (rated ((goal.at.own_part-requires-2-clause-rated c).After-own_part))
 
 pub own_part-requires-2-clause-few : goal.own_part-requires-2-clause-few
 own_part-requires-2-clause-few c =
-    subst (λ (rows : List (Key × Claim)). length rows ≤ 1025) (sym (c.deref-2.ensures.value ∙ c.remove.ensures.removed)) (few ((goal.at.own_part-requires-2-clause-few c).After-own_part))
+    subst (λ (rows : List (Key × Claim)). length rows ≤ 1025) (sym (c.deref-3.ensures.value ∙ c.remove.ensures.removed)) (few ((goal.at.own_part-requires-2-clause-few c).After-own_part))
 
 pub overflow_add-result : goal.overflow_add-result
 overflow_add-result c =
     let key = c.args.key.now in
-    let left = c.deref-2.ensures.value ∙ c.remove.ensures.removed in
+    let left = c.deref-3.ensures.value ∙ c.remove.ensures.removed in
     let more = c.own_part-2.ensures ∙ ap (λ held. reserved_of c.args.link 7 (mine key.session held)) left in
     let fits = (changed ((goal.at.overflow_add-result c).After-own_part) c.own_part-2.result more).2 in
     omega (arith, fits)
@@ -64,6 +64,6 @@ overflow_add-result c =
 pub returns-clause-total : goal.returns-clause-total
 returns-clause-total c =
     let key = c.args.key.now in
-    let left = c.deref-2.ensures.value ∙ c.remove.ensures.removed in
+    let left = c.deref-3.ensures.value ∙ c.remove.ensures.removed in
     let more = c.own_part-2.ensures ∙ ap (λ held. reserved_of c.args.link 7 (mine key.session held)) left in
     (changed ((goal.at.returns-clause-total c).After-own_part) c.own_part-2.result more).1 ∙ ap (reserved_of c.args.link 7) (sym c.remove.ensures.removed)

@@ -25,12 +25,12 @@ reading_of-requires c =
     (c.requires (reading_with c.in-Some.content c.refused_in-refused.result)
     (sym (reading_said c.args.kind c.args.objects.items c.in-Ok.flows.items c.in-Ok.parts c.in-Ok.passing c.is_misplaced-misplaced.result c.in-Some.content c.refused_in-refused.result plain c.in-Ok.ensures.parts c.in-Ok.ensures.passing c.in-Ok.ensures.flows misplaced short content refused)))
 
-pub returns-in-Some : goal.returns-in-Some
-returns-in-Some c =
+pub returns-in-Ok-reading_of : goal.returns-in-Ok-reading_of
+returns-in-Ok-reading_of c =
     let plain = sym (rw c.as_slice.ensures.value at c.has_class.ensures) ∙ c.if-has_class.false in
     let refused = rw c.as_slice-2.ensures.value at c.refused_in-refused.ensures in
     let misplaced = rw c.as_slice-3.ensures.value at c.is_misplaced-misplaced.ensures in
     let short = sym (rw c.as_slice-4.ensures.value at c.is_short.ensures) ∙ c.if-not-is_short.false in
     let content = sym c.in-Some.is ∙ rw c.as_slice-5.ensures.value at c.in-Ok-content_of.ensures in
-    rw c.reading_of.ensures
+    rw c.in-Ok-reading_of.ensures
     (reading_said c.args.kind c.args.objects.items c.in-Ok.flows.items c.in-Ok.parts c.in-Ok.passing c.is_misplaced-misplaced.result c.in-Some.content c.refused_in-refused.result plain c.in-Ok.ensures.parts c.in-Ok.ensures.passing c.in-Ok.ensures.flows misplaced short content refused)

@@ -7,4 +7,4 @@ pub labelled_by-requires : goal.labelled_by-requires
 labelled_by-requires g c =
     let r = g.V.StateView.router c.args.view.now in
     let s = g.V.StateView.state c.args.view.now in
-    (over_is s.facts.moment r s c.args.repair.now.bypass c.in_ok-over.over (sym c.over_at.ensures ∙ c.in_ok-over.was) c.requires.held.each).label
+    (over_is s.facts.moment r s c.args.repair.now.bypass c.in-Some.over (sym c.over_at.ensures ∙ c.in-Some.is) c.requires.held.each).label

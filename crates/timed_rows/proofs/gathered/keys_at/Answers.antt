@@ -26,9 +26,10 @@ loop-place-preserved g c =
     let from = among_from places i k place (λ j at in_j. c.requires.rise i j 0 at in_j) (was.rest k low in_k yes) in
     omega (arith, from, high)) in
     let before = was.keys ∙ ap keys_of (sym (none_between passes of order next place from_next between)) in
+    let pushed = rw c.from.ensures at c.in_ok-push_passing.ensures in
     record {
       within = omega (arith, in_order);
-      keys = c.in_ok-push_passing.ensures ∙ ap (λ keys. keys ++ keys_of (filter passes (cons_option (of (get_or order place 0)) []))) before ∙ sym (keys_more passes of order place 0 in_order);
+      keys = pushed ∙ ap (λ keys. keys ++ keys_of (filter passes (cons_option (of (get_or order place 0)) []))) before ∙ sym (keys_more passes of order place 0 in_order);
       rest = λ k low in_k yes. among_rest places i k in_i (was.rest k (omega (arith, low, from_next)) in_k yes) (λ same. omega (arith, same, low));
     }
 

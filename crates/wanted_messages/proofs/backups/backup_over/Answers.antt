@@ -17,6 +17,6 @@ unwrap-message-requires g c =
     let link = c.in-Some.link.now in
     let fits = c.requires.message link in
     let is = c.in_ok-backup.ensures ∙ ap (λ place. backup_path place.router c.args.key.now c.args.path.now c.args.repair.now c.args.detour.now link) c.node_of-node.ensures in
-    c.checked.ensures.room
+    (rw c.in_ok-content.ensures.ok at c.checked.ensures.room)
     (subst (λ (p : Path). IsTrue (fits_path p)) (sym is) fits.0)
     (subst (λ (p : Path). HasRoom (contents.Path p)) (sym is) fits.1)

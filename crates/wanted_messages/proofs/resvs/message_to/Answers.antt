@@ -17,6 +17,6 @@ unwrap-requires c =
     let origin = c.args.origin.now in
     let address = c.args.address in
     let a = said lsp.reserved in
-    c.checked.ensures.room
+    (rw c.in_ok-content.ensures.ok at c.checked.ensures.room)
     (subst (λ (v : Resv). IsTrue (fits_resv v)) (sym c.in_ok-resv.ensures) (resv_fits r key path origin address lsp.label a c.requires))
     (subst (λ (v : Resv). HasRoom (contents.Resv v)) (sym c.in_ok-resv.ensures) (resv_has_room r key path origin address lsp.label a c.has_four_octets.ensures c.requires))

@@ -1,4 +1,4 @@
-use Rattle.std.proofs.Common.{◌≡◌, ℕ, Bool, IfOk, Some, not, nat_le, nat_lt, arith, subst}
+use Rattle.std.proofs.Common.{◌≡◌, ℕ, IfOk, Some, not, nat_le, nat_lt, arith, subst}
 use Rattle.std.specs.List.{filter}
 use Rattle.std.proofs.lemmas.Bool.Decides.{nat_tests}
 use Rattle.resv_facts.specs.Reservations.{lives_past}

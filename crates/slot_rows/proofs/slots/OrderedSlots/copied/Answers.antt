@@ -11,7 +11,8 @@ loop-slot-preserved g c =
     let order = s.by_key.items in
     let i = c.loop-slot.slot-index in
     let within : i < length order = omega arith in
-    let pushed = rw c.deref-slot-items.ensures.value at c.in_ok-push_copy.ensures in
+    let named = rw c.from.ensures at c.in_ok-push_copy.ensures in
+    let pushed = rw c.deref-slot-items.ensures.value at named in
     pushed
     ∙ ap (λ rows. rows ++ cons_option (get s.slots (get_or order i 0)) []) c.loop-slot.invariant
     ∙ sym (rows_more (get s.slots) order i 0 within)

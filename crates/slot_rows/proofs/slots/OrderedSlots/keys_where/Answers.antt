@@ -12,7 +12,8 @@ loop-slot-preserved g c =
     let i = c.loop-slot.slot-index in
     let passes = g.T.RowTest.passes c.args.test.now in
     let within : i < length order = omega arith in
-    let pushed = rw c.deref-slot-items.ensures.value at c.in_ok-push_passing.ensures in
+    let named = rw c.from.ensures at c.in_ok-push_passing.ensures in
+    let pushed = rw c.deref-slot-items.ensures.value at named in
     pushed
     ∙ ap (λ keys. keys ++ keys_of (filter passes (cons_option (get s.slots (get_or order i 0)) []))) c.loop-slot.invariant
     ∙ sym (keys_more passes (get s.slots) order i 0 within)

@@ -8,7 +8,7 @@ pub returns-then-place-len : goal.returns-then-place-len
 returns-then-place-len g c =
     let s = c.args.self.now in
     let within : c.args.place < length s.by_key.items = omega arith in
-    c.get.ensures ∙ ap (get s.slots) c.index.ensures ∙ row_within (get s.slots) s.by_key.items (rows_of s.slots s.by_key.items) c.requires c.args.place c.index.result.now within
+    c.get.ensures ∙ ap (get s.slots) (c.from.ensures ∙ c.index.ensures) ∙ row_within (get s.slots) s.by_key.items (rows_of s.slots s.by_key.items) c.requires c.args.place c.index.result.now within
 
 pub returns-else-place-len : goal.returns-else-place-len
 returns-else-place-len g c =

@@ -1,4 +1,4 @@
-use Rattle.std.proofs.Common.{◌≡◌, refl, sym, subst, rules}
+use Rattle.std.proofs.Common.{◌≡◌, get_or, refl, sym, subst, rules}
 use Rattle.std.specs.List.{insert}
 use Rattle.std.specs.Option.{IsSomeAnd}
 use Rattle.std.specs.Prelude.{vec_capacity}
@@ -13,10 +13,11 @@ returns-in-Ok g c =
     let capacity = vec_capacity s.by_key in
     let place = rw c.deref.ensures.value at c.in-Ok.ensures.found in
     let ties = rw c.deref.ensures.value at c.in-Ok.ensures.ties in
-    let at = c.index-slot.result.now in
-    let there = has_row g.K.Ord.cmp g.row.MOST g.met.K.Ord.total s.slots t s.by_key.items capacity c.requires.slotted c.in-Ok.index at place.0 c.index-slot.ensures in
+    let at = c.from-slot.result in
+    let is : at ≡ get_or s.by_key.items c.in-Ok.index at = subst (λ slot. slot ≡ get_or s.by_key.items c.in-Ok.index slot) (sym c.from-slot.ensures) c.index.ensures in
+    let there = has_row g.K.Ord.cmp g.row.MOST g.met.K.Ord.total s.slots t s.by_key.items capacity c.requires.slotted c.in-Ok.index at place.0 is in
     let updates = c.write_value.ensures.written _ there in
-    let left = over g.K.Ord.cmp g.row.MOST g.met.K.Ord.total s.slots t s.by_key.items capacity c.requires.slotted c.args.key c.args.value c.in-Ok.index at place.0 c.index-slot.ensures updates c.write_value.ensures.len c.write_value.ensures.capacity (place.2 c.args.value) c.requires.few in
+    let left = over g.K.Ord.cmp g.row.MOST g.met.K.Ord.total s.slots t s.by_key.items capacity c.requires.slotted c.args.key c.args.value c.in-Ok.index at place.0 is updates c.write_value.ensures.len c.write_value.ensures.capacity (place.2 c.args.value) c.requires.few in
     let tie = of_that_row g.K.Ord.cmp g.row.MOST g.met.K.Ord.total s.slots t s.by_key.items capacity c.requires.slotted (λ row. g.K.Ord.cmp row.0 c.args.key ≡ Equal) c.in-Ok.index place.0 ties in
     record {
       slotted = left.slotted;

@@ -21,7 +21,7 @@ pub returns-in-Ok-clause-found : goal.returns-in-Ok-clause-found
 returns-in-Ok-clause-found g c =
     let s = c.args.self.now in
     let place = rw c.deref.ensures.value at c.in-Ok.ensures.found in
-    ap (λ slot. option_map (λ row. row.1) (get s.slots slot)) c.index.ensures
+    ap (λ slot. option_map (λ row. row.1) (get s.slots slot)) (c.from.ensures ∙ c.index.ensures)
     ∙ value_at (get s.slots) s.by_key.items (rows_of s.slots s.by_key.items) c.requires.slotted.filled c.in-Ok.index c.index.result.now _ place.0 place.1
 
 pub returns-else-is_shared-clause-absent : goal.returns-else-is_shared-clause-absent

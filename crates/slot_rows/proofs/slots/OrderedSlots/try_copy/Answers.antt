@@ -19,7 +19,7 @@ push_copy_of-requires g c =
     let more = ap (λ rows. rows ++ cons_option (get s.slots (get_or order i 0)) []) c.loop-slot.invariant.rows ∙ sym (rows_more (get s.slots) order i 0 within) in
     let room : length copy.by_key.items < g.row.MOST = omega (arith, long, ap length c.loop-slot.invariant.rows, length_rows (get s.slots) (take i order), length-take-le i order, within, c.requires.few) in
     let sorted = subst (λ (rows : List (g.row.K.Denot × g.row.V.Denot)). T (is_sorted g.K.Ord.cmp rows)) (sym more) (sorted_front g.K.Ord.cmp (get s.slots) order (i + 1) c.requires.in_order) in
-    (omega arith, (c.loop-slot.invariant.slotted, (c.loop-slot.invariant.marked, (room, rw c.deref-slot-items.ensures.value sorted))))
+    (omega arith, (c.loop-slot.invariant.slotted, (c.loop-slot.invariant.marked, (room, rw c.from.ensures (rw c.deref-slot-items.ensures.value sorted)))))
 
 pub loop-slot-preserved : goal.loop-slot-preserved
 loop-slot-preserved g c =
@@ -27,7 +27,8 @@ loop-slot-preserved g c =
     let order = s.by_key.items in
     let i = c.loop-slot.slot-index in
     let within : i < length order = omega arith in
-    let pushed = rw c.deref-slot-items.ensures.value at c.in_ok-push_copy_of.ensures.rows in
+    let named = rw c.from.ensures at c.in_ok-push_copy_of.ensures.rows in
+    let pushed = rw c.deref-slot-items.ensures.value at named in
     record {
       slotted = c.in_ok-push_copy_of.ensures.slotted;
       marked = c.in_ok-push_copy_of.ensures.marked;

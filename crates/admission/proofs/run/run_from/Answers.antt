@@ -1,7 +1,6 @@
-use Rattle.std.proofs.Common.{◌≡◌, ◌≤◌, ◌^◌, ◌-◌, T, List, arith, drop, length, of_calls, refl, rules, subst, sym, take, true}
+use Rattle.std.proofs.Common.{◌≡◌, ◌≤◌, ◌^◌, ◌-◌, T, List, arith, drop, length, refl, subst, sym, take, true}
 use Rattle.std.specs.FinMap.Entries.{is_sorted}
 use Rattle.std.specs.List.{AllByRecursion, filter}
-use Rattle.std.proofs.lemmas.List.Sorted.{IsPartitionPoint-from_clause}
 use Rattle.std.proofs.lemmas.List.Sums.{count_by-le-length, length-filter}
 use Rattle.sorted_rows.specs.ListLaws.{all-filter, all-filter_passes}
 use Rattle.sorted_rows.specs.RowsLaws.{is_sorted-filter}
@@ -10,29 +9,27 @@ use Rattle.lsr_facts.specs.declared.key.Key.{Key}
 use Rattle.resv_facts.specs.Claims.{is_of}
 use Rattle.resv_facts.specs.declared.claim.Claim.{Claim}
 use Rattle.admission.specs.Bandwidths.{AreRated}
-use Rattle.admission.proofs.Runs.{before_parts, comes_before, from_sorted, run_is}
-use Rattle.admission.proofs.run.run_of.Goals as goal
-use Rattle.admission.proofs.run.run_of.Goals.{After-count_upto-end}
+use Rattle.admission.proofs.Runs.{from_sorted, run_is}
+use Rattle.admission.proofs.run.run_from.Goals as goal
+use Rattle.admission.proofs.run.run_from.Goals.{After-count_upto-end}
 
 pub count_upto-end-requires : goal.count_upto-end-requires
 count_upto-end-requires c =
     let session = c.args.session.now in
     let claims = c.args.claims.now in
-    let start = c.partition_point-start.result in
-    let point = IsPartitionPoint-from_clause (comes_before session) claims start c.partition_point-start.ensures.partitioned (before_parts session claims c.requires.sorted) (λ a r q k. search (rules, of_calls)) in
-    from_sorted session claims c.requires.sorted start c.partition_point-start.ensures.bound point _ refl
+    let start = c.args.start in
+    from_sorted session claims c.requires.sorted start c.requires.bound c.requires.start _ refl
 
 -- the claims that are handed out are those of the session
-run : (c : After-count_upto-end) → take c.count_upto-end.result (take (length c.args.claims.now - c.partition_point-start.result) (drop c.partition_point-start.result c.args.claims.now)) ≡ filter (is_of c.args.session.now) c.args.claims.now
+run : (c : After-count_upto-end) → take c.count_upto-end.result (take (length c.args.claims.now - c.args.start) (drop c.args.start c.args.claims.now)) ≡ filter (is_of c.args.session.now) c.args.claims.now
 run c =
     let session = c.args.session.now in
     let claims = c.args.claims.now in
     let h = c.requires.sorted in
-    let start = c.partition_point-start.result in
-    let within = c.partition_point-start.ensures.bound in
+    let start = c.args.start in
+    let within = c.requires.bound in
     let from = take (length claims - start) (drop start claims) in
-    let point = IsPartitionPoint-from_clause (comes_before session) claims start c.partition_point-start.ensures.partitioned (before_parts session claims h) (λ a r q k. search (rules, of_calls)) in
-    run_is session claims h start within point from refl c.count_upto-end.result c.count_upto-end.ensures.bound c.count_upto-end.ensures.upto
+    run_is session claims h start within c.requires.start from refl c.count_upto-end.result c.count_upto-end.ensures.bound c.count_upto-end.ensures.upto
 
 pub returns-clause-run : goal.returns-clause-run
 returns-clause-run c = run ((goal.at.returns-clause-run c).After-count_upto-end)
