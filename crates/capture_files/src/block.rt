@@ -20,7 +20,7 @@ const MAGIC_BIG: u32 = 0x1a2b_3c4d;
 const MAGIC_LITTLE: u32 = 0x4d3c_2b1a;
 
 /// A block of a pcapng file, where it lies.
-#[derive(Clone, Copy, Debug)]
+#[derive(Clone, Copy)]
 pub(crate) struct Block<'a> {
     /// The byte order of its numbers.
     pub endian: Endian,

@@ -54,7 +54,7 @@ const WORD_BITS: u32 = 32;
 const SIMPLE_HEAD_LEN: usize = 4;
 
 /// An interface that a section describes.
-#[derive(Clone, Copy, Debug, PartialEq, Eq)]
+#[derive(Clone, Copy, Debug)]
 pub(crate) struct Interface {
     /// The link type of its packets.
     pub link_type: u16,
@@ -65,7 +65,7 @@ pub(crate) struct Interface {
 }
 
 /// What a block says.
-#[derive(Clone, Copy, Debug)]
+#[derive(Clone, Copy)]
 pub(crate) enum Said<'a> {
     /// A section of this byte order begins.
     Section(Endian),

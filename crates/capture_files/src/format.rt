@@ -9,7 +9,7 @@ use crate::fault::Damage;
 use crate::record::{Classic, RECORD_HEADER_LEN, read_record};
 
 /// How a file goes on.
-#[derive(Clone, Copy, Debug, PartialEq, Eq)]
+#[derive(Clone, Copy, Debug)]
 pub(crate) enum Format {
     /// With the records of a classic pcap file.
     Records(Classic),

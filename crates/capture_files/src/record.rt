@@ -42,7 +42,7 @@ const CAPTURED_FIELD: usize = 8;
 const ORIGINAL_FIELD: usize = 12;
 
 /// What the header of a classic pcap file says of its records.
-#[derive(Clone, Copy, Debug, PartialEq, Eq)]
+#[derive(Clone, Copy, Debug)]
 pub(crate) struct Classic {
     /// The byte order of its numbers.
     pub endian: Endian,

@@ -1,3 +1,4 @@
+pub mod Below
 pub mod Chains
 pub mod Failing
 pub mod Mismatches

@@ -30,7 +30,7 @@ pub struct Mismatch {
 
 /// How far a walk over a segment's entries has come, for the mark at one index: the numbers at the segment's beginning, and
 /// what the entries so far add to them.
-#[derive(Clone, Copy, Debug)]
+#[derive(Clone, Copy)]
 struct Walk {
     /// The index of the mark.
     index: usize,

@@ -3,7 +3,7 @@
 use rsvp_messages::{Message, Reading, read_message, write_message};
 use std::alloc::Global;
 use std::time::{Clock, Duration, Instant};
-use worker_fixtures::{Fault, PATH_FRAME};
+use worker_measures::fixtures::{Fault, PATH_FRAME};
 
 /// The message of the built-in router's Path, which stands after the byte of its frame's kind.
 fn path_bytes() -> &'static [u8] {

@@ -6,7 +6,7 @@ use lsr_facts::Reply;
 use resv_facts::WORST_PRIORITY;
 use router_machine::{Event, Machine, Made, Served};
 use std::alloc::Global;
-use worker_fixtures::{Fault, IN_LINK, OUT_LINK};
+use worker_measures::fixtures::{Fault, IN_LINK, OUT_LINK};
 
 /// The most LSPs that a router knows.
 pub const MOST_LSPS: u16 = 1_024;

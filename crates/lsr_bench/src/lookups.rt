@@ -12,7 +12,7 @@ use std::sync::atomic::{AtomicBool, Ordering};
 use std::thread::Threads;
 use std::time::Clock;
 use std::{io, thread};
-use worker_fixtures::Fault;
+use worker_measures::fixtures::Fault;
 
 /// The most readers at once.
 const MOST_READERS: usize = 4;

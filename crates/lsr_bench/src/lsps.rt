@@ -1,7 +1,7 @@
 //! The frames of LSPs.
 
 use std::alloc::{AllocError, Global};
-use worker_fixtures::{PATH_FRAME, RESV_FRAME, TEAR_FRAME, about_tunnel, put_bytes};
+use worker_measures::fixtures::{PATH_FRAME, RESV_FRAME, TEAR_FRAME, about_tunnel, put_bytes};
 
 /// The word in which a message has a rate of 128,000,000 bytes a second, that of 1,024 LSPs (RFC 2210, 3).
 const WHOLE_RATE: [u8; 4] = [0x4c, 0xf4, 0x24, 0x00];

@@ -11,7 +11,7 @@ use std::alloc::{AllocError, Global};
 use std::sync::Wait;
 use std::sync::atomic::{AtomicBool, Ordering};
 use std::time::{Clock, Instant};
-use worker_fixtures::{Fault, per_second};
+use worker_measures::fixtures::{Fault, per_second};
 
 /// The first label of the range that is looked up.
 pub const FIRST_LABEL: u32 = 16;

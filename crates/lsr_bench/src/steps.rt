@@ -4,7 +4,7 @@ use crate::fed::{Answer, Fed, MOST_LSPS};
 use router_machine::Event;
 use std::alloc::Global;
 use std::time::{Clock, Duration, Instant};
-use worker_fixtures::{Fault, OUT_LINK, PATH_FRAME, about_tunnel};
+use worker_measures::fixtures::{Fault, OUT_LINK, PATH_FRAME, about_tunnel};
 
 /// The sizes of router at which each is measured, in LSPs.
 const SIZES: [u16; 3] = [1, 64, MOST_LSPS];

@@ -7,7 +7,7 @@ use lookup_plane::{LookupReader, Lookups, MAX_LABELS};
 use std::io;
 use std::ops::Range;
 use std::time::{Clock, Duration, Instant};
-use worker_fixtures::per_second;
+use worker_measures::fixtures::per_second;
 
 /// How far it is from one label that is looked up to the next, round and round: it comes to all of them.
 const STRIDE: u32 = 1_657;

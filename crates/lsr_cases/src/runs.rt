@@ -36,7 +36,7 @@ const READERS: [(&str, &str); 3] = [
 const TOLD_FOLDER: &str = "unreadable\n  standard input is a folder: give a file\n";
 
 /// An input that gives nothing but an error.
-#[derive(Debug, Drop)]
+#[derive(Drop)]
 struct Unreadable {
     kind: ErrorKind,
 }

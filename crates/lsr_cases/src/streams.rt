@@ -38,7 +38,7 @@ const TOLD_UNWRITABLE: &[u8] =
 const TOLD_UNREAD_WORDS: &[u8] = b"error: a word isn't UTF-8; see lsr --help\n";
 
 /// An input that gives what it has, and then fails.
-#[derive(Debug, Drop)]
+#[derive(Drop)]
 struct Breaking<'a> {
     left: &'a [u8],
 }
@@ -53,7 +53,7 @@ impl<'a> Read for Breaking<'a> {
 }
 
 /// An output that takes so many bytes, and then fails.
-#[derive(Debug, Drop)]
+#[derive(Drop)]
 struct Failing {
     room: usize,
 }
@@ -74,7 +74,7 @@ impl Write for Failing {
 }
 
 /// An output that counts how often it is written, and how many bytes.
-#[derive(Debug, Drop)]
+#[derive(Drop)]
 struct Counting {
     writes: usize,
     len: usize,

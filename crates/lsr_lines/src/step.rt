@@ -37,7 +37,7 @@ pub enum Ending<'a> {
 }
 
 /// What became of one line.
-#[derive(Clone, Copy, Debug, PartialEq, Eq)]
+#[derive(Clone, Copy)]
 pub(crate) enum Served {
     /// It was served: its answer was printed, or it was passed over.
     Done,

@@ -1,8 +1,8 @@
 -- What a status of 0 says.
 use Rattle.std.proofs.Common.{ℕ, List, Option, inl, inr, subst, arith}
 use Rattle.std.specs.Io.KnownBytes.{Appends}
-use Rattle.run_journal.specs.Journals.{Stretch}
-use Rattle.run_journal.specs.declared.receipt.Receipt.{Receipt}
+use Rattle.interface_workers.specs.Below.journal.Journals.{Stretch}
+use Rattle.interface_workers.specs.Below.journal.declared.receipt.Receipt.{Receipt}
 use Rattle.lsr_serve.specs.Told.{Serves, TellsRun}
 
 -- what is told of a run is what serving it tells

@@ -2,8 +2,8 @@
 use Rattle.std.specs.Prelude.{◌≡◌, ◌⊎◌, ℕ, List, Option, ◌++◌, codes, length}
 use Rattle.std.specs.Fmt.{decimal}
 use Rattle.std.specs.Io.KnownBytes.{Appends}
-use Rattle.run_journal.specs.Journals.{Stretch}
-use Rattle.run_journal.specs.declared.receipt.Receipt.{Receipt}
+use Rattle.interface_workers.specs.Below.journal.Journals.{Stretch}
+use Rattle.interface_workers.specs.Below.journal.declared.receipt.Receipt.{Receipt}
 use Rattle.interface_workers.specs.Reconciled.{IsReconciled}
 
 -- so many entries are one run

@@ -7,6 +7,7 @@ mod sockets;
 mod turns;
 mod udp_wire;
 
+pub use interface_workers as workers;
 pub use run::{PortCount, Served, TICK_MS, serve_on};
 pub use serving::{serve_links, tell_run};
 pub use sockets::{LinkSockets, read_sockets};

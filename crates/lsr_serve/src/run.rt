@@ -29,7 +29,7 @@ pub struct PortCount {
 }
 
 /// What a run leaves.
-#[derive(Debug, Drop)]
+#[derive(Debug)]
 pub struct Served {
     /// How much each port did, in the order of the ports.
     pub ports: Vec<PortCount>,
@@ -37,6 +37,17 @@ pub struct Served {
     pub receipts: Vec<Receipt>,
     /// The journal's segments in their order: by the number at their beginning, an empty one first.
     pub segments: Vec<Segment>,
+}
+
+/// Written out, so that it is dropped by one call, whatever the run left.
+impl Drop for Served {
+    fn drop(self) {
+        let Served {
+            ports: _ports,
+            receipts: _receipts,
+            segments: _segments,
+        } = self;
+    }
 }
 
 /// A link's worker before it starts.
@@ -185,6 +196,41 @@ fn gather(
     }
 }
 
+/// The threads of the links and of the clock, and what they leave. The only error is out of memory.
+fn run_threads<
+    L: Ledger + Send + Sync,
+    R: Threads + Wait + Clone + Send + Sync + Drop,
+    C: Clock,
+    W: Wire + Send + Drop,
+    G: Gate + Sync,
+>(
+    rt: &R,
+    clock: &C,
+    alloc: Global,
+    core: &Core<L, R>,
+    workers: Vec<Worker<L, W>>,
+    clock_port: &mut Port<L>,
+    clock_wire: &mut W,
+    gate: &G,
+    turns: u32,
+) -> Result<Served, AllocError> {
+    let (works, clock_work) = thread::join(
+        rt,
+        || thread::map_vec(
+            rt,
+            workers,
+            &|worker| run_worker(rt, alloc, core, gate, turns, worker),
+        ),
+        || run_clock(rt, clock, alloc, core, clock_port, clock_wire, gate, turns),
+    );
+    let works = works?;
+    let clock_work = clock_work?;
+    let last = core.rotate(rt, alloc)?;
+    let mut served = Served::new(alloc);
+    gather(&mut served, works, clock_work, last)?;
+    Ok(served)
+}
+
 /// The run of a router of this name.
 fn serve_named<
     L: Ledger + Send + Sync,
@@ -218,28 +264,17 @@ fn serve_named<
     };
     let mut clock_wire = clock_wire;
     let workers = workers(alloc, ports, readers, links)?;
-    let shared = &core;
-    let (works, clock_work) = thread::join(
+    Ok(run_threads(
         rt,
-        || thread::map_vec(
-            rt,
-            workers,
-            &|worker| run_worker(rt, alloc, shared, gate, turns, worker),
-        ),
-        || run_clock(
-            rt,
-            clock,
-            alloc,
-            shared,
-            &mut clock_port,
-            &mut clock_wire,
-            gate,
-            turns,
-        ),
-    );
-    let mut served = Served::new(alloc);
-    gather(&mut served, works?, clock_work?, core.rotate(rt, alloc)?)?;
-    Ok(served)
+        clock,
+        alloc,
+        &core,
+        workers,
+        &mut clock_port,
+        &mut clock_wire,
+        gate,
+        turns,
+    )?)
 }
 
 /// The run of the router of a configuration. Each link has a port, 1, 2 and so on in their order, and a thread that makes so

@@ -3,6 +3,7 @@
 ghost use Rattle.std.specs.FinMap.Entries.{is_sorted};
 ghost use Rattle.std.specs.Ordering.{nat_cmp};
 ghost use Rattle.std.specs.Prelude.{◌≡◌, [], IfOk, T, map, false};
+ghost use Rattle.lsr_config.specs.Configs.{IsConfig};
 ghost use Rattle.lsr_facts.specs.Routers.{IsRouter};
 ghost use Rattle.resv_facts.specs.Claims.{reserved_of};
 ghost use Rattle.abstract_router.specs.Detours.{detours_of, over_at};
@@ -76,7 +77,7 @@ fn limits_of(alloc: Global, links: &[(u16, Link)]) -> Result<Vec<(u16, u64)>, Al
 }
 
 /// Tables of LSPs, with the memory of all that there may ever be.
-#[derive(Debug, Drop)]
+#[derive(Drop)]
 struct LspTables {
     /// Their paths.
     paths: PathState,
@@ -98,7 +99,7 @@ fn lsp_tables(alloc: Global) -> Result<LspTables, AllocError>
 }
 
 /// What is known of links, and what is reserved on them.
-#[derive(Debug, Drop)]
+#[derive(Drop)]
 struct LinkTables {
     /// Of each link whether it is up.
     up: Table<u16, bool>,
@@ -122,7 +123,7 @@ fn link_tables(alloc: Global, router: &Router) -> Result<LinkTables, AllocError>
 }
 
 /// What is kept of labels, and of when messages were sent.
-#[derive(Debug, Drop)]
+#[derive(Drop)]
 struct KeptTables {
     /// When each Path was sent last that is kept alive.
     timers: RefreshTimers<Item, MAX_LSPS>,
@@ -182,7 +183,7 @@ fn rows_of(config: Opened, links: LinkTables, kept: KeptTables, lsps: LspTables)
 }
 
 /// What a configuration gives, with room for all tunnels that there may ever be.
-#[derive(Debug, Drop)]
+#[derive(Drop)]
 struct Opened {
     /// The router.
     router: Router,
@@ -194,6 +195,26 @@ struct Opened {
     bypasses: Table<u16, Bypass>,
 }
 
+/// What the configuration gives, with room for all tunnels that there may ever be. The only error is out of memory.
+fn opened_of(alloc: Global, config: Config) -> Result<Opened, AllocError>
+    ensures config { IfOk result (λ _. IsConfig config) }
+    ensures opened { IfOk result (λ opened. opened ≡ record { router = config.router; routes = config.routes; tunnels = config.tunnels; bypasses = config.bypasses }) }
+{
+    let Config {
+        router,
+        routes,
+        tunnels,
+        bypasses,
+    } = config;
+    let tunnels = with_room(alloc, tunnels)?;
+    Ok(Opened {
+        router,
+        routes,
+        tunnels,
+        bypasses,
+    })
+}
+
 impl Tables {
     /// The tables of the router of a configuration as it is opened: it knows no path. It reserves the memory of all
     /// that it may ever know, but for static routes and bypasses, which a change replaces whole; the only error is that
@@ -201,22 +222,10 @@ impl Tables {
     pub fn new(alloc: Global, config: Config) -> Result<Tables, AllocError>
         ensures { IfOk result (λ tables. tables ≡ opened config) }
     {
-        let links = link_tables(alloc, &config.router)?;
-        let kept = kept_tables(alloc, &config.router)?;
+        let opened = opened_of(alloc, config)?;
+        let links = link_tables(alloc, &opened.router)?;
+        let kept = kept_tables(alloc, &opened.router)?;
         let lsps = lsp_tables(alloc)?;
-        let Config {
-            router,
-            routes,
-            tunnels,
-            bypasses,
-        } = config;
-        let tunnels = with_room(alloc, tunnels)?;
-        let opened = Opened {
-            router,
-            routes,
-            tunnels,
-            bypasses,
-        };
         Ok(Tables {
             rows: rows_of(opened, links, kept, lsps),
         })

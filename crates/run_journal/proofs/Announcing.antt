@@ -17,14 +17,13 @@ use Rattle.abstract_router.specs.Soundness.{IsSound}
 use Rattle.abstract_router.specs.States.{State}
 use Rattle.abstract_router.specs.Tables.{ForwardAlike, TellsChange, look, look_tunnel, table_of, tunnel_entry, tunnel_table_of}
 use Rattle.abstract_paths.specs.Restarts.{opening_facts}
-use Rattle.router_core.specs.Plans.{IsPlanOf, after_plan}
-use Rattle.router_core.specs.States.{emptied}
-use Rattle.router_core.specs.declared.plan.Plan.{Plan}
+use Rattle.router_machine.specs.Below.core.Plans.{IsPlanOf, after_plan}
+use Rattle.router_machine.specs.Below.core.declared.plan.Plan.{Plan}
 use Rattle.router_machine.specs.Below.labels.Rows.{AreTableEdits}
 use Rattle.router_machine.specs.Below.labels.TunnelRows.{AreTunnelEdits}
 use Rattle.router_machine.specs.Readies.{IsReady, after_ready, with_cold}
 use Rattle.router_machine.proofs.Cooling.{told_started}
-use Rattle.router_machine.specs.States.{RouterState}
+use Rattle.router_machine.specs.States.{RouterState, emptied}
 use Rattle.router_machine.specs.declared.ready.Ready.{Ready}
 use Rattle.router_machine.specs.declared.ready.Ready.TheVariants as readies
 use Rattle.lookup_plane.specs.Changes as planes

@@ -189,10 +189,10 @@ impl<R: Wait + Drop> Locked<R> {
         ensures { IfOk result (λ locked. locked ≡ opened_journal machine (first_counts ports)) }
     {
         machine.soundness();
-        let base = machine.export(alloc)?;
+        let entries = Vec::with_capacity(alloc, MAX_ENTRIES)?;
         let tally = Tally::new(alloc, ports)?;
         let from = tally.try_copy(alloc)?;
-        let entries = Vec::with_capacity(alloc, MAX_ENTRIES)?;
+        let base = machine.export(alloc)?;
         Ok(Locked {
             machine,
             base,
@@ -278,11 +278,11 @@ impl<R: Wait + Drop> Locked<R> {
         ensures kept { OnErr result (self.new ≡ self.old) }
     {
         self.soundness();
+        let entries = Vec::with_capacity(alloc, MAX_ENTRIES)?;
+        let from = self.tally.try_copy(alloc)?;
         let router = self.machine.router().try_copy(alloc)?;
         let end = self.machine.export(alloc)?;
         let base = end.try_copy(alloc)?;
-        let from = self.tally.try_copy(alloc)?;
-        let entries = Vec::with_capacity(alloc, MAX_ENTRIES)?;
         Ok(Segment {
             router,
             base: mem::replace(&mut self.base, base),

@@ -2,7 +2,6 @@
 ghost use Rattle.std.specs.Prelude.{◌≡◌};
 
 use crate::wires::Silent;
-use interface_workers::{Core, OpenGate, Opened, Port, Work, serve_event};
 use lsr_config::BUILT_IN;
 use router_events::Event;
 use std::alloc::{AllocError, Global};
@@ -11,6 +10,7 @@ use std::sync::Wait;
 use std::sync::ledger::{Blank, Ledger};
 use std::thread;
 use std::thread::Threads;
+use worker_fixtures::serve::workers::{Core, OpenGate, Opened, Port, Work, serve_event};
 use worker_fixtures::{Fault, Left, open_router};
 
 /// How many threads there are.

@@ -3,8 +3,8 @@
 use crate::left::count_entries;
 use datagrams::{Datagram, Passed};
 use forwarding_table::Action;
-use interface_workers::{Closed, Core, CoreReader, Mark, Port, read_by};
 use lsr_facts::{Refusal, Router};
+use lsr_serve::workers::{Closed, Core, CoreReader, Mark, Port, read_by};
 use router_events::Event;
 use std::alloc::{AllocError, Global};
 use std::fmt;

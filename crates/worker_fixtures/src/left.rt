@@ -1,6 +1,6 @@
 //! What threads leave that feed a router.
 
-use interface_workers::{Core, Receipt, Segment, Work, is_same_state, reconcile};
+use lsr_serve::workers::{Core, Receipt, Segment, Work, is_same_state, reconcile};
 use resv_facts::State;
 use std::alloc::{AllocError, Global};
 use std::sync::Wait;

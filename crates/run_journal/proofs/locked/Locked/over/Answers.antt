@@ -6,7 +6,7 @@ use Rattle.run_journal.proofs.Keeping.{kept_opened}
 use Rattle.run_journal.proofs.locked.Locked.over.Given.{Over}
 use Rattle.run_journal.proofs.locked.Locked.over.Goals as goal
 
-now : (g : Over) → goal.In_ok-entries g → Journal
+now : (g : Over) → goal.In_ok-base g → Journal
 now g c = record {
   router = c.args.machine.router;
   base = c.in_ok-base.base;
@@ -17,7 +17,7 @@ now g c = record {
   shown = c.args.plane.published;
 }
 
-now_is : (g : Over) (c : goal.In_ok-entries g) → now g c ≡ opened_journal c.args.machine (first_counts c.args.ports)
+now_is : (g : Over) (c : goal.In_ok-base g) → now g c ≡ opened_journal c.args.machine (first_counts c.args.ports)
 unfolding now
 now_is g c =
     let from = c.in_ok-from.ensures ∙ c.in_ok-tally.ensures in

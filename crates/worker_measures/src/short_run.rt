@@ -16,8 +16,8 @@ const DATAGRAMS: u32 = 1_600;
 /// How often an LSP comes and goes.
 const ROUNDS: u32 = 100;
 
-/// Runs all measures at a small size, and prints what is counted. The fault says what to do.
-pub fn run_short<R: Net + Threads + Wait + Clock + Print + Clone + Send + Sync + Drop>(
+/// Runs all of them at a small size, and prints what is counted. The fault says what to do.
+pub fn count_workers<R: Net + Threads + Wait + Clock + Print + Clone + Send + Sync + Drop>(
     rt: &R,
     alloc: Global,
 ) -> Result<(), Fault> {
