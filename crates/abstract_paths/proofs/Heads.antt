@@ -22,7 +22,7 @@ use Rattle.lsr_facts.specs.declared.path_fact.PathFact.{PathFact}
 use Rattle.lsr_facts.specs.declared.router.Router.{Router}
 use Rattle.lsr_facts.specs.declared.tunnel.Tunnel.{Tunnel}
 use Rattle.lsr_facts.specs.declared.tunnel.TunnelLsp.{TunnelLsp}
-use Rattle.make_before_break.specs.Changes.{begun, cancelled}
+use Rattle.lsr_facts.specs.Changes.{begun, cancelled}
 use Rattle.abstract_paths.specs.Heads.{noted}
 use Rattle.abstract_paths.specs.Soundness.{IsHeadOf}
 

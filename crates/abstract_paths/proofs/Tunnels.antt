@@ -16,7 +16,7 @@ use Rattle.lsr_facts.specs.Tunnels.{AreTunnels, IsPendingAs, IsTunnel, route_fro
 use Rattle.lsr_facts.specs.declared.router.Router.{Router}
 use Rattle.lsr_facts.specs.declared.tunnel.Tunnel.{Tunnel}
 use Rattle.lsr_facts.specs.declared.tunnel.TunnelLsp.{TunnelLsp}
-use Rattle.make_before_break.specs.Changes.{begun, cancelled, switched, switched_to}
+use Rattle.lsr_facts.specs.Changes.{begun, cancelled, switched, switched_to}
 use Rattle.abstract_paths.specs.Heads.{noted}
 use Rattle.abstract_paths.specs.Restarts.{all_cancelled}
 use Rattle.abstract_paths.specs.RowLaws.{keys-map, length-filter_most}

@@ -23,7 +23,7 @@ use Rattle.lsr_facts.specs.declared.refusal.Refusal.{Refusal}
 use Rattle.lsr_facts.specs.declared.refusal.Refusal.TheVariants.{BadRoute, BypassExists, BypassOnItsLink, ChangePending, Full, InUse, TunnelExists, UnknownLink, UnknownTunnel}
 use Rattle.lsr_facts.specs.declared.router.Router.{Router}
 use Rattle.lsr_facts.specs.declared.tunnel.Tunnel.{Tunnel}
-use Rattle.make_before_break.specs.Changes.{begun, cancelled}
+use Rattle.lsr_facts.specs.Changes.{begun, cancelled}
 use Rattle.router_events.specs.declared.commands.Command.{Command}
 use Rattle.router_events.specs.declared.commands.Command.TheVariants.{AddTunnel, ChangeTunnel, CancelChange, DropTunnel, AddBypass, DropBypass, AddRoute, DropRoute}
 use Rattle.router_events.specs.declared.tunnels.NewBypass.{NewBypass}

@@ -6,7 +6,7 @@ use Rattle.lsr_facts.specs.declared.facts.Facts.{Facts}
 use Rattle.lsr_facts.specs.declared.reply.Reply.TheVariants as replies
 use Rattle.lsr_facts.specs.declared.router.Router.{Router}
 use Rattle.lsr_facts.specs.declared.tunnel.Tunnel.{Tunnel}
-use Rattle.make_before_break.specs.Changes.{cancelled}
+use Rattle.lsr_facts.specs.Changes.{cancelled}
 use Rattle.abstract_paths.specs.Outcomes.{PathOutcome, silent}
 
 -- A router as it is opened: running, at moment 0, its links, static routes, tunnels and bypasses as configured, no path,

@@ -7,12 +7,12 @@ ghost use Rattle.datagrams.specs.Parts.{IsFrameRead, IsPayloadRead, OrNoMemory, 
 use crate::datagram::{Datagram, Forwards, Passed};
 use explicit_routes::is_own;
 use forwarding_table::{Fault, Forwarding};
-use frame_reader::read_frame;
 use link_frames::{Data, Frame, MAX_DATA_LEN, Payload, Reading, Unread};
 use lsr_facts::{Refusal, Router};
 use message_reader::read_message;
 use router_events::{ArrivalWay, Arrive, Event, Relay, takes};
 use rsvp_contents::Dropped;
+use rsvp_messages::read_frame;
 use std::alloc::Global;
 use std::net::Ipv4Addr;
 

@@ -1,30 +1,11 @@
 -- How long what is written is.
-use Rattle.std.proofs.Common.{◌≡◌, ◌≤◌, ◌<◌, ◌+◌, ◌++◌, ℕ, Bool, true, false, List, [], ◌∷◌, length, get_or, take, Option, Some, None, if◌then◌else◌, refl, sym, ap, ◌∙◌, append_assoc, arith}
-use Rattle.std.specs.Prelude.{nat_lt}
+use Rattle.std.proofs.Common.{◌≡◌, ◌≤◌, ◌<◌, ◌+◌, ◌++◌, ℕ, List, [], ◌∷◌, length, get_or, take, refl, sym, ap, ◌∙◌, append_assoc, arith}
 use Rattle.std.specs.List.{flat_map}
-use Rattle.std.proofs.lemmas.Bool.{ltb-false}
 use Rattle.std.proofs.lemmas.List.{take_more, flat_map_more, length-append}
 use Rattle.rsvp_routes.proofs.Counts.{length-one_more}
-use Rattle.rsvp_contents.specs.declared.dropped.Dropped.{Dropped}
-use Rattle.rsvp_contents.specs.declared.dropped.Dropped.TheVariants as dropped
 use Rattle.rsvp_contents.specs.declared.message.Reading.{Reading}
-use Rattle.rsvp_contents.specs.Spelling.{SpellsReading, header_fault}
-
--- where a later test fails there is a fault
-later : (test : Bool) (f : Dropped) (rest : Option Dropped) → (if test then Some f else rest) ≡ None → rest ≡ None
-later true f rest e = absurd cc
-later false f rest e = e
-
-within : (test : Bool) (f : Dropped) (rest : Option Dropped) → (if test then Some f else rest) ≡ None → test ≡ false
-within true f rest e = absurd cc
-within false f rest e = refl
-
--- a message whose header is good has at most 4,096 bytes
-header_short : (bytes : List ℕ) → header_fault bytes ≡ None → length bytes ≤ 4096
-unfolding header_fault
-header_short bytes good =
-    let fits : nat_lt 4096 (length bytes) ≡ false = within _ dropped.TooLong _ (later _ dropped.Version _ (later _ dropped.Short _ good)) in
-    ltb-false _ _ fits
+use Rattle.rsvp_contents.specs.Spelling.{SpellsReading}
+use Rattle.rsvp_messages.proofs.Written.{header_short}
 
 -- what is a message's bytes can be counted in 4 bytes
 pub message_countable : (bytes message : List ℕ) (reading : Reading) → bytes ≡ message → SpellsReading message reading → length bytes < 4294967296

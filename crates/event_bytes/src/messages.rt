@@ -7,9 +7,9 @@ ghost use Rattle.event_bytes.specs.Events.{arrive_bytes, counted_bytes, reading_
 
 use crate::counted::put_counted;
 use crate::numbers::*;
-use message_writer::write_message;
 use router_events::{ArrivalWay, Arrive, Relay};
 use rsvp_contents::{Message, Reading};
+use rsvp_messages::write_message;
 use std::alloc::AllocError;
 
 /// The number of the way.

@@ -1,3 +1,4 @@
 pub mod Asking
 pub mod Choosing
+pub mod Matching
 pub mod OverLaws

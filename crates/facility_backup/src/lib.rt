@@ -5,13 +5,17 @@
 
 mod detours;
 mod labels;
+mod matching;
 mod protecting;
 mod repairs;
 mod selecting;
+mod standing;
 mod surroundings;
 
 pub use detours::{detour_at, detour_by, over_at};
+pub use matching::is_for;
 pub use repairs::{Held, Repaired, repair};
 pub use selecting::{own_flags, select};
+pub use standing::{held_of, repair_stands};
 pub use state_views::{Edits, StateView};
 pub use surroundings::is_same_around;

@@ -2,10 +2,9 @@ use crate::changes::{cut, mutated, repeated, sealed, turned};
 use crate::outcomes::Form;
 use crate::pieces::Pieces;
 use anyhow::{Context, Error, Result, anyhow, bail};
-use frame_reader::{Frame, Payload, read_frame};
-use frame_writer::write_frame;
 use rsvp_messages::{
-    Dropped, Message, Reading, checksum, has_good_checksum, read_message, write_message,
+    Dropped, Frame, Message, Payload, Reading, checksum, has_good_checksum, read_frame,
+    read_message, write_frame, write_message,
 };
 use rsvp_objects::{Object, RateWord, read_object, write_object};
 use std::alloc::{AllocError, Global};

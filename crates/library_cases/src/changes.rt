@@ -1,6 +1,5 @@
 use crate::outcomes::{Counts, Form, Outcome};
-use frame_reader::{KIND_HOP, KIND_LABELLED, KIND_ROUTED};
-use rsvp_messages::checksum;
+use rsvp_messages::{KIND_HOP, KIND_LABELLED, KIND_ROUTED, checksum};
 use std::alloc::{AllocError, Global};
 
 /// The bytes of a message's common header (RFC 2205, 3.1.1).

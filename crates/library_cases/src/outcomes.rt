@@ -1,5 +1,4 @@
-use frame_reader::{Frame, Payload, read_frame};
-use rsvp_messages::{Dropped, Reading, read_message};
+use rsvp_messages::{Dropped, Frame, Payload, Reading, read_frame, read_message};
 use std::alloc::{AllocError, Global};
 use std::fmt;
 

@@ -2,13 +2,13 @@
 use Rattle.std.proofs.Common.{◌≡◌, ◌≤◌, ◌+◌, ◌||◌, ◌^◌, inl, inr, ℕ, List, [], ◌∷◌, ◌++◌, Bool, true, false, refl, ap, subst, ◌∙◌, arith, length, Option, Ok, Err}
 use Rattle.std.specs.Io.KnownBytes.{Appends}
 use Rattle.std.proofs.KnownBytes.{Appends-nil, Appends-trans}
-use Rattle.lsr_lines.specs.Streams.{Finds, Reads, StopsFor}
-use Rattle.lsr_lines.specs.Texts.{Stream}
-use Rattle.lsr_lines.specs.declared.input.InputFault.{InputFault}
-use Rattle.lsr_lines.specs.declared.input.InputFault.TheVariants as faults
-use Rattle.lsr_lines.specs.declared.reader.Found.{Found}
-use Rattle.lsr_lines.specs.declared.reader.Found.TheVariants as founds
-use Rattle.lsr_lines.proofs.Reading.{reads_all, reads_last, reads_line, reads_none, reads_short}
+use Rattle.line_streams.specs.Streams.{Finds, Reads, StopsFor}
+use Rattle.line_streams.specs.Texts.{Stream}
+use Rattle.line_streams.specs.declared.input.InputFault.{InputFault}
+use Rattle.line_streams.specs.declared.input.InputFault.TheVariants as faults
+use Rattle.line_streams.specs.declared.reader.Found.{Found}
+use Rattle.line_streams.specs.declared.reader.Found.TheVariants as founds
+use Rattle.line_streams.proofs.Reading.{reads_all, reads_last, reads_line, reads_none, reads_short}
 use Rattle.lsr_decode.specs.Decoding.{Decodes}
 use Rattle.lsr_decode.specs.declared.decoding.Decoded.{Decoded}
 use Rattle.lsr_decode.specs.declared.capture.Ending.TheVariants as endings

@@ -4,10 +4,10 @@ use Rattle.std.specs.Fmt.{decimal}
 use Rattle.std.specs.Io.KnownBytes.{Appends}
 use Rattle.lsr_facts.specs.declared.refusal.Refusal.TheVariants.{Unread}
 use Rattle.lsr_text.specs.Answers.{refusal_line}
-use Rattle.lsr_lines.specs.Streams.{Reads, ReadsAll, StopsFor}
-use Rattle.lsr_lines.specs.Texts.{Stream, input_fault_text}
-use Rattle.lsr_lines.specs.declared.input.InputFault.{InputFault}
-use Rattle.lsr_lines.specs.declared.input.InputFault.TheVariants as faults
+use Rattle.line_streams.specs.Streams.{Reads, ReadsAll, StopsFor}
+use Rattle.line_streams.specs.Texts.{Stream, input_fault_text}
+use Rattle.line_streams.specs.declared.input.InputFault.{InputFault}
+use Rattle.line_streams.specs.declared.input.InputFault.TheVariants as faults
 use Rattle.lsr_decode.specs.Decoding.{Decodes, decoded_status, shown_text, told_text}
 use Rattle.lsr_decode.specs.declared.decoding.Decoded.{Decoded}
 use Rattle.lsr_decode.specs.declared.decoding.Decoded.TheVariants as answers

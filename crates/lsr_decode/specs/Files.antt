@@ -13,8 +13,8 @@ use Rattle.capture_files.specs.declared.packet.Packet.{Packet}
 use Rattle.rsvp_contents.specs.declared.dropped.Dropped.{Dropped}
 use Rattle.lsr_facts.specs.declared.refusal.Refusal.TheVariants.{Unread}
 use Rattle.lsr_text.specs.Answers.{refusal_line}
-use Rattle.lsr_lines.specs.Texts.{IsUnread, Stream, input_fault_text}
-use Rattle.lsr_lines.specs.declared.input.InputFault.TheVariants.{Memory}
+use Rattle.line_streams.specs.Texts.{IsUnread, Stream, input_fault_text}
+use Rattle.line_streams.specs.declared.input.InputFault.TheVariants.{Memory}
 use Rattle.lsr_decode.specs.Decoding.{RefusesMessage, ShowsMessage}
 use Rattle.lsr_decode.specs.declared.files.FileEnding.{FileEnding}
 use Rattle.lsr_decode.specs.declared.files.FileEnding.TheVariants as endings

@@ -7,8 +7,8 @@ ghost use Rattle.lsr_decode.specs.Decoding.{Decodes};
 ghost use Rattle.lsr_decode.specs.Captures.{DecodesLines, DecodesWord, answer_text, ending_of, ending_status, ending_text, is_refused};
 
 use crate::decoding::{Decoded, decode_digits, run_decode};
+use line_streams::{ByteStream, Found, InputFault, LineReader, tell_input_fault};
 use lsr_facts::Refusal;
-use lsr_lines::{ByteStream, Found, InputFault, LineReader, tell_input_fault};
 use lsr_text::{OUT_OF_MEMORY, refusal_name};
 use std::alloc::Global;
 use std::io;

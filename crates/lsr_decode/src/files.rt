@@ -10,8 +10,8 @@ ghost use Rattle.lsr_decode.specs.Files.{DecodesBytes, DecodesFile, IsBlock, Sho
 
 use crate::decoding::message_text;
 use capture_files::{CaptureFault, Content, Damage, Packet, read_packets};
+use line_streams::{ByteStream, InputFault, read_bytes, tell_input_fault};
 use lsr_facts::Refusal;
-use lsr_lines::{ByteStream, InputFault, read_bytes, tell_input_fault};
 use lsr_text::refusal_name;
 use rsvp_contents::Dropped;
 use std::alloc::Global;

@@ -1,7 +1,7 @@
 -- Headings that were ranked so far.
 use Rattle.std.proofs.Common.{◌≡◌, ℕ, Bool, true, false, Some, ap₂, min, List, [], ◌++◌, map, sym, ap, ◌∙◌, append_assoc, append-nil}
 use Rattle.std.specs.Str.{IsUtf8}
-use Rattle.lsr_lines.specs.Lines.{lines_of}
+use Rattle.line_streams.specs.Cuts.{lines_of}
 use Rattle.lsr_explain.specs.Nearest.{edits, edits_by, near_line, near_lines, shown}
 use Rattle.lsr_explain.specs.Topics.{words_of}
 use Rattle.lsr_explain.specs.declared.nearest.Near.{Near}

@@ -4,7 +4,7 @@ use Rattle.std.specs.Prelude.{Option, Some, None, option_map, bytes_eq, if◌the
 use Rattle.std.specs.Option.{MatchOption}
 use Rattle.std.specs.Str.{IsUtf8}
 use Rattle.std.specs.Io.KnownBytes.{Appends}
-use Rattle.lsr_lines.specs.Lines.{lines_of}
+use Rattle.line_streams.specs.Cuts.{lines_of}
 use Rattle.lsr_explain.specs.Topics.{found, is_asked_by, is_indented, is_one_of, is_sought, longer_first, words_of}
 use Rattle.lsr_explain.specs.declared.topics.Kind.{Kind}
 use Rattle.lsr_explain.specs.Answers.{explained}

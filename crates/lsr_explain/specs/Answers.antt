@@ -1,7 +1,7 @@
 -- What is printed for what a word asks for.
 use Rattle.std.specs.Prelude.{◌≡◌, ℕ, ◌/◌, ◌%◌, if◌then◌else◌, List, [], ◌∷◌, ◌++◌, codes, flat_map}
 use Rattle.std.specs.Fmt.{decimal}
-use Rattle.lsr_lines.specs.Lines.{lines_of}
+use Rattle.line_streams.specs.Cuts.{lines_of}
 use Rattle.lsr_explain.specs.Nearest.{IsRanking}
 use Rattle.lsr_explain.specs.Topics.{is_indented, text_of}
 use Rattle.lsr_explain.specs.declared.nearest.Near.{Near}

@@ -1,7 +1,7 @@
 -- The headings of topics, in the order of their texts: which number, code and name stands over what.
 use Rattle.std.specs.Prelude.{ℕ, List, [], ◌∷◌, ◌++◌, Bool, not, Option, Some, None, codes, filter, map}
 use Rattle.std.specs.Fmt.{decimal}
-use Rattle.lsr_lines.specs.Lines.{lines_of}
+use Rattle.line_streams.specs.Cuts.{lines_of}
 use Rattle.lsr_explain.specs.Topics.{is_indented, text_of}
 use Rattle.lsr_explain.specs.declared.topics.Kind.{Kind}
 use Rattle.lsr_explain.specs.declared.topics.Kind.TheVariants as kinds

@@ -3,7 +3,7 @@ use Rattle.std.specs.Prelude.{◌≡◌, ◌≢◌, ◌≤◌, ◌<◌, ◌^◌,
 use Rattle.std.specs.Option.{option_or}
 use Rattle.std.specs.Str.{all_ascii_digits}
 use Rattle.std.specs.Str.Parse.{digits_value}
-use Rattle.lsr_lines.specs.Lines.{lines_of}
+use Rattle.line_streams.specs.Cuts.{lines_of}
 use Rattle.lsr_explain.specs.declared.topics.Kind.{Kind}
 use Rattle.lsr_explain.specs.declared.topics.Kind.TheVariants as kinds
 use Rattle.lsr_explain.specs.declared.topics.Topic.{Topic}

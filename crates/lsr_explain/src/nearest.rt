@@ -2,10 +2,10 @@
 ghost use Rattle.std.specs.Prelude.{◌≡◌, ◌++◌, IfOk, OnOk, map};
 ghost use Rattle.lsr_explain.specs.Nearest.{IsRanking, edits_to, near_line, near_lines, shown};
 ghost use Rattle.lsr_explain.specs.Topics.{text_of};
-ghost use Rattle.lsr_lines.specs.Lines.{lines_of};
+ghost use Rattle.line_streams.specs.Cuts.{lines_of};
 
 use crate::topics::{Kind, is_indented};
-use lsr_lines::next_line;
+use line_streams::next_line;
 use std::alloc::{AllocError, Global};
 use strsim::levenshtein;
 

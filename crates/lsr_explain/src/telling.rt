@@ -1,7 +1,7 @@
 //! What is printed for what a word asks for.
 ghost use Rattle.std.specs.Prelude.{◌≡◌, ◌++◌, ℕ, List, codes, IfOk, OnOk};
 ghost use Rattle.std.specs.Io.KnownBytes.{Appends};
-ghost use Rattle.lsr_lines.specs.Lines.{lines_of};
+ghost use Rattle.line_streams.specs.Cuts.{lines_of};
 ghost use Rattle.lsr_explain.specs.declared.explaining.Answer.{Answer};
 ghost use Rattle.lsr_explain.specs.Topics.{Explains};
 ghost use Rattle.lsr_explain.specs.Answers.{IsTold, answer_status, answers_text, explained, faults_text, heading_line, headings_text, near_text, nearest_text, object_line, section_text, shown_text, told_word, topic_text, topics_text, unknown_text};
@@ -9,7 +9,7 @@ ghost use Rattle.lsr_explain.specs.Answers.{IsTold, answer_status, answers_text,
 use crate::explaining::{Answer, explain};
 use crate::nearest::{Near, rank};
 use crate::topics::{Kind, Topic, is_indented};
-use lsr_lines::next_line;
+use line_streams::next_line;
 use std::alloc::Global;
 use std::io;
 use std::io::Write;

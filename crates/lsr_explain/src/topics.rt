@@ -5,7 +5,7 @@ ghost use Rattle.lsr_explain.specs.Topics.{found_in, has_names, is_asked_by, is_
 use crate::errors::ERRORS;
 use crate::faults::{CONFIG_FAULTS, ENDINGS};
 use crate::refusals::REFUSALS;
-use lsr_lines::next_line;
+use line_streams::next_line;
 
 /// What is explained.
 #[derive(Clone, Copy)]

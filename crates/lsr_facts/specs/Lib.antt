@@ -1,4 +1,5 @@
 pub mod Bypasses
+pub mod Changes
 pub mod Errors
 pub mod Lifetimes
 pub mod OrderLaws

@@ -7,7 +7,7 @@ use sorted_rows::{Table, TryCopy};
 use std::alloc::{AllocError, Global};
 
 /// What a router knows of links, static routes, time, tunnels, bypasses and paths, and that events change.
-#[derive(Debug, Drop)]
+#[derive(Debug)]
 pub struct Facts {
     /// Whether it is cold: it was restarted, and not started yet.
     pub cold: bool,
@@ -25,6 +25,22 @@ pub struct Facts {
     pub paths: Table<Key, PathFact>,
     /// Of each Path that is kept alive at a neighbour the moment when it was sent last, in milliseconds.
     pub sent: Table<Item, u64>,
+}
+
+/// Written out, so that they are dropped by one call, whatever they hold.
+impl Drop for Facts {
+    fn drop(self) {
+        let Facts {
+            cold: _cold,
+            moment: _moment,
+            up: _up,
+            routes: _routes,
+            tunnels: _tunnels,
+            bypasses: _bypasses,
+            paths: _paths,
+            sent: _sent,
+        } = self;
+    }
 }
 
 impl TryCopy for Facts {

@@ -2,6 +2,7 @@
 #![tactic(auto)]
 
 mod bypass;
+pub mod changes;
 mod choice;
 mod errors;
 mod facts;

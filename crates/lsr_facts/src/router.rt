@@ -28,7 +28,7 @@ pub struct LabelRange {
 }
 
 /// What of a router never changes while it runs.
-#[derive(Debug, Drop)]
+#[derive(Debug)]
 pub struct Router {
     /// The router id, an address of its own.
     pub id: Ipv4Addr,
@@ -43,6 +43,18 @@ pub struct Router {
 impl TryCopy for Link {
     fn try_copy(&self, _alloc: Global) -> Result<Link, AllocError> {
         Ok(*self)
+    }
+}
+
+/// Written out, so that it is dropped by one call.
+impl Drop for Router {
+    fn drop(self) {
+        let Router {
+            id: _id,
+            refresh_ms: _refresh_ms,
+            labels: _labels,
+            links: _links,
+        } = self;
     }
 }
 

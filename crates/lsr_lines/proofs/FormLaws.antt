@@ -2,7 +2,7 @@
 use Rattle.std.proofs.Common.{◌≡◌, ℕ, List, [], ◌∷◌, true, false, refl}
 use Rattle.std.specs.Str.{IsUtf8}
 use Rattle.lsr_lines.specs.Forms.{form_in, is_form_of}
-use Rattle.lsr_lines.specs.Lines.{lines_of}
+use Rattle.line_streams.specs.Cuts.{lines_of}
 use Rattle.lsr_lines.specs.declared.forms.TheConstants.{FORMS, OTHER}
 
 -- What a word asks for is still among these lines.

@@ -1,10 +1,9 @@
 -- What cuts a text at its first newline, what reads a link or a moment, and what a line asks for.
-use Rattle.std.proofs.Common.{◌≡◌, ◌≢◌, ◌<◌, ◌≤◌, ◌^◌, ℕ, suc, List, [], ◌∷◌, ◌++◌, Result, Ok, Err, true, refl, sym, ap, subst, ◌∙◌, arith, get_or, length, ne_eqb, Bor, Bool, false, ap₂, ◌&&◌, ◌||◌, ◌-◌, ◌%◌, nat_le, is_some, if◌then◌else◌}
+use Rattle.std.proofs.Common.{◌≡◌, ◌≢◌, ◌<◌, ◌≤◌, ◌^◌, ℕ, List, [], ◌∷◌, ◌++◌, Result, Ok, Err, true, refl, sym, ap, subst, ◌∙◌, arith, get_or, length, Bor, Bool, false, ap₂, ◌&&◌, ◌||◌, ◌-◌, ◌%◌, nat_le, is_some, if◌then◌else◌}
 use Rattle.std.proofs.lemmas.List.{append_cancel_left}
 use Rattle.std.specs.Prelude.{Option, Some, None}
 use Rattle.std.specs.Option.{MatchOption}
 use Rattle.std.specs.Result.{OkIff, OnErr}
-use Rattle.std.specs.List.{onto_first}
 use Rattle.std.specs.Str.{all_ascii_digits}
 use Rattle.std.specs.Str.Parse.{digits_value, ParsesUnsigned}
 use Rattle.std.proofs.lemmas.Str.Parse.{IsNumeralModel, numerals_by_value, tells_all_ascii_digits, parse_plain, not_in_digits}
@@ -15,27 +14,11 @@ use Rattle.std.specs.List.{list_all}
 use Rattle.std.proofs.lemmas.List.Sums.{AllPass-from_list_all, list_all-from_AllPass}
 use Rattle.hex.specs.Hex.{decode_of, decode_pairs, is_hex_digit}
 use Rattle.hex.proofs.HexLemmas.{decode_of-digits, decode_of-ok}
-use Rattle.lsr_lines.specs.Lines.{lines_of, AsksOf, AsksToTake, BringsAfter}
+use Rattle.lsr_lines.specs.Lines.{AsksOf, AsksToTake, BringsAfter}
 use Rattle.lsr_lines.specs.Numbers.{NamesLink, NamesMoment, NamesUpTo}
 
 pub own : IsNumeralModel (λ ds. all_ascii_digits ds ≡ true) (digits_value 10)
 own = numerals_by_value _ tells_all_ascii_digits
-
--- a byte that is no newline goes onto the first line
-line_more : (b : ℕ) (rest : List ℕ) → b ≢ 10 → lines_of (b ∷ rest) ≡ onto_first b (lines_of rest)
-unfolding lines_of
-line_more b rest h = rw (ne_eqb b 10 h) refl
-
-pub lines_cut : (line rest : List ℕ) → ((i : ℕ) → i < length line → get_or line i 0 ≢ 10) → lines_of (line ++ (10 ∷ rest)) ≡ line ∷ lines_of rest
-unfolding lines_of
-lines_cut [] rest h = refl
-lines_cut (b ∷ line) rest h = line_more b (line ++ (10 ∷ rest)) (h 0 (omega arith)) ∙ ap (onto_first b) (lines_cut line rest (λ i l. h (suc i) (omega arith)))
-
-pub lines_last : (text : List ℕ) → 0 < length text → ((i : ℕ) → i < length text → get_or text i 0 ≢ 10) → lines_of text ≡ text ∷ lines_of []
-unfolding lines_of
-lines_last [] low h = absurd (omega (arith, low))
-lines_last (b ∷ []) low h = line_more b [] (h 0 (omega arith))
-lines_last (b ∷ c ∷ line) low h = line_more b (c ∷ line) (h 0 (omega arith)) ∙ ap (onto_first b) (lines_last (c ∷ line) (omega arith) (λ i l. h (suc i) (omega arith)))
 
 -- `parse` takes digits that begin with no sign
 pub digits_parsed : {E : Type 0} (width : ℕ) (digits : List ℕ) (r : Result ℕ E) → get_or digits 0 0 ≢ 43 → ParsesUnsigned width 10 digits r → OkIff r ((all_ascii_digits digits ≡ true) × (0 < length digits) × (digits_value 10 digits < 2 ^ width)) (digits_value 10 digits)

@@ -5,18 +5,18 @@ use Rattle.std.proofs.KnownBytes.{Appends-nil, Appends-trans}
 use Rattle.lsr_lines.specs.Forms.{bad_line_text}
 use Rattle.lsr_lines.specs.Live.{BecomesLive, Comes, Lives, Marks, ServesAll, is_told}
 use Rattle.lsr_lines.specs.Steps.{Prints, TakesMemory, is_remark}
-use Rattle.lsr_lines.specs.Streams.{Finds, Reads}
-use Rattle.lsr_lines.specs.Texts.{IsTextUpTo, Stream}
-use Rattle.lsr_lines.specs.declared.input.InputFault.{InputFault}
-use Rattle.lsr_lines.specs.declared.input.InputFault.TheVariants as faults
+use Rattle.line_streams.specs.Streams.{Finds, Reads}
+use Rattle.line_streams.specs.Texts.{IsTextUpTo, Stream}
+use Rattle.line_streams.specs.declared.input.InputFault.{InputFault}
+use Rattle.line_streams.specs.declared.input.InputFault.TheVariants as faults
 use Rattle.lsr_lines.specs.declared.lines.Request.{Request}
 use Rattle.lsr_lines.specs.declared.live.LiveEnding.{LiveEnding}
 use Rattle.lsr_lines.specs.declared.live.LiveEnding.TheVariants as endings
-use Rattle.lsr_lines.specs.declared.reader.Found.{Found}
-use Rattle.lsr_lines.specs.declared.reader.Found.TheVariants as founds
+use Rattle.line_streams.specs.declared.reader.Found.{Found}
+use Rattle.line_streams.specs.declared.reader.Found.TheVariants as founds
 use Rattle.lsr_lines.specs.declared.step.Served.{Served}
 use Rattle.lsr_lines.specs.declared.step.Served.TheVariants as lots
-use Rattle.lsr_lines.proofs.Reading.{reads_all, reads_last, reads_line, reads_none, reads_short}
+use Rattle.line_streams.proofs.Reading.{reads_all, reads_last, reads_line, reads_none, reads_short}
 use Rattle.lsr_lines.proofs.Stepping.{prints_push, told_none}
 
 -- what is kept of what was appended to is kept

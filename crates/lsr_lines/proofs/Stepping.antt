@@ -5,12 +5,10 @@ use Rattle.std.specs.Str.{IsUtf8}
 use Rattle.std.specs.Io.KnownBytes.{Appends}
 use Rattle.std.proofs.KnownBytes.{Appends-trans}
 use Rattle.lsr_lines.specs.declared.lines.Request.{Request}
-use Rattle.lsr_lines.specs.Lines.{AsksFor, lines_of}
+use Rattle.lsr_lines.specs.Lines.{AsksFor}
+use Rattle.line_streams.specs.Cuts.{lines_of}
+use Rattle.line_streams.proofs.CutLaws.{lines_of-nil}
 use Rattle.lsr_lines.specs.Steps.{IsUntold, Prints, PrintsLine, ServesLine, echo_text, is_passed}
-
-pub lines_of-nil : lines_of [] ≡ []
-unfolding lines_of
-lines_of-nil = refl
 
 pub prints_push : {S : Type 0} (answers : S → Request → List ℕ → S → Type 0) (echo : Bool) (a : S) (lines : List (List ℕ)) (printed : List ℕ) (b : S) (line text : List ℕ) (c : S) → Prints answers echo a lines printed b → ServesLine answers echo b line text c → Prints answers echo a (lines ++ (line ∷ [])) (printed ++ text) c
 prints_push answers echo a [] printed b line text c h p =

@@ -2,7 +2,7 @@
 use Rattle.std.specs.Prelude.{ℕ, List, [], ◌∷◌, ◌++◌, Bool, false, bytes_eq, codes, if◌then◌else◌}
 use Rattle.std.specs.Fmt.{decimal}
 use Rattle.lsr_lines.specs.Commands.{words_of}
-use Rattle.lsr_lines.specs.Lines.{lines_of}
+use Rattle.line_streams.specs.Cuts.{lines_of}
 use Rattle.lsr_lines.specs.declared.forms.TheConstants.{FORMS, OTHER}
 
 -- whether a word is the first of these

@@ -1,9 +1,7 @@
-pub mod Texts
-pub mod Numbers
 pub mod Commands
-pub mod Lsps
-pub mod Lines
-pub mod Streams
-pub mod Steps
 pub mod Forms
+pub mod Lines
 pub mod Live
+pub mod Lsps
+pub mod Numbers
+pub mod Steps

@@ -1,17 +1,11 @@
--- How a text is cut into lines, and which line asks for what.
-use Rattle.std.specs.Prelude.{◌≡◌, ◌≤◌, ◌==◌, ◌⊎◌, ℕ, length, List, [], ◌∷◌, ◌++◌, Ok, codes, if◌then◌else◌}
-use Rattle.std.specs.List.{onto_first}
+-- Which line asks for what.
+use Rattle.std.specs.Prelude.{◌≡◌, ◌≤◌, ◌⊎◌, ℕ, length, List, ◌∷◌, ◌++◌, Ok, codes}
 use Rattle.hex.specs.Hex.{decode_of}
 use Rattle.lsr_lines.specs.Numbers.{NamesLink, NamesMoment}
 use Rattle.lsr_lines.specs.Commands.{words_of, BringsTunnel, SaysCommand}
 use Rattle.lsr_lines.specs.Lsps.{AsksAbout}
 use Rattle.lsr_lines.specs.declared.lines.Request.{Request}
 use Rattle.lsr_lines.specs.declared.lines.Request.TheVariants as requests
-
--- The lines of a text: each ends at a newline, which is no part of it, and the last may end with the text.
-unfoldable pub lines_of : List ℕ → List (List ℕ)
-lines_of [] = []
-lines_of (byte ∷ rest) = if byte == 10 then [] ∷ lines_of rest else onto_first byte (lines_of rest)
 
 -- A word with one space after it, then a link, then bytes in hexadecimal digits of either case, perhaps none; the
 -- words are parted by one space.

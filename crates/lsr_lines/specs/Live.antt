@@ -4,10 +4,10 @@ use Rattle.std.specs.Prelude.{◌≡◌, ◌+◌, ◌^◌, ◌≤◌, ◌⊎◌,
 use Rattle.lsr_lines.specs.Forms.{bad_line_text}
 use Rattle.lsr_lines.specs.Lines.{AsksFor}
 use Rattle.lsr_lines.specs.Steps.{Prints, ServesLine, TakesMemory, is_remark}
-use Rattle.lsr_lines.specs.Streams.{Reads, ReadsAll, StopsFor}
-use Rattle.lsr_lines.specs.Texts.{IsTextUpTo, Stream}
-use Rattle.lsr_lines.specs.declared.input.InputFault.{InputFault}
-use Rattle.lsr_lines.specs.declared.input.InputFault.TheVariants as faults
+use Rattle.line_streams.specs.Streams.{Reads, ReadsAll, StopsFor}
+use Rattle.line_streams.specs.Texts.{IsTextUpTo, Stream}
+use Rattle.line_streams.specs.declared.input.InputFault.{InputFault}
+use Rattle.line_streams.specs.declared.input.InputFault.TheVariants as faults
 use Rattle.lsr_lines.specs.declared.lines.Request.{Request}
 use Rattle.lsr_lines.specs.declared.live.LiveEnding.{LiveEnding}
 use Rattle.lsr_lines.specs.declared.live.LiveEnding.TheVariants as endings

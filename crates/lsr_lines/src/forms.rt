@@ -2,10 +2,10 @@
 ghost use Rattle.std.specs.Prelude.{◌≡◌, OnOk};
 ghost use Rattle.std.specs.Io.KnownBytes.{Appends};
 ghost use Rattle.lsr_lines.specs.Forms.{bad_line_text, expected_form, form_in, is_form_of};
-ghost use Rattle.lsr_lines.specs.Lines.{lines_of};
+ghost use Rattle.line_streams.specs.Cuts.{lines_of};
 
-use crate::lines::next_line;
 use crate::words::next_word;
+use line_streams::next_line;
 use std::io;
 use std::io::Write;
 

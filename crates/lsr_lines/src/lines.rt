@@ -1,12 +1,12 @@
 //! The lines of standard input, and what a line asks for.
-ghost use Rattle.std.specs.Prelude.{◌≡◌, ◌≢◌, ◌↔◌, ◌<◌, ◌≤◌, ◌∷◌, ◌++◌, ◌⊎◌, ℕ, List, [], Ok, codes, length, IfOk, OnErr, IfSome, IsNone};
+ghost use Rattle.std.specs.Prelude.{◌≡◌, ◌≢◌, ◌<◌, ◌≤◌, ℕ, List, Ok, codes, length, IfOk, OnErr};
 ghost use Rattle.std.specs.Bool.{MatchBool};
 ghost use Rattle.std.specs.Char.{is_ascii_hexdigit};
 ghost use Rattle.std.specs.List.{list_all};
 ghost use Rattle.std.specs.Option.{MatchOption};
 ghost use Rattle.hex.specs.Hex.{decode_of};
 ghost use Rattle.lsr_lines.specs.declared.lines.Request.{Request};
-ghost use Rattle.lsr_lines.specs.Lines.{lines_of, AsksFor, AsksOf, AsksToTake, BringsAfter, BringsMore};
+ghost use Rattle.lsr_lines.specs.Lines.{AsksFor, AsksOf, AsksToTake, BringsAfter, BringsMore};
 ghost use Rattle.lsr_lines.specs.Lsps.{AsksAbout};
 ghost use Rattle.lsr_lines.specs.Numbers.{NamesLink, NamesMoment};
 ghost use Rattle.lsr_lines.specs.declared.lsps.LspName.{LspName};
@@ -105,22 +105,6 @@ const SHOW: &str = "show";
 const PATH: &str = "path";
 
 const RESV: &str = "resv";
-
-/// The text's first line without its newline, and all that stands after that. None where the text is empty.
-pub fn next_line(text: &str) -> Option<(&str, &str)>
-    ensures end { IsNone result ↔ (text.now ≡ []) }
-    ensures cut { IfSome result (λ r. (text.now ≡ r.0.now ++ (10 ∷ r.1.now)) ⊎ ((text.now ≡ r.0.now) × (r.1.now ≡ []))) }
-    ensures line { IfSome result (λ r. lines_of text.now ≡ r.0.now ∷ lines_of r.1.now) }
-    ensures shorter { IfSome result (λ r. length r.1.now < length text.now) }
-{
-    if text.is_empty() {
-        return None;
-    }
-    match text.split_once('\n') {
-        Some((line, rest)) => Some((line, rest)),
-        None => Some((text, "")),
-    }
-}
 
 /// The link that the line names after the word, which ends with a space; none where it is no such line.
 fn read_link_after(word: &str, line: &str) -> Option<u16>

@@ -4,10 +4,8 @@ ghost use Rattle.std.specs.Io.KnownBytes.{Appends};
 ghost use Rattle.lsr_lines.specs.Live.{BecomesLive, Lives, Marks, is_told};
 
 use crate::forms::tell_bad_line;
-use crate::input::InputFault;
-use crate::reader::{Found, LineReader};
 use crate::step::{Answers, Served, is_remark, step_line};
-use crate::stream::ByteStream;
+use line_streams::{ByteStream, Found, InputFault, LineReader};
 use std::alloc::Global;
 use std::io;
 use std::io::Write;

@@ -2,10 +2,11 @@
 ghost use Rattle.std.specs.Prelude.{◌≡◌, ℕ, List, IfOk, OnOk, OnErr, string_bytes};
 ghost use Rattle.std.specs.Io.KnownBytes.{Appends, Keeps, append_known};
 ghost use Rattle.lsr_lines.specs.declared.lines.Request.{Request};
-ghost use Rattle.lsr_lines.specs.Lines.{lines_of};
+ghost use Rattle.line_streams.specs.Cuts.{lines_of};
 ghost use Rattle.lsr_lines.specs.Steps.{Becomes, Ends, IsUntold, echo_text, is_passed, is_remark};
 
-use crate::lines::{Request, next_line, read_request};
+use crate::lines::{Request, read_request};
+use line_streams::next_line;
 use std::alloc::{AllocError, Global};
 use std::io;
 use std::io::Write;

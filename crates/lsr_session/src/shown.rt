@@ -18,41 +18,20 @@ use router_machine::Machine;
 use rsvp_contents::{Session, Template};
 use std::alloc::{AllocError, Global};
 
-/// What a router knows: a copy.
-struct Known {
-    state: State,
-}
-
-/// Written out, so that the copy is dropped by one call, whatever it holds.
-impl Drop for Known {
-    fn drop(self) {
-        let Known { state: _state } = self;
-    }
-}
-
-/// What the router knows. The only error is that memory ran out.
-fn known_to(alloc: Global, router: &Machine) -> Result<Known, AllocError>
-    ensures { IfOk result (λ known. known.state ≡ router.now.state) }
-{
-    Ok(Known {
-        state: router.export(alloc)?,
-    })
-}
-
 /// The lines of the paths that the router knows. The only error is that memory ran out.
 pub(crate) fn show_paths(alloc: Global, router: &Machine) -> Result<String, AllocError>
     ensures { IfOk result (λ text. string_bytes text ≡ paths_text router.now.state.facts.paths) }
 {
-    let known = known_to(alloc, router)?;
-    paths_text(alloc, known.state.facts.paths.as_slice())
+    let state = router.export(alloc)?;
+    paths_text(alloc, state.facts.paths.as_slice())
 }
 
 /// The lines of the reservations that stand. The only error is that memory ran out.
 pub(crate) fn show_resvs(alloc: Global, router: &Machine) -> Result<String, AllocError>
     ensures { IfOk result (λ text. string_bytes text ≡ resvs_text router.now.state.resvs) }
 {
-    let known = known_to(alloc, router)?;
-    resvs_text(alloc, known.state.resvs.as_slice())
+    let state = router.export(alloc)?;
+    resvs_text(alloc, state.resvs.as_slice())
 }
 
 /// Appends the line of what is done with the traffic of a tunnel of the router, if it is reserved. The only error is that
@@ -90,9 +69,9 @@ pub(crate) fn show_table(alloc: Global, router: &Machine) -> Result<String, Allo
     ensures { IfOk result (λ text. PrintsTable router.now (string_bytes text)) }
 {
     let actions = router.actions(alloc)?;
-    let known = known_to(alloc, router)?;
+    let state = router.export(alloc)?;
     let mut text = table_text(alloc, actions.as_slice())?;
-    push_heads(router, &mut text, known.state.facts.tunnels.as_slice())?;
+    push_heads(router, &mut text, state.facts.tunnels.as_slice())?;
     Ok(text)
 }
 
@@ -100,8 +79,8 @@ pub(crate) fn show_table(alloc: Global, router: &Machine) -> Result<String, Allo
 pub(crate) fn show_tunnels(alloc: Global, router: &Machine) -> Result<String, AllocError>
     ensures { IfOk result (λ text. string_bytes text ≡ tunnels_text router.now.state.facts.tunnels) }
 {
-    let known = known_to(alloc, router)?;
-    tunnels_text(alloc, known.state.facts.tunnels.as_slice())
+    let state = router.export(alloc)?;
+    tunnels_text(alloc, state.facts.tunnels.as_slice())
 }
 
 /// How many LSPs are repaired over the bypass of a number.
@@ -132,10 +111,10 @@ fn push_bypass_of(
 pub(crate) fn show_bypasses(alloc: Global, router: &Machine) -> Result<String, AllocError>
     ensures { IfOk result (λ text. string_bytes text ≡ bypasses_text router.now) }
 {
-    let known = known_to(alloc, router)?;
+    let state = router.export(alloc)?;
     let mut text = String::new(alloc);
-    for row in known.state.facts.bypasses.as_slice() {
-        push_bypass_of(router, &known.state, &mut text, row)?;
+    for row in state.facts.bypasses.as_slice() {
+        push_bypass_of(router, &state, &mut text, row)?;
     }
     Ok(text)
 }
@@ -175,10 +154,10 @@ fn push_link_of(
 pub(crate) fn show_links(alloc: Global, router: &Machine) -> Result<String, AllocError>
     ensures { IfOk result (λ text. string_bytes text ≡ links_text router.now) }
 {
-    let known = known_to(alloc, router)?;
+    let state = router.export(alloc)?;
     let mut text = String::new(alloc);
     for row in router.router().links.as_slice() {
-        push_link_of(router, &known.state, &mut text, row)?;
+        push_link_of(router, &state, &mut text, row)?;
     }
     Ok(text)
 }
@@ -208,8 +187,8 @@ pub(crate) fn show_path(
 ) -> Result<String, AllocError>
     ensures { IfOk result (λ text. string_bytes text ≡ path_lsp_text router.now.router router.now.state (key_of lsp.now)) }
 {
-    let known = known_to(alloc, router)?;
-    path_lsp_text(alloc, router.router(), &known.state, &key_of(lsp))
+    let state = router.export(alloc)?;
+    path_lsp_text(alloc, router.router(), &state, &key_of(lsp))
 }
 
 /// All that the router knows of the reservation of an LSP, or of the one that it is repaired for: nothing where there is
@@ -221,8 +200,8 @@ pub(crate) fn show_resv(
 ) -> Result<String, AllocError>
     ensures { IfOk result (λ text. string_bytes text ≡ resv_lsp_text router.now.state (key_of lsp.now)) }
 {
-    let known = known_to(alloc, router)?;
-    resv_lsp_text(alloc, &known.state, &key_of(lsp))
+    let state = router.export(alloc)?;
+    resv_lsp_text(alloc, &state, &key_of(lsp))
 }
 
 /// Appends the line of what is reserved of a link of the router. The only error is that memory ran out.
@@ -242,9 +221,9 @@ fn push_room_of(router: &Machine, text: &mut String, row: &(u16, Link)) -> Resul
 pub(crate) fn show_summary(alloc: Global, router: &Machine) -> Result<String, AllocError>
     ensures { IfOk result (λ text. string_bytes text ≡ summary_text router.now) }
 {
-    let known = known_to(alloc, router)?;
+    let state = router.export(alloc)?;
     let mut text = String::new(alloc);
-    push_counts(&mut text, router.router(), &known.state)?;
+    push_counts(&mut text, router.router(), &state)?;
     for row in router.router().links.as_slice() {
         push_room_of(router, &mut text, row)?;
     }

@@ -2,9 +2,8 @@
 ghost use Rattle.std.specs.Prelude.{◌≡◌, ◌++◌, IfOk, OnOk, string_bytes};
 ghost use Rattle.lsr_text.specs.FrameLines.{delivery_line, sent_line, sent_word, shown_bytes};
 
-use frame_writer::write_frame;
 use link_frames::{Data, Frame, Reading};
-use rsvp_messages::write_message;
+use rsvp_messages::{write_frame, write_message};
 use std::alloc::{AllocError, Global};
 use std::fmt::Write;
 

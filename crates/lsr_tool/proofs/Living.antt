@@ -2,8 +2,8 @@
 use Rattle.std.proofs.Common.{◌≡◌, Bool, ℕ, List, Option, Some, Bor, inr, refl, subst, sym}
 use Rattle.std.specs.Option.{option_map}
 use Rattle.std.specs.Io.KnownBytes.{Appends}
-use Rattle.lsr_lines.specs.Texts.{Stream}
-use Rattle.lsr_lines.specs.declared.input.InputFault.{InputFault}
+use Rattle.line_streams.specs.Texts.{Stream}
+use Rattle.line_streams.specs.declared.input.InputFault.{InputFault}
 use Rattle.lsr_tool.specs.Endings.{ending_text}
 use Rattle.lsr_tool.specs.Live.{RunsLive}
 use Rattle.lsr_tool.specs.declared.endings.Source.TheVariants as sources

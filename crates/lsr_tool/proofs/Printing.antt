@@ -1,8 +1,8 @@
 -- How runs end that print no configuration.
 use Rattle.std.proofs.Common.{◌≡◌, ℕ, List, [], Option, Some, refl, sym, subst, inr, Bor}
 use Rattle.std.specs.Option.{option_map}
-use Rattle.lsr_lines.specs.Texts.{Stream}
-use Rattle.lsr_lines.specs.declared.input.InputFault.{InputFault}
+use Rattle.line_streams.specs.Texts.{Stream}
+use Rattle.line_streams.specs.declared.input.InputFault.{InputFault}
 use Rattle.lsr_tool.specs.Configuring.{PrintsOnFile}
 use Rattle.lsr_tool.specs.declared.endings.Source.TheVariants as sources
 use Rattle.lsr_tool.specs.declared.endings.RunEnding.TheVariants as endings

@@ -2,8 +2,8 @@
 use Rattle.std.proofs.Common.{◌≡◌, Bool, ℕ, List, [], Option, Some, refl, sym, subst, inr, Bor}
 use Rattle.std.specs.Option.{option_map}
 use Rattle.lsr_tool.specs.Sessions.{CannotBegin, IsConfigText, IsUnreadConfig, Steps, StepsOnFile}
-use Rattle.lsr_lines.specs.Texts.{IsTextOf, IsUnread, Stream}
-use Rattle.lsr_lines.specs.declared.input.InputFault.{InputFault}
+use Rattle.line_streams.specs.Texts.{IsTextOf, IsUnread, Stream}
+use Rattle.line_streams.specs.declared.input.InputFault.{InputFault}
 use Rattle.lsr_tool.specs.declared.endings.Source.TheVariants as sources
 use Rattle.lsr_tool.specs.declared.endings.RunEnding.{RunEnding}
 use Rattle.lsr_tool.specs.declared.endings.RunEnding.TheVariants as endings

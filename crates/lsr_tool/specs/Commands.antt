@@ -8,8 +8,8 @@ use Rattle.clap.specs.declared.error.kind.ErrorKind.TheVariants as kinds
 use Rattle.lsr_explain.specs.Answers.{IsTold, answer_status, shown_text}
 use Rattle.lsr_explain.specs.Topics.{Explains}
 use Rattle.lsr_explain.specs.declared.explaining.Answer.{Answer}
-use Rattle.lsr_lines.specs.Texts.{Stream}
-use Rattle.lsr_lines.specs.declared.input.InputFault.{InputFault}
+use Rattle.line_streams.specs.Texts.{Stream}
+use Rattle.line_streams.specs.declared.input.InputFault.{InputFault}
 use Rattle.lsr_serve.specs.Told.{Serves}
 use Rattle.lsr_words.specs.Words.{AsksFor, lsr_words}
 use Rattle.lsr_words.specs.declared.words.Asked.{Asked}

@@ -8,8 +8,8 @@ use Rattle.lsr_config.specs.Configs.{Setup}
 use Rattle.lsr_config.specs.Documents.{SaysTable, records}
 use Rattle.lsr_config.specs.Reading.{IsOfDocument, IsRead}
 use Rattle.lsr_config.specs.declared.key.Key.TheVariants as key
-use Rattle.lsr_lines.specs.Texts.{Stream}
-use Rattle.lsr_lines.specs.declared.input.InputFault.{InputFault}
+use Rattle.line_streams.specs.Texts.{Stream}
+use Rattle.line_streams.specs.declared.input.InputFault.{InputFault}
 use Rattle.lsr_lines.specs.declared.step.Ending.TheVariants as lines
 use Rattle.lsr_serve.specs.Sockets.{SaysSockets}
 use Rattle.lsr_serve.specs.declared.sockets.LinkSockets.{LinkSockets}

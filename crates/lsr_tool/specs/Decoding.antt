@@ -4,8 +4,8 @@ use Rattle.std.specs.Io.KnownBytes.{Appends}
 use Rattle.lsr_decode.specs.Captures.{DecodesWord}
 use Rattle.lsr_decode.specs.Files.{DecodesFile, file_ending_text, file_status, is_file_name}
 use Rattle.lsr_decode.specs.declared.files.FileEnding.{FileEnding}
-use Rattle.lsr_lines.specs.Texts.{Stream, input_fault_text}
-use Rattle.lsr_lines.specs.declared.input.InputFault.{InputFault}
+use Rattle.line_streams.specs.Texts.{Stream, input_fault_text}
+use Rattle.line_streams.specs.declared.input.InputFault.{InputFault}
 
 -- A file that is opened is read and decoded, with this status.
 abbrev pub DecodesOpened : Bool → Stream → List ℕ → Option (List ℕ) → Option (List ℕ) → Option (List ℕ) → Option (List ℕ) → ℕ → Type 0

@@ -5,9 +5,9 @@ use Rattle.config_text.specs.declared.place.Place.{Place}
 use Rattle.lsr_config.specs.Faults.{fault_name, fault_word}
 use Rattle.lsr_config.specs.declared.fault.ConfigFault.{ConfigFault}
 use Rattle.lsr_lines.specs.Forms.{bad_line_text}
-use Rattle.lsr_lines.specs.Texts.{input_fault_text}
-use Rattle.lsr_lines.specs.declared.input.InputFault.{InputFault}
-use Rattle.lsr_lines.specs.declared.input.InputFault.TheVariants as faults
+use Rattle.line_streams.specs.Texts.{input_fault_text}
+use Rattle.line_streams.specs.declared.input.InputFault.{InputFault}
+use Rattle.line_streams.specs.declared.input.InputFault.TheVariants as faults
 use Rattle.lsr_lines.specs.declared.step.Ending.{Ending}
 use Rattle.lsr_lines.specs.declared.step.Ending.TheVariants as lines
 use Rattle.std.specs.declared.io.ErrorKind.{ErrorKind}

@@ -4,8 +4,8 @@ use Rattle.std.specs.Io.KnownBytes.{Appends}
 use Rattle.lsr_config.specs.Configs.{Setup}
 use Rattle.lsr_config.specs.Reading.{IsRead}
 use Rattle.lsr_lines.specs.Live.{Lives, Marks}
-use Rattle.lsr_lines.specs.Texts.{Stream}
-use Rattle.lsr_lines.specs.declared.input.InputFault.{InputFault}
+use Rattle.line_streams.specs.Texts.{Stream}
+use Rattle.line_streams.specs.declared.input.InputFault.{InputFault}
 use Rattle.lsr_lines.specs.declared.live.LiveEnding.{LiveEnding}
 use Rattle.lsr_lines.specs.declared.live.LiveEnding.TheVariants as lives
 use Rattle.lsr_lines.specs.declared.step.Ending.TheVariants as lines

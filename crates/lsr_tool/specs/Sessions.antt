@@ -7,11 +7,11 @@ use Rattle.lsr_config.specs.Reading.{IsRead}
 use Rattle.lsr_config.specs.declared.config.TheConstants.{BUILT_IN}
 use Rattle.lsr_config.specs.declared.fault.ConfigFault.{ConfigFault}
 use Rattle.lsr_session.specs.States.{opened}
-use Rattle.lsr_lines.specs.Lines.{lines_of}
+use Rattle.line_streams.specs.Cuts.{lines_of}
 use Rattle.lsr_session.specs.Requests.{PrintsAnswer, SessionState}
 use Rattle.lsr_lines.specs.Steps.{Ends}
-use Rattle.lsr_lines.specs.Texts.{IsTextOf, IsUnread, Stream}
-use Rattle.lsr_lines.specs.declared.input.InputFault.{InputFault}
+use Rattle.line_streams.specs.Texts.{IsTextOf, IsUnread, Stream}
+use Rattle.line_streams.specs.declared.input.InputFault.{InputFault}
 use Rattle.lsr_lines.specs.declared.step.Ending.{Ending}
 use Rattle.lsr_tool.specs.declared.endings.Source.{Source}
 use Rattle.lsr_tool.specs.declared.endings.Source.TheVariants as sources

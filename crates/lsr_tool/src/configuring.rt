@@ -2,7 +2,7 @@
 ghost use Rattle.std.specs.Option.{option_map};
 ghost use Rattle.std.specs.Prelude.{◌≡◌, ℕ, List, [], Option, IfOk, IfErr};
 ghost use Rattle.std.specs.Io.KnownBytes.{Appends};
-ghost use Rattle.lsr_lines.specs.Texts.{Stream};
+ghost use Rattle.line_streams.specs.Texts.{Stream};
 ghost use Rattle.lsr_tool.specs.declared.endings.RunEnding.{RunEnding};
 ghost use Rattle.lsr_tool.specs.Configuring.{Configures, GivesAddresses, Prints, PrintsConfig, addresses_of, done};
 ghost use Rattle.lsr_tool.specs.Endings.{ending_text, status_of};
@@ -12,8 +12,8 @@ use crate::endings::{DONE, RunEnding, Source, status_of, tell_ending};
 use crate::files::FilesByName;
 use crate::session::{misconfigured, read_config_text, said};
 use config_text::{LinkAddresses, config_text};
+use line_streams::ByteStream;
 use lsr_config::{Config, ConfigFault};
-use lsr_lines::ByteStream;
 use lsr_serve::{LinkSockets, read_sockets};
 use std::alloc::{AllocError, Global};
 use std::io;

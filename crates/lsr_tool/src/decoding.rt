@@ -4,8 +4,8 @@ ghost use Rattle.lsr_tool.specs.Decoding.{DecodesAny, DecodesNamed};
 
 use crate::endings::FAILED;
 use crate::files::FilesByName;
+use line_streams::{ByteStream, tell_input_fault};
 use lsr_decode::{is_file_name, run_decode_file, run_decode_of};
-use lsr_lines::{ByteStream, tell_input_fault};
 use std::alloc::Global;
 use std::io;
 use std::io::Write;

@@ -4,8 +4,9 @@ ghost use Rattle.std.specs.Io.KnownBytes.{Appends};
 ghost use Rattle.lsr_tool.specs.Endings.{config_fault_text, ending_text, fault_line, lines_ending_text, place_lines, source_name, status_of};
 
 use config_text::{Place, tell_place};
+use line_streams::{InputFault, tell_input_fault};
 use lsr_config::ConfigFault;
-use lsr_lines::{Ending, InputFault, tell_bad_line, tell_input_fault};
+use lsr_lines::{Ending, tell_bad_line};
 use lsr_text::OUT_OF_MEMORY;
 use std::io;
 use std::io::Write;

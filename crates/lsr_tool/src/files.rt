@@ -1,9 +1,9 @@
 //! The files that words name.
 ghost use Rattle.std.specs.Prelude.{◌≡◌, ℕ, List, IfOk, IfErr};
-ghost use Rattle.lsr_lines.specs.declared.input.InputFault.{InputFault};
+ghost use Rattle.line_streams.specs.declared.input.InputFault.{InputFault};
 ghost use Rattle.lsr_tool.specs.Endings.{open_fault};
 
-use lsr_lines::{ByteStream, InputFault};
+use line_streams::{ByteStream, InputFault};
 use std::fs;
 use std::io::ErrorKind;
 use std::rt::Files;

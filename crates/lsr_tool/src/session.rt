@@ -11,8 +11,9 @@ ghost use Rattle.lsr_tool.specs.Sessions.{CannotBegin, IsConfigText, IsReady, Is
 use crate::endings::{RunEnding, Source, status_of, tell_ending};
 use crate::files::FilesByName;
 use config_text::place_of;
+use line_streams::{ByteStream, InputFault, read_text};
 use lsr_config::{BUILT_IN, Config, ConfigFault};
-use lsr_lines::{ByteStream, InputFault, read_text, step_lines};
+use lsr_lines::step_lines;
 use lsr_session::{Machine, Session};
 use std::alloc::{AllocError, Global};
 use std::io;

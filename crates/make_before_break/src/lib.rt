@@ -1,7 +1,7 @@
-//! How a tunnel that begins here is changed without a gap: its new LSP is set up beside the one that carries its traffic,
-//! and takes its place once it is reserved (RFC 3209, 2.5).
+//! Tunnels that are changed without a gap (RFC 3209, 2.5): once the new LSP of one is reserved, its traffic goes over to that,
+//! and the LSP that carried it goes.
 #![tactic(auto)]
 
-mod changes;
+mod takeover;
 
-pub use changes::{MAX_LSP_ID, begin, cancel, switch};
+pub use takeover::take_over;

@@ -1,3 +1,4 @@
 pub mod Choices
+pub mod Ending
 pub mod Rooms
 pub mod Stacks

@@ -5,16 +5,19 @@
 
 mod descriptors;
 mod errors;
+mod frames;
 mod heads;
 pub mod laws;
 mod merging;
 mod messages;
 mod paths;
 mod requests;
+mod resting;
 mod spelling;
 mod tears;
 mod through;
 mod told;
+mod upstream;
 mod wanted;
 
 pub use descriptors::{key_in, named, resv_by};
@@ -26,6 +29,7 @@ pub use errors::{
 pub use explicit_routes::{
     Frame, Output, Outputs, RouteError, RouteFault, Way, head_way, is_up, link_at, route_to,
 };
+pub use frames::tear_by;
 pub use heads::{current_key, head_key, pending_key};
 pub use merging::{
     came_through, is_beside, is_full_beside, is_stack, may_join, stack_origin, under,
@@ -36,10 +40,12 @@ pub use paths::{
     link_of, origins_of, rest_of, role_of, unknown_object, way_for,
 };
 pub use requests::{conflicting_style, limit_of, request_of};
+pub use resting::rests;
 pub use tears::{is_from, is_torn_by, leaves_by, origins_without};
 pub use through::{head_through, hop_through, labelled_by, stack_under};
 pub use told::{
     renamed_leaves_room, resv_err, resv_err_leaves_room, resv_leaves_room, told_downstream,
     told_preempted,
 };
+pub use upstream::{path_err, told_upstream};
 pub use wanted::{goes_on, path_onward};

@@ -7,7 +7,6 @@ use crate::paths::lifetime;
 use lsr_facts::limits::MAX_ORIGINS;
 use lsr_facts::{Key, Origin, PathFact, Via, begins_here};
 use rsvp_contents::Path;
-use rsvp_objects::Template;
 use std::net::Ipv4Addr;
 
 /// The most origins of a path whose Paths come through stacks: beside these it has that of its neighbour.
@@ -27,13 +26,9 @@ pub fn is_stack(via: Via) -> bool
 pub fn under(sender: Ipv4Addr, key: Key) -> Key
     ensures { result ≡ under sender key }
 {
-    Key {
-        session: key.session,
-        sender: Template {
-            sender,
-            ..key.sender
-        },
-    }
+    let mut named = key;
+    named.sender.sender = sender;
+    named
 }
 
 /// Whether two LSPs are of one session, with one LSP ID: they are one LSP, but for their senders (RFC 4090, 6.4.3).

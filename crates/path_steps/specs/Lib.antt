@@ -1,3 +1,2 @@
-pub mod Expiring
-pub mod SilenceLaws
 pub mod Signalling
+pub mod SilenceLaws

@@ -1,25 +1,22 @@
-//! What messages, links and time do of themselves to the paths of a label switching router, whoever keeps what it knows:
-//! each decision of a step, once, as a draft that holds the answer, the errors and the edits.
+//! What messages do of themselves to the paths of a label switching router, whoever keeps what it knows, and the tunnels that
+//! a moment tries: each decision of a step, once, as a draft that holds the answer, the errors and the edits.
 #![tactic(auto)]
 
 mod heads;
-mod links;
 mod merging;
 mod paths;
 mod relays;
 mod signals;
 mod tears;
-mod ticks;
 mod told;
 
 pub use heads::{head_of, is_head};
-pub use links::link_change;
 pub use merging::{
     path_through, stack_path_arrival, stack_tear_arrival, unknown_stack_path_arrival,
 };
 pub use message_rules::{current_key, head_key, leaves_by, pending_key};
 pub use paths::{path_arrival, unknown_path_arrival};
 pub use relays::{exceeds_hop_limit, relay};
+pub use signals::signalled;
 pub use tears::{err_of_path, path_err_arrival, path_tear_arrival};
-pub use ticks::tick;
-pub use told::{failed, told_upstream};
+pub use told::failed;

@@ -103,11 +103,7 @@ fn tried<V: StateView>(
 /// Edits of known paths, and then each tunnel is tried, in the order of their numbers, whose current LSP has no path. The
 /// only error is out of memory.
 #[tactic(auto, unfolding(abstract_paths::specs::Heads::signalled))]
-pub(crate) fn signalled<V: WholeState>(
-    alloc: Global,
-    view: &V,
-    edits: Edits,
-) -> Result<Edits, AllocError>
+pub fn signalled<V: WholeState>(alloc: Global, view: &V, edits: Edits) -> Result<Edits, AllocError>
     requires order { T (is_sorted key_cmp (V.state view.now).facts.paths) }
     requires tunnels { AreTunnels (V.router view.now) (V.state view.now).facts.tunnels }
     requires known { AreOfKnown edits (V.state view.now) }

@@ -13,9 +13,8 @@ ghost use Rattle.state_views.specs.Drafts.{IsDraft};
 ghost use Rattle.state_views.specs.Edits.{edited};
 
 use crate::paths::path_edit;
-use crate::told::told_upstream;
 use lsr_facts::{Key, Noted, Origin, PathFact, Refusal, Reply, Tunnel, begins_here};
-use message_rules::{Outputs, is_torn_by, leaves_by, lsp, origins_without};
+use message_rules::{Outputs, is_torn_by, leaves_by, lsp, origins_without, told_upstream};
 use rsvp_contents::{PathErr, PathTear};
 use rsvp_objects::ErrorSpec;
 use sorted_rows::{Table, TryCopy};

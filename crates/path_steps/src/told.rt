@@ -1,90 +1,24 @@
-//! The errors of paths, and whom they are told (RFC 2205, 3.1.7).
+//! What a Path does that meets an error, and that a record is dropped (RFC 2205, 3.1.7; RFC 3209, 4.4).
 
 ghost use Rattle.std.specs.Option.{option_copied, option_to_list};
 ghost use Rattle.std.specs.Prelude.{◌≡◌, IfOk, IsTrue, Some, is_some};
 ghost use Rattle.rsvp_contents.specs.Spelling.{IsMessage};
 ghost use Rattle.rsvp_contents.specs.declared.messages.Content.TheVariants as contents;
 ghost use Rattle.rsvp_traffic.specs.TokenBuckets.{token_rate};
-ghost use Rattle.abstract_paths.specs.MessageLaws.{LeavesRoom};
 ghost use Rattle.abstract_paths.specs.Merging.{stack_path_failed};
-ghost use Rattle.abstract_paths.specs.Outcomes.{found_here, path_err, sent_back, told_to, told_upstream};
+ghost use Rattle.abstract_paths.specs.Outcomes.{found_here, path_err, sent_back};
 ghost use Rattle.abstract_paths.specs.Paths.{failed, record_errors};
 ghost use Rattle.abstract_paths.specs.Places.{place_at, place_of};
 ghost use Rattle.abstract_router.specs.Outcomes.{of_paths};
 ghost use Rattle.state_views.specs.Drafts.{IsDraft};
 
-use lsr_facts::{Key, Node, Origin, PathFact, Reply, RsvpError, Via};
-use message_rules::{Output, Outputs, drops_record, found_here, knows_record, sent_back};
-use rsvp_contents::{Content, Message, Path, PathErr};
-use rsvp_objects::{ErrorSpec, Session, Template};
-use rsvp_traffic::Tspec;
+use lsr_facts::{Key, Node, PathFact, Reply, RsvpError, Via};
+use message_rules::{
+    Outputs, drops_record, found_here, knows_record, path_err, sent_back, told_upstream,
+};
+use rsvp_contents::Path;
 use state_views::{Draft, Edits, StateView, node_of};
 use std::alloc::{AllocError, Global};
-use std::net::Ipv4Addr;
-
-/// A PathErr. It asks for a Tspec, if any, that leaves room for the rest of the message. The only error is out of memory.
-fn path_err(
-    alloc: Global,
-    session: Session,
-    sender: Template,
-    tspec: Option<Tspec>,
-    error: ErrorSpec,
-) -> Result<Message, AllocError>
-    requires { LeavesRoom tspec }
-    ensures { IfOk result (λ message. message ≡ path_err session sender tspec error) }
-{
-    let content = Content::PathErr(PathErr {
-        session,
-        error,
-        sender,
-        tspec,
-    });
-    Ok(Message::checked(Box::new(alloc, content)?).unwrap())
-}
-
-/// An error of a path, told to one of its origins, under the sender that the origin's Paths name; nothing where no way
-/// leads there.
-fn told_to(
-    alloc: Global,
-    node: &Node,
-    key: &Key,
-    tspec: &Option<Tspec>,
-    error: ErrorSpec,
-    origin: &(Ipv4Addr, Origin),
-) -> Result<Option<Output>, AllocError>
-    requires { LeavesRoom tspec.now }
-    ensures { IfOk result (λ told. told ≡ told_to (place_at node.now) key.now tspec.now error origin.now) }
-{
-    let sender = Template {
-        sender: origin.0,
-        lsp: key.sender.lsp,
-    };
-    let message = path_err(alloc, key.session, sender, tspec.clone()?, error)?;
-    Ok(sent_back(node, origin.1.via, origin.1.hop.address, message))
-}
-
-/// An error of a path, told to each of its origins (RFC 2205, 3.1.7): to a neighbour over its link, to the head of a
-/// bypass by the way that leads there, if one does (RFC 4090, 6.4.4). It asks for a Tspec, if any, that leaves room for
-/// the rest of the message. The only error is out of memory.
-pub fn told_upstream(
-    alloc: Global,
-    node: &Node,
-    key: &Key,
-    fact: &PathFact,
-    tspec: &Option<Tspec>,
-    error: ErrorSpec,
-) -> Result<Outputs, AllocError>
-    requires { LeavesRoom tspec.now }
-    ensures { IfOk result (λ told. told ≡ told_upstream (place_at node.now) key.now fact.now tspec.now error) }
-{
-    let mut told = Outputs::new(alloc);
-    for origin in fact.origins.as_slice() {
-        if let Some(output) = told_to(alloc, node, key, tspec, error, origin)? {
-            told.push(output)?;
-        }
-    }
-    Ok(told)
-}
 
 /// That a record is dropped is told upstream where the path or its record is new.
 #[tactic(auto, using(abstract_paths::specs::MessageLaws::rated_leaves_room), unfolding(abstract_paths::specs::Paths::record_errors))]

@@ -20,7 +20,7 @@ use Rattle.abstract_router.specs.Detours.{detours_of}
 use Rattle.abstract_router.specs.Lsps.{around_of}
 use Rattle.abstract_router.specs.Returning.{ends_at, is_known_as, repair_from, repair_known_as, the_one}
 use Rattle.abstract_router.specs.States.{State}
-use Rattle.repair_arrivals.specs.Matching.{is_for}
+use Rattle.facility_backup.specs.Matching.{is_for}
 use Rattle.repair_arrivals.specs.Progresses.{bare}
 
 and_true : (b : Bool) → (b && true) ≡ b

@@ -3,53 +3,14 @@
 ghost use Rattle.std.specs.List.{list_any};
 ghost use Rattle.std.specs.Option.{option_copied, option_map_or};
 ghost use Rattle.std.specs.Prelude.{◌≡◌, drop, false, filter, slice_get};
-ghost use Rattle.abstract_router.specs.Returning.{ends_at, is_known_as, repair_from, repair_known_as, the_one};
-ghost use Rattle.repair_arrivals.specs.Matching.{is_for};
+ghost use Rattle.abstract_router.specs.Returning.{repair_from, repair_known_as, the_one};
+ghost use Rattle.facility_backup.specs.Matching.{is_for};
 
-use facility_backup::detour_at;
-use lsr_facts::{Key, Router};
-use message_rules::{head_through, link_at};
+use facility_backup::is_for;
+use lsr_facts::Key;
 use resv_facts::Repair;
-use state_views::{StateView, WholeState};
+use state_views::WholeState;
 use std::net::Ipv4Addr;
-
-/// Whether the repair is of an LSP that the bypass's end knows as this one: its sender is this router's address on the link
-/// that is protected (RFC 4090, 6.4.3).
-fn is_known_as(router: &Router, key: &Key, repair: &(Key, Repair)) -> bool
-    ensures { result ≡ is_known_as router.now key.now repair.now }
-{
-    let Some(link) = link_at(router, repair.1.resv.link) else {
-        return false;
-    };
-    let known = Key {
-        session: repair.0.session,
-        sender: head_through(repair.0.sender, link),
-    };
-    known.cmp(key).is_eq()
-}
-
-/// Whether its bypass ends at the router of this address.
-fn ends_at<V: StateView>(view: &V, hop: Ipv4Addr, repair: &(Key, Repair)) -> bool
-    ensures { result ≡ ends_at (V.router view.now) (V.state view.now) hop repair.now }
-{
-    match detour_at(view, repair.1.bypass) {
-        Some(detour) => detour.ends_at == hop,
-        None => false,
-    }
-}
-
-/// Whether a message is for the repair that names this LSP, and comes from the router of this address, if it says which.
-fn is_for<V: StateView>(view: &V, hop: Option<Ipv4Addr>, key: &Key, repair: &(Key, Repair)) -> bool
-    ensures { result ≡ is_for (V.router view.now) (V.state view.now) hop key.now repair.now }
-{
-    if !is_known_as(view.node().router, key, repair) {
-        return false;
-    }
-    match hop {
-        Some(hop) => ends_at(view, hop, repair),
-        None => true,
-    }
-}
 
 /// Whether it is for the repair at a place.
 fn is_for_at<V: WholeState>(view: &V, hop: Option<Ipv4Addr>, key: &Key, place: usize) -> bool

@@ -8,7 +8,7 @@ use sorted_rows::{Table, TryCopy};
 use std::alloc::{AllocError, Global};
 
 /// All that a label switching router knows and that events change.
-#[derive(Debug, Drop)]
+#[derive(Debug)]
 pub struct State {
     /// What it knows of links, static routes, time and paths.
     pub facts: Facts,
@@ -20,6 +20,19 @@ pub struct State {
     pub labels: Table<Key, u32>,
     /// Of each Resv that is kept alive at a neighbour the moment when it was sent last, in milliseconds.
     pub sent_upstream: Table<Upstream, u64>,
+}
+
+/// Written out, so that it is dropped by one call, whatever it holds.
+impl Drop for State {
+    fn drop(self) {
+        let State {
+            facts: _facts,
+            resvs: _resvs,
+            repairs: _repairs,
+            labels: _labels,
+            sent_upstream: _sent_upstream,
+        } = self;
+    }
 }
 
 impl TryCopy for State {

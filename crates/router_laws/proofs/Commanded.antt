@@ -31,7 +31,7 @@ use Rattle.lsr_facts.specs.declared.refusal.Refusal.TheVariants.{BypassExists, B
 use Rattle.lsr_facts.specs.declared.router.Router.{Router}
 use Rattle.lsr_facts.specs.declared.tunnel.Tunnel.{Tunnel}
 use Rattle.lsr_facts.specs.declared.tunnel.TunnelLsp.{TunnelLsp}
-use Rattle.make_before_break.specs.Changes.{begun, cancelled}
+use Rattle.lsr_facts.specs.Changes.{begun, cancelled}
 use Rattle.resv_facts.specs.declared.repair.Over.{Over}
 use Rattle.resv_facts.specs.declared.repair.Repair.{Repair}
 use Rattle.resv_facts.specs.declared.resv_fact.ResvFact.{ResvFact}

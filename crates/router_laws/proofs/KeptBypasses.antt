@@ -14,7 +14,7 @@ use Rattle.lsr_facts.specs.declared.facts.Facts.{Facts}
 use Rattle.lsr_facts.specs.declared.key.Key.{Key}
 use Rattle.lsr_facts.specs.declared.router.Router.{Router}
 use Rattle.lsr_facts.specs.declared.tunnel.Tunnel.{Tunnel}
-use Rattle.make_before_break.specs.Changes.{switched}
+use Rattle.lsr_facts.specs.Changes.{switched}
 use Rattle.router_events.specs.declared.events.Event.TheVariants as events
 use Rattle.router_events.specs.declared.events.Made.{Made}
 use Rattle.router_events.specs.declared.ways.Arrive.{Arrive}

@@ -37,7 +37,7 @@ use Rattle.lsr_facts.specs.declared.refusal.Refusal.TheVariants.{BadRoute, Full,
 use Rattle.lsr_facts.specs.declared.router.Router.{Router}
 use Rattle.lsr_facts.specs.declared.tunnel.Tunnel.{Tunnel}
 use Rattle.lsr_facts.specs.declared.tunnel.TunnelLsp.{TunnelLsp}
-use Rattle.make_before_break.specs.Changes.{begun, cancelled}
+use Rattle.lsr_facts.specs.Changes.{begun, cancelled}
 use Rattle.resv_facts.specs.Reservations.{style_of}
 use Rattle.resv_facts.specs.declared.resv_fact.ResvFact.{ResvFact}
 use Rattle.resv_facts.specs.declared.resv_fact.ResvStyle.{ResvStyle}

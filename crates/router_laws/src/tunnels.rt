@@ -21,7 +21,7 @@ ghost use Rattle.resv_facts.specs.declared.repair.Over.{Over};
 ghost use Rattle.resv_facts.specs.declared.repair.Repair.{Repair};
 ghost use Rattle.resv_facts.specs.declared.resv_fact.ResvFact.{ResvFact};
 ghost use Rattle.forwarding_table.specs.declared.action.Action.TheVariants.{PushHead};
-ghost use Rattle.make_before_break.specs.Changes.{switched};
+ghost use Rattle.lsr_facts.specs.Changes.{switched};
 ghost use Rattle.router_events.specs.declared.commands.Command.{Command};
 ghost use Rattle.router_events.specs.declared.commands.Command.TheVariants.{DropTunnel};
 ghost use Rattle.router_events.specs.declared.events.Event.TheVariants as events;

@@ -2,4 +2,3 @@ pub mod Asking
 pub mod Placing
 pub mod Repeating
 pub mod Searching
-pub mod Tears

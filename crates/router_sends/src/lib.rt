@@ -2,7 +2,6 @@
 #![tactic(auto)]
 
 mod again;
-mod frames;
 mod rests;
 mod rows;
 mod sends;

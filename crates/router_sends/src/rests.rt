@@ -1,11 +1,11 @@
 //! Whether what is wanted rests, or is sent.
 
 ghost use Rattle.std.specs.List.Sorted.{IsSorted};
-ghost use Rattle.std.specs.Option.{option_copied, option_map_or};
-ghost use Rattle.std.specs.Prelude.{◌≡◌, ◌&&◌, IfOk, None, Some, false, if◌then◌else◌, not, true};
-ghost use Rattle.abstract_paths.specs.Outputs.{is_due, is_same_frame, rests};
+ghost use Rattle.std.specs.Option.{option_copied};
+ghost use Rattle.std.specs.Prelude.{◌≡◌, IfOk, None, Some, if◌then◌else◌, true};
+ghost use Rattle.abstract_paths.specs.Outputs.{is_due, rests};
 
-use crate::frames::is_same_frame;
+use message_rules::rests;
 use router_events::Output;
 use std::alloc::{AllocError, Global};
 
@@ -34,31 +34,6 @@ pub(crate) fn is_due_near<I: Ord>(due: &[I], place: usize, item: &I) -> bool
     ensures { result ≡ is_due I.cmp due.now item.now }
 {
     is_due_at(due, place, item) || is_due(due, item)
-}
-
-/// Whether it is the frame that was sent before, if one was.
-fn is_known_frame(alloc: Global, was: Option<&Output>, wants: &Output) -> Result<bool, AllocError>
-    ensures { IfOk result (λ same. same ≡ option_map_or (λ o. is_same_frame wants.now.frame o.frame) (option_copied was.entry) false) }
-{
-    match was {
-        Some(was) => is_same_frame(alloc, &wants.frame, &was.frame),
-        None => Ok(false),
-    }
-}
-
-/// Whether an item rests: it isn't due, and was wanted before with the same frame.
-fn rests(
-    alloc: Global,
-    is_due: bool,
-    was: Option<&Output>,
-    wants: &Output,
-) -> Result<bool, AllocError>
-    ensures { IfOk result (λ so. so ≡ (not is_due && option_map_or (λ o. is_same_frame wants.now.frame o.frame) (option_copied was.entry) false)) }
-{
-    if is_due {
-        return Ok(false);
-    }
-    is_known_frame(alloc, was, wants)
 }
 
 /// What is wanted, where it is sent: asked once, whether it rests, beside what was sent before.

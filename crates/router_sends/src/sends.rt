@@ -8,10 +8,9 @@ ghost use Rattle.abstract_paths.specs.Outputs.{between, errors_out, send_for, te
 ghost use Rattle.abstract_paths.specs.Touched.{forgotten, moments_between, renewed};
 ghost use Rattle.router_sends.specs.Placing.{placed};
 
-use crate::frames::tear_by;
 use crate::rests::fresh;
 use crate::rows::{get_near, place_after};
-use message_rules::is_up;
+use message_rules::{is_up, tear_by};
 use router_events::{Output, Outputs};
 use sorted_rows::Table;
 use std::alloc::{AllocError, Global};

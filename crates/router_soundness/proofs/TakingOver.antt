@@ -21,7 +21,7 @@ use Rattle.lsr_facts.specs.declared.path_fact.PathFact.{PathFact}
 use Rattle.lsr_facts.specs.declared.router.Router.{Router}
 use Rattle.lsr_facts.specs.declared.tunnel.Tunnel.{Tunnel}
 use Rattle.lsr_facts.specs.declared.tunnel.TunnelLsp.{TunnelLsp}
-use Rattle.make_before_break.specs.Changes.{switched, switched_to}
+use Rattle.lsr_facts.specs.Changes.{switched, switched_to}
 use Rattle.abstract_paths.proofs.Bypasses.{bypasses_same}
 use Rattle.abstract_paths.proofs.PathTable.{paths_where}
 use Rattle.abstract_paths.specs.Soundness.{IsHeadOf, IsStanding}

@@ -1,3 +1,5 @@
+pub mod Expiries
 pub mod Labelling
 pub mod Onward
+pub mod Staying
 pub mod Torn

@@ -1,2 +1,3 @@
+pub mod Expiring
 pub mod Onward
 pub mod Torn

@@ -8,14 +8,14 @@ ghost use Rattle.router_events.specs.declared.events.Event.TheVariants as events
 ghost use Rattle.state_views.specs.Drafts.{IsDraft};
 
 use crate::errors::resv_err_arrival;
+use crate::links::link_change;
 use crate::paths::labelled_path_arrival;
 use crate::tears::resv_tear_arrival;
+use crate::ticks::tick;
 use crate::ways::{routed_arrival, stack_arrival, unknown_routed_arrival, unknown_stack_arrival};
 use lsr_facts::{Refusal, Reply};
 use message_rules::{is_up, link_at};
-use path_steps::{
-    link_change, path_err_arrival, path_tear_arrival, relay, tick, unknown_path_arrival,
-};
+use path_steps::{path_err_arrival, path_tear_arrival, relay, unknown_path_arrival};
 use resv_arrivals::{resv_arrival, unknown_resv};
 use router_events::{ArrivalWay, Arrive, Event, Outputs};
 use rsvp_contents::{Content, Reading};

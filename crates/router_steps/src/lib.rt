@@ -4,8 +4,10 @@
 
 mod arrivals;
 mod errors;
+mod links;
 mod paths;
 mod tears;
+mod ticks;
 mod ways;
 
 pub use arrivals::draft_of;

@@ -1,12 +1,12 @@
 //! The tunnels that begin at a router, in memory that is taken when it is opened.
 
 ghost use Rattle.std.specs.Prelude.{◌≡◌, ◌≤◌, IfOk, length, true};
-ghost use Rattle.make_before_break.specs.Changes.{cancelled};
+ghost use Rattle.lsr_facts.specs.Changes.{cancelled};
 ghost use Rattle.abstract_paths.specs.Restarts.{all_cancelled};
 
 use lsr_facts::Tunnel;
+use lsr_facts::changes::cancel;
 use lsr_facts::limits::MAX_TUNNELS;
-use make_before_break::cancel;
 use sorted_rows::{ReservedTable, Sweep, Table, copy_rows};
 use std::alloc::{AllocError, Global};
 

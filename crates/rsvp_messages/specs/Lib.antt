@@ -1,3 +1,4 @@
+pub mod Frames
 pub use Rattle.internet_checksum.specs.Checksums
 pub use Rattle.rsvp_contents.specs.Answers
 pub use Rattle.rsvp_contents.specs.Dropping

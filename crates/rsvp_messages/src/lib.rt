@@ -1,10 +1,13 @@
-//! Messages of RSVP for whoever embeds them: Path, Resv, PathErr, ResvErr, PathTear and ResvTear (RFC 2205,
-//! 3.1; RFC 3209, 3) are read from bytes as values and written to bytes again, with their header, their
-//! length and their checksum. This crate only gathers what the crates below it have; its contracts are theirs.
+//! Messages of RSVP and the frames of datagrams, for whoever embeds them: Path, Resv, PathErr, ResvErr, PathTear and ResvTear
+//! (RFC 2205, 3.1; RFC 3209, 3) are read from bytes as values and written to bytes again, with their header, their
+//! length and their checksum. This crate gathers what the crates below it have of messages, whose contracts are theirs.
 //!
 //! [`read_message`] reads what came, [`write_message`] appends what is to go out. A [`Message`] is
 //! [`Content`] that can be written; what is read is one. The [`laws`] say what holds of all messages, and
 //! the `specs` of this crate pass on the words that its contracts are made of.
+//!
+//! [`read_frame`] and [`write_frame`] do so with the frames of datagrams. A message in a Hop frame is read with its frame;
+//! others may pass on a message in another, so that one is read where it is to go.
 //!
 //! A router that passes a PathTear on, as a neighbour that `hop` names:
 //!
@@ -24,9 +27,14 @@
 //! ```
 #![tactic(auto)]
 
+mod reading;
+mod writing;
+
 pub use internet_checksum::{checksum, has_good_checksum};
+pub use link_frames::{Frame, KIND_HOP, KIND_LABELLED, KIND_ROUTED, Payload};
 pub use message_reader::read_message;
 pub use message_writer::write_message;
+pub use reading::read_frame;
 pub use rsvp_contents::{
     Content, Dropped, Message, Passing, Path, PathErr, PathTear, Reading, Resv, ResvErr, ResvTear,
     laws, limits, numbers,
@@ -40,3 +48,4 @@ pub use rsvp_objects::{
     OtherStep, OtherTrace, Prefix, RateWord, Record, Route, Session, Step, Subobject, Subobjects,
     Template, TimeValues, Trace, TrafficFault, Treatment, Tspec, numbers as object_numbers,
 };
+pub use writing::write_frame;

@@ -6,10 +6,10 @@ ghost use Rattle.run_journal.specs.Entries.{written_frame};
 
 use crate::entry::{Bytes, Frames, Listed, WrittenFrame};
 use event_bytes::write_event;
-use frame_writer::write_frame;
 use router_events::{Event, Frame, Output};
 use rsvp_bodies::Kept;
 use rsvp_contents::Reading;
+use rsvp_messages::write_frame;
 use std::alloc::{AllocError, Global};
 
 /// What happened, as a journal holds it. The only error is out of memory.

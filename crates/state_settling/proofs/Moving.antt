@@ -12,8 +12,8 @@ use Rattle.lsr_facts.specs.declared.path_fact.PathFact.{PathFact}
 use Rattle.resv_facts.specs.declared.resv_fact.ResvFact.{ResvFact}
 use Rattle.admission.specs.Bandwidths.{Edit}
 use Rattle.state_settling.specs.Keeping.{edit_at, holding_at, moved, with_edit}
-use Rattle.state_settling.specs.SwitchingLaws.{or_none}
-use Rattle.state_settling.proofs.Places.{find-one_more}
+use Rattle.make_before_break.specs.SwitchingLaws.{or_none}
+use Rattle.make_before_break.proofs.Places.{find-one_more}
 
 -- What an LSP has is not moved where its path has it kept at the same priority.
 pub unmoved : (before after : List (Key × PathFact)) (resvs : List (Key × ResvFact)) (key : Key) → (holding_at after key == holding_at before key) ≡ true → moved before after resvs key ≡ None

@@ -5,5 +5,3 @@ pub mod Relabelling
 pub mod RelabellingLaws
 pub mod Repairs
 pub mod RepairsLaws
-pub mod Switching
-pub mod SwitchingLaws

@@ -28,7 +28,7 @@ use Rattle.state_views.specs.Edits.{edited}
 use Rattle.state_views.specs.Joining.{joined_rows}
 use Rattle.state_views.specs.declared.edits.Edits.{Edits}
 use Rattle.state_settling.specs.Repairs.{repair_at}
-use Rattle.state_settling.specs.SwitchingLaws.{or_none}
+use Rattle.make_before_break.specs.SwitchingLaws.{or_none}
 
 -- The repairs are those that are found under each key.
 pub all_repairs : (r : Router) (s : State) (repairs : List (Key × Repair)) → T (is_sorted key_cmp s.resvs) → T (is_sorted key_cmp repairs) → ((q : Key) → find key_cmp q repairs ≡ repair_at r s q) → repairs ≡ new_repairs r s

@@ -11,27 +11,12 @@ ghost use Rattle.abstract_router.specs.States.{is_one_of};
 ghost use Rattle.state_views.specs.Edits.{edited};
 ghost use Rattle.state_settling.specs.Falling.{has_lapsed, lapsed_key};
 
-use facility_backup::{is_same_around, over_at};
+use facility_backup::{is_same_around, repair_stands};
 use lsr_facts::Key;
-use message_rules::leaves_by;
-use resv_facts::Repair;
 use sorted_rows::Table;
 use state_views::{Changed, Edits, StateView, WholeState, without_rows};
 use std::alloc::{AllocError, Global};
 use std::mem;
-
-/// Whether a repair stands: its bypass is up, and its path leaves by the link that this protects.
-fn repair_stands<V: StateView>(view: &V, key: &Key, repair: &Repair) -> bool
-    ensures { result ≡ repair_stands (V.router view.now) (V.state view.now) (key.now, repair.now) }
-{
-    if over_at(view, repair.bypass).is_none() {
-        return false;
-    }
-    match view.path(key) {
-        Some(path) => leaves_by(repair.resv.link, path),
-        None => false,
-    }
-}
 
 /// The LSP, where it has a repair that stands no more.
 fn lapsed_key<V: StateView>(view: &V, key: &Key) -> Option<Key>

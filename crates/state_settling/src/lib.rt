@@ -8,7 +8,6 @@ mod lapsing;
 mod repair;
 mod settling;
 mod standing;
-mod takeover;
 
 pub use claims::bandwidth_edits;
 pub use settling::{Settled, settle};

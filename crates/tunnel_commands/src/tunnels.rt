@@ -6,7 +6,7 @@ ghost use Rattle.std.specs.Option.{option_map_or};
 ghost use Rattle.rsvp_contents.specs.Limits.{is_short_route};
 ghost use Rattle.lsr_facts.specs.Orders.{key_cmp};
 ghost use Rattle.lsr_facts.specs.Tunnels.{current_key, head_key, pending_key, route_from};
-ghost use Rattle.make_before_break.specs.Changes.{begun};
+ghost use Rattle.lsr_facts.specs.Changes.{begun};
 ghost use Rattle.abstract_paths.specs.Changes.{with_tunnel};
 ghost use Rattle.abstract_paths.specs.Commands.{tunnel_by, with_begun, with_cancelled, with_change, with_dropped};
 ghost use Rattle.abstract_paths.specs.Heads.{with_head};
@@ -14,8 +14,8 @@ ghost use Rattle.abstract_router.specs.States.{State, with_facts, without_held};
 ghost use Rattle.state_views.specs.Edits.{edited};
 ghost use Rattle.path_steps.specs.Signalling.{with_some};
 
+use lsr_facts::changes::{begin, cancel};
 use lsr_facts::{Key, PathFact, Router, Tunnel, TunnelLsp};
-use make_before_break::{begin, cancel};
 use path_steps::{current_key, head_key, head_of, pending_key};
 use router_events::{NewTunnel, TunnelChange};
 use sorted_rows::{Table, TryCopy};

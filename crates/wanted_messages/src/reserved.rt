@@ -1,14 +1,12 @@
 //! What is said of an LSP to the origins of its Paths, where it is reserved or repaired.
 
-ghost use Rattle.std.specs.Option.{option_copied, option_map, unwrap_or};
+ghost use Rattle.std.specs.Option.{option_map, unwrap_or};
 ghost use Rattle.std.specs.Prelude.{◌≡◌, [], IfOk, length};
-ghost use Rattle.lsr_facts.specs.declared.path_fact.PathFact.{PathFact};
-ghost use Rattle.resv_facts.specs.Reservations.{timeless_resv};
-ghost use Rattle.abstract_router.specs.Lsps.{around_of, held_of, lsp_of};
+ghost use Rattle.abstract_router.specs.Lsps.{around_of, lsp_of};
 ghost use Rattle.abstract_router.specs.Upstreams.{records_labels, reserved_by_end, reserved_by_next, reserved_for, wants_sharing};
 ghost use Rattle.wanted_messages.specs.Telling.{said};
 
-use facility_backup::own_flags;
+use facility_backup::{held_of, own_flags};
 use lsr_facts::{Key, PathFact};
 use message_rules::goes_on;
 use resv_facts::{ResvFact, ResvStyle};
@@ -105,17 +103,6 @@ fn reserved_by_next(alloc: Global, flags: u8, resv: &ResvFact) -> Result<Reserve
         recorded: record_so_far(alloc, &resv.recorded)?,
         passing: resv.passing.clone()?,
     })
-}
-
-/// What holds an LSP's label at the router after it: its reservation, or what its repair keeps of it.
-fn held_of<'a, V: StateView>(view: &'a V, key: &Key) -> Option<&'a ResvFact>
-    ensures { (path : PathFact) → option_map timeless_resv (option_copied result)
-        ≡ held_of (lsp_of (V.state view.now) key.now path) }
-{
-    match view.resv(key) {
-        Some(resv) => Some(resv),
-        None => view.repair(key).map(|repair| &repair.resv),
-    }
 }
 
 /// What is said of an LSP, if it is reserved or repaired. Its path's Tspec is a whole token bucket. The only error is out of

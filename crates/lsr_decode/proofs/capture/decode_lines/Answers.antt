@@ -1,6 +1,6 @@
 -- Each line that comes is answered, or none comes.
 use Rattle.std.proofs.Common.{arith, refl, subst, sym, ◌≤◌, ◌+◌, length, List, ℕ}
-use Rattle.lsr_lines.specs.Streams.{left_of}
+use Rattle.line_streams.specs.Streams.{left_of}
 use Rattle.lsr_decode.proofs.Capturing.{captured_all, captured_last, captured_line, captured_most, captured_none, captured_some}
 use Rattle.lsr_decode.proofs.capture.decode_lines.Goals as goal
 

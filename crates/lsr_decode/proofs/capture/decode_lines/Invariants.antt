@@ -1,5 +1,5 @@
 -- So far the stream was read, and its lines were answered.
-use Rattle.lsr_lines.specs.Streams.{left_of}
+use Rattle.line_streams.specs.Streams.{left_of}
 use Rattle.lsr_decode.proofs.Capturing.{IsCaptured}
 use Rattle.lsr_decode.proofs.capture.decode_lines.Given as goal
 

@@ -1,7 +1,7 @@
 -- The texts are cut into lines, and their headings read.
 use Rattle.std.proofs.Common.{refl}
 use Rattle.std.specs.Fmt.{digits}
-use Rattle.lsr_lines.specs.Lines.{lines_of}
+use Rattle.line_streams.specs.Cuts.{lines_of}
 use Rattle.lsr_explain.proofs.laws.headings_are_told.Goals as goal
 
 pub returns-clause-refusals : goal.returns-clause-refusals

@@ -2,7 +2,7 @@
 use Rattle.std.proofs.Common.{rules, ap, sym, ◌∙◌, ◌++◌, subst, codes}
 use Rattle.std.specs.Io.KnownBytes.{Appends}
 use Rattle.std.proofs.KnownBytes.{Appends-trans}
-use Rattle.lsr_lines.specs.Lines.{lines_of}
+use Rattle.line_streams.specs.Cuts.{lines_of}
 use Rattle.lsr_explain.specs.Answers.{explained}
 use Rattle.lsr_explain.proofs.TopicLaws.{explained_end, explained_more, explained_none, no_lines, none_by, parts_all, parts_more}
 use Rattle.lsr_explain.proofs.telling.put_explained.Goals as goal

@@ -2,7 +2,7 @@
 use Rattle.std.proofs.Common.{rules, ap, ◌∙◌, ◌++◌, subst}
 use Rattle.std.specs.Io.KnownBytes.{Appends}
 use Rattle.std.proofs.KnownBytes.{Appends-trans}
-use Rattle.lsr_lines.specs.Lines.{lines_of}
+use Rattle.line_streams.specs.Cuts.{lines_of}
 use Rattle.lsr_explain.specs.Answers.{heading_line, headings_text}
 use Rattle.lsr_explain.proofs.TopicLaws.{no_lines, none_by, parts_all, parts_more}
 use Rattle.lsr_explain.proofs.telling.put_headings.Goals as goal

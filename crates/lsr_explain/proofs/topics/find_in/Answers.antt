@@ -1,6 +1,6 @@
 -- The first heading that the word asks for is found, or there is none.
 use Rattle.std.proofs.Common.{rules, ap, sym, ◌∙◌}
-use Rattle.lsr_lines.specs.Lines.{lines_of}
+use Rattle.line_streams.specs.Cuts.{lines_of}
 use Rattle.lsr_explain.specs.Topics.{found, of_kind}
 use Rattle.lsr_explain.proofs.TopicLaws.{found_behind, found_first, found_none, no_lines, none_by}
 use Rattle.lsr_explain.proofs.topics.find_in.Goals as goal

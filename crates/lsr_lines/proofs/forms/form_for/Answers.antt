@@ -1,9 +1,10 @@
 -- The first form that begins with the word is found, or there is none.
 use Rattle.std.proofs.Common.{rules, ap, sym, ◌∙◌}
 use Rattle.lsr_lines.specs.Forms.{form_in}
-use Rattle.lsr_lines.specs.Lines.{lines_of}
+use Rattle.line_streams.specs.Cuts.{lines_of}
 use Rattle.lsr_lines.proofs.FormLaws.{form_after, form_first, form_none}
-use Rattle.lsr_lines.proofs.Stepping.{lines_of-nil, none_by}
+use Rattle.lsr_lines.proofs.Stepping.{none_by}
+use Rattle.line_streams.proofs.CutLaws.{lines_of-nil}
 use Rattle.lsr_lines.proofs.forms.form_for.Goals as goal
 
 pub returns-then-is_form_of : goal.returns-then-is_form_of

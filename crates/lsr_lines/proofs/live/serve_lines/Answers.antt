@@ -1,6 +1,6 @@
 -- Each line that comes is served, or ends the run.
 use Rattle.std.proofs.Common.{arith, ◌∙◌, ◌+◌, refl}
-use Rattle.lsr_lines.specs.Streams.{left_of}
+use Rattle.line_streams.specs.Streams.{left_of}
 use Rattle.lsr_lines.proofs.Living.{live_all, live_full, live_last, live_more, live_most, live_none, live_unread, live_untext}
 use Rattle.lsr_lines.proofs.live.serve_lines.Goals as goal
 

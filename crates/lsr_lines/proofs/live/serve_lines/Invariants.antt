@@ -1,5 +1,5 @@
 -- So far the input was read, and its lines were served.
-use Rattle.lsr_lines.specs.Streams.{left_of}
+use Rattle.line_streams.specs.Streams.{left_of}
 use Rattle.lsr_lines.proofs.Living.{IsLiveTo}
 use Rattle.lsr_lines.proofs.live.serve_lines.Given as goal
 

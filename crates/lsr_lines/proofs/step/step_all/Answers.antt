@@ -1,7 +1,7 @@
 -- The lines before the rest were served; the next one is served too, or ends the run.
 use Rattle.std.proofs.Common.{rules, arith, sym, ap, ◌∙◌, ◌++◌, ◌∷◌, ◌+◌, [], subst, append_assoc, length-append}
 use Rattle.std.proofs.KnownBytes.{Appends-trans}
-use Rattle.lsr_lines.specs.Lines.{lines_of}
+use Rattle.line_streams.specs.Cuts.{lines_of}
 use Rattle.lsr_lines.specs.Steps.{Prints, PrintsSome}
 use Rattle.lsr_lines.proofs.Stepping.{prints_push, told_none, none_by, served_all}
 use Rattle.lsr_lines.proofs.step.step_all.Goals as goal

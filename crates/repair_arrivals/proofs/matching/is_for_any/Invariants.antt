@@ -1,6 +1,6 @@
 use Rattle.std.proofs.Common.{◌≡◌, drop}
 use Rattle.std.specs.List.{list_any}
-use Rattle.repair_arrivals.specs.Matching.{is_for}
+use Rattle.facility_backup.specs.Matching.{is_for}
 use Rattle.repair_arrivals.proofs.matching.is_for_any.Given as goal
 
 -- it is for a repair from here on where it is for one of all

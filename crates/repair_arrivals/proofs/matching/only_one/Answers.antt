@@ -2,7 +2,7 @@
 use Rattle.std.proofs.Common.{ap, sym, ◌∙◌}
 use Rattle.abstract_router.specs.Returning.{the_one}
 use Rattle.path_steps.proofs.Places.{none_alone, only_there, passing_over}
-use Rattle.repair_arrivals.specs.Matching.{is_for}
+use Rattle.facility_backup.specs.Matching.{is_for}
 use Rattle.repair_arrivals.proofs.matching.only_one.Goals as goal
 
 pub returns-then-is_for_any : goal.returns-then-is_for_any

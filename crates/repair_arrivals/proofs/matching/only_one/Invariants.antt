@@ -1,6 +1,6 @@
 use Rattle.std.proofs.Common.{◌≡◌, drop}
 use Rattle.std.specs.Prelude.{filter}
-use Rattle.repair_arrivals.specs.Matching.{is_for}
+use Rattle.facility_backup.specs.Matching.{is_for}
 use Rattle.repair_arrivals.proofs.matching.only_one.Given as goal
 
 -- all that it is for stand from here on

@@ -1,7 +1,7 @@
 use Rattle.std.proofs.Common.{◌≡◌, Bool, map, true, refl, ap, ◌∙◌, ℕ}
 use Rattle.sorted_rows.specs.ListLaws.{all-always, filter-all_pass}
 use Rattle.lsr_facts.specs.declared.tunnel.Tunnel.{Tunnel}
-use Rattle.make_before_break.specs.Changes.{cancelled}
+use Rattle.lsr_facts.specs.Changes.{cancelled}
 use Rattle.router_tables.proofs.tunnels.cancel_all.Goals as goal
 
 pub returns : goal.returns

@@ -1,6 +1,6 @@
 -- One LSP more is looked at: where its repair stands no more, it is put at the end.
 use Rattle.std.proofs.Common.{Some, None, append-nil, sym, ◌∙◌}
-use Rattle.state_settling.proofs.Places.{one_more_at}
+use Rattle.make_before_break.proofs.Places.{one_more_at}
 use Rattle.state_settling.specs.Falling.{lapsed_key}
 use Rattle.state_settling.proofs.lapsing.with_all_lapsed.Goals as goal
 use Rattle.state_settling.proofs.lapsing.with_all_lapsed.Goals.{in-Some+in_ok-push, in_default}

@@ -3,7 +3,7 @@ use Rattle.std.proofs.Common.{Some, None, append-nil, ap, sym, ◌∙◌}
 use Rattle.std.specs.Option.{option_and_then}
 use Rattle.std.proofs.lemmas.Option.{slice_get_read}
 use Rattle.std.proofs.Common.{refl}
-use Rattle.state_settling.proofs.Places.{one_more_at}
+use Rattle.make_before_break.proofs.Places.{one_more_at}
 use Rattle.state_settling.specs.Falling.{lapsed_key}
 use Rattle.state_settling.proofs.lapsing.with_lapsed.Goals as goal
 use Rattle.state_settling.proofs.lapsing.with_lapsed.Goals.{in-Some+in_ok-push, in_default}

@@ -4,7 +4,7 @@ use Rattle.std.specs.Option.{option_copied}
 use Rattle.lsr_facts.specs.OrderLaws.{key_exact, key_total}
 use Rattle.lsr_facts.specs.Orders.{key_cmp}
 use Rattle.state_settling.specs.Repairs.{repair_at}
-use Rattle.state_settling.proofs.Asking.{none_asked, place_asked}
+use Rattle.make_before_break.proofs.Asking.{none_asked, place_asked}
 use Rattle.state_settling.proofs.repair.with_all_repairs.Goals as goal
 use Rattle.state_settling.proofs.repair.with_all_repairs.Goals.{in-Some+in_ok-all, in_default}
 

@@ -12,7 +12,7 @@ use Rattle.resv_facts.specs.declared.resv_fact.ResvFact.{ResvFact}
 use Rattle.abstract_paths.specs.StampLaws.{none-is}
 use Rattle.abstract_router.specs.Repairing.{repair_of}
 use Rattle.state_settling.specs.Repairs.{repair_at}
-use Rattle.state_settling.proofs.Asking.{one_asked}
+use Rattle.make_before_break.proofs.Asking.{one_asked}
 use Rattle.state_settling.proofs.repair.with_repairs.Goals as goal
 use Rattle.state_settling.proofs.repair.with_repairs.Goals.{then-is_some+in_ok-all, else-is_some}
 

@@ -11,7 +11,7 @@ use Rattle.abstract_router.specs.Steps.{resvs_left, taken_over}
 use Rattle.state_views.specs.Edits.{edited}
 use Rattle.state_settling.specs.FallingLaws.{labels-repairs_left}
 use Rattle.state_settling.specs.RepairsLaws.{labels-repaired, rooms-taken_over}
-use Rattle.state_settling.specs.SwitchingLaws.{labels-taken_over}
+use Rattle.make_before_break.specs.SwitchingLaws.{labels-taken_over}
 use Rattle.state_settling.proofs.settling.settle.Goals as goal
 
 pub repair_all-requires-clause-room : goal.repair_all-requires-clause-room

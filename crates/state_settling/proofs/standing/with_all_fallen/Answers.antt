@@ -1,6 +1,6 @@
 -- One LSP more is looked at: where its reservation stands no more, it is put at the end.
 use Rattle.std.proofs.Common.{Some, None, append-nil, sym, ◌∙◌}
-use Rattle.state_settling.proofs.Places.{one_more_at}
+use Rattle.make_before_break.proofs.Places.{one_more_at}
 use Rattle.state_settling.specs.Falling.{fallen_key}
 use Rattle.state_settling.proofs.standing.with_all_fallen.Goals as goal
 use Rattle.state_settling.proofs.standing.with_all_fallen.Goals.{in-Some+in_ok-push, in_default}

@@ -6,7 +6,7 @@ use Rattle.lsr_facts.specs.declared.key.Key.{Key}
 use Rattle.lsr_facts.specs.declared.path_fact.PathFact.{PathFact}
 use Rattle.lsr_facts.specs.declared.router.Router.{Router}
 use Rattle.lsr_facts.specs.declared.tunnel.Tunnel.{Tunnel}
-use Rattle.make_before_break.specs.Changes.{cancelled}
+use Rattle.lsr_facts.specs.Changes.{cancelled}
 use Rattle.abstract_router.specs.States.{with_facts}
 use Rattle.state_views.specs.Edits.{edited}
 use Rattle.tunnel_commands.proofs.Leaving.{without_pending}

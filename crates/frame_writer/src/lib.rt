@@ -1,6 +1,0 @@
-//! Writes the frames of datagrams.
-#![tactic(auto)]
-
-mod writing;
-
-pub use writing::write_frame;

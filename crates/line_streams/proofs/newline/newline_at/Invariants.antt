@@ -1,0 +1,6 @@
+-- No newline stands before the place.
+use Rattle.std.proofs.Common.{◌≢◌, ◌<◌, ℕ, get_or}
+use Rattle.line_streams.proofs.newline.newline_at.Given as goal
+
+abbrev pub invariant-loop-place : goal.invariant-loop-place
+invariant-loop-place l = (k : ℕ) → k < l.place → get_or l.bytes k 0 ≢ 10

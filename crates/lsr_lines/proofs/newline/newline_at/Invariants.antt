@@ -1,6 +1,0 @@
--- No newline stands before the place.
-use Rattle.std.proofs.Common.{◌≢◌, ◌<◌, ℕ, get_or}
-use Rattle.lsr_lines.proofs.newline.newline_at.Given as goal
-
-abbrev pub invariant-loop-place : goal.invariant-loop-place
-invariant-loop-place l = (k : ℕ) → k < l.place → get_or l.bytes k 0 ≢ 10
