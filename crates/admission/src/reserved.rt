@@ -25,7 +25,7 @@ pub fn reserved(claims: &[(Key, Claim)], link: u16, priority: u8) -> u64
     sum.total()
 }
 
-/// The claims before an LSP's place in the order of keys, and those behind it.
+/// The claims before an LSP's place in the order of keys, and those after it.
 fn around<'a>(claims: &'a [(Key, Claim)], key: &Key) -> (&'a [(Key, Claim)], &'a [(Key, Claim)])
     requires { T (is_sorted key_cmp claims.now) }
     ensures { (claim : Claim) → put key_cmp key.now claim claims.now ≡ result.0.now ++ (key.now, claim) ∷ result.1.now }

@@ -62,7 +62,7 @@ is_short text = nat_le (length text) 200 && not (list_any is_newline text)
 abbrev pub shown : List ℕ → List ℕ
 shown text = if is_short text then text else codes "..."
 
--- what is said behind a value
+-- what is said after a value
 abbrev pub remark : ConfigFault → List ℕ
 remark (fault.Repeated key) = codes ", which another has"
 remark (fault.UnknownName key) = codes ", which none has"

@@ -127,7 +127,7 @@ fn shown(text: &str) -> &str
     if is_short(text) { text } else { "..." }
 }
 
-/// What is said behind a value.
+/// What is said after a value.
 fn remark(fault: &ConfigFault) -> &'static str
     ensures { result.now ≡ remark fault.now }
 {

@@ -47,7 +47,7 @@ fn leads_here(router: &Router, step: &Step) -> bool
     }
 }
 
-/// The steps behind those that lead here.
+/// The steps after those that lead here.
 fn steps_from_here<'a>(router: &Router, steps: &'a [Step]) -> &'a [Step]
     ensures { result.now ≡ drop (prefix_len (leads_here router.now) steps.now) steps.now }
 {
@@ -103,7 +103,7 @@ fn hop_to_step<'a>(
     Ok(Way::Link(link, Some(with_neighbour(node.router, steps, link))))
 }
 
-/// The next hop by the steps behind those that lead here.
+/// The next hop by the steps after those that lead here.
 #[tactic(auto, unfolding(abstract_paths::specs::Routing::hop_by_rest))]
 fn hop_by_rest<'a>(
     node: &Node,
@@ -153,7 +153,7 @@ fn way_on<'a>(
     }
 }
 
-/// The way of a path that begins here, by the steps of its route behind this router's own: what is left of them is lent.
+/// The way of a path that begins here, by the steps of its route after this router's own: what is left of them is lent.
 /// The error is one of RFC 3209, 7.3. Takes no memory.
 #[tactic(auto, unfolding(abstract_paths::specs::Routing::next_hop, abstract_paths::specs::Routing::hop_by_route))]
 pub fn head_way<'a>(

@@ -24,7 +24,7 @@ pub fn step_to(address: Ipv4Addr) -> Step
     }
 }
 
-/// What is left of a route, lent: steps of it, behind the neighbour that a loose one leads on over. Contracts see the
+/// What is left of a route, lent: steps of it, after the neighbour that a loose one leads on over. Contracts see the
 /// steps.
 #[derive(Debug, Drop)]
 pub struct Rest<'a> {
@@ -58,7 +58,7 @@ impl<'a> Rest<'a> {
         }
     }
 
-    /// These steps, behind one to a neighbour.
+    /// These steps, after one to a neighbour.
     pub(crate) fn behind(neighbour: Ipv4Addr, steps: &'a [Step]) -> Rest<'a>
         requires { length (route_bytes steps.now) + 8 ≤ 65528 }
         ensures { result ≡ step_to neighbour ∷ steps.now }

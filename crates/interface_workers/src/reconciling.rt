@@ -158,7 +158,7 @@ fn is_told(receipt: &Receipt, walk: Walk, entry: &Entry) -> bool
         && are_same_frames(receipt.outputs().as_slice(), entry.outputs.as_slice())
 }
 
-/// The first receipt of a port, and those behind it.
+/// The first receipt of a port, and those after it.
 fn next_of(receipts: &[Receipt], port: u16) -> Option<(&Receipt, &[Receipt])>
     ensures { MatchOption result (mine port receipts.now ≡ []) (λ next. mine port receipts.now ≡ next.0.now ∷ mine port next.1.now) }
 {

@@ -10,9 +10,9 @@ use std::marker::Model;
 /// Contracts see how many places there are, and the line.
 #[derive(Debug, Drop)]
 pub(crate) struct Line {
-    /// How many places there are. As a place it is the one before the first in line, and behind the last.
+    /// How many places there are. As a place it is the one before the first in line, and after the last.
     count: u32,
-    /// Of each place in line the one behind it. A place that isn't in line has itself.
+    /// Of each place in line the one after it. A place that isn't in line has itself.
     next: Vec<u32>,
     /// Of each place in line the one before it.
     previous: Vec<u32>,

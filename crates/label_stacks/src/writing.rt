@@ -6,7 +6,7 @@ use crate::stack::Stack;
 use std::alloc::AllocError;
 
 /// Appends the entries of a stack; the last alone has the bottom bit. The only error is out of memory; a part of
-/// the stack may then stand behind what was there.
+/// the stack may then stand after what was there.
 pub fn write_stack(stack: &Stack, out: &mut Vec<u8>) -> Result<(), AllocError>
     ensures ok { OnOk result (out.new.items ≡ out.old.items ++ stack_bytes stack.now) }
     ensures err { OnErr result (take (length out.old.items) out.new.items ≡ out.old.items) }

@@ -15,7 +15,7 @@ use sorted_rows::Table;
 use std::alloc::{AllocError, Global};
 use std::str::SplitWhitespace;
 
-/// A FLOWSPEC for controlled load up to its rate, and what stands behind that (RFC 2210, 3.2.1).
+/// A FLOWSPEC for controlled load up to its rate, and what stands after that (RFC 2210, 3.2.1).
 const BEFORE_RATE: [u8; 12] = [0, 0, 0, 7, 5, 0, 0, 6, 127, 0, 0, 5];
 
 const BEHIND_RATE: [u8; 16] = [0, 0, 0, 0, 0x7f, 0x80, 0, 0, 0, 0, 0, 64, 0, 0, 5, 0xdc];

@@ -14,7 +14,7 @@ const OBJECT_HEADER_LEN: usize = 4;
 const SEED: u64 = 0x2545_f491_4f6c_dd1d;
 
 /// Puts the message's byte count into its length field, and no checksum into its checksum field.
-fn mend(message: &mut [u8]) {
+fn put_length(message: &mut [u8]) {
     let [high, low] = u16::try_from(message.len())
         .unwrap_or(u16::MAX)
         .to_be_bytes();
@@ -30,7 +30,7 @@ pub fn sealed(alloc: Global, kind_and_objects: &[u8]) -> Result<Vec<u8>, AllocEr
     if let [kind, objects @ ..] = kind_and_objects {
         message.extend_from_slice(&[VERSION_1, *kind, 0, 0, SEND_TTL, 0, 0, 0])?;
         message.extend_from_slice(objects)?;
-        mend(message.as_mut_slice());
+        put_length(message.as_mut_slice());
         let [high, low] = checksum(message.as_slice()).to_be_bytes();
         if let [_, _, sum_high, sum_low, ..] = message.as_mut_slice() {
             (*sum_high, *sum_low) = (high, low);
@@ -82,7 +82,7 @@ pub fn cut(alloc: Global, form: Form, bytes: &[u8], is_mended: bool) -> Result<S
     for len in 0..bytes.len() {
         let mut start = Vec::from_slice(alloc, &bytes[..len])?;
         if is_mended {
-            mend(start.as_mut_slice());
+            put_length(start.as_mut_slice());
         }
         counts.follow(Outcome::of(alloc, form, start.as_slice()))?;
     }
@@ -191,7 +191,7 @@ fn mutant(alloc: Global, message: &[u8], chance: &mut Chance) -> Result<Vec<u8>,
         change_byte(bytes.as_mut_slice(), chance);
     }
     if chance.below(8) != 0 {
-        mend(bytes.as_mut_slice());
+        put_length(bytes.as_mut_slice());
     }
     Ok(bytes)
 }

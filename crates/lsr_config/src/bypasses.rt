@@ -44,7 +44,7 @@ pub(crate) fn read_bypasses(
     Ok(bypasses)
 }
 
-/// The bypass that a record says, with its number, behind the bypasses before it.
+/// The bypass that a record says, with its number, after the bypasses before it.
 fn read_bypass(
     table: &Value,
     links: &[(u16, Link)],

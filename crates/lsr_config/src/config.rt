@@ -66,9 +66,9 @@ impl Config {
     ///
     /// The fault is that of the first rule that the text breaks: [`ConfigFault::Text`] where it isn't TOML, and then
     /// by tables (the router's keys, `link`, `route`, `tunnel`, `bypass`), records by their place, keys in the order of
-    /// [`Key`](crate::Key), but a route's `link` behind its `prefix`, a tunnel's `route` behind its `endpoint`, and a
-    /// bypass's `link` behind its `tunnel`; at each key that it is missing, then a bad value, a value that another has,
-    /// a name that isn't known; behind the keys of a record that it is one too many; and in the very end an unknown
+    /// [`Key`](crate::Key), but a route's `link` after its `prefix`, a tunnel's `route` after its `endpoint`, and a
+    /// bypass's `link` after its `tunnel`; at each key that it is missing, then a bad value, a value that another has,
+    /// a name that isn't known; after the keys of a record that it is one too many; and in the very end an unknown
     /// key. [`ConfigFault::Memory`] may come at any point.
     pub fn read(alloc: Global, text: &str) -> Result<Config, ConfigFault>
         ensures { IsRead text.now result }

@@ -47,7 +47,7 @@ pub(crate) fn read_links(
     Ok(links)
 }
 
-/// The link that a record says, with its number, behind the links before it.
+/// The link that a record says, with its number, after the links before it.
 fn read_link(
     table: &Value,
     router: Ipv4Addr,

@@ -198,7 +198,7 @@ pub(crate) fn records_at<'a>(document: &'a Value, key: Key) -> &'a [Value]
     }
 }
 
-/// Refuses a record behind so many others that its table has no more.
+/// Refuses a record after so many others that its table has room for no more.
 pub(crate) fn check_count(key: Key, most: usize, count: usize) -> Result<(), ConfigFault>
     ensures { (before : List Data) → length before ≡ count → Judges (few key most before ∷ []) (λ _. Unit {0}) result }
 {

@@ -40,7 +40,7 @@ pub(crate) fn read_routes(
     Ok(routes)
 }
 
-/// The route that a record says, behind the routes before it.
+/// The route that a record says, after the routes before it.
 fn read_route(
     table: &Value,
     links: &[(u16, Link)],

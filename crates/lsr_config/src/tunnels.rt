@@ -56,7 +56,7 @@ pub(crate) fn read_tunnels(
     Ok(tunnels)
 }
 
-/// The tunnel that a record says, with its number, behind the tunnels before it.
+/// The tunnel that a record says, with its number, after the tunnels before it.
 fn read_tunnel(
     alloc: Global,
     table: &Value,

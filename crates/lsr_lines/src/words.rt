@@ -17,7 +17,7 @@ pub(crate) fn next_word(left: Option<&str>) -> Option<(&str, Option<&str>)>
     }
 }
 
-/// The next two words of what is left of a line, and what is left behind them; none where there are fewer words.
+/// The next two words of what is left of a line, and what is left after them; none where there are fewer words.
 pub(crate) fn next_two(left: Option<&str>) -> Option<(&str, &str, Option<&str>)>
     ensures { MatchOption result (length (words_left left.entry) < 2) (λ r. words_left left.entry ≡ r.0.now ∷ r.1.now ∷ words_left r.2) }
 {

@@ -91,7 +91,7 @@ priority_words word setup hold = codes "  " ++ (word ++ (codes " setup " ++ (dec
 unfoldable pub called_words : List ℕ → List ℕ
 called_words name = codes " name " ++ (name_text name ++ codes "\n")
 
--- flags, behind other words
+-- flags, after other words
 unfoldable pub set_words : ℕ → List ℕ
 set_words flags = flags_words flags
 

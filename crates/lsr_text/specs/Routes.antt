@@ -12,12 +12,12 @@ use Rattle.object_text.specs.Routes.{prefix_text}
 abbrev pub bytes_text : List ℕ → List ℕ
 bytes_text bytes = codes "0x" ++ encode_lower bytes
 
--- what stands before the prefix of a step: where it is loose `~` stands behind the space
+-- what stands before the prefix of a step: where it is loose `~` stands after the space
 abbrev pub step_mark : Bool → List ℕ
 step_mark true = codes " ~"
 step_mark false = codes " "
 
--- a step, behind a space
+-- a step, after a space
 abbrev pub step_words : Step → List ℕ
 step_words (steps.Ipv4 loose prefix) = step_mark loose ++ prefix_text prefix
 step_words (steps.Other bytes) = codes " " ++ bytes_text bytes

@@ -12,7 +12,7 @@ use Rattle.forwarding_table.specs.declared.action.Action.TheVariants as actions
 use Rattle.object_text.specs.Traffic.{rate_bytes}
 use Rattle.lsr_text.specs.Shown.{key_text}
 
--- a number behind a space
+-- a number after a space
 abbrev pub next_number : ℕ → List ℕ
 next_number n = codes " " ++ decimal n
 
@@ -37,7 +37,7 @@ abbrev pub pushed_below : Option ℕ → List ℕ
 pushed_below None = []
 pushed_below (Some inner) = next_number inner
 
--- what is done with a label, or with a payload at the head of a tunnel; the label on top stands behind the one below it
+-- what is done with a label, or with a payload at the head of a tunnel; the label on top stands after the one below it
 abbrev pub action_words : Action → List ℕ
 action_words (actions.Swap label link) = codes "swap" ++ (next_number label ++ next_number link)
 action_words (actions.SwapPush inner outer link) = codes "swappush" ++ (next_number inner ++ (next_number outer ++ next_number link))
@@ -61,7 +61,7 @@ abbrev pub state_word : Bool → List ℕ
 state_word true = codes "up"
 state_word false = codes "down"
 
--- numbers, each behind a space
+-- numbers, each after a space
 abbrev pub sum_words : List ℕ → List ℕ
 sum_words sums = flat_map next_number sums
 

@@ -43,7 +43,7 @@ pub fn push_replies(text: &mut String, replies: &[Reply]) -> Result<(), AllocErr
     Ok(())
 }
 
-/// The lines of a step: its reply, and behind it what is sent, in order.
+/// The lines of a step: its reply, and after it what is sent, in order.
 fn made_text(alloc: Global, made: &Made) -> Result<String, AllocError>
     ensures { IfOk result (λ text. string_bytes text ≡ answer_text (Ok made.now)) }
 {
@@ -55,7 +55,7 @@ fn made_text(alloc: Global, made: &Made) -> Result<String, AllocError>
     Ok(text)
 }
 
-/// The lines of an answer: its reply, and behind it what is sent, in order. The only error is that memory ran out.
+/// The lines of an answer: its reply, and after it what is sent, in order. The only error is that memory ran out.
 pub fn answer_text(alloc: Global, answer: &Result<Made, Refusal>) -> Result<String, AllocError>
     ensures { IfOk result (λ text. string_bytes text ≡ answer_text answer.now) }
 {

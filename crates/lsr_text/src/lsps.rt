@@ -178,7 +178,7 @@ fn push_attr_name(alloc: Global, text: &mut String, attr: &Attr) -> Result<(), A
     push_called(alloc, text, attr.name.as_slice())
 }
 
-/// Appends flags behind other words.
+/// Appends flags after other words.
 #[tactic(auto, unfolding(crate::specs::Lsps::set_words))]
 fn push_set(alloc: Global, text: &mut String, flags: u8) -> Result<(), AllocError>
     ensures { OnOk result (string_bytes text.new ≡ string_bytes text.old ++ set_words flags) }
@@ -485,7 +485,7 @@ fn push_rival_key(text: &mut String, key: &Key) -> Result<(), AllocError>
     text.push_str("\n")
 }
 
-/// Appends the line of another LSP behind these words.
+/// Appends the line of another LSP after these words.
 #[tactic(auto, unfolding(crate::specs::Lsps::rival_line))]
 fn push_rival(text: &mut String, words: &str, key: &Key) -> Result<(), AllocError>
     ensures { OnOk result (string_bytes text.new ≡ string_bytes text.old ++ rival_line words.now key.now) }

@@ -8,7 +8,7 @@ use rsvp_routes::{Step, Trace};
 use std::alloc::{AllocError, Global};
 use std::fmt::Write;
 
-/// Appends the bytes as hexadecimal digits behind `0x`.
+/// Appends the bytes as hexadecimal digits after `0x`.
 fn push_bytes(alloc: Global, text: &mut String, bytes: &[u8]) -> Result<(), AllocError>
     ensures { OnOk result (string_bytes text.new ≡ string_bytes text.old ++ bytes_text bytes.now) }
 {
@@ -25,7 +25,7 @@ fn push_prefix(text: &mut String, prefix: Prefix) -> Result<(), AllocError>
     write!(text, "{address}/{length}")
 }
 
-/// Appends a step behind a space: `ADDRESS/LENGTH`, with `~` before it where it is loose, or the bytes of one of another
+/// Appends a step after a space: `ADDRESS/LENGTH`, with `~` before it where it is loose, or the bytes of one of another
 /// type.
 fn push_step(alloc: Global, text: &mut String, step: &Step) -> Result<(), AllocError>
     ensures { OnOk result (string_bytes text.new ≡ string_bytes text.old ++ step_words step.now) }
@@ -43,7 +43,7 @@ fn push_step(alloc: Global, text: &mut String, step: &Step) -> Result<(), AllocE
     }
 }
 
-/// Appends the steps, each behind a space.
+/// Appends the steps, each after a space.
 fn push_steps(alloc: Global, text: &mut String, steps: &[Step]) -> Result<(), AllocError>
     ensures { OnOk result (string_bytes text.new ≡ string_bytes text.old ++ flat_map step_words steps.now) }
 {
@@ -53,7 +53,7 @@ fn push_steps(alloc: Global, text: &mut String, steps: &[Step]) -> Result<(), Al
     Ok(())
 }
 
-/// Appends the line of a route behind its word, `none` standing for no route.
+/// Appends the line of a route after its word, `none` standing for no route.
 #[tactic(auto, unfolding(crate::specs::Routes::route_line))]
 pub(crate) fn push_route(
     alloc: Global,
@@ -71,7 +71,7 @@ pub(crate) fn push_route(
     text.push_str("\n")
 }
 
-/// Appends the flags behind their word: two hexadecimal digits.
+/// Appends the flags after their word: two hexadecimal digits.
 pub(crate) fn push_flags(alloc: Global, text: &mut String, flags: u8) -> Result<(), AllocError>
     ensures { OnOk result (string_bytes text.new ≡ string_bytes text.old ++ flags_words flags) }
 {

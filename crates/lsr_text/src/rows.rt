@@ -102,7 +102,7 @@ fn state_word(is_up: bool) -> &'static str
     if is_up { "up" } else { "down" }
 }
 
-/// Appends the numbers, each behind a space.
+/// Appends the numbers, each after a space.
 fn push_sums(text: &mut String, sums: &[u64]) -> Result<(), AllocError>
     ensures { OnOk result (string_bytes text.new ≡ string_bytes text.old ++ sum_words sums.now) }
 {

@@ -29,7 +29,7 @@ pub fn has_class(objects: &[Object], class: u8) -> bool
     objects.iter().any(|object| object.class() == class)
 }
 
-/// Whether messages of this type have a STYLE, and flow descriptors behind it.
+/// Whether messages of this type have a STYLE, and flow descriptors after it.
 pub fn has_style(kind: u8) -> bool
     ensures { result ≡ has_style kind }
 {

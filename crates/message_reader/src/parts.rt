@@ -82,7 +82,7 @@ fn pass_on(
     Ok(())
 }
 
-/// Puts an object of flow descriptors with those that stand behind STYLE, if it is known already.
+/// Puts an object of flow descriptors with those that stand after STYLE, if it is known already.
 fn keep_flow(
     style: Option<Style>,
     flows: &mut Vec<Object>,
@@ -135,7 +135,7 @@ fn add(
 }
 
 /// What the objects that count in a message of this type say: their values; which are passed on, in their
-/// order, the ADSPEC last; and those of flow descriptors behind STYLE.
+/// order, the ADSPEC last; and those of flow descriptors after STYLE.
 pub fn parts_of(
     alloc: Global,
     kind: u8,

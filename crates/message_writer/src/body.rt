@@ -1,5 +1,5 @@
 //! The objects of each message, in their order. Where there is no memory for one, a part of them may stand
-//! behind what was there.
+//! after what was there.
 
 ghost use Rattle.std.specs.Prelude.{◌≡◌, ◌++◌, OnOk, OnErr, All, take, length};
 ghost use Rattle.std.specs.List.{flat_map};

@@ -1,4 +1,4 @@
-//! What stands behind STYLE. Where there is no memory for it, some of it may stand behind what was there.
+//! What stands after STYLE. Where there is no memory for it, some of it may stand after what was there.
 
 ghost use Rattle.std.specs.Prelude.{◌≡◌, ◌++◌, ◌∷◌, [], None, OnOk, OnErr, All, map, take, length};
 ghost use Rattle.std.specs.List.{flat_map};
@@ -30,7 +30,7 @@ fn put_flowspec(
     }
 }
 
-/// Appends a flow descriptor behind one for which this FLOWSPEC counts, if there is one.
+/// Appends a flow descriptor after one for which this FLOWSPEC counts, if there is one.
 fn put_flow_descriptor(
     before: Option<&Flowspec>,
     descriptor: &FlowDescriptor,
@@ -63,7 +63,7 @@ pub(crate) fn put_flow_descriptors(
     Ok(())
 }
 
-/// Appends an error flow descriptor behind one for which this FLOWSPEC counts, if there is one.
+/// Appends an error flow descriptor after one for which this FLOWSPEC counts, if there is one.
 fn put_error_descriptor(
     before: Option<&Flowspec>,
     descriptor: &ErrorDescriptor,

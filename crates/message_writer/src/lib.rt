@@ -1,4 +1,4 @@
-//! Writes messages of RSVP: the common header with its length and checksum (RFC 2205, 3.1.1), and behind
+//! Writes messages of RSVP: the common header with its length and checksum (RFC 2205, 3.1.1), and after
 //! it a message's objects in their order (RFC 2205, 3.1.3 to 3.1.8; RFC 3209, 3).
 #![tactic(auto)]
 

@@ -114,7 +114,7 @@ fn put_if_adspec(object: &Opaque, out: &mut Vec<u8>) -> Result<(), AllocError>
 }
 
 /// Appends what is passed on, but for the ADSPEC. Where there is no memory for it, some of it may stand
-/// behind what was there.
+/// after what was there.
 pub(crate) fn put_before_sender(passing: &[Opaque], out: &mut Vec<u8>) -> Result<(), AllocError>
     ensures ok { OnOk result (out.new.items ≡ out.old.items ++ flat_map spelling (before_sender passing.now)) }
     ensures spelled { OnOk result (All IsSpelled (before_sender passing.now)) }
@@ -126,7 +126,7 @@ pub(crate) fn put_before_sender(passing: &[Opaque], out: &mut Vec<u8>) -> Result
     Ok(())
 }
 
-/// Appends the ADSPEC of what is passed on. Where there is no memory for it, some of it may stand behind
+/// Appends the ADSPEC of what is passed on. Where there is no memory for it, some of it may stand after
 /// what was there.
 pub(crate) fn put_adspec(passing: &[Opaque], out: &mut Vec<u8>) -> Result<(), AllocError>
     ensures ok { OnOk result (out.new.items ≡ out.old.items ++ flat_map spelling (adspec passing.now)) }
@@ -139,7 +139,7 @@ pub(crate) fn put_adspec(passing: &[Opaque], out: &mut Vec<u8>) -> Result<(), Al
     Ok(())
 }
 
-/// Appends all that is passed on. Where there is no memory for it, some of it may stand behind what was there.
+/// Appends all that is passed on. Where there is no memory for it, some of it may stand after what was there.
 pub(crate) fn put_passing(passing: &[Opaque], out: &mut Vec<u8>) -> Result<(), AllocError>
     ensures ok { OnOk result (out.new.items ≡ out.old.items ++ flat_map spelling (map Object.Other passing.now)) }
     ensures spelled { OnOk result (All IsSpelled (map Object.Other passing.now)) }

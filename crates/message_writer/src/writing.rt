@@ -10,7 +10,7 @@ use rsvp_contents::numbers::*;
 use std::alloc::AllocError;
 
 /// Appends the message without its length and its checksum. Where there is no memory for it, a part of it
-/// may stand behind what was there.
+/// may stand after what was there.
 pub(crate) fn put_content(content: &Content, out: &mut Vec<u8>) -> Result<(), AllocError>
     ensures ok { OnOk result (out.new.items ≡ out.old.items ++ (bare_header (type_of content.now) ++ body_of content.now)) }
     ensures spelled { OnOk result (All IsSpelled (objects_of content.now)) }

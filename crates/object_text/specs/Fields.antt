@@ -1,4 +1,4 @@
--- What an object says: its class and its fields, each behind its name.
+-- What an object says: its class and its fields, each after its name.
 use Rattle.std.specs.Prelude.{ℕ, ◌%◌, ◌==◌, List, [], ◌++◌, codes, Option, Some, None, if◌then◌else◌}
 use Rattle.std.specs.Char.{is_ascii_graphic}
 use Rattle.std.specs.Fmt.{decimal}

@@ -1,4 +1,4 @@
--- Flags by their names: the byte, and behind it the names of those that are set. A bit without a name stands in the byte alone.
+-- Flags by their names: the byte, and after it the names of those that are set. A bit without a name stands in the byte alone.
 use Rattle.std.specs.Prelude.{ℕ, ◌==◌, List, [], ◌++◌, bit_and, codes, if◌then◌else◌}
 use Rattle.object_text.specs.Words.{byte_text}
 

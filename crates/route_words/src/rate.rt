@@ -16,7 +16,7 @@ const HEX: u32 = 16;
 /// What may stand before a number that is parsed, but not before a rate.
 const PLUS: char = '+';
 
-/// What stands before the rate in a description of traffic: how many words are behind each of its three headers (RFC 2210,
+/// What stands before the rate in a description of traffic: how many words are after each of its three headers (RFC 2210,
 /// 3.1).
 const HEADERS: [u8; 12] = [
     numbers::FORMAT_VERSION,

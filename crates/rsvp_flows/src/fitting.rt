@@ -1,4 +1,4 @@
-//! Whether what stands behind STYLE fits a message.
+//! Whether what stands after STYLE fits a message.
 
 ghost use Rattle.std.specs.Prelude.{◌≡◌, ◌≤◌, ◌∷◌, [], nat_le, length, map, false, None};
 ghost use Rattle.std.specs.List.{list_all};
@@ -45,7 +45,7 @@ pub fn fits_style(style: Style, descriptors: &[FlowDescriptor]) -> bool
     !descriptors.is_empty() && (!is_shared(style) || are_shared(descriptors))
 }
 
-/// Whether behind a descriptor for which a FLOWSPEC counts one counts for each.
+/// Whether after a descriptor for which a FLOWSPEC counts one counts for each.
 pub fn counts_on(descriptors: &[ErrorDescriptor]) -> bool
     ensures { result ≡ counts_on false descriptors.now }
 {
@@ -68,7 +68,7 @@ fn filter_len(filter: Template) -> usize
     HEADER_LEN + TEMPLATE_LEN
 }
 
-/// How many bytes a FLOWSPEC is written in behind another.
+/// How many bytes a FLOWSPEC is written in after another.
 fn flowspec_len(before: Option<&Flowspec>, flowspec: &Flowspec) -> usize
     ensures len { result ≡ spelled_len (flowspec_objects (option_map (λ f. f.now) before.entry) flowspec.now) }
     ensures most { result ≤ 65532 }
@@ -90,7 +90,7 @@ fn record_len(recorded: &Option<Record>) -> usize
     }
 }
 
-/// How many bytes a flow descriptor is written in, behind one for which this FLOWSPEC counts.
+/// How many bytes a flow descriptor is written in, after one for which this FLOWSPEC counts.
 fn flow_len(before: Option<&Flowspec>, descriptor: &FlowDescriptor) -> usize
     ensures len { result ≡ spelled_len (flow_objects (option_map (λ f. f.now) before.entry) (descriptor.now ∷ [])) }
     ensures most { result ≤ 131084 }
@@ -118,7 +118,7 @@ pub fn are_flows_within(most: usize, descriptors: &[FlowDescriptor]) -> bool
     true
 }
 
-/// How many bytes an error flow descriptor is written in, behind one for which this FLOWSPEC counts.
+/// How many bytes an error flow descriptor is written in, after one for which this FLOWSPEC counts.
 fn error_len(before: Option<&Flowspec>, descriptor: &ErrorDescriptor) -> usize
     ensures len { result ≡ spelled_len (error_objects (option_map (λ f. f.now) before.entry) (descriptor.now ∷ [])) }
     ensures most { result ≤ 65544 }

@@ -1,4 +1,4 @@
-//! What the objects behind STYLE say.
+//! What the objects after STYLE say.
 
 ghost use Rattle.std.specs.Prelude.{◌≡◌, IfOk, None};
 ghost use Rattle.std.specs.List.{count_by};
@@ -13,7 +13,7 @@ use rsvp_objects::{Flowspec, Object, Style};
 use std::alloc::{AllocError, Global};
 
 /// The FLOWSPEC that counts for what the objects begin with, where one may count already, and the objects
-/// behind it.
+/// after it.
 fn counting<'a>(
     before: Option<&'a Flowspec>,
     objects: &'a [Object],
@@ -26,7 +26,7 @@ fn counting<'a>(
     }
 }
 
-/// The flow descriptor that the objects begin with, for which this FLOWSPEC counts, and the objects behind it.
+/// The flow descriptor that the objects begin with, for which this FLOWSPEC counts, and the objects after it.
 fn labelled<'a>(
     flowspec: &Flowspec,
     objects: &'a [Object],
@@ -95,7 +95,7 @@ fn flowspecs_in(objects: &[Object]) -> usize
     count
 }
 
-/// The flow descriptors that the objects behind a STYLE say, of which all are objects of flow descriptors;
+/// The flow descriptors that the objects after a STYLE say, of which all are objects of flow descriptors;
 /// none where they break the style's grammar. Of another style than FF and SE nothing is read. The only error
 /// is out of memory.
 pub fn flow_descriptors_of(
@@ -124,7 +124,7 @@ fn copy_of(flowspec: Option<&Flowspec>) -> Result<Option<Flowspec>, AllocError>
     }
 }
 
-/// The error flow descriptors that the objects behind a STYLE say. The only error is out of memory.
+/// The error flow descriptors that the objects after a STYLE say. The only error is out of memory.
 pub fn error_descriptors_of(
     alloc: Global,
     objects: &[Object],
@@ -146,7 +146,7 @@ pub fn error_descriptors_of(
     Ok(found)
 }
 
-/// The LSPs that the objects behind a STYLE name. The only error is out of memory.
+/// The LSPs that the objects after a STYLE name. The only error is out of memory.
 pub fn filters_of(alloc: Global, objects: &[Object]) -> Result<Filters, AllocError>
     ensures { IfOk result (λ found. found ≡ filters_of objects.now) }
 {

@@ -38,7 +38,7 @@ impl<T: Exact> Sequence<T> {
         }
     }
 
-    /// Puts a value behind the others. The only error is out of memory, and then nothing changed.
+    /// Puts a value after the others. The only error is out of memory, and then nothing changed.
     pub fn push(&mut self, item: T) -> Result<(), AllocError>
         ensures ok { OnOk result (self.new ≡ self.old ++ item ∷ []) }
         ensures err { OnErr result (self.new ≡ self.old) }

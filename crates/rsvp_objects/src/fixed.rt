@@ -180,7 +180,7 @@ pub fn word_bytes(word: u32) -> [u8; WORD_LEN]
 }
 
 /// The body of a FAST_REROUTE (RFC 4090, 4.1). Here include-any stands before exclude-any; in
-/// SESSION_ATTRIBUTE it stands behind.
+/// SESSION_ATTRIBUTE it stands after.
 pub fn fast_reroute_bytes(request: FastReroute) -> [u8; FAST_REROUTE_LEN]
     ensures bytes { result ≡ fast_reroute_body request }
     ensures fits { IsFastReroute request }

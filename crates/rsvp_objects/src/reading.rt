@@ -25,7 +25,7 @@ pub struct ObjectParts<'a> {
     pub class: u8,
     /// The C-Type.
     pub ctype: u8,
-    /// What stands behind the header.
+    /// What stands after the header.
     pub body: &'a [u8],
 }
 

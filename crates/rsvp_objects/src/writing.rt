@@ -68,7 +68,7 @@ fn put_attr(out: &mut Vec<u8>, attr: &Attr) -> Result<(), AllocError>
     attr.write(out)
 }
 
-/// Appends the object. Where there is no memory for it, a part of it may stand behind what was there.
+/// Appends the object. Where there is no memory for it, a part of it may stand after what was there.
 fn put_object(object: &Object, out: &mut Vec<u8>) -> Result<(), AllocError>
     ensures ok { OnOk result (out.new.items ≡ out.old.items ++ spelling object.now) }
     ensures err { OnErr result (take (length out.old.items) out.new.items ≡ out.old.items) }
@@ -95,7 +95,7 @@ fn put_object(object: &Object, out: &mut Vec<u8>) -> Result<(), AllocError>
     }
 }
 
-/// Hands on whether something was written behind the first `start` bytes; where it wasn't, these alone
+/// Hands on whether something was written after the first `start` bytes; where it wasn't, these alone
 /// are left.
 fn or_undo(
     written: Result<(), AllocError>,

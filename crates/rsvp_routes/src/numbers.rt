@@ -21,7 +21,7 @@ pub const LABEL_LEN: u8 = 8;
 /// The bytes of a subobject before its body: its type and its length.
 pub const HEAD_LEN: usize = 2;
 
-/// The bytes behind the address of an IPv4 prefix: the prefix length, and one that is reserved in a step and
+/// The bytes after the address of an IPv4 prefix: the prefix length, and one that is reserved in a step and
 /// has flags in an entry.
 pub const PREFIX_TAIL_LEN: usize = 2;
 

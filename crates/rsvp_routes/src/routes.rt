@@ -25,7 +25,7 @@ pub fn read_route(alloc: Global, bytes: &[u8]) -> Result<Route, ObjectFault>
     Route::read(alloc, bytes)
 }
 
-/// Writes the body of an EXPLICIT_ROUTE behind what `out` holds. The only error is out of memory, which
+/// Writes the body of an EXPLICIT_ROUTE after what `out` holds. The only error is out of memory, which
 /// leaves `out` as it was.
 pub fn write_route(route: &Route, out: &mut Vec<u8>) -> Result<(), AllocError>
     ensures ok { OnOk result (out.new.items ≡ out.old.items ++ route_bytes route.now) }
@@ -47,7 +47,7 @@ pub fn read_record(alloc: Global, bytes: &[u8]) -> Result<Record, ObjectFault>
     Record::read(alloc, bytes)
 }
 
-/// Writes the body of a RECORD_ROUTE behind what `out` holds. The only error is out of memory, which leaves
+/// Writes the body of a RECORD_ROUTE after what `out` holds. The only error is out of memory, which leaves
 /// `out` as it was.
 pub fn write_record(recorded: &Record, out: &mut Vec<u8>) -> Result<(), AllocError>
     ensures ok { OnOk result (out.new.items ≡ out.old.items ++ record_bytes recorded.now) }

@@ -21,7 +21,7 @@ pub trait Subobject: Clone + Eq + Drop {
         requires { IsSubobject bytes.now }
         ensures { ReadsWhole Spells bytes.now result };
 
-    /// Writes the value behind what `out` holds. The only error is out of memory, which leaves `out` as it
+    /// Writes the value after what `out` holds. The only error is out of memory, which leaves `out` as it
     /// was.
     fn write(&self, out: &mut Vec<u8>) -> Result<(), AllocError>
         ensures ok { OnOk result (out.new.items ≡ out.old.items ++ spelling self.now) }
@@ -48,7 +48,7 @@ pub trait Subobject: Clone + Eq + Drop {
     ghost equal_is_same: { (a b : Self) → Decides (Self.PartialEq.eq a b) (a ≡ b) };
 }
 
-/// The first subobject of the bytes, by its length, and the bytes behind it. There is none where the length
+/// The first subobject of the bytes, by its length, and the bytes after it. There is none where the length
 /// is below 4, no multiple of 4 or past the end.
 pub(crate) fn split_first(bytes: &[u8]) -> Option<(&[u8], &[u8])>
     ensures found { IfSome result (λ parts. IsSubobject parts.0.now × (bytes.now ≡ parts.0.now ++ parts.1.now)) }

@@ -99,7 +99,7 @@ impl<T: Subobject> Subobjects<T> {
         Ok(Subobjects::from_vec(items))
     }
 
-    /// Writes the subobjects behind what `out` holds. The only error is out of memory, which leaves `out`
+    /// Writes the subobjects after what `out` holds. The only error is out of memory, which leaves `out`
     /// as it was.
     pub(crate) fn write(&self, out: &mut Vec<u8>) -> Result<(), AllocError>
         ensures ok { OnOk result (out.new.items ≡ out.old.items ++ flat_map T.spelling self.now) }

@@ -76,7 +76,7 @@ impl Attr {
         }
     }
 
-    /// Appends the body. The only error is out of memory; a part of the body may then stand behind what was
+    /// Appends the body. The only error is out of memory; a part of the body may then stand after what was
     /// there.
     pub fn write(&self, out: &mut Vec<u8>) -> Result<(), AllocError>
         ensures ok { OnOk result (out.new.items ≡ out.old.items ++ attr_body self.now) }
@@ -92,7 +92,7 @@ impl Attr {
         }
     }
 
-    /// Appends what stands behind the affinities; zeros fill its last word.
+    /// Appends what stands after the affinities; zeros fill its last word.
     fn write_name(&self, out: &mut Vec<u8>) -> Result<(), AllocError>
         ensures ok { OnOk result (out.new.items ≡ out.old.items ++ name_body self.now) }
         ensures err { OnErr result (take (length out.old.items) out.new.items ≡ out.old.items) }
