@@ -1,6 +1,7 @@
 //! The rules of messages: what a step asks of a message, of a path or a reservation that is known, of what goes on of it,
-//! and of what is claimed of a link, and the errors that it tells. Each function computes one definition of the abstract
-//! router. What next hops are is passed on with them.
+//! and of what is claimed of a link; the errors that it tells, and to whom; the message that ends what another set up, and
+//! whether one that is wanted rests. Each function computes one definition of the abstract router. What next hops are is
+//! passed on with them.
 #![tactic(auto)]
 
 mod descriptors;
