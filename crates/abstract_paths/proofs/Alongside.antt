@@ -26,8 +26,8 @@ use Rattle.lsr_facts.specs.declared.router.Router.{Router}
 use Rattle.lsr_facts.specs.declared.tunnel.Tunnel.{Tunnel}
 use Rattle.lsr_facts.specs.declared.tunnel.TunnelLsp.{TunnelLsp}
 use Rattle.lsr_facts.specs.Changes.{begun}
-use Rattle.router_events.specs.declared.commands.Command.{Command}
-use Rattle.router_events.specs.declared.commands.Command.TheVariants.{AddTunnel, ChangeTunnel, CancelChange, DropTunnel, AddBypass, DropBypass, AddRoute, DropRoute}
+use Rattle.abstract_paths.specs.declared.commands.Command.{Command}
+use Rattle.abstract_paths.specs.declared.commands.Command.TheVariants.{AddTunnel, ChangeTunnel, CancelChange, DropTunnel, AddBypass, DropBypass, AddRoute, DropRoute}
 use Rattle.rsvp_contents.specs.declared.messages.Path.{Path}
 use Rattle.rsvp_contents.specs.declared.messages.PathErr.{PathErr}
 use Rattle.rsvp_contents.specs.declared.messages.PathTear.{PathTear}

@@ -12,8 +12,8 @@ use Rattle.std.proofs.lemmas.Bool.{leb-false, ltb-false, not-false, not-true, or
 use Rattle.std.proofs.lemmas.Cmp.{nat_cmp_total}
 use Rattle.rsvp_objects.specs.Ranges.{IsAddress}
 use Rattle.rsvp_contents.specs.Limits.{is_short_route}
-use Rattle.rsvp_routes.specs.declared.prefix.Prefix.{Prefix}
-use Rattle.rsvp_routes.specs.declared.step.Step.{Step}
+use Rattle.rsvp_bodies.specs.declared.prefix.Prefix.{Prefix}
+use Rattle.rsvp_bodies.specs.declared.step.Step.{Step}
 use Rattle.sorted_rows.specs.ListLaws.{all-filter}
 use Rattle.sorted_rows.specs.RowsLaws.{all-put, all-put_row, find-put_same}
 use Rattle.lsr_facts.specs.OrderLaws.{prefix_exact, prefix_total}
@@ -30,11 +30,11 @@ use Rattle.lsr_facts.specs.declared.router.Router.{Router}
 use Rattle.lsr_facts.specs.declared.tunnel.Tunnel.{Tunnel}
 use Rattle.lsr_facts.specs.declared.tunnel.TunnelLsp.{TunnelLsp}
 use Rattle.lsr_facts.specs.Changes.{begun, cancelled}
-use Rattle.router_events.specs.declared.commands.Command.{Command}
-use Rattle.router_events.specs.declared.commands.Command.TheVariants.{AddTunnel, ChangeTunnel, CancelChange, DropTunnel, AddBypass, DropBypass, AddRoute, DropRoute}
-use Rattle.router_events.specs.declared.tunnels.NewBypass.{NewBypass}
-use Rattle.router_events.specs.declared.tunnels.NewTunnel.{NewTunnel}
-use Rattle.router_events.specs.declared.tunnels.TunnelChange.{TunnelChange}
+use Rattle.abstract_paths.specs.declared.commands.Command.{Command}
+use Rattle.abstract_paths.specs.declared.commands.Command.TheVariants.{AddTunnel, ChangeTunnel, CancelChange, DropTunnel, AddBypass, DropBypass, AddRoute, DropRoute}
+use Rattle.abstract_paths.specs.declared.tunnels.NewBypass.{NewBypass}
+use Rattle.abstract_paths.specs.declared.tunnels.NewTunnel.{NewTunnel}
+use Rattle.abstract_paths.specs.declared.tunnels.TunnelChange.{TunnelChange}
 use Rattle.abstract_paths.proofs.Bypasses.{bypasses_put, bypasses_tunnel_gone, bypasses_tunnel_put, bypasses_where}
 use Rattle.abstract_paths.proofs.EventStanding.{LeavesStanding}
 use Rattle.abstract_paths.proofs.Heads.{heads_begun, heads_cancelled, heads_changed, heads_dropped, heads_where, is_head-current, is_head-pending}

@@ -8,9 +8,9 @@ use Rattle.std.proofs.Common.{refl, arith, length-append}
 use Rattle.std.proofs.lemmas.Bool.{and_from, cond_both, eq-eqb, false≢true}
 use Rattle.rsvp_objects.specs.Ranges.{IsAddress}
 use Rattle.rsvp_contents.specs.Limits.{is_address, is_short_route, step_has_address}
-use Rattle.rsvp_routes.specs.declared.step.Step.{Step}
-use Rattle.rsvp_routes.specs.declared.step.Step.TheVariants.{Ipv4, Other}
-use Rattle.rsvp_routes.specs.Steps.{step_bytes}
+use Rattle.rsvp_bodies.specs.declared.step.Step.{Step}
+use Rattle.rsvp_bodies.specs.declared.step.Step.TheVariants.{Ipv4, Other}
+use Rattle.rsvp_bodies.specs.Steps.{step_bytes}
 use Rattle.abstract_paths.proofs.NextHops.{HasRoomBefore, room-behind, room-drop, room-step}
 use Rattle.abstract_paths.specs.Detouring.{route_after, steps_after}
 use Rattle.abstract_paths.specs.Places.{contains}

@@ -42,7 +42,7 @@ use Rattle.lsr_facts.specs.declared.path_fact.PathFact.{PathFact}
 use Rattle.lsr_facts.specs.declared.refusal.Refusal.TheVariants.{BadMoment, Late, LinkDown, NoMatch, UnknownLink}
 use Rattle.lsr_facts.specs.declared.router.Router.{Router}
 use Rattle.lsr_facts.specs.declared.tunnel.Tunnel.{Tunnel}
-use Rattle.router_events.specs.declared.ways.Relay.{Relay}
+use Rattle.abstract_paths.specs.declared.ways.Relay.{Relay}
 use Rattle.rsvp_contents.proofs.Fitted.{message_fits}
 use Rattle.rsvp_contents.specs.Fitting.{fits_path, written_len}
 use Rattle.rsvp_contents.specs.Spelling.{IsMessage}
@@ -51,7 +51,7 @@ use Rattle.rsvp_contents.specs.declared.messages.Path.{Path}
 use Rattle.rsvp_contents.specs.declared.messages.PathErr.{PathErr}
 use Rattle.rsvp_contents.specs.declared.messages.PathTear.{PathTear}
 use Rattle.rsvp_objects.specs.declared.values.ErrorSpec.{ErrorSpec}
-use Rattle.rsvp_traffic.specs.TokenBuckets.{token_rate}
+use Rattle.rsvp_bodies.specs.TokenBuckets.{token_rate}
 
 -- What an outcome leaves of paths, links, routes and time is as it should be.
 abbrev pub LeavesStanding : Router → PathOutcome → Type 0

@@ -10,7 +10,7 @@ use Rattle.std.proofs.lemmas.Cmp.{nat_cmp_total, tied_back, tied_itself}
 use Rattle.std.proofs.lemmas.Map.Lookups.{exact_unsigned}
 use Rattle.std.proofs.lemmas.Option.{same_Some}
 use Rattle.rsvp_objects.specs.declared.values.ErrorSpec.{ErrorSpec}
-use Rattle.rsvp_routes.specs.declared.step.Step.{Step}
+use Rattle.rsvp_bodies.specs.declared.step.Step.{Step}
 use Rattle.sorted_rows.specs.ListLaws.{all-both, all-filter, all-filter_passes, all-map, all-weaker}
 use Rattle.sorted_rows.specs.RowsLaws.{all-from_find, find-all_row, find-put_apart, find-put_other, find-put_same, find-removed_apart, find-removed_same, ties}
 use Rattle.lsr_facts.specs.Lifetimes.{begins_here, expire, lives_on, with_living}

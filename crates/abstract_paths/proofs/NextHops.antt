@@ -11,10 +11,10 @@ use Rattle.std.proofs.lemmas.Bool.{and_parts, and_from, leb-true, le-leb, eqb-tr
 use Rattle.std.proofs.lemmas.Cmp.{nat_cmp_total}
 use Rattle.std.proofs.lemmas.Option.{IfSome_then}
 use Rattle.rsvp_objects.specs.Ranges.{IsAddress}
-use Rattle.rsvp_routes.specs.declared.prefix.Prefix.{Prefix}
-use Rattle.rsvp_routes.specs.declared.step.Step.{Step}
-use Rattle.rsvp_routes.specs.declared.step.Step.TheVariants.{Ipv4, Other}
-use Rattle.rsvp_routes.specs.Steps.{route_bytes, step_bytes}
+use Rattle.rsvp_bodies.specs.declared.prefix.Prefix.{Prefix}
+use Rattle.rsvp_bodies.specs.declared.step.Step.{Step}
+use Rattle.rsvp_bodies.specs.declared.step.Step.TheVariants.{Ipv4, Other}
+use Rattle.rsvp_bodies.specs.Steps.{route_bytes, step_bytes}
 use Rattle.rsvp_contents.specs.Limits.{is_address, is_short_route, step_has_address}
 use Rattle.sorted_rows.specs.ListLaws.{all-filter, all-weaker}
 use Rattle.sorted_rows.specs.RowsLaws.{all_found, find-all}

@@ -7,7 +7,7 @@ use Rattle.std.specs.Ordering.{nat_cmp}
 use Rattle.std.proofs.Common.{refl, ap, sym, subst, ◌∙◌, arith}
 use Rattle.sorted_rows.specs.RowsLaws.{is_some-find_both, is_sorted-both, keys-put_found}
 use Rattle.lsr_facts.specs.Orders.{key_cmp}
-use Rattle.rsvp_routes.specs.declared.prefix.Prefix.{Prefix}
+use Rattle.rsvp_bodies.specs.declared.prefix.Prefix.{Prefix}
 use Rattle.lsr_facts.specs.Routers.{AreRoutes, HasLink, IsRouter, link_at}
 use Rattle.lsr_facts.specs.Bypasses.{AreBypasses}
 use Rattle.lsr_facts.specs.Tunnels.{AreTunnels}

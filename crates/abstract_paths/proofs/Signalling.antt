@@ -10,8 +10,8 @@ use Rattle.std.proofs.lemmas.Bool.{and_parts, and_right, both_ways, cond_both, f
 use Rattle.std.proofs.lemmas.Cmp.{nat_cmp_total}
 use Rattle.rsvp_contents.specs.Limits.{is_short_route}
 use Rattle.rsvp_objects.specs.declared.values.FastReroute.{FastReroute}
-use Rattle.rsvp_routes.specs.declared.prefix.Prefix.{Prefix}
-use Rattle.rsvp_routes.specs.declared.step.Step.{Step}
+use Rattle.rsvp_bodies.specs.declared.prefix.Prefix.{Prefix}
+use Rattle.rsvp_bodies.specs.declared.step.Step.{Step}
 use Rattle.rsvp_contents.specs.Fitting.{has_one_fast_reroute}
 use Rattle.sorted_rows.specs.ListLaws.{all-both}
 use Rattle.sorted_rows.specs.RowsLaws.{all_found}

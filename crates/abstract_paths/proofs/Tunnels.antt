@@ -9,7 +9,7 @@ use Rattle.std.proofs.lemmas.List.{length-map}
 use Rattle.std.proofs.lemmas.Map.Lookups.{exact_unsigned}
 use Rattle.rsvp_contents.specs.Limits.{is_short_route}
 use Rattle.rsvp_objects.specs.declared.values.ErrorSpec.{ErrorSpec}
-use Rattle.rsvp_routes.specs.declared.step.Step.{Step}
+use Rattle.rsvp_bodies.specs.declared.step.Step.{Step}
 use Rattle.sorted_rows.specs.ListLaws.{all-filter, all-map, all-weaker}
 use Rattle.sorted_rows.specs.RowsLaws.{all-put_row, find-all_row, is_sorted-both}
 use Rattle.lsr_facts.specs.Tunnels.{AreTunnels, IsPendingAs, IsTunnel, route_from}

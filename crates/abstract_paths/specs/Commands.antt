@@ -7,9 +7,9 @@ use Rattle.std.specs.Ordering.{nat_cmp}
 use Rattle.std.specs.Result.{is_err, result_ok}
 use Rattle.std.specs.declared.net.ipv4_addr.Ipv4Addr.{Ipv4Addr}
 use Rattle.rsvp_contents.specs.Limits.{is_short_route}
-use Rattle.rsvp_routes.specs.declared.prefix.Prefix.{Prefix}
-use Rattle.rsvp_routes.specs.declared.step.Step.{Step}
-use Rattle.rsvp_traffic.specs.Rates.{rate_of}
+use Rattle.rsvp_bodies.specs.declared.prefix.Prefix.{Prefix}
+use Rattle.rsvp_bodies.specs.declared.step.Step.{Step}
+use Rattle.rsvp_bodies.specs.Rates.{rate_of}
 use Rattle.lsr_facts.specs.Bypasses.{is_for_bypass, is_to_protect}
 use Rattle.lsr_facts.specs.Orders.{key_cmp, prefix_cmp}
 use Rattle.lsr_facts.specs.Routers.{link_at, masked}
@@ -24,10 +24,10 @@ use Rattle.lsr_facts.specs.declared.refusal.Refusal.TheVariants.{BadRoute, Bypas
 use Rattle.lsr_facts.specs.declared.router.Router.{Router}
 use Rattle.lsr_facts.specs.declared.tunnel.Tunnel.{Tunnel}
 use Rattle.lsr_facts.specs.Changes.{begun, cancelled}
-use Rattle.router_events.specs.declared.commands.Command.{Command}
-use Rattle.router_events.specs.declared.commands.Command.TheVariants.{AddTunnel, ChangeTunnel, CancelChange, DropTunnel, AddBypass, DropBypass, AddRoute, DropRoute}
-use Rattle.router_events.specs.declared.tunnels.NewBypass.{NewBypass}
-use Rattle.router_events.specs.declared.tunnels.NewTunnel.{NewTunnel}
+use Rattle.abstract_paths.specs.declared.commands.Command.{Command}
+use Rattle.abstract_paths.specs.declared.commands.Command.TheVariants.{AddTunnel, ChangeTunnel, CancelChange, DropTunnel, AddBypass, DropBypass, AddRoute, DropRoute}
+use Rattle.abstract_paths.specs.declared.tunnels.NewBypass.{NewBypass}
+use Rattle.abstract_paths.specs.declared.tunnels.NewTunnel.{NewTunnel}
 use Rattle.abstract_paths.specs.Changes.{with_bypass, with_route, with_tunnel, without_bypass, without_paths, without_route, without_tunnel}
 use Rattle.abstract_paths.specs.Heads.{head_hop, is_full, with_head}
 use Rattle.abstract_paths.specs.Outcomes.{PathOutcome, done, refused}

@@ -1,4 +1,6 @@
+pub mod Arrivals
 pub mod Changes
+pub mod Commanding
 pub mod Commands
 pub mod Detouring
 pub mod Heads
@@ -22,3 +24,7 @@ pub mod Tears
 pub mod Time
 pub mod Touched
 pub mod TouchedLaws
+pub mod Ways
+pub use Rattle.link_frames.specs.Frames
+pub use Rattle.link_frames.specs.declared.frame.Frame
+pub use Rattle.link_frames.specs.declared.payload.Payload

@@ -3,11 +3,11 @@ use Rattle.std.specs.Prelude.{◌≡◌, ℕ, ◌≤◌, Bool, true, false, if�
 use Rattle.std.specs.Option.{option_map_or}
 use Rattle.std.proofs.Common.{refl, arith}
 use Rattle.std.proofs.lemmas.Bool.{and_from}
-use Rattle.rsvp_traffic.specs.Rates.{rate_of}
-use Rattle.rsvp_traffic.specs.TokenBuckets.{has_shape, rate_word_of, token_rate}
-use Rattle.rsvp_traffic.proofs.Shapes.{has_shape-whole}
-use Rattle.rsvp_routes.specs.declared.trace.Trace.{Trace}
-use Rattle.rsvp_routes.specs.declared.trace.Trace.TheVariants.{Ipv4}
+use Rattle.rsvp_bodies.specs.Rates.{rate_of}
+use Rattle.rsvp_bodies.specs.TokenBuckets.{has_shape, rate_word_of, token_rate}
+use Rattle.rsvp_bodies.proofs.Shapes.{has_shape-whole}
+use Rattle.rsvp_bodies.specs.declared.trace.Trace.{Trace}
+use Rattle.rsvp_bodies.specs.declared.trace.Trace.TheVariants.{Ipv4}
 use Rattle.rsvp_contents.specs.Fitting.{HasRoom, are_passed_on, fits_path, has_adspec_last}
 use Rattle.rsvp_contents.specs.Limits.{is_short_passing, is_short_record, is_short_route}
 use Rattle.rsvp_contents.specs.declared.messages.Content.TheVariants as contents

@@ -9,11 +9,11 @@ use Rattle.std.specs.declared.cmp.Ordering.{Ordering}
 use Rattle.rsvp_contents.specs.declared.messages.Content.{Content}
 use Rattle.rsvp_contents.specs.declared.messages.Content.TheVariants as contents
 use Rattle.rsvp_contents.specs.declared.message.Reading.TheVariants as readings
-use Rattle.router_events.specs.Frames.{frame_bytes}
-use Rattle.router_events.specs.Frame.{Frame}
-use Rattle.router_events.specs.Frame.TheVariants as frames
-use Rattle.router_events.specs.Payload.TheVariants as payloads
-use Rattle.router_events.specs.declared.events.Output.{Output}
+use Rattle.abstract_paths.specs.Frames.{frame_bytes}
+use Rattle.abstract_paths.specs.Frame.{Frame}
+use Rattle.abstract_paths.specs.Frame.TheVariants as frames
+use Rattle.abstract_paths.specs.Payload.TheVariants as payloads
+use Rattle.abstract_paths.specs.declared.events.Output.{Output}
 use Rattle.abstract_paths.specs.Outcomes.{sent_by}
 use Rattle.abstract_paths.specs.Places.{is_up}
 

@@ -9,12 +9,12 @@ use Rattle.std.specs.declared.net.ipv4_addr.Ipv4Addr.{Ipv4Addr}
 use Rattle.rsvp_objects.specs.Kinds.{kind_of}
 use Rattle.rsvp_objects.specs.declared.kind.Kind.{Kind}
 use Rattle.rsvp_objects.specs.declared.kind.Kind.TheVariants as kinds
-use Rattle.rsvp_routes.specs.Steps.{route_bytes}
-use Rattle.rsvp_routes.specs.Traces.{record_bytes}
-use Rattle.rsvp_routes.specs.declared.step.Step.{Step}
-use Rattle.rsvp_routes.specs.declared.trace.Trace.{Trace}
-use Rattle.rsvp_routes.specs.declared.trace.Trace.TheVariants.{Ipv4, Label, Other}
-use Rattle.rsvp_traffic.specs.TokenBuckets.{token_rate}
+use Rattle.rsvp_bodies.specs.Steps.{route_bytes}
+use Rattle.rsvp_bodies.specs.Traces.{record_bytes}
+use Rattle.rsvp_bodies.specs.declared.step.Step.{Step}
+use Rattle.rsvp_bodies.specs.declared.trace.Trace.{Trace}
+use Rattle.rsvp_bodies.specs.declared.trace.Trace.TheVariants.{Ipv4, Label, Other}
+use Rattle.rsvp_bodies.specs.TokenBuckets.{token_rate}
 use Rattle.rsvp_contents.specs.Limits.{is_short_record}
 use Rattle.rsvp_contents.specs.declared.messages.Path.{Path}
 use Rattle.lsr_facts.specs.Errors.{bad_tspec, system_error, routing_loop, unsupported_l3pid, record_too_long}
@@ -33,7 +33,7 @@ use Rattle.lsr_facts.specs.declared.path_fact.Role.TheVariants as roles
 use Rattle.lsr_facts.specs.declared.refusal.Refusal.TheVariants.{NoMatch}
 use Rattle.lsr_facts.specs.declared.reply.Reply.TheVariants as replies
 use Rattle.lsr_facts.specs.declared.router.Router.{Router}
-use Rattle.router_events.specs.declared.events.Output.{Output}
+use Rattle.abstract_paths.specs.declared.events.Output.{Output}
 use Rattle.abstract_paths.specs.Changes.{with_path}
 use Rattle.abstract_paths.specs.Outcomes.{PathOutcome, done, lsp, sent_by, found_here, path_err, refused, told_upstream}
 use Rattle.abstract_paths.specs.Places.{Place, is_own, place_of}

@@ -6,7 +6,7 @@ use Rattle.std.specs.Net.Addr.{ipv4_bits}
 use Rattle.std.specs.Option.{option_map_or}
 use Rattle.std.specs.Ordering.{nat_cmp}
 use Rattle.std.specs.declared.net.ipv4_addr.Ipv4Addr.{Ipv4Addr}
-use Rattle.rsvp_routes.specs.declared.prefix.Prefix.{Prefix}
+use Rattle.rsvp_bodies.specs.declared.prefix.Prefix.{Prefix}
 use Rattle.lsr_facts.specs.Routers.{is_same, own_addresses}
 use Rattle.lsr_facts.specs.declared.facts.Facts.{Facts}
 use Rattle.lsr_facts.specs.declared.node.Node.{Node}

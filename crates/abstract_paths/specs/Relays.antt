@@ -5,11 +5,11 @@ use Rattle.lsr_facts.specs.Routers.{link_at}
 use Rattle.lsr_facts.specs.declared.facts.Facts.{Facts}
 use Rattle.lsr_facts.specs.declared.refusal.Refusal.TheVariants.{LinkDown, NoMatch, UnknownLink}
 use Rattle.lsr_facts.specs.declared.router.Router.{Router}
-use Rattle.router_events.specs.Frame.TheVariants as frames
-use Rattle.router_events.specs.declared.events.Event.{Event}
-use Rattle.router_events.specs.declared.events.Event.TheVariants as events
-use Rattle.router_events.specs.declared.events.Output.{Output}
-use Rattle.router_events.specs.declared.ways.Relay.{Relay}
+use Rattle.abstract_paths.specs.Frame.TheVariants as frames
+use Rattle.abstract_paths.specs.declared.events.Event.{Event}
+use Rattle.abstract_paths.specs.declared.events.Event.TheVariants as events
+use Rattle.abstract_paths.specs.declared.events.Output.{Output}
+use Rattle.abstract_paths.specs.declared.ways.Relay.{Relay}
 use Rattle.abstract_paths.specs.Outcomes.{PathOutcome, done, refused}
 use Rattle.abstract_paths.specs.Places.{is_up, place_of}
 use Rattle.abstract_paths.specs.Routing.{route_to}

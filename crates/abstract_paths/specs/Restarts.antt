@@ -1,6 +1,6 @@
 -- How a router is opened, and what a restart and a start do.
 use Rattle.std.specs.Prelude.{ℕ, true, false, List, [], map}
-use Rattle.rsvp_routes.specs.declared.prefix.Prefix.{Prefix}
+use Rattle.rsvp_bodies.specs.declared.prefix.Prefix.{Prefix}
 use Rattle.lsr_facts.specs.declared.bypass.Bypass.{Bypass}
 use Rattle.lsr_facts.specs.declared.facts.Facts.{Facts}
 use Rattle.lsr_facts.specs.declared.reply.Reply.TheVariants as replies

@@ -3,9 +3,9 @@ use Rattle.std.specs.Prelude.{ℕ, ◌&&◌, not, nat_le, nat_lt, Bool, false, i
 use Rattle.std.specs.List.{prefix_len, reduce}
 use Rattle.std.specs.Option.{ok_or, option_map, option_map_or, option_or}
 use Rattle.std.specs.declared.net.ipv4_addr.Ipv4Addr.{Ipv4Addr}
-use Rattle.rsvp_routes.specs.declared.prefix.Prefix.{Prefix}
-use Rattle.rsvp_routes.specs.declared.step.Step.{Step}
-use Rattle.rsvp_routes.specs.declared.step.Step.TheVariants.{Ipv4, Other}
+use Rattle.rsvp_bodies.specs.declared.prefix.Prefix.{Prefix}
+use Rattle.rsvp_bodies.specs.declared.step.Step.{Step}
+use Rattle.rsvp_bodies.specs.declared.step.Step.TheVariants.{Ipv4, Other}
 use Rattle.lsr_facts.specs.Routers.{is_same, link_at}
 use Rattle.lsr_facts.specs.Errors.{bad_explicit_route, bad_strict_node, bad_loose_node, bad_initial_subobject, no_route}
 use Rattle.lsr_facts.specs.declared.choice.Choice.{Choice}

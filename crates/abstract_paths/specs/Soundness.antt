@@ -5,8 +5,8 @@ use Rattle.std.specs.List.{AllByRecursion}
 use Rattle.std.specs.Option.{option_map_or}
 use Rattle.std.specs.Ordering.{is_eq}
 use Rattle.std.specs.declared.net.ipv4_addr.Ipv4Addr.{Ipv4Addr}
-use Rattle.rsvp_routes.specs.declared.step.Step.{Step}
-use Rattle.rsvp_routes.specs.declared.step.Step.TheVariants.{Ipv4, Other}
+use Rattle.rsvp_bodies.specs.declared.step.Step.{Step}
+use Rattle.rsvp_bodies.specs.declared.step.Step.TheVariants.{Ipv4, Other}
 use Rattle.rsvp_contents.specs.Fitting.{are_passed_on, has_adspec_last, has_one_fast_reroute}
 use Rattle.rsvp_contents.specs.Limits.{is_short_route, is_short_record, is_short_passing}
 use Rattle.sorted_rows.specs.Rows.{keys_of}

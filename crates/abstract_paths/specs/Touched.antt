@@ -4,7 +4,7 @@ use Rattle.std.specs.FinMap.Entries.{find}
 use Rattle.std.specs.Option.{option_map}
 use Rattle.std.specs.declared.cmp.Ordering.{Ordering}
 pub use Rattle.lsr_facts.specs.Orders.{key_of_item}
-use Rattle.router_events.specs.declared.events.Output.{Output}
+use Rattle.abstract_paths.specs.declared.events.Output.{Output}
 use Rattle.abstract_paths.specs.Outputs.{between, rests}
 
 -- the key is one of these rows'

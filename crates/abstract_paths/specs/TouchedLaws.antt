@@ -15,8 +15,8 @@ use Rattle.sorted_rows.specs.Rows.{keys_of}
 use Rattle.sorted_rows.specs.RowsLaws.{all_found, find-append, find-behind, is_some-find_both, is_sorted-both}
 use Rattle.sorted_rows.specs.EditLaws.{find-edited, is_sorted-edited}
 use Rattle.sorted_rows.specs.Edits.{edited, over}
-use Rattle.router_events.specs.Frames.{frame_bytes}
-use Rattle.router_events.specs.declared.events.Output.{Output}
+use Rattle.abstract_paths.specs.Frames.{frame_bytes}
+use Rattle.abstract_paths.specs.declared.events.Output.{Output}
 use Rattle.abstract_paths.specs.Outputs.{between, is_due, is_same_frame, rests, send_for, tear_for}
 use Rattle.abstract_paths.specs.StampLaws.{find-stamps, keys-stamps, none-is, ties}
 use Rattle.abstract_paths.specs.Stamps.{stamp, stamps}

@@ -13,14 +13,14 @@ use Rattle.lsr_facts.specs.declared.refusal.Refusal.TheVariants.{InUse, LinkDown
 use Rattle.lsr_facts.specs.declared.reply.Reply.TheVariants as replies
 use Rattle.lsr_facts.specs.declared.reply.Reply.{Reply}
 use Rattle.lsr_facts.specs.declared.router.Router.{Router}
-use Rattle.resv_facts.specs.Reservations.{expire, expire_repairs}
-use Rattle.router_events.specs.declared.commands.Command.{Command}
-use Rattle.router_events.specs.declared.commands.Command.TheVariants.{DropBypass}
-use Rattle.router_events.specs.declared.ways.ArrivalWay.{ArrivalWay}
-use Rattle.router_events.specs.declared.ways.ArrivalWay.TheVariants as ways
-use Rattle.router_events.specs.declared.ways.Arrive.{Arrive}
-use Rattle.router_events.specs.declared.events.Event.TheVariants as events
-use Rattle.router_events.specs.declared.events.Event.{Event}
+use Rattle.lsr_facts.specs.Reservations.{expire, expire_repairs}
+use Rattle.abstract_paths.specs.declared.commands.Command.{Command}
+use Rattle.abstract_paths.specs.declared.commands.Command.TheVariants.{DropBypass}
+use Rattle.abstract_paths.specs.declared.ways.ArrivalWay.{ArrivalWay}
+use Rattle.abstract_paths.specs.declared.ways.ArrivalWay.TheVariants as ways
+use Rattle.abstract_paths.specs.declared.ways.Arrive.{Arrive}
+use Rattle.abstract_paths.specs.declared.events.Event.TheVariants as events
+use Rattle.abstract_paths.specs.declared.events.Event.{Event}
 use Rattle.abstract_paths.specs.Commands.{begun_by, command}
 use Rattle.abstract_paths.specs.Links.{link_change}
 use Rattle.abstract_paths.specs.Merging.{stack_path_arrival, stack_path_failed, stack_tear_arrival}

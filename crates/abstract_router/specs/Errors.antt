@@ -1,7 +1,7 @@
 -- The errors that reservations meet, by name: code and value (RFC 2205, B; RFC 3209, 7.3).
-use Rattle.resv_facts.specs.Reservations.{style_bits}
+use Rattle.lsr_facts.specs.Reservations.{style_bits}
 use Rattle.lsr_facts.specs.declared.errors.RsvpError.{RsvpError}
-use Rattle.resv_facts.specs.declared.resv_fact.ResvStyle.{ResvStyle}
+use Rattle.lsr_facts.specs.declared.resv_fact.ResvStyle.{ResvStyle}
 
 -- RFC 2205, B: there isn't so much bandwidth
 abbrev pub no_bandwidth : RsvpError

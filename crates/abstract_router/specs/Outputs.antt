@@ -3,12 +3,12 @@ use Rattle.std.specs.Prelude.{ℕ, ◌++◌, List}
 use Rattle.lsr_facts.specs.Orders.{item_cmp}
 use Rattle.lsr_facts.specs.declared.key.Item.{Item}
 use Rattle.lsr_facts.specs.declared.router.Router.{Router}
-use Rattle.router_events.specs.declared.events.Output.{Output}
+use Rattle.abstract_paths.specs.declared.events.Output.{Output}
 use Rattle.abstract_paths.specs.Outputs.{between, errors_out, send_for, tear_for}
 use Rattle.abstract_paths.specs.Stamps.{stamps}
 use Rattle.abstract_router.specs.Upstreams.{upstream_of}
-use Rattle.resv_facts.specs.Upstreams.{upstream_cmp}
-use Rattle.resv_facts.specs.declared.upstream.Upstream.{Upstream}
+use Rattle.lsr_facts.specs.Upstreams.{upstream_cmp}
+use Rattle.lsr_facts.specs.declared.upstream.Upstream.{Upstream}
 use Rattle.abstract_router.specs.States.{State}
 use Rattle.abstract_router.specs.Wanted.{items_of}
 

@@ -2,21 +2,21 @@
 use Rattle.std.specs.Prelude.{ℕ, Bool, false, List, [], ◌∷◌, filter_map, map, Option, Some}
 use Rattle.std.specs.FinMap.Entries.{find}
 use Rattle.std.specs.Option.{option_and_then, option_map_or}
-use Rattle.session_attribute.specs.declared.attr.Attr.{Attr}
+use Rattle.rsvp_bodies.specs.declared.attr.Attr.{Attr}
 use Rattle.lsr_facts.specs.Orders.{key_cmp}
 use Rattle.lsr_facts.specs.Routers.{link_at}
 use Rattle.lsr_facts.specs.declared.key.Key.{Key}
 use Rattle.lsr_facts.specs.declared.path_fact.PathFact.{PathFact}
 use Rattle.lsr_facts.specs.declared.router.Router.{Router}
-use Rattle.resv_facts.specs.Admission.{victims_of}
-use Rattle.resv_facts.specs.Admission as admission
-use Rattle.resv_facts.specs.Claims.{claim_of}
-use Rattle.resv_facts.specs.Priorities.{holding_of, setup_of}
-use Rattle.resv_facts.specs.declared.claim.Claim.{Claim}
-use Rattle.resv_facts.specs.declared.claim.Request.{Request}
-use Rattle.resv_facts.specs.declared.resv_fact.ResvFact.{ResvFact}
-use Rattle.router_events.specs.declared.events.Output.{Output}
-use Rattle.resv_facts.specs.Reservations.{style_word}
+use Rattle.lsr_facts.specs.Admission.{victims_of}
+use Rattle.lsr_facts.specs.Admission as admission
+use Rattle.lsr_facts.specs.Claims.{claim_of}
+use Rattle.lsr_facts.specs.Priorities.{holding_of, setup_of}
+use Rattle.lsr_facts.specs.declared.claim.Claim.{Claim}
+use Rattle.lsr_facts.specs.declared.claim.Request.{Request}
+use Rattle.lsr_facts.specs.declared.resv_fact.ResvFact.{ResvFact}
+use Rattle.abstract_paths.specs.declared.events.Output.{Output}
+use Rattle.lsr_facts.specs.Reservations.{style_word}
 use Rattle.abstract_router.specs.Errors.{preempted}
 use Rattle.abstract_router.specs.Outcomes.{reservation_error, told_downstream}
 use Rattle.abstract_router.specs.States.{State}

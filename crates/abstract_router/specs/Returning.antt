@@ -8,8 +8,8 @@ use Rattle.std.specs.declared.net.ipv4_addr.Ipv4Addr.{Ipv4Addr}
 use Rattle.rsvp_contents.specs.declared.messages.PathErr.{PathErr}
 use Rattle.rsvp_contents.specs.declared.messages.Resv.{Resv}
 use Rattle.rsvp_contents.specs.declared.messages.ResvTear.{ResvTear}
-use Rattle.rsvp_flows.specs.declared.descriptors.ErrorDescriptor.{ErrorDescriptor}
-use Rattle.rsvp_flows.specs.declared.descriptors.FlowDescriptor.{FlowDescriptor}
+use Rattle.rsvp_contents.specs.declared.descriptors.ErrorDescriptor.{ErrorDescriptor}
+use Rattle.rsvp_contents.specs.declared.descriptors.FlowDescriptor.{FlowDescriptor}
 use Rattle.rsvp_objects.specs.declared.values.Session.{Session}
 use Rattle.rsvp_objects.specs.declared.values.Template.{Template}
 use Rattle.lsr_facts.specs.Orders.{key_cmp}
@@ -19,11 +19,11 @@ use Rattle.lsr_facts.specs.declared.key.Key.{Key}
 use Rattle.lsr_facts.specs.declared.refusal.Refusal.TheVariants.{NoMatch}
 use Rattle.lsr_facts.specs.declared.reply.Reply.TheVariants as replies
 use Rattle.lsr_facts.specs.declared.router.Router.{Router}
-use Rattle.resv_facts.specs.Reservations.{style_of}
-use Rattle.resv_facts.specs.declared.repair.Repair.{Repair}
-use Rattle.resv_facts.specs.declared.resv_fact.ResvFact.{ResvFact}
-use Rattle.resv_facts.specs.declared.resv_fact.ResvStyle.{ResvStyle}
-use Rattle.router_events.specs.declared.events.Output.{Output}
+use Rattle.lsr_facts.specs.Reservations.{style_of}
+use Rattle.lsr_facts.specs.declared.repair.Repair.{Repair}
+use Rattle.lsr_facts.specs.declared.resv_fact.ResvFact.{ResvFact}
+use Rattle.lsr_facts.specs.declared.resv_fact.ResvStyle.{ResvStyle}
+use Rattle.abstract_paths.specs.declared.events.Output.{Output}
 use Rattle.abstract_paths.specs.Merging.{under}
 use Rattle.abstract_paths.specs.Outcomes.{lsp}
 use Rattle.abstract_paths.specs.Paths.{unknown_object}

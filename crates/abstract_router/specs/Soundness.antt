@@ -5,14 +5,14 @@ use Rattle.std.specs.List.{AllByRecursion, IsDistinct}
 use Rattle.std.specs.Option.{option_map_or}
 use Rattle.rsvp_contents.specs.Fitting.{are_passed_by, has_adspec_last}
 use Rattle.rsvp_contents.specs.Limits.{is_short_passing, is_short_record}
-use Rattle.rsvp_traffic.specs.Traffic.{flowspec_rate}
+use Rattle.rsvp_bodies.specs.Traffic.{flowspec_rate}
 use Rattle.sorted_rows.specs.Rows.{keys_of, values_of}
 use Rattle.lsr_facts.specs.Orders.{key_cmp}
 use Rattle.lsr_facts.specs.declared.key.Key.{Key}
 use Rattle.lsr_facts.specs.declared.router.Router.{Router}
-use Rattle.resv_facts.specs.Claims.{is_same_session, reserved_of}
-use Rattle.resv_facts.specs.declared.repair.Repair.{Repair}
-use Rattle.resv_facts.specs.declared.resv_fact.ResvFact.{ResvFact}
+use Rattle.lsr_facts.specs.Claims.{is_same_session, reserved_of}
+use Rattle.lsr_facts.specs.declared.repair.Repair.{Repair}
+use Rattle.lsr_facts.specs.declared.resv_fact.ResvFact.{ResvFact}
 use Rattle.abstract_paths.specs.Soundness.{IsStanding}
 use Rattle.abstract_router.specs.Wanted.{items_of}
 use Rattle.abstract_router.specs.Upstreams.{upstream_of}

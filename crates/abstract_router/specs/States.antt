@@ -1,13 +1,13 @@
 -- What a label switching router knows, and the changes that events make of it.
-pub use Rattle.resv_facts.specs.declared.state.State.{State}
+pub use Rattle.lsr_facts.specs.declared.state.State.{State}
 use Rattle.std.specs.Prelude.{◌||◌, not, Bool, List, filter, is_some}
 use Rattle.std.specs.FinMap.Entries.{find, put}
 pub use Rattle.lsr_facts.specs.Orders.{is_one_of}
 use Rattle.lsr_facts.specs.Orders.{key_cmp}
 use Rattle.lsr_facts.specs.declared.facts.Facts.{Facts}
 use Rattle.lsr_facts.specs.declared.key.Key.{Key}
-use Rattle.resv_facts.specs.declared.repair.Repair.{Repair}
-use Rattle.resv_facts.specs.declared.resv_fact.ResvFact.{ResvFact}
+use Rattle.lsr_facts.specs.declared.repair.Repair.{Repair}
+use Rattle.lsr_facts.specs.declared.resv_fact.ResvFact.{ResvFact}
 
 -- what is known of links, routes, time and paths is replaced
 abbrev pub with_facts : Facts → State → State

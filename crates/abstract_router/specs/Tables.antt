@@ -9,10 +9,10 @@ use Rattle.lsr_facts.specs.declared.key.Key.{Key}
 use Rattle.lsr_facts.specs.declared.path_fact.PathFact.{PathFact}
 use Rattle.lsr_facts.specs.declared.router.Router.{Router}
 use Rattle.lsr_facts.specs.declared.tunnel.Tunnel.{Tunnel}
-use Rattle.resv_facts.specs.declared.repair.Detour.{Detour}
-use Rattle.resv_facts.specs.declared.repair.Over.{Over}
-use Rattle.resv_facts.specs.declared.repair.Repair.{Repair}
-use Rattle.resv_facts.specs.declared.resv_fact.ResvFact.{ResvFact}
+use Rattle.lsr_facts.specs.declared.repair.Detour.{Detour}
+use Rattle.lsr_facts.specs.declared.repair.Over.{Over}
+use Rattle.lsr_facts.specs.declared.repair.Repair.{Repair}
+use Rattle.lsr_facts.specs.declared.resv_fact.ResvFact.{ResvFact}
 use Rattle.forwarding_table.specs.Forwarding.{forward_of}
 use Rattle.forwarding_table.specs.declared.action.Action.{Action}
 use Rattle.forwarding_table.specs.declared.action.Action.TheVariants.{Pop, PushHead, Swap, SwapPush}

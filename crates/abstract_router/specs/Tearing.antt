@@ -6,15 +6,15 @@ use Rattle.std.specs.Option.{option_and_then, option_map, option_or, option_to_l
 use Rattle.std.specs.Ordering.{is_eq}
 use Rattle.rsvp_contents.specs.declared.messages.ResvErr.{ResvErr}
 use Rattle.rsvp_contents.specs.declared.messages.ResvTear.{ResvTear}
-use Rattle.rsvp_flows.specs.declared.descriptors.ErrorDescriptor.{ErrorDescriptor}
+use Rattle.rsvp_contents.specs.declared.descriptors.ErrorDescriptor.{ErrorDescriptor}
 use Rattle.lsr_facts.specs.Orders.{key_cmp}
 use Rattle.lsr_facts.specs.declared.key.Key.{Key}
 use Rattle.lsr_facts.specs.declared.path_fact.PathFact.{PathFact}
 use Rattle.lsr_facts.specs.declared.refusal.Refusal.TheVariants.{NoMatch}
 use Rattle.lsr_facts.specs.declared.reply.Reply.TheVariants as replies
 use Rattle.lsr_facts.specs.declared.router.Router.{Router}
-use Rattle.resv_facts.specs.declared.resv_fact.ResvFact.{ResvFact}
-use Rattle.router_events.specs.declared.events.Output.{Output}
+use Rattle.lsr_facts.specs.declared.resv_fact.ResvFact.{ResvFact}
+use Rattle.abstract_paths.specs.declared.events.Output.{Output}
 use Rattle.abstract_paths.specs.Merging.{came_through}
 use Rattle.abstract_paths.specs.Outcomes.{lsp}
 use Rattle.abstract_paths.specs.Paths.{goes_on}

@@ -27,9 +27,9 @@ use Rattle.lsr_facts.specs.declared.path_fact.Via.{Via}
 use Rattle.lsr_facts.specs.declared.path_fact.Via.TheVariants as vias
 use Rattle.lsr_facts.specs.declared.router.Link.{Link}
 use Rattle.lsr_facts.specs.declared.router.Router.{Router}
-use Rattle.resv_facts.specs.Upstreams.{upstream_cmp}
-use Rattle.resv_facts.specs.declared.upstream.Upstream.{Upstream}
-use Rattle.router_events.specs.declared.events.Output.{Output}
+use Rattle.lsr_facts.specs.Upstreams.{upstream_cmp}
+use Rattle.lsr_facts.specs.declared.upstream.Upstream.{Upstream}
+use Rattle.abstract_paths.specs.declared.events.Output.{Output}
 use Rattle.abstract_paths.specs.Outcomes.{routed_by, sent_by}
 use Rattle.abstract_paths.specs.Routing.{route_to}
 use Rattle.abstract_paths.specs.OriginLaws.{few_origins}

@@ -8,10 +8,10 @@ use Rattle.std.specs.declared.net.ipv4_addr.Ipv4Addr.{Ipv4Addr}
 use Rattle.rsvp_contents.specs.declared.messages.Content.TheVariants as contents
 use Rattle.rsvp_contents.specs.declared.messages.Resv.{Resv}
 use Rattle.rsvp_objects.specs.Raw.{Raw}
-use Rattle.rsvp_routes.specs.declared.trace.Trace.{Trace}
-use Rattle.rsvp_routes.specs.declared.trace.Trace.TheVariants as traces
-use Rattle.rsvp_traffic.specs.Traffic.{flowspec_of}
-use Rattle.session_attribute.specs.declared.attr.Attr.{Attr}
+use Rattle.rsvp_bodies.specs.declared.trace.Trace.{Trace}
+use Rattle.rsvp_bodies.specs.declared.trace.Trace.TheVariants as traces
+use Rattle.rsvp_bodies.specs.Traffic.{flowspec_of}
+use Rattle.rsvp_bodies.specs.declared.attr.Attr.{Attr}
 use Rattle.lsr_facts.specs.Orders.{key_cmp}
 use Rattle.lsr_facts.specs.Origins.{number_of}
 use Rattle.lsr_facts.specs.Routers.{link_at}
@@ -21,16 +21,16 @@ use Rattle.lsr_facts.specs.declared.path_fact.PathFact.{PathFact}
 use Rattle.lsr_facts.specs.declared.path_fact.Via.{Via}
 use Rattle.lsr_facts.specs.declared.path_fact.Via.TheVariants as vias
 use Rattle.lsr_facts.specs.declared.router.Router.{Router}
-use Rattle.resv_facts.specs.declared.resv_fact.ResvFact.{ResvFact}
-use Rattle.resv_facts.specs.declared.resv_fact.ResvStyle.{ResvStyle}
-use Rattle.resv_facts.specs.declared.resv_fact.ResvStyle.TheVariants.{FixedFilter, SharedExplicit}
-use Rattle.router_events.specs.declared.events.Output.{Output}
+use Rattle.lsr_facts.specs.declared.resv_fact.ResvFact.{ResvFact}
+use Rattle.lsr_facts.specs.declared.resv_fact.ResvStyle.{ResvStyle}
+use Rattle.lsr_facts.specs.declared.resv_fact.ResvStyle.TheVariants.{FixedFilter, SharedExplicit}
+use Rattle.abstract_paths.specs.declared.events.Output.{Output}
 use Rattle.abstract_paths.specs.Outcomes.{routed_by, sent_by}
 use Rattle.abstract_paths.specs.Paths.{goes_on, short_only}
 use Rattle.abstract_paths.specs.Places.{is_up}
 use Rattle.abstract_paths.specs.Routing.{route_to}
-use Rattle.resv_facts.specs.Reservations.{style_word}
-use Rattle.resv_facts.specs.declared.upstream.Upstream.{Upstream}
+use Rattle.lsr_facts.specs.Reservations.{style_word}
+use Rattle.lsr_facts.specs.declared.upstream.Upstream.{Upstream}
 use Rattle.abstract_router.specs.Lsps.{Around, Lsp, around_of, held_of, lsp_at, lsps_of}
 use Rattle.abstract_router.specs.Protecting.{selected}
 use Rattle.abstract_router.specs.States.{State}

@@ -16,8 +16,8 @@ use Rattle.lsr_facts.specs.declared.key.Item.{Item}
 use Rattle.lsr_facts.specs.declared.key.Item.TheVariants.{Backup, Down}
 use Rattle.lsr_facts.specs.declared.key.Key.{Key}
 use Rattle.lsr_facts.specs.declared.router.Router.{Router}
-use Rattle.resv_facts.specs.declared.repair.Repair.{Repair}
-use Rattle.router_events.specs.declared.events.Output.{Output}
+use Rattle.lsr_facts.specs.declared.repair.Repair.{Repair}
+use Rattle.abstract_paths.specs.declared.events.Output.{Output}
 use Rattle.abstract_paths.specs.Onward.{path_onward}
 use Rattle.abstract_paths.specs.Outcomes.{sent_by}
 use Rattle.abstract_paths.specs.Paths.{goes_on}

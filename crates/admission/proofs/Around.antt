@@ -9,7 +9,7 @@ use Rattle.sorted_rows.specs.RowsLaws.{all-put, length-put-le}
 use Rattle.lsr_facts.specs.Orders.{key_cmp}
 use Rattle.lsr_facts.specs.OrderLaws.{key_exact, key_total}
 use Rattle.lsr_facts.specs.declared.key.Key.{Key}
-use Rattle.resv_facts.specs.declared.claim.Claim.{Claim}
+use Rattle.lsr_facts.specs.declared.claim.Claim.{Claim}
 use Rattle.admission.specs.Bandwidths.{AreRated}
 
 module _ (key : Key) (claim : Claim) (claims : List (Key × Claim)) (h : T (is_sorted key_cmp claims)) where

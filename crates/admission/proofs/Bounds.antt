@@ -9,9 +9,9 @@ use Rattle.sorted_rows.specs.ListLaws.{all-filter}
 use Rattle.sorted_rows.specs.RowsLaws.{is_sorted-filter, second}
 use Rattle.lsr_facts.specs.Orders.{key_cmp}
 use Rattle.lsr_facts.specs.declared.key.Key.{Key}
-use Rattle.resv_facts.specs.ClaimLaws.{rate_of_all-front}
-use Rattle.resv_facts.specs.Claims.{counts, greatest, is_fixed, is_of, is_shared, rate_of_all, reserved_of, session_rate}
-use Rattle.resv_facts.specs.declared.claim.Claim.{Claim}
+use Rattle.lsr_facts.specs.ClaimLaws.{rate_of_all-front}
+use Rattle.lsr_facts.specs.Claims.{counts, greatest, is_fixed, is_of, is_shared, rate_of_all, reserved_of, session_rate}
+use Rattle.lsr_facts.specs.declared.claim.Claim.{Claim}
 use Rattle.admission.specs.Bandwidths.{AreRated}
 use Rattle.admission.proofs.Splitting.{rate_of_none}
 

@@ -13,9 +13,9 @@ use Rattle.sorted_rows.specs.RowsLaws.{all-put}
 use Rattle.lsr_facts.specs.Orders.{key_cmp}
 use Rattle.lsr_facts.specs.OrderLaws.{key_total}
 use Rattle.lsr_facts.specs.declared.key.Key.{Key}
-use Rattle.resv_facts.specs.AdmissionLaws.{reserved_of-put_elsewhere}
-use Rattle.resv_facts.specs.Claims.{reserved_of}
-use Rattle.resv_facts.specs.declared.claim.Claim.{Claim}
+use Rattle.lsr_facts.specs.AdmissionLaws.{reserved_of-put_elsewhere}
+use Rattle.lsr_facts.specs.Claims.{reserved_of}
+use Rattle.lsr_facts.specs.declared.claim.Claim.{Claim}
 use Rattle.admission.proofs.Bounds.{reserved_of-fits}
 use Rattle.admission.proofs.Keeping.{sums_moved}
 use Rattle.admission.proofs.Moving.{mine, moved, others, others_put, others_removed, reserved_of-removed_elsewhere}

@@ -12,7 +12,7 @@ use Rattle.sorted_rows.specs.InTurn.{given, in_turn, taken}
 use Rattle.lsr_facts.specs.Orders.{key_cmp}
 use Rattle.lsr_facts.specs.OrderLaws.{key_exact, key_total}
 use Rattle.lsr_facts.specs.declared.key.Key.{Key}
-use Rattle.resv_facts.specs.declared.resv_fact.ResvFact.{ResvFact}
+use Rattle.lsr_facts.specs.declared.resv_fact.ResvFact.{ResvFact}
 use Rattle.admission.specs.Bandwidths.{Edit}
 
 -- an edit that takes something away, and one that doesn't

@@ -6,7 +6,7 @@ use Rattle.sorted_rows.specs.RowsLaws.{find-put_same, find-put_apart}
 use Rattle.lsr_facts.specs.Orders.{key_cmp}
 use Rattle.lsr_facts.specs.OrderLaws.{key_exact, key_total}
 use Rattle.lsr_facts.specs.declared.key.Key.{Key}
-use Rattle.resv_facts.specs.declared.claim.Claim.{Claim}
+use Rattle.lsr_facts.specs.declared.claim.Claim.{Claim}
 
 -- a value under a key becomes another, if there is one
 module _ (become : Claim → Claim) (key : Key) (claims : List (Key × Claim)) where

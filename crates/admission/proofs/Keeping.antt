@@ -12,8 +12,8 @@ use Rattle.rsvp_objects.specs.declared.values.Session.{Session}
 use Rattle.sorted_rows.specs.ListLaws.{all-always, all-append, all-map, all-weaker}
 use Rattle.lsr_facts.specs.Orders.{key_cmp}
 use Rattle.lsr_facts.specs.declared.key.Key.{Key}
-use Rattle.resv_facts.specs.Claims.{reserved_of}
-use Rattle.resv_facts.specs.declared.claim.Claim.{Claim}
+use Rattle.lsr_facts.specs.Claims.{reserved_of}
+use Rattle.lsr_facts.specs.declared.claim.Claim.{Claim}
 use Rattle.admission.proofs.Moving.{mine, moved, others}
 use Rattle.admission.proofs.Splitting.{rate_of_none}
 use Rattle.admission.specs.Running.{AreSums, IsSumAt, anew, is_touched, less, more}

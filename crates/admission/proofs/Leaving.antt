@@ -9,12 +9,12 @@ use Rattle.sorted_rows.specs.RowsLaws.{all-put, length-put-le}
 use Rattle.lsr_facts.specs.Orders.{key_cmp}
 use Rattle.lsr_facts.specs.OrderLaws.{key_exact, key_total}
 use Rattle.lsr_facts.specs.declared.key.Key.{Key}
-use Rattle.resv_facts.specs.Admission.{can_give_way, granted, in_turn, without}
-use Rattle.resv_facts.specs.AdmissionLaws.{can_give_way-means}
-use Rattle.resv_facts.specs.SumLaws.{where_key-put}
-use Rattle.resv_facts.specs.TurnLaws.{all-in_turn}
-use Rattle.resv_facts.specs.declared.claim.Claim.{Claim}
-use Rattle.resv_facts.specs.declared.claim.Request.{Request}
+use Rattle.lsr_facts.specs.Admission.{can_give_way, granted, in_turn, without}
+use Rattle.lsr_facts.specs.AdmissionLaws.{can_give_way-means}
+use Rattle.lsr_facts.specs.SumLaws.{where_key-put}
+use Rattle.lsr_facts.specs.TurnLaws.{all-in_turn}
+use Rattle.lsr_facts.specs.declared.claim.Claim.{Claim}
+use Rattle.lsr_facts.specs.declared.claim.Request.{Request}
 use Rattle.admission.specs.Bandwidths.{AreRated}
 use Rattle.admission.proofs.Turns.{left_few, left_next, left_rated, left_sorted}
 

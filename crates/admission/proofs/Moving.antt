@@ -14,12 +14,12 @@ use Rattle.sorted_rows.specs.RowsLaws.{ties}
 use Rattle.lsr_facts.specs.Orders.{key_cmp}
 use Rattle.lsr_facts.specs.OrderLaws.{key_exact, key_total, session_total}
 use Rattle.lsr_facts.specs.declared.key.Key.{Key}
-use Rattle.resv_facts.specs.Admission.{granted}
-use Rattle.resv_facts.specs.AdmissionLaws.{reserved_of-put_away, reserved_of-put_elsewhere}
-use Rattle.resv_facts.specs.Claims.{is_of, is_same_session, reserved_of}
-use Rattle.resv_facts.specs.SumLaws.{filter_within, where_key-put}
-use Rattle.resv_facts.specs.declared.claim.Claim.{Claim}
-use Rattle.resv_facts.specs.declared.claim.Request.{Request}
+use Rattle.lsr_facts.specs.Admission.{granted}
+use Rattle.lsr_facts.specs.AdmissionLaws.{reserved_of-put_away, reserved_of-put_elsewhere}
+use Rattle.lsr_facts.specs.Claims.{is_of, is_same_session, reserved_of}
+use Rattle.lsr_facts.specs.SumLaws.{filter_within, where_key-put}
+use Rattle.lsr_facts.specs.declared.claim.Claim.{Claim}
+use Rattle.lsr_facts.specs.declared.claim.Request.{Request}
 use Rattle.admission.proofs.Splitting.{reserved_of-split}
 
 -- a test that fails where another passes

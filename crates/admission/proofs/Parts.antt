@@ -9,9 +9,9 @@ use Rattle.sorted_rows.specs.RowsLaws.{is_sorted-filter, second, ties}
 use Rattle.lsr_facts.specs.Orders.{key_cmp}
 use Rattle.lsr_facts.specs.OrderLaws.{session_exact}
 use Rattle.lsr_facts.specs.declared.key.Key.{Key}
-use Rattle.resv_facts.specs.ClaimLaws.{fixed_rate-push, rate_of_all-front, shared_rate-push}
-use Rattle.resv_facts.specs.Claims.{counts, fixed_rate, is_fixed, is_of, is_shared, rate_of_all, reserved_of, session_rate, shared_rate}
-use Rattle.resv_facts.specs.declared.claim.Claim.{Claim}
+use Rattle.lsr_facts.specs.ClaimLaws.{fixed_rate-push, rate_of_all-front, shared_rate-push}
+use Rattle.lsr_facts.specs.Claims.{counts, fixed_rate, is_fixed, is_of, is_shared, rate_of_all, reserved_of, session_rate, shared_rate}
+use Rattle.lsr_facts.specs.declared.claim.Claim.{Claim}
 use Rattle.admission.specs.Sums.{IsRateOf}
 use Rattle.admission.specs.declared.run.SessionRate.{SessionRate}
 use Rattle.admission.proofs.Splitting.{rate_of_none}

@@ -15,10 +15,10 @@ use Rattle.sorted_rows.specs.RowsLaws.{all-below, first, is_sorted-filter, secon
 use Rattle.lsr_facts.specs.Orders.{key_cmp, session_cmp}
 use Rattle.lsr_facts.specs.OrderLaws.{session_exact, session_total}
 use Rattle.lsr_facts.specs.declared.key.Key.{Key}
-use Rattle.resv_facts.specs.ClaimLaws.{session_upto, upto_below}
-use Rattle.resv_facts.specs.Claims.{is_of}
-use Rattle.resv_facts.specs.SumLaws.{filter-filter}
-use Rattle.resv_facts.specs.declared.claim.Claim.{Claim}
+use Rattle.lsr_facts.specs.ClaimLaws.{session_upto, upto_below}
+use Rattle.lsr_facts.specs.Claims.{is_of}
+use Rattle.lsr_facts.specs.SumLaws.{filter-filter}
+use Rattle.lsr_facts.specs.declared.claim.Claim.{Claim}
 use Rattle.admission.specs.Runs.{IsStart, comes_before}
 
 -- a list that a point parts: those before it are those that pass, and those from it on are those that fail

@@ -10,10 +10,10 @@ use Rattle.sorted_rows.specs.RowsLaws.{is_sorted-filter, second, ties}
 use Rattle.lsr_facts.specs.Orders.{key_cmp}
 use Rattle.lsr_facts.specs.OrderLaws.{session_exact}
 use Rattle.lsr_facts.specs.declared.key.Key.{Key}
-use Rattle.resv_facts.specs.ClaimLaws.{rate_of_all-front}
-use Rattle.resv_facts.specs.Claims.{counts, greatest, is_fixed, is_of, is_same_session, is_shared, rate_of_all, reserved_of, session_rate}
-use Rattle.resv_facts.specs.SumLaws.{filter_swap, filter_within}
-use Rattle.resv_facts.specs.declared.claim.Claim.{Claim}
+use Rattle.lsr_facts.specs.ClaimLaws.{rate_of_all-front}
+use Rattle.lsr_facts.specs.Claims.{counts, greatest, is_fixed, is_of, is_same_session, is_shared, rate_of_all, reserved_of, session_rate}
+use Rattle.lsr_facts.specs.SumLaws.{filter_swap, filter_within}
+use Rattle.lsr_facts.specs.declared.claim.Claim.{Claim}
 
 -- no claims take nothing
 pub rate_of_none : rate_of_all [] ≡ 0

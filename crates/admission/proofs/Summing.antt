@@ -13,10 +13,10 @@ use Rattle.sorted_rows.specs.RowsLaws.{all-below, first, second, ties}
 use Rattle.lsr_facts.specs.Orders.{key_cmp, session_cmp}
 use Rattle.lsr_facts.specs.OrderLaws.{session_exact, session_total}
 use Rattle.lsr_facts.specs.declared.key.Key.{Key}
-use Rattle.resv_facts.specs.ClaimLaws.{apart_below, below_apart, is_sorted-front, rate_of_all-push_fixed, rate_of_all-push_shared, session_upto, shared_rate-none, shared_rate-push, upto_below}
-use Rattle.resv_facts.specs.Claims.{is_of, is_same_session, is_shared, shared_rate}
-use Rattle.resv_facts.specs.declared.claim.Claim.{Claim}
-use Rattle.resv_facts.specs.declared.resv_fact.ResvStyle.TheVariants.{FixedFilter, SharedExplicit}
+use Rattle.lsr_facts.specs.ClaimLaws.{apart_below, below_apart, is_sorted-front, rate_of_all-push_fixed, rate_of_all-push_shared, session_upto, shared_rate-none, shared_rate-push, upto_below}
+use Rattle.lsr_facts.specs.Claims.{is_of, is_same_session, is_shared, shared_rate}
+use Rattle.lsr_facts.specs.declared.claim.Claim.{Claim}
+use Rattle.lsr_facts.specs.declared.resv_fact.ResvStyle.TheVariants.{FixedFilter, SharedExplicit}
 use Rattle.admission.specs.Bandwidths.{AreRated}
 use Rattle.admission.specs.Sums.{AddsClaims, IsSumOf, last_session, shared_by}
 use Rattle.admission.specs.declared.sum.Sum.{Sum}

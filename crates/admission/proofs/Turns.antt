@@ -9,9 +9,9 @@ use Rattle.std.proofs.lemmas.List.Sums.{count_by-le-length, length-filter}
 use Rattle.sorted_rows.specs.ListLaws.{all-filter}
 use Rattle.lsr_facts.specs.Orders.{key_cmp}
 use Rattle.lsr_facts.specs.declared.key.Key.{Key}
-use Rattle.resv_facts.specs.Admission.{by_worst, can_give_way, held_at, shortest, without}
-use Rattle.resv_facts.specs.declared.claim.Claim.{Claim}
-use Rattle.resv_facts.specs.declared.claim.Request.{Request}
+use Rattle.lsr_facts.specs.Admission.{by_worst, can_give_way, held_at, shortest, without}
+use Rattle.lsr_facts.specs.declared.claim.Claim.{Claim}
+use Rattle.lsr_facts.specs.declared.claim.Request.{Request}
 use Rattle.admission.specs.Bandwidths.{AreRated}
 
 -- two filters are one, by both tests

@@ -3,10 +3,10 @@ use Rattle.std.specs.Prelude.{◌≡◌, ℕ, nat_le, true, List, []}
 use Rattle.std.proofs.Common.{refl, sym, ap}
 use Rattle.lsr_facts.specs.declared.key.Key.{Key}
 use Rattle.sorted_rows.specs.ListLaws.{all-always, filter-all_pass}
-use Rattle.resv_facts.specs.Admission.{granted, is_enough, without}
-use Rattle.resv_facts.specs.Claims.{reserved_of}
-use Rattle.resv_facts.specs.declared.claim.Claim.{Claim}
-use Rattle.resv_facts.specs.declared.claim.Request.{Request}
+use Rattle.lsr_facts.specs.Admission.{granted, is_enough, without}
+use Rattle.lsr_facts.specs.Claims.{reserved_of}
+use Rattle.lsr_facts.specs.declared.claim.Claim.{Claim}
+use Rattle.lsr_facts.specs.declared.claim.Request.{Request}
 
 -- nobody is gone
 pub without_none : (claims : List (Key × Claim)) → claims ≡ without [] claims

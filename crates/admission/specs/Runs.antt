@@ -5,7 +5,7 @@ use Rattle.std.specs.Ordering.{is_lt}
 use Rattle.rsvp_objects.specs.declared.values.Session.{Session}
 use Rattle.lsr_facts.specs.Orders.{session_cmp}
 use Rattle.lsr_facts.specs.declared.key.Key.{Key}
-use Rattle.resv_facts.specs.declared.claim.Claim.{Claim}
+use Rattle.lsr_facts.specs.declared.claim.Claim.{Claim}
 
 -- the claim is of a lesser session
 abbrev pub comes_before : Session → Key × Claim → Bool

@@ -5,8 +5,8 @@ use Rattle.std.specs.Option.{option_map_or, option_or}
 use Rattle.rsvp_objects.specs.declared.values.Session.{Session}
 use Rattle.lsr_facts.specs.Orders.{key_cmp}
 use Rattle.lsr_facts.specs.declared.key.Key.{Key}
-use Rattle.resv_facts.specs.Claims.{fixed_rate, is_same_session, rate_of_all, shared_rate}
-use Rattle.resv_facts.specs.declared.claim.Claim.{Claim}
+use Rattle.lsr_facts.specs.Claims.{fixed_rate, is_same_session, rate_of_all, shared_rate}
+use Rattle.lsr_facts.specs.declared.claim.Claim.{Claim}
 use Rattle.admission.specs.declared.run.SessionRate.{SessionRate}
 use Rattle.admission.specs.declared.sum.Sum.{Sum}
 

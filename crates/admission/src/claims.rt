@@ -5,17 +5,16 @@ ghost use Rattle.std.specs.Option.{option_copied};
 ghost use Rattle.std.specs.Ordering.{is_eq};
 ghost use Rattle.std.specs.Prelude.{◌≡◌, ◌↔◌, ◌^◌, ◌≤◌, T, [], IfOk, IsTrue, Some, length, not};
 ghost use Rattle.lsr_facts.specs.Orders.{key_cmp};
-ghost use Rattle.resv_facts.specs.Admission.{granted};
-ghost use Rattle.resv_facts.specs.Claims.{reserved_of};
+ghost use Rattle.lsr_facts.specs.Admission.{granted};
+ghost use Rattle.lsr_facts.specs.Claims.{reserved_of};
 ghost use Rattle.admission.specs.Bandwidths.{AreRated, claims_of};
 
 use crate::reserved::{reserved, reserved_with};
 use crate::resv_state::ResvState;
 use crate::run::{part_of, run_from, run_of, start_of};
 use crate::running::{LinkSum, Touched, add, add_up, sum_at, sums_of, take_off};
-use lsr_facts::Key;
 use lsr_facts::limits::MAX_LSPS;
-use resv_facts::{Claim, Request, is_same_style};
+use lsr_facts::{Claim, Key, Request, is_same_style};
 use sorted_rows::{ReservedTable, Sweep, Table, get_ref};
 use std::alloc::{AllocError, Global};
 use std::marker::Model;
@@ -33,7 +32,7 @@ pub struct Claims {
 impl Model for Claims {
     ghost use Rattle.std.specs.Prelude.{List};
     ghost use Rattle.lsr_facts.specs.declared.key.Key.{Key};
-    ghost use Rattle.resv_facts.specs.declared.claim.Claim.{Claim};
+    ghost use Rattle.lsr_facts.specs.declared.claim.Claim.{Claim};
     ghost use Rattle.admission.specs.Bandwidths.{AreRated};
     ghost use Rattle.admission.specs.Running.{AreSums};
 

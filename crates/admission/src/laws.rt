@@ -6,9 +6,9 @@ ghost use Rattle.std.specs.Option.{option_map};
 ghost use Rattle.std.specs.Prelude.{◌≡◌, ◌≢◌, ◌≤◌, ℕ};
 ghost use Rattle.lsr_facts.specs.Orders.{key_cmp};
 ghost use Rattle.lsr_facts.specs.declared.key.Key.{Key};
-ghost use Rattle.resv_facts.specs.Claims.{claim_of};
-ghost use Rattle.resv_facts.specs.declared.claim.Claim.{Claim};
-ghost use Rattle.resv_facts.specs.declared.resv_fact.ResvFact.{ResvFact};
+ghost use Rattle.lsr_facts.specs.Claims.{claim_of};
+ghost use Rattle.lsr_facts.specs.declared.claim.Claim.{Claim};
+ghost use Rattle.lsr_facts.specs.declared.resv_fact.ResvFact.{ResvFact};
 ghost use Rattle.admission.specs.Bandwidths.{AreMatched, Bandwidth, IsSameOf, with_holding, with_resv, without_resv};
 
 /// An LSP whose reservation was put has it, and takes what it says; of every other LSP the same is known as before.

@@ -3,17 +3,16 @@
 ghost use Rattle.std.specs.FinMap.Entries.{is_sorted, put};
 ghost use Rattle.std.specs.Prelude.{◌≡◌, ◌^◌, ◌≤◌, ◌∷◌, ◌++◌, T, length};
 ghost use Rattle.lsr_facts.specs.Orders.{key_cmp};
-ghost use Rattle.resv_facts.specs.Admission.{granted};
-ghost use Rattle.resv_facts.specs.Claims.{reserved_of};
-ghost use Rattle.resv_facts.specs.declared.claim.Claim.{Claim};
+ghost use Rattle.lsr_facts.specs.Admission.{granted};
+ghost use Rattle.lsr_facts.specs.Claims.{reserved_of};
+ghost use Rattle.lsr_facts.specs.declared.claim.Claim.{Claim};
 ghost use Rattle.admission.specs.Bandwidths.{AreRated};
 
 use crate::sum::Sum;
-use lsr_facts::Key;
-use resv_facts::{Claim, Request};
+use lsr_facts::{Claim, Key, Request};
 
 /// The bandwidth that is reserved on a link at a priority, in bytes per second.
-#[tactic(auto, unfolding(resv_facts::specs::Claims::reserved_of))]
+#[tactic(auto, unfolding(lsr_facts::specs::Claims::reserved_of))]
 pub fn reserved(claims: &[(Key, Claim)], link: u16, priority: u8) -> u64
     requires sorted { T (is_sorted key_cmp claims.now) }
     requires rated { AreRated claims.now }
@@ -37,7 +36,7 @@ fn around<'a>(claims: &'a [(Key, Claim)], key: &Key) -> (&'a [(Key, Claim)], &'a
 }
 
 /// The bandwidth that is reserved on a request's link at a priority once the request is granted, in bytes per second.
-#[tactic(auto, unfolding(resv_facts::specs::Claims::reserved_of))]
+#[tactic(auto, unfolding(lsr_facts::specs::Claims::reserved_of))]
 pub fn reserved_with(request: &Request, claims: &[(Key, Claim)], priority: u8) -> u64
     requires sorted { T (is_sorted key_cmp claims.now) }
     requires rated { AreRated claims.now }

@@ -5,14 +5,13 @@ ghost use Rattle.std.specs.Option.{option_copied, option_map};
 ghost use Rattle.std.specs.Ordering.{is_eq};
 ghost use Rattle.std.specs.Prelude.{◌≡◌, ◌≤◌, T, [], IfOk, filter, find as find_first, length, not, slice_get};
 ghost use Rattle.lsr_facts.specs.Orders.{key_cmp};
-ghost use Rattle.resv_facts.specs.Conflicts.{conflicts};
-ghost use Rattle.resv_facts.specs.Reservations.{expire, lives_past};
+ghost use Rattle.lsr_facts.specs.Conflicts.{conflicts};
+ghost use Rattle.lsr_facts.specs.Reservations.{expire, lives_past};
 ghost use Rattle.sorted_rows.specs.Edits.{edited};
 ghost use Rattle.sorted_rows.specs.Rows.{keys_of};
 
-use lsr_facts::Key;
 use lsr_facts::limits::MAX_LSPS;
-use resv_facts::{KeyNumber, ResvFact, ResvStyle, is_same_session, is_same_style};
+use lsr_facts::{Key, KeyNumber, ResvFact, ResvStyle, is_same_session, is_same_style};
 use rsvp_objects::Session;
 use slot_rows::{Probe, RowTest};
 use sorted_rows::{Sweep, Table, TryCopy};
@@ -31,7 +30,7 @@ pub(crate) struct ResvState {
 impl Model for ResvState {
     ghost use Rattle.std.specs.Prelude.{List};
     ghost use Rattle.lsr_facts.specs.declared.key.Key.{Key};
-    ghost use Rattle.resv_facts.specs.declared.resv_fact.ResvFact.{ResvFact};
+    ghost use Rattle.lsr_facts.specs.declared.resv_fact.ResvFact.{ResvFact};
 
     ghost Value = { List (Key × ResvFact) };
 
@@ -59,7 +58,7 @@ struct Survivors {
 }
 
 impl Sweep<Key, ResvFact> for Survivors {
-    ghost use Rattle.resv_facts.specs.Reservations.{lives_past};
+    ghost use Rattle.lsr_facts.specs.Reservations.{lives_past};
 
     ghost stays = { λ s resv. lives_past s.moment resv.1 };
 
@@ -107,7 +106,7 @@ struct Conflicting {
 }
 
 impl RowTest<Key, ResvFact> for Conflicting {
-    ghost use Rattle.resv_facts.specs.Conflicts.{conflicts};
+    ghost use Rattle.lsr_facts.specs.Conflicts.{conflicts};
 
     ghost passes = { λ c. conflicts c.link c.style c.key };
 

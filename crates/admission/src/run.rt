@@ -6,13 +6,12 @@ ghost use Rattle.std.specs.List.Sorted.{IsPartitionPoint};
 ghost use Rattle.std.specs.Ordering.{is_le};
 ghost use Rattle.std.specs.Prelude.{◌≡◌, ◌+◌, ◌^◌, ◌<◌, ◌≤◌, max, T, IfSome, IsFalse, IsTrue, false, filter, if◌then◌else◌, length, true};
 ghost use Rattle.lsr_facts.specs.Orders.{key_cmp, session_cmp};
-ghost use Rattle.resv_facts.specs.Claims.{is_fixed, is_of, is_shared, reserved_of};
+ghost use Rattle.lsr_facts.specs.Claims.{is_fixed, is_of, is_shared, reserved_of};
 ghost use Rattle.admission.specs.Bandwidths.{AreRated};
 ghost use Rattle.admission.specs.Runs.{IsStart, comes_before};
 
 use crate::sum::counts;
-use lsr_facts::Key;
-use resv_facts::{Claim, ResvStyle};
+use lsr_facts::{Claim, Key, ResvStyle};
 use rsvp_objects::Session;
 
 /// How many of the claims, from the first one on, are of a session or of those before it. It goes over these alone.

@@ -6,15 +6,14 @@ ghost use Rattle.std.specs.Option.{option_map_or};
 ghost use Rattle.std.specs.Prelude.{◌≡◌, ◌≤◌, List, T, [], IfOk, IfSome, OnOk, length, map, true};
 ghost use Rattle.lsr_facts.specs.Orders.{key_cmp};
 ghost use Rattle.lsr_facts.specs.declared.key.Key.{Key};
-ghost use Rattle.resv_facts.specs.Claims.{is_of, reserved_of};
-ghost use Rattle.resv_facts.specs.declared.claim.Claim.{Claim};
+ghost use Rattle.lsr_facts.specs.Claims.{is_of, reserved_of};
+ghost use Rattle.lsr_facts.specs.declared.claim.Claim.{Claim};
 ghost use Rattle.admission.specs.Bandwidths.{AreRated};
 ghost use Rattle.admission.specs.Running.{AreSums, anew, is_touched, less, more};
 
 use crate::reserved::reserved;
 use crate::run::part_of;
-use lsr_facts::Key;
-use resv_facts::{Claim, WORST_PRIORITY};
+use lsr_facts::{Claim, Key, WORST_PRIORITY};
 use rsvp_objects::Session;
 use sorted_rows::Table;
 use std::alloc::{AllocError, Global};

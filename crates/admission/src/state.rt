@@ -2,12 +2,12 @@ ghost use Rattle.std.specs.FinMap.Entries.{find, is_sorted, put};
 ghost use Rattle.std.specs.Option.{option_copied, option_map, option_map_or};
 ghost use Rattle.std.specs.Ordering.{nat_cmp};
 ghost use Rattle.std.specs.Prelude.{◌≡◌, ◌^◌, ◌≤◌, T, [], false, IfOk, IsOk, filter, find as find_first, length, not, reverse, slice_get};
-ghost use Rattle.rsvp_traffic.specs.Traffic.{flowspec_rate};
+ghost use Rattle.rsvp_bodies.specs.Traffic.{flowspec_rate};
 ghost use Rattle.lsr_facts.specs.Orders.{key_cmp};
-ghost use Rattle.resv_facts.specs.Admission.{fits, victims_of};
-ghost use Rattle.resv_facts.specs.Claims.{claim_of, reserved_of};
-ghost use Rattle.resv_facts.specs.Conflicts.{conflicts};
-ghost use Rattle.resv_facts.specs.Reservations.{lives_past};
+ghost use Rattle.lsr_facts.specs.Admission.{fits, victims_of};
+ghost use Rattle.lsr_facts.specs.Claims.{claim_of, reserved_of};
+ghost use Rattle.lsr_facts.specs.Conflicts.{conflicts};
+ghost use Rattle.lsr_facts.specs.Reservations.{lives_past};
 ghost use Rattle.sorted_rows.specs.Edits.{edited};
 ghost use Rattle.sorted_rows.specs.InTurn.{given, in_turn, taken};
 ghost use Rattle.sorted_rows.specs.Rows.{keys_of};
@@ -16,8 +16,7 @@ ghost use Rattle.admission.specs.Bandwidths.{AreEdits, AreMatched, AreRated, cla
 use crate::claims::Claims;
 use crate::resv_state::ResvState;
 use crate::victims::victims_from;
-use lsr_facts::Key;
-use resv_facts::{Claim, Request, ResvFact, ResvStyle, WORST_PRIORITY};
+use lsr_facts::{Claim, Key, Request, ResvFact, ResvStyle, WORST_PRIORITY};
 use sorted_rows::Table;
 use std::alloc::{AllocError, Global};
 use std::marker::Model;
@@ -262,7 +261,7 @@ impl Admission {
     /// Whether a request fits a limit of its link, in bytes per second: what is reserved at its setup priority, itself
     /// with it, is within that (RFC 3209, 4.7.3). It asks for a rate of at most 2^50 bytes per second. Where the link has a
     /// limit, it goes over the reservations of the request's session alone. Takes no memory.
-    #[tactic(auto, unfolding(resv_facts::specs::Admission::fits))]
+    #[tactic(auto, unfolding(lsr_facts::specs::Admission::fits))]
     pub fn fits_within(&self, limit: u64, request: &Request) -> bool
         requires { request.now.claim.rate ≤ 2 ^ 50 }
         ensures { result ≡ fits limit request.now self.now.claims }

@@ -1,12 +1,11 @@
 //! The bandwidth that claims take together, added up in one pass.
 
 ghost use Rattle.std.specs.Prelude.{◌≡◌, ◌+◌, ◌*◌, ◌^◌, ◌<◌, ◌≤◌, [], ◌∷◌, filter, length};
-ghost use Rattle.resv_facts.specs.Claims.{counts};
+ghost use Rattle.lsr_facts.specs.Claims.{counts};
 ghost use Rattle.admission.specs.Bandwidths.{AreRated};
 ghost use Rattle.admission.specs.Sums.{AddsClaims, IsSumOf, shared_by};
 
-use lsr_facts::Key;
-use resv_facts::{Claim, ResvStyle, is_same_session};
+use lsr_facts::{Claim, Key, ResvStyle, is_same_session};
 use rsvp_objects::Session;
 
 /// Whether a claim is on a link, and is kept at a priority or a better one.

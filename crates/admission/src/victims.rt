@@ -4,14 +4,13 @@ ghost use Rattle.std.specs.FinMap.Entries.{is_sorted, where_key};
 ghost use Rattle.std.specs.Ordering.{is_eq};
 ghost use Rattle.std.specs.Prelude.{◌≡◌, ◌^◌, ◌≤◌, ◌++◌, T, [], All, IfOk, OnOk, false, filter, length, map, not, take};
 ghost use Rattle.lsr_facts.specs.Orders.{key_cmp};
-ghost use Rattle.resv_facts.specs.Admission.{can_give_way, granted, held_at, in_turn, is_enough, shortest, victims_of};
-ghost use Rattle.resv_facts.specs.Claims.{is_of, reserved_of};
+ghost use Rattle.lsr_facts.specs.Admission.{can_give_way, granted, held_at, in_turn, is_enough, shortest, victims_of};
+ghost use Rattle.lsr_facts.specs.Claims.{is_of, reserved_of};
 ghost use Rattle.admission.specs.Bandwidths.{AreRated};
 
 use crate::reserved::reserved_with;
 use crate::run::{part_of, run_of, start_of};
-use lsr_facts::Key;
-use resv_facts::{Claim, Request, WORST_PRIORITY};
+use lsr_facts::{Claim, Key, Request, WORST_PRIORITY};
 use rsvp_objects::Session;
 use std::alloc::{AllocError, Global};
 
@@ -90,7 +89,7 @@ fn take_away(left: &mut Vec<(Key, Claim)>, key: &Key, link: u16, total: u64) -> 
 /// How many of these LSPs have to give way, from the first on, so that it is enough for a request: all, where it never
 /// is. It asks for what is reserved at the worst priority with the request granted, in bytes per second. The only error
 /// is out of memory.
-#[tactic(auto, unfolding(resv_facts::specs::Admission::is_enough))]
+#[tactic(auto, unfolding(lsr_facts::specs::Admission::is_enough))]
 fn count_needed(
     alloc: Global,
     limit: u64,
@@ -121,7 +120,7 @@ fn count_needed(
 
 /// Those who give way to a request, as [`victims_of`] says it, from what is reserved of its link at the worst priority
 /// with it granted, in bytes per second.
-#[tactic(auto, unfolding(resv_facts::specs::Admission::victims_of))]
+#[tactic(auto, unfolding(lsr_facts::specs::Admission::victims_of))]
 pub fn victims_from(
     alloc: Global,
     limit: u64,

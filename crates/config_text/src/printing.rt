@@ -6,7 +6,7 @@ ghost use Rattle.config_text.specs.Printing.{bypass_record, capacity_text, confi
 use lsr_config::Config;
 use lsr_facts::{Bypass, Link, Router, Tunnel};
 use object_text::rate_bytes;
-use rsvp_routes::{Prefix, Step};
+use rsvp_bodies::{Prefix, Step};
 use std::alloc::{AllocError, Global};
 use std::fmt::Write;
 use std::net::SocketAddr;

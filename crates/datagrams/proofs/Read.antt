@@ -10,11 +10,11 @@ use Rattle.link_frames.specs.declared.payload.Payload.{Payload}
 use Rattle.link_frames.specs.declared.payload.Payload.TheVariants as payloads
 use Rattle.lsr_facts.specs.declared.refusal.Refusal.{Refusal}
 use Rattle.lsr_facts.specs.declared.router.Router.{Router}
-use Rattle.router_events.specs.Ways.{takes}
-use Rattle.router_events.specs.declared.events.Event.TheVariants as events
-use Rattle.router_events.specs.declared.ways.ArrivalWay.{ArrivalWay}
-use Rattle.router_events.specs.declared.ways.ArrivalWay.TheVariants as ways
-use Rattle.router_events.specs.declared.ways.Arrive.{Arrive}
+use Rattle.abstract_paths.specs.Ways.{takes}
+use Rattle.abstract_paths.specs.declared.events.Event.TheVariants as events
+use Rattle.abstract_paths.specs.declared.ways.ArrivalWay.{ArrivalWay}
+use Rattle.abstract_paths.specs.declared.ways.ArrivalWay.TheVariants as ways
+use Rattle.abstract_paths.specs.declared.ways.Arrive.{Arrive}
 use Rattle.abstract_paths.specs.Places.{is_own}
 use Rattle.datagrams.specs.declared.datagram.Datagram.{Datagram}
 use Rattle.datagrams.specs.declared.datagram.Datagram.TheVariants as kinds

@@ -4,10 +4,10 @@ ghost use Rattle.std.specs.Prelude.{◌≡◌, List};
 ghost use Rattle.forwarding_table.specs.declared.forwarding.Forwarding.{Forwarding};
 ghost use Rattle.label_stacks.specs.declared.entry.StackEntry.{StackEntry};
 
+use abstract_paths::Event;
 use forwarding_table::Forwarding;
 use label_stacks::Stack;
 use link_frames::{Data, Frame};
-use router_events::Event;
 
 /// Whatever says what becomes of a stack of labels (RFC 3031, 3.10).
 pub trait Forwards {

@@ -5,14 +5,13 @@ ghost use Rattle.datagrams.specs.Datagrams.{IsCarried, IsDatagram, IsDelivered, 
 ghost use Rattle.datagrams.specs.Parts.{IsFrameRead, IsPayloadRead, OrNoMemory, refusal_for};
 
 use crate::datagram::{Datagram, Forwards, Passed};
+use abstract_paths::{ArrivalWay, Arrive, Event, Relay, takes};
 use explicit_routes::is_own;
 use forwarding_table::{Fault, Forwarding};
 use link_frames::{Data, Frame, MAX_DATA_LEN, Payload, Reading, Unread};
 use lsr_facts::{Refusal, Router};
-use message_reader::read_message;
-use router_events::{ArrivalWay, Arrive, Event, Relay, takes};
 use rsvp_contents::Dropped;
-use rsvp_messages::read_frame;
+use rsvp_messages::{read_frame, read_message};
 use std::alloc::Global;
 use std::net::Ipv4Addr;
 

@@ -3,7 +3,7 @@
 ghost use Rattle.std.specs.List.{flat_map};
 ghost use Rattle.std.specs.Prelude.{◌≡◌, ◌≤◌, ◌∷◌, length, IfOk};
 
-use rsvp_routes::{Subobject, Subobjects};
+use rsvp_bodies::{Subobject, Subobjects};
 use std::alloc::{AllocError, Global};
 
 /// A copy of subobjects that fit an object. The only error is out of memory.

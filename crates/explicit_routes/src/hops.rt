@@ -2,7 +2,7 @@
 
 ghost use Rattle.std.specs.List.{prefix_len};
 ghost use Rattle.std.specs.Prelude.{◌≡◌, ◌+◌, ◌≤◌, Some, drop, length, option_copied};
-ghost use Rattle.rsvp_routes.specs.Steps.{route_bytes};
+ghost use Rattle.rsvp_bodies.specs.Steps.{route_bytes};
 ghost use Rattle.lsr_facts.specs.Tunnels.{route_from};
 ghost use Rattle.abstract_paths.specs.Routing.{hop_by_rest, hop_by_route, hop_to_endpoint, hop_to_step, is_loose, leads_here, next_hop, nodes_of, with_neighbour};
 ghost use Rattle.explicit_routes.specs.Choosing.{IsChosen, IsWay};
@@ -13,7 +13,7 @@ use crate::lent::{Rest, Way};
 use crate::places::{MAX_LENGTH, is_here, is_own, link_at, neighbour_in};
 use crate::routing::route_to;
 use lsr_facts::{Choice, Node, Router};
-use rsvp_routes::{Prefix, Route, Step};
+use rsvp_bodies::{Prefix, Route, Step};
 use std::alloc::Global;
 use std::net::Ipv4Addr;
 

@@ -1,7 +1,7 @@
 //! Ways as they are lent: what is left of a route isn't copied.
 
 ghost use Rattle.std.specs.Prelude.{◌≡◌, ◌+◌, ◌≤◌, ◌∷◌, IfOk, length};
-ghost use Rattle.rsvp_routes.specs.Steps.{route_bytes};
+ghost use Rattle.rsvp_bodies.specs.Steps.{route_bytes};
 ghost use Rattle.abstract_paths.specs.Paths.{rest_of};
 ghost use Rattle.abstract_paths.specs.Routing.{step_to};
 ghost use Rattle.explicit_routes.specs.Choosing.{choice_of};
@@ -9,7 +9,7 @@ ghost use Rattle.explicit_routes.specs.Choosing.{choice_of};
 use crate::copies::{copy_behind, copy_of};
 use crate::places::node_at;
 use lsr_facts::Choice;
-use rsvp_routes::{Route, Step};
+use rsvp_bodies::{Route, Step};
 use std::alloc::{AllocError, Global};
 use std::marker::Model;
 use std::net::Ipv4Addr;
@@ -35,8 +35,8 @@ pub struct Rest<'a> {
 impl<'a> Model for Rest<'a> {
     ghost use Rattle.std.specs.Option.{option_map_or};
     ghost use Rattle.std.specs.Prelude.{List, ◌≤◌, ◌∷◌, length};
-    ghost use Rattle.rsvp_routes.specs.Steps.{route_bytes};
-    ghost use Rattle.rsvp_routes.specs.declared.step.Step.{Step};
+    ghost use Rattle.rsvp_bodies.specs.Steps.{route_bytes};
+    ghost use Rattle.rsvp_bodies.specs.declared.step.Step.{Step};
     ghost use Rattle.abstract_paths.specs.Routing.{step_to};
 
     ghost Value = { List Step };

@@ -9,7 +9,7 @@ ghost use Rattle.abstract_paths.specs.Places.{contains, is_here, is_own, is_up, 
 ghost use Rattle.abstract_paths.specs.Places.{place_at};
 
 use lsr_facts::{Link, Node, Router, is_same_address};
-use rsvp_routes::Prefix;
+use rsvp_bodies::Prefix;
 use sorted_rows::Table;
 use std::net::Ipv4Addr;
 

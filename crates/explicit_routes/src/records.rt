@@ -7,8 +7,8 @@ ghost use Rattle.abstract_paths.specs.Paths.{grown, has_loop, names_here, own_en
 use crate::copies::copy_behind;
 use crate::places::{is_own, node_at};
 use lsr_facts::{Node, Router};
+use rsvp_bodies::{Record, Subobject, Trace};
 use rsvp_contents::numbers::{MAX_RECORD_LEN, MAX_TRACES};
-use rsvp_routes::{Record, Subobject, Trace};
 use std::alloc::{AllocError, Global};
 
 /// Whether an entry of a record names this router.

@@ -8,7 +8,7 @@ ghost use Rattle.abstract_paths.specs.Places.{place_at};
 
 use crate::places::{contains, is_up, neighbour_at};
 use lsr_facts::Node;
-use rsvp_routes::Prefix;
+use rsvp_bodies::Prefix;
 use std::net::Ipv4Addr;
 
 /// The longer of two static routes.

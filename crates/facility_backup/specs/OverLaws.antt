@@ -13,9 +13,9 @@ use Rattle.lsr_facts.specs.declared.bypass.Bypass.{Bypass}
 use Rattle.lsr_facts.specs.declared.key.Key.{Key}
 use Rattle.lsr_facts.specs.declared.router.Router.{Router}
 use Rattle.lsr_facts.specs.declared.tunnel.Tunnel.{Tunnel}
-use Rattle.resv_facts.specs.declared.repair.Detour.{Detour}
-use Rattle.resv_facts.specs.declared.repair.Over.{Over}
-use Rattle.resv_facts.specs.declared.resv_fact.ResvFact.{ResvFact}
+use Rattle.lsr_facts.specs.declared.repair.Detour.{Detour}
+use Rattle.lsr_facts.specs.declared.repair.Over.{Over}
+use Rattle.lsr_facts.specs.declared.resv_fact.ResvFact.{ResvFact}
 use Rattle.forwarding_table.specs.Labels.{is_label}
 use Rattle.abstract_paths.specs.Places.{is_up}
 use Rattle.abstract_router.specs.Detours.{detour_of, detours_of, over_at, over_by, over_of}

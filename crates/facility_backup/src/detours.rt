@@ -5,9 +5,8 @@ ghost use Rattle.std.specs.Ordering.{nat_cmp};
 ghost use Rattle.std.specs.Prelude.{◌≡◌};
 ghost use Rattle.abstract_router.specs.Detours.{detour_by, detours_of, over_at, over_of};
 
-use lsr_facts::{Bypass, Tunnel};
+use lsr_facts::{Bypass, Detour, Over, Tunnel};
 use message_rules::{current_key, is_up};
-use resv_facts::{Detour, Over};
 use state_views::StateView;
 
 /// What the tunnel of a number runs over: its current LSP is reserved, over a link that is up.

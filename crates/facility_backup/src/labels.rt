@@ -4,7 +4,7 @@ ghost use Rattle.std.specs.Prelude.{◌≡◌};
 ghost use Rattle.abstract_router.specs.Protecting.{first_label, label_after, names_router};
 
 use forwarding_table::is_label;
-use rsvp_routes::Trace;
+use rsvp_bodies::Trace;
 use std::net::Ipv4Addr;
 
 /// The flag of a recorded label that its router takes it on every link (RFC 3209, 4.4.1.3).

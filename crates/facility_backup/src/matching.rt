@@ -5,9 +5,8 @@ ghost use Rattle.abstract_router.specs.Returning.{ends_at, is_known_as};
 ghost use Rattle.facility_backup.specs.Matching.{is_for};
 
 use crate::detours::detour_at;
-use lsr_facts::{Key, Router};
+use lsr_facts::{Key, Repair, Router};
 use message_rules::{head_through, link_at};
-use resv_facts::Repair;
 use state_views::StateView;
 use std::net::Ipv4Addr;
 

@@ -8,10 +8,9 @@ ghost use Rattle.abstract_router.specs.Lsps.{around_of};
 ghost use Rattle.abstract_router.specs.Protecting.{carries_bypass, ends_at_peer, has_flag, is_preferred, is_protected, label_after, leads_around, selected_by, wants_later, wants_protection};
 
 use crate::labels::label_after;
-use lsr_facts::{Bypass, Key, PathFact, Router, begins_here};
+use lsr_facts::{Bypass, Detour, Key, PathFact, ResvFact, Router, Selected, begins_here};
 use message_rules::link_at;
-use resv_facts::{Detour, ResvFact, Selected};
-use rsvp_routes::Record;
+use rsvp_bodies::Record;
 use state_views::StateView;
 use std::net::Ipv4Addr;
 

@@ -3,8 +3,7 @@
 ghost use Rattle.std.specs.Prelude.{◌≡◌};
 ghost use Rattle.abstract_router.specs.Protecting.{repair_with};
 
-use lsr_facts::Key;
-use resv_facts::{Repair, ResvFact, Selected};
+use lsr_facts::{Key, Repair, ResvFact, Selected};
 
 /// An LSP that is held: the router after it takes it, under the label of this reservation.
 #[derive(Debug, Drop)]

@@ -9,8 +9,7 @@ ghost use Rattle.facility_backup.specs.Choosing.{best_of};
 
 use crate::detours::detour_by;
 use crate::protecting::{is_preferred, is_protected, selected_by};
-use lsr_facts::{Bypass, Key, PathFact};
-use resv_facts::{ResvFact, Selected};
+use lsr_facts::{Bypass, Key, PathFact, ResvFact, Selected};
 use state_views::StateView;
 
 /// The flag of a recorded router that it protects the LSP (RFC 4090, 4.4).

@@ -3,14 +3,13 @@
 ghost use Rattle.std.specs.Option.{option_copied, option_map};
 ghost use Rattle.std.specs.Prelude.{◌≡◌};
 ghost use Rattle.lsr_facts.specs.declared.path_fact.PathFact.{PathFact};
-ghost use Rattle.resv_facts.specs.Reservations.{timeless_resv};
+ghost use Rattle.lsr_facts.specs.Reservations.{timeless_resv};
 ghost use Rattle.abstract_router.specs.Lsps.{held_of, lsp_of};
 ghost use Rattle.abstract_router.specs.Repairing.{repair_stands};
 
 use crate::detours::over_at;
-use lsr_facts::Key;
+use lsr_facts::{Key, Repair, ResvFact};
 use message_rules::leaves_by;
-use resv_facts::{Repair, ResvFact};
 use state_views::StateView;
 
 /// Whether a repair stands: its bypass is up, and its path leaves by the link that this protects. Takes no memory.

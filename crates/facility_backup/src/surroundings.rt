@@ -7,8 +7,7 @@ ghost use Rattle.facility_backup.specs.Asking.{row_by};
 ghost use Rattle.state_views.specs.Edits.{edited};
 
 use crate::detours::detour_by;
-use lsr_facts::Bypass;
-use resv_facts::Detour;
+use lsr_facts::{Bypass, Detour};
 use state_views::{Changed, Edits, StateView};
 
 /// Whether these are the same bypass.

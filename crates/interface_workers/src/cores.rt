@@ -1,16 +1,15 @@
 //! A router under its lock, and the ports of those who feed it.
 
 ghost use Rattle.std.specs.Prelude.{◌≡◌, ◌+◌, ◌<◌, ◌≤◌, [], All, IfOk, OnErr, OnOk, length, map};
-ghost use Rattle.event_bytes.specs.Events.{event_bytes};
+ghost use Rattle.journal_bytes.specs.Events.{event_bytes};
 ghost use Rattle.run_journal.specs.Journals.{IsAnswered};
 ghost use Rattle.run_journal.specs.Marks.{Follows, first_marks};
 
 use crate::readers::{CoreReader, named_readers};
+use abstract_paths::Event;
 use lookup_plane::OpenFault;
 use lsr_config::Config;
-use lsr_facts::{Refusal, Router};
-use resv_facts::State;
-use router_events::Event;
+use lsr_facts::{Refusal, Router, State};
 use run_journal::{Locked, Mark, Receipt, Segment};
 use sorted_rows::TryCopy;
 use std::alloc::{AllocError, Global};

@@ -12,11 +12,11 @@ mod worker;
 
 pub use cores::{Core, Opened, Port, open};
 pub use gate::{Gate, OpenGate};
+pub use journal_bytes::{is_same_router, is_same_state};
 pub use lookup_plane::{Closed, OpenFault};
 pub use readers::CoreReader;
 pub use reading::read_by;
 pub use reconciling::{Mismatch, OneRun, reconcile, whole_journals_are_runs};
 pub use run_journal::{Entry, Mark, Receipt, Segment};
-pub use state_equality::{is_same_router, is_same_state};
 pub use wire::{Wire, WireFault};
 pub use worker::{Work, serve_event, serve_link};

@@ -8,8 +8,8 @@ ghost use Rattle.interface_workers.specs.Mismatches.{IsFirstDifference, IsFirstG
 ghost use Rattle.interface_workers.specs.Reconciled.{AreJoined, AreOneRun, IsReconciled, called_for};
 ghost use Rattle.interface_workers.specs.Walks.{GoesOn, HasPorts, IsAt, IsNext, IsTold, IsWithin, called_in, mine, passed, place_at};
 
+use journal_bytes::{is_same_router, is_same_state};
 use run_journal::{Entry, Mark, Receipt, Segment, Tally, WrittenFrame};
-use state_equality::{is_same_router, is_same_state};
 use thiserror::Error;
 
 /// Receipts and segments are those of one run.

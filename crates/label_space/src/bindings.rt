@@ -14,8 +14,7 @@ ghost use Rattle.label_space.specs.Turns.{CanHold, MayHold, emptied};
 
 use crate::space::LabelSpace;
 use lsr_facts::limits::MAX_LSPS;
-use lsr_facts::{Key, LabelRange};
-use resv_facts::KeyNumber;
+use lsr_facts::{Key, KeyNumber, LabelRange};
 use slot_rows::SlotTable;
 use sorted_rows::{Table, TryCopy};
 use std::alloc::{AllocError, Global};

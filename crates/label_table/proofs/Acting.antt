@@ -15,10 +15,10 @@ use Rattle.forwarding_table.specs.Actions.{WritesLabels}
 use Rattle.forwarding_table.specs.Labels.{IsLabel}
 use Rattle.forwarding_table.specs.declared.action.Action.{Action}
 use Rattle.forwarding_table.specs.declared.action.Action.TheVariants.{Pop, PushHead, SwapPush}
-use Rattle.resv_facts.specs.Reservations.{timeless_repair, timeless_resv}
-use Rattle.resv_facts.specs.declared.repair.Over.{Over}
-use Rattle.resv_facts.specs.declared.repair.Repair.{Repair}
-use Rattle.resv_facts.specs.declared.resv_fact.ResvFact.{ResvFact}
+use Rattle.lsr_facts.specs.Reservations.{timeless_repair, timeless_resv}
+use Rattle.lsr_facts.specs.declared.repair.Over.{Over}
+use Rattle.lsr_facts.specs.declared.repair.Repair.{Repair}
+use Rattle.lsr_facts.specs.declared.resv_fact.ResvFact.{ResvFact}
 use Rattle.abstract_paths.specs.Paths.{goes_on}
 use Rattle.abstract_paths.specs.Places.{place_of}
 use Rattle.abstract_paths.specs.RowLaws.{option_or-holds}

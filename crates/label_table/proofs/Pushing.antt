@@ -19,9 +19,9 @@ use Rattle.lsr_facts.specs.declared.router.Router.{Router}
 use Rattle.lsr_facts.specs.declared.tunnel.Tunnel.{Tunnel}
 use Rattle.forwarding_table.specs.Actions.{WritesLabels}
 use Rattle.forwarding_table.specs.declared.action.Action.{Action}
-use Rattle.resv_facts.specs.declared.repair.Detour.{Detour}
-use Rattle.resv_facts.specs.declared.repair.Repair.{Repair}
-use Rattle.resv_facts.specs.declared.resv_fact.ResvFact.{ResvFact}
+use Rattle.lsr_facts.specs.declared.repair.Detour.{Detour}
+use Rattle.lsr_facts.specs.declared.repair.Repair.{Repair}
+use Rattle.lsr_facts.specs.declared.resv_fact.ResvFact.{ResvFact}
 use Rattle.abstract_router.specs.Detours.{detours_of}
 use Rattle.abstract_router.specs.Soundness.{IsResv}
 use Rattle.abstract_router.specs.States.{State}

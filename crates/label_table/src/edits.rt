@@ -17,9 +17,8 @@ ghost use Rattle.label_table.specs.Turns.{change, change_at, is_same, onward_at,
 use crate::bypassed::with_bypassed;
 use facility_backup::over_at;
 use forwarding_table::Action;
-use lsr_facts::Key;
+use lsr_facts::{Key, Repair};
 use message_rules::goes_on;
-use resv_facts::Repair;
 use sorted_rows::Table;
 use state_views::{Changed, Edits, StateView, WholeState};
 use std::alloc::{AllocError, Global};

@@ -1,8 +1,7 @@
 //! The words of a case.
 
 use anyhow::{Context, Result, bail};
-use lsr_facts::Key;
-use resv_facts::{Claim, Request, ResvStyle, WORST_PRIORITY};
+use lsr_facts::{Claim, Key, Request, ResvStyle, WORST_PRIORITY};
 use rsvp_objects::{RateWord, Session, Template};
 use std::net::Ipv4Addr;
 use std::str::SplitWhitespace;

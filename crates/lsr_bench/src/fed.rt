@@ -2,9 +2,8 @@
 
 use crate::lsps::{Lsp, lsps_of};
 use lsr_config::{BUILT_IN, Config};
-use lsr_facts::Reply;
-use resv_facts::WORST_PRIORITY;
-use router_machine::{Event, Machine, Made, Served};
+use lsr_facts::{Reply, WORST_PRIORITY};
+use router_core::{Event, Machine, Made, Served};
 use std::alloc::Global;
 use worker_measures::fixtures::{Fault, IN_LINK, OUT_LINK};
 

@@ -1,7 +1,7 @@
 //! How long steps of one router take.
 
 use crate::fed::{Answer, Fed, MOST_LSPS};
-use router_machine::Event;
+use router_core::Event;
 use std::alloc::Global;
 use std::time::{Clock, Duration, Instant};
 use worker_measures::fixtures::{Fault, OUT_LINK, PATH_FRAME, about_tunnel};

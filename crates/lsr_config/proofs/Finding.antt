@@ -15,7 +15,7 @@ use Rattle.std.specs.Result.{result_ok}
 use Rattle.lsr_facts.specs.declared.router.LabelRange.{LabelRange}
 use Rattle.std.specs.Net.Grammar.{Parses}
 use Rattle.toml.specs.Data.{Data, string, integer, float, boolean, datetime, array, table, Items, no_items, item, as_str, as_integer, as_bool, as_array, as_table}
-use Rattle.route_words.specs.Finding.{Finds}
+use Rattle.rsvp_bodies.specs.Finding.{Finds}
 use Rattle.lsr_config.specs.Values.{SaysText, SaysWhole, SaysFlag, SaysLabels, SaysTables, IsTable, elements}
 use Rattle.lsr_config.specs.Documents.{array_elements}
 

@@ -10,7 +10,7 @@ use denote.Ref.{Bor}
 use Rattle.std.proofs.lemmas.List.{append-nil, map-append, take_all, take-append-drop, take_more}
 use Rattle.sorted_rows.specs.ListLaws.{all-append}
 use Rattle.lsr_config.specs.Keys.{key_name}
-use Rattle.route_words.specs.Finding.{Finds}
+use Rattle.rsvp_bodies.specs.Finding.{Finds}
 use Rattle.lsr_config.specs.Values.{SaysEach, SaysTables}
 use Rattle.lsr_config.specs.Rules.{Kind, some_tables, IsOfKind, Has, Rule, given, fitting, new_number, new_address, new_prefix, elsewhere, known_number, few, known, Holds, fault_of, FirstBroken}
 use Rattle.lsr_config.specs.Documents.{needed, optional, in_turn, each_record, table_rules, array_elements, records, HasOr}

@@ -13,11 +13,11 @@ use Rattle.std.specs.Net.Grammar.{IsIpv4Text}
 use Rattle.std.specs.Ordering.{nat_cmp}
 use Rattle.std.specs.declared.net.ipv4_addr.Ipv4Addr.{Ipv4Addr}
 use Rattle.toml.specs.Data.{Data, get}
-use Rattle.rsvp_routes.specs.declared.prefix.Prefix.{Prefix}
-use Rattle.rsvp_routes.specs.declared.step.Step.{Step}
+use Rattle.rsvp_bodies.specs.declared.prefix.Prefix.{Prefix}
+use Rattle.rsvp_bodies.specs.declared.step.Step.{Step}
 use Rattle.rsvp_contents.specs.Below.objects.Ranges.{IsAddress}
 use Rattle.rsvp_contents.specs.Limits.{is_short_route}
-use Rattle.route_words.specs.Rates.{tspec_with}
+use Rattle.rsvp_bodies.specs.RateWords.{tspec_with}
 use Rattle.sorted_rows.specs.ListLaws.{all-map}
 use Rattle.sorted_rows.specs.Rows.{values_of}
 use Rattle.lsr_facts.specs.Bypasses.{AreBypasses, IsBypass}

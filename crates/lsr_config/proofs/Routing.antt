@@ -9,11 +9,11 @@ use Rattle.toml.specs.Data.{Data, array, as_array}
 use Rattle.toml.specs.View.{view, items_view}
 use Rattle.toml.specs.declared.value.Value.{Value}
 use Rattle.rsvp_contents.specs.Limits.{is_short_route, step_has_address}
-use Rattle.rsvp_routes.specs.Steps.{route_bytes, step_bytes}
-use Rattle.rsvp_routes.specs.declared.step.Step.{Step}
-use Rattle.rsvp_routes.specs.declared.step.Step.TheVariants.{Ipv4, Other}
-use Rattle.route_words.specs.Finding.{Finds}
-use Rattle.route_words.specs.Routes.{IsStepText}
+use Rattle.rsvp_bodies.specs.Steps.{route_bytes, step_bytes}
+use Rattle.rsvp_bodies.specs.declared.step.Step.{Step}
+use Rattle.rsvp_bodies.specs.declared.step.Step.TheVariants.{Ipv4, Other}
+use Rattle.rsvp_bodies.specs.Finding.{Finds}
+use Rattle.rsvp_bodies.specs.RouteWords.{IsStepText}
 use Rattle.lsr_facts.specs.Tunnels.{route_from}
 use Rattle.lsr_facts.specs.declared.router.Router.{Router}
 use Rattle.lsr_config.specs.Values.{elements, SaysEach, SaysStep, SaysSteps}

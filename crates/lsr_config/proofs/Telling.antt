@@ -9,16 +9,16 @@ use Rattle.std.specs.Net.Grammar.{IsIpv4Text}
 use Rattle.std.proofs.NetLemmas.Theorems.{IsIpv4Text_unique}
 use Rattle.std.specs.declared.net.ipv4_addr.Ipv4Addr.{Ipv4Addr}
 use Rattle.toml.specs.Data.{Data, as_str, get}
-use Rattle.rsvp_routes.specs.declared.prefix.Prefix.{Prefix}
+use Rattle.rsvp_bodies.specs.declared.prefix.Prefix.{Prefix}
 use Rattle.lsr_facts.specs.Routers.{masked}
 use Rattle.lsr_facts.specs.declared.bypass.Bypass.{Bypass}
 use Rattle.lsr_facts.specs.declared.router.Link.{Link}
 use Rattle.lsr_facts.specs.declared.tunnel.Tunnel.{Tunnel}
-use Rattle.rsvp_routes.specs.declared.step.Step.{Step}
-use Rattle.session_attribute.specs.declared.attr.Attr.{Attr}
-use Rattle.route_words.specs.Rates.{tspec_with}
+use Rattle.rsvp_bodies.specs.declared.step.Step.{Step}
+use Rattle.rsvp_bodies.specs.declared.attr.Attr.{Attr}
+use Rattle.rsvp_bodies.specs.RateWords.{tspec_with}
 use Rattle.lsr_config.specs.Keys.{key_name}
-use Rattle.route_words.specs.Routes.{IsPrefixText}
+use Rattle.rsvp_bodies.specs.RouteWords.{IsPrefixText}
 use Rattle.lsr_config.specs.Values.{SaysText, SaysAddress, SaysEach, SaysWhole, SaysPrefix, SaysRate, SaysSteps, SaysTspec, IsMaskedPrefixText}
 use Rattle.lsr_config.specs.Rules.{Has, HasAddress, HasNumber, HasPrefix, IsFree, SomeOf, Holds, new_number, new_prefix, known_number}
 use Rattle.lsr_config.specs.Documents.{new_tunnel, SaysAttributes, SaysBypass, SaysLink, SaysRoute, SaysTunnel}

@@ -1,6 +1,6 @@
 -- What a configuration says, and when a router can be opened with it.
 use Rattle.std.specs.Prelude.{ℕ, List}
-use Rattle.rsvp_routes.specs.declared.prefix.Prefix.{Prefix}
+use Rattle.rsvp_bodies.specs.declared.prefix.Prefix.{Prefix}
 use Rattle.lsr_facts.specs.declared.bypass.Bypass.{Bypass}
 use Rattle.lsr_facts.specs.declared.router.Router.{Router}
 use Rattle.lsr_facts.specs.declared.tunnel.Tunnel.{Tunnel}

@@ -4,8 +4,8 @@ use Rattle.std.specs.List.{AllByRecursion}
 use Rattle.std.specs.declared.net.ipv4_addr.Ipv4Addr.{Ipv4Addr}
 use Rattle.std.specs.declared.net.socket_addr.SocketAddr.{SocketAddr}
 use Rattle.toml.specs.Data.{Data, get}
-use Rattle.rsvp_routes.specs.declared.prefix.Prefix.{Prefix}
-use Rattle.rsvp_routes.specs.declared.step.Step.{Step}
+use Rattle.rsvp_bodies.specs.declared.prefix.Prefix.{Prefix}
+use Rattle.rsvp_bodies.specs.declared.step.Step.{Step}
 use Rattle.lsr_facts.specs.declared.router.LabelRange.{LabelRange}
 use Rattle.lsr_config.specs.Keys.{key_name}
 use Rattle.lsr_config.specs.Values.{SaysAddress, SaysSocket, SaysWhole, SaysFlag, SaysLabels, SaysPrefix, SaysTables, SaysSteps, SaysRate, SaysName}

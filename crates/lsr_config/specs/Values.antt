@@ -5,13 +5,13 @@ use Rattle.std.specs.Net.Grammar.{IsIpv4Text, IsSocketText}
 use Rattle.std.specs.declared.net.ipv4_addr.Ipv4Addr.{Ipv4Addr}
 use Rattle.std.specs.declared.net.socket_addr.SocketAddr.{SocketAddr}
 use Rattle.toml.specs.Data.{Data, string, integer, boolean, array, table, Items, no_items, item, Members}
-use Rattle.rsvp_routes.specs.declared.prefix.Prefix.{Prefix}
-use Rattle.rsvp_routes.specs.declared.step.Step.{Step}
-use Rattle.rsvp_routes.specs.declared.step.Step.TheVariants.{Ipv4, Other}
-use Rattle.rsvp_traffic.specs.Rates.{rate_of}
-use Rattle.session_attribute.specs.Names.{IsName}
-use Rattle.route_words.specs.Rates.{IsRateText, tspec_with}
-use Rattle.route_words.specs.Routes.{IsPrefixText, IsStepText}
+use Rattle.rsvp_bodies.specs.declared.prefix.Prefix.{Prefix}
+use Rattle.rsvp_bodies.specs.declared.step.Step.{Step}
+use Rattle.rsvp_bodies.specs.declared.step.Step.TheVariants.{Ipv4, Other}
+use Rattle.rsvp_bodies.specs.Rates.{rate_of}
+use Rattle.rsvp_bodies.specs.Names.{IsName}
+use Rattle.rsvp_bodies.specs.RateWords.{IsRateText, tspec_with}
+use Rattle.rsvp_bodies.specs.RouteWords.{IsPrefixText, IsStepText}
 use Rattle.lsr_facts.specs.Routers.{masked}
 use Rattle.lsr_facts.specs.declared.router.LabelRange.{LabelRange}
 

@@ -4,7 +4,7 @@ ghost use Rattle.lsr_config.specs.declared.config.TheConstants.{BUILT_IN};
 use crate::document::read_document;
 use crate::fault::ConfigFault;
 use lsr_facts::{Bypass, Router, Tunnel};
-use rsvp_routes::Prefix;
+use rsvp_bodies::Prefix;
 use sorted_rows::Table;
 use std::alloc::Global;
 use std::marker::Model;

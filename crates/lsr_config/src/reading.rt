@@ -16,9 +16,7 @@ use crate::values::{
     address_in, flag_in, items_in, labels_in, prefix_in, socket_in, tables_in, whole_in,
 };
 use lsr_facts::LabelRange;
-use rsvp_routes::{Prefix, Route};
-use rsvp_traffic::RateWord;
-use session_attribute::Name;
+use rsvp_bodies::{Name, Prefix, RateWord, Route};
 use std::alloc::Global;
 use std::net::Ipv4Addr;
 use toml::Value;

@@ -15,7 +15,7 @@ use crate::links::{FIRST_LINK, has_number};
 use crate::reading::{check_count, number_at, prefix_at, records_of};
 use lsr_facts::Link;
 use lsr_facts::limits::MAX_ROUTES;
-use rsvp_routes::Prefix;
+use rsvp_bodies::Prefix;
 use std::alloc::Global;
 use toml::Value;
 

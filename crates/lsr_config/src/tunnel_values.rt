@@ -1,15 +1,12 @@
 // Values of a tunnel: what each says, or `None` where it isn't of its kind.
 ghost use Rattle.std.specs.Prelude.{◌≡◌, ◌≤◌, ◌↔◌, length, map, IfOk, IsTrue};
 ghost use Rattle.toml.specs.View.{view};
-ghost use Rattle.route_words.specs.Finding.{Finds};
+ghost use Rattle.rsvp_bodies.specs.Finding.{Finds};
 ghost use Rattle.lsr_config.specs.Values.{IsDefinedRateText, IsInAddress, IsNameText, IsShortStepText, SaysEach, SaysName, SaysRate, SaysStep, SaysSteps};
 
 use crate::values::WHOLE_ADDRESS;
-use route_words::{read_rate, read_step};
-use rsvp_routes::{Route, Step};
-use rsvp_traffic::RateWord;
-use session_attribute::Name;
-use session_attribute::numbers::MAX_NAME_LEN;
+use rsvp_bodies::attr_numbers::MAX_NAME_LEN;
+use rsvp_bodies::{Name, RateWord, Route, Step, read_rate, read_step};
 use std::alloc::{AllocError, Global};
 use toml::Value;
 

@@ -2,7 +2,7 @@
 ghost use Rattle.std.specs.Prelude.{◌≡◌, List, [], ◌∷◌, IfOk};
 ghost use Rattle.toml.specs.Data.{Data};
 ghost use Rattle.toml.specs.View.{view};
-ghost use Rattle.route_words.specs.Rates.{tspec_with};
+ghost use Rattle.rsvp_bodies.specs.RateWords.{tspec_with};
 ghost use Rattle.lsr_config.specs.Rules.{HasAddress, elsewhere};
 ghost use Rattle.lsr_config.specs.Values.{SaysEach};
 ghost use Rattle.lsr_config.specs.Documents.{new_tunnel, table_rules, records, attribute_rules, tunnel_rules, SaysAttributes, SaysLink, SaysTunnel};
@@ -16,10 +16,7 @@ use crate::reading::{
 };
 use lsr_facts::limits::MAX_TUNNELS;
 use lsr_facts::{Link, Tunnel, TunnelLsp};
-use route_words::tspec_of;
-use rsvp_routes::Route;
-use rsvp_traffic::RateWord;
-use session_attribute::Attr;
+use rsvp_bodies::{Attr, RateWord, Route, tspec_of};
 use std::alloc::{AllocError, Global};
 use std::net::Ipv4Addr;
 use toml::Value;

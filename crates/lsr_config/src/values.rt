@@ -3,14 +3,13 @@ ghost use Rattle.std.specs.Prelude.{◌≡◌, ◌≤◌, pos, List, map, Some, 
 ghost use Rattle.std.specs.List.{list_all};
 ghost use Rattle.toml.specs.Data.{Data, integer, array, as_table};
 ghost use Rattle.toml.specs.View.{view, items_view};
-ghost use Rattle.route_words.specs.Finding.{Finds};
+ghost use Rattle.rsvp_bodies.specs.Finding.{Finds};
 ghost use Rattle.lsr_config.specs.Documents.{array_elements};
 ghost use Rattle.lsr_config.specs.Values.{IsMaskedPrefixText, SaysAddress, SaysSocket, SaysWhole, SaysFlag, SaysLabels, SaysPrefix, SaysTables};
 
 use lsr_facts::limits::MAX_LABELS;
 use lsr_facts::{LabelRange, masked};
-use route_words::read_prefix;
-use rsvp_routes::Prefix;
+use rsvp_bodies::{Prefix, read_prefix};
 use std::net::{Ipv4Addr, SocketAddr};
 use toml::Value;
 

@@ -2,10 +2,9 @@
 
 ghost use Rattle.std.specs.Prelude.{◌≡◌, true};
 
+use rsvp_bodies::{Description, equal_attributes_are_same};
 use rsvp_contents::{Attr, FastReroute, LabelRequest, Passing};
 use rsvp_objects::{Opaque, Subobject, Subobjects};
-use rsvp_traffic::Description;
-use session_attribute::equal_attributes_are_same;
 
 /// A value that can be compared with another.
 pub trait Same {

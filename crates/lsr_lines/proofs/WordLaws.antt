@@ -7,11 +7,11 @@ use Rattle.std.specs.Str.Parse.{IsNumeral, digits_value, without_leading_plus}
 use Rattle.std.proofs.lemmas.Int.Digits.{digits_value-lt}
 use Rattle.std.proofs.lemmas.List.Splits.{slice_split-cons_no, length-slice_split}
 use Rattle.std.proofs.lemmas.Str.Parse.{without_leading_plus_none}
-use Rattle.rsvp_routes.specs.Steps.{step_bytes}
-use Rattle.rsvp_routes.specs.declared.prefix.Prefix.{Prefix}
-use Rattle.rsvp_routes.specs.declared.step.Step.{Step}
-use Rattle.rsvp_routes.specs.declared.step.Step.TheVariants.{Ipv4, Other}
-use Rattle.route_words.specs.Routes.{IsStepText}
+use Rattle.rsvp_bodies.specs.Steps.{step_bytes}
+use Rattle.rsvp_bodies.specs.declared.prefix.Prefix.{Prefix}
+use Rattle.rsvp_bodies.specs.declared.step.Step.{Step}
+use Rattle.rsvp_bodies.specs.declared.step.Step.TheVariants.{Ipv4, Other}
+use Rattle.rsvp_bodies.specs.RouteWords.{IsStepText}
 use Rattle.lsr_lines.specs.Commands.{is_space, words_of, words_left, IsFlagsText, AreSteps, SaysCommand, SaysStatic}
 use Rattle.lsr_lines.specs.declared.commands.CommandRequest.{CommandRequest}
 use Rattle.lsr_lines.specs.declared.commands.CommandRequest.TheVariants as commands

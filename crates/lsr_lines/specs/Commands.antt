@@ -3,12 +3,12 @@ use Rattle.std.specs.Prelude.{◌≡◌, ◌≤◌, ◌==◌, ℕ, Bool, false, 
 use Rattle.std.specs.List.{list_any, slice_split}
 use Rattle.std.specs.Net.Grammar.{IsIpv4Text}
 use Rattle.std.specs.Str.Parse.{IsNumeral, digits_value}
-use Rattle.rsvp_routes.specs.declared.prefix.Prefix.{Prefix}
-use Rattle.rsvp_routes.specs.declared.step.Step.{Step}
-use Rattle.session_attribute.specs.Names.{IsName}
-use Rattle.session_attribute.specs.declared.attr.Attr.{Attr}
-use Rattle.route_words.specs.Rates.{IsRateText}
-use Rattle.route_words.specs.Routes.{IsPrefixText, IsStepText}
+use Rattle.rsvp_bodies.specs.declared.prefix.Prefix.{Prefix}
+use Rattle.rsvp_bodies.specs.declared.step.Step.{Step}
+use Rattle.rsvp_bodies.specs.Names.{IsName}
+use Rattle.rsvp_bodies.specs.declared.attr.Attr.{Attr}
+use Rattle.rsvp_bodies.specs.RateWords.{IsRateText}
+use Rattle.rsvp_bodies.specs.RouteWords.{IsPrefixText, IsStepText}
 use Rattle.lsr_lines.specs.Numbers.{NamesLink, NamesUpTo}
 use Rattle.lsr_lines.specs.declared.commands.BypassRequest.{BypassRequest}
 use Rattle.lsr_lines.specs.declared.commands.ChangeRequest.{ChangeRequest}

@@ -4,10 +4,10 @@ ghost use Rattle.std.specs.Bool.{MatchBool};
 ghost use Rattle.std.specs.List.{list_any};
 ghost use Rattle.std.specs.Net.Grammar.{IsIpv4Text};
 ghost use Rattle.std.specs.Option.{MatchOption};
-ghost use Rattle.rsvp_routes.specs.declared.step.Step.{Step};
-ghost use Rattle.session_attribute.specs.declared.attr.Attr.{Attr};
-ghost use Rattle.route_words.specs.Finding.{Finds};
-ghost use Rattle.route_words.specs.Rates.{IsRateText};
+ghost use Rattle.rsvp_bodies.specs.declared.step.Step.{Step};
+ghost use Rattle.rsvp_bodies.specs.declared.attr.Attr.{Attr};
+ghost use Rattle.rsvp_bodies.specs.Finding.{Finds};
+ghost use Rattle.rsvp_bodies.specs.RateWords.{IsRateText};
 ghost use Rattle.lsr_lines.specs.Commands.{BringsTunnel, IsFlagsText, SaysAttr, SaysBypass, SaysChange, SaysCommand, SaysNumber, SaysPrefix, SaysRoute, SaysStatic, SaysTunnel, words_left, words_of};
 ghost use Rattle.lsr_lines.specs.Numbers.{NamesUpTo};
 ghost use Rattle.lsr_lines.specs.declared.commands.ChangeRequest.{ChangeRequest};
@@ -16,11 +16,8 @@ ghost use Rattle.lsr_lines.specs.declared.commands.TunnelRequest.{TunnelRequest}
 
 use crate::numbers::{read_link, read_up_to};
 use crate::words::{next_two, next_word, only_word};
-use route_words::{read_prefix, read_rate, read_step};
-use rsvp_routes::{Prefix, Route};
-use rsvp_traffic::RateWord;
-use session_attribute::numbers::MAX_NAME_LEN;
-use session_attribute::{Attr, Name};
+use rsvp_bodies::attr_numbers::MAX_NAME_LEN;
+use rsvp_bodies::{Attr, Name, Prefix, RateWord, Route, read_prefix, read_rate, read_step};
 use std::alloc::{AllocError, Global};
 use std::net::Ipv4Addr;
 

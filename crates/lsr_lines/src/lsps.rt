@@ -1,7 +1,7 @@
 //! The words that name an LSP.
 ghost use Rattle.std.specs.Prelude.{◌≡◌, ◌≢◌, ◌∷◌, [], length};
 ghost use Rattle.std.specs.Option.{MatchOption};
-ghost use Rattle.route_words.specs.Finding.{Finds};
+ghost use Rattle.rsvp_bodies.specs.Finding.{Finds};
 ghost use Rattle.lsr_lines.specs.Lsps.{SaysLsp, SaysSender, SaysSession, parts_left, parts_of};
 ghost use Rattle.lsr_lines.specs.Commands.{words_left};
 

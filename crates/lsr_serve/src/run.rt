@@ -2,12 +2,12 @@
 ghost use Rattle.std.specs.Prelude.{◌≡◌, ◌+◌, ◌<◌, ◌≤◌, length, vec_capacity};
 
 use crate::udp_wire::LinkWire;
+use abstract_paths::Event;
 use interface_workers::{
     Core, CoreReader, Gate, OpenFault, Opened, Port, Receipt, Segment, Wire, Work, open,
     serve_event, serve_link,
 };
 use lsr_config::Config;
-use router_events::Event;
 use std::alloc::{AllocError, Global};
 use std::marker::Brand;
 use std::sync::Wait;

@@ -3,7 +3,7 @@ ghost use Rattle.std.specs.Ordering.{nat_cmp};
 ghost use Rattle.std.specs.Prelude.{◌≡◌, ◌≤◌, pos, None, Some, Err, map, length, option_map, IfOk, IfSome};
 ghost use Rattle.toml.specs.Data.{get, integer};
 ghost use Rattle.toml.specs.View.{view};
-ghost use Rattle.route_words.specs.Finding.{Finds};
+ghost use Rattle.rsvp_bodies.specs.Finding.{Finds};
 ghost use Rattle.lsr_config.specs.Documents.{SaysTable, array_elements, in_order, records};
 ghost use Rattle.lsr_config.specs.Keys.{key_name};
 ghost use Rattle.lsr_config.specs.Reading.{IsOfDocument};

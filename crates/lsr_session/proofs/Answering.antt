@@ -1,16 +1,16 @@
 -- What is printed of an event and of a datagram, be there memory for its text or not.
 use Rattle.std.proofs.Common.{◌≡◌, ◌++◌, ◌∷◌, [], ℕ, List, Result, Ok, Err, inr, refl, sym, subst}
 use Rattle.std.specs.Prelude.{IfOk, OnErr}
-use Rattle.router_events.specs.declared.commands.Command.{Command}
-use Rattle.router_events.specs.declared.events.Event.{Event}
-use Rattle.router_events.specs.declared.events.Event.TheVariants as events
-use Rattle.router_events.specs.declared.events.Made.{Made}
+use Rattle.abstract_paths.specs.declared.commands.Command.{Command}
+use Rattle.abstract_paths.specs.declared.events.Event.{Event}
+use Rattle.abstract_paths.specs.declared.events.Event.TheVariants as events
+use Rattle.abstract_paths.specs.declared.events.Made.{Made}
 use Rattle.lsr_facts.specs.declared.refusal.Refusal.{Refusal}
 use Rattle.lsr_lines.specs.Steps.{IsUntold}
 use Rattle.lsr_lines.specs.declared.commands.CommandRequest.{CommandRequest}
 use Rattle.lsr_text.specs.Answers.{answer_text}
-use Rattle.router_machine.specs.Machines.{IsDatagramServed, IsEventServed}
-use Rattle.router_machine.specs.declared.inputs.Served.{Served}
+use Rattle.router_core.specs.Machines.{IsDatagramServed, IsEventServed}
+use Rattle.router_core.specs.declared.inputs.Served.{Served}
 use Rattle.lsr_session.specs.Commands.{IsCommandFor}
 use Rattle.lsr_session.specs.Requests.{PrintsCommand, PrintsDatagram, PrintsEvent, SessionState, latest, remembered, reply_of, served_text}
 

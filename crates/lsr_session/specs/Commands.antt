@@ -1,10 +1,10 @@
 -- The command that a line says.
 use Rattle.std.specs.Prelude.{◌≡◌, None}
-use Rattle.route_words.specs.Rates.{tspec_with}
-use Rattle.router_events.specs.declared.commands.Command.{Command}
-use Rattle.router_events.specs.declared.commands.Command.TheVariants as commands
-use Rattle.router_events.specs.declared.tunnels.NewTunnel.{NewTunnel}
-use Rattle.router_events.specs.declared.tunnels.TunnelChange.{TunnelChange}
+use Rattle.rsvp_bodies.specs.RateWords.{tspec_with}
+use Rattle.abstract_paths.specs.declared.commands.Command.{Command}
+use Rattle.abstract_paths.specs.declared.commands.Command.TheVariants as commands
+use Rattle.abstract_paths.specs.declared.tunnels.NewTunnel.{NewTunnel}
+use Rattle.abstract_paths.specs.declared.tunnels.TunnelChange.{TunnelChange}
 use Rattle.lsr_lines.specs.declared.commands.ChangeRequest.{ChangeRequest}
 use Rattle.lsr_lines.specs.declared.commands.CommandRequest.{CommandRequest}
 use Rattle.lsr_lines.specs.declared.commands.CommandRequest.TheVariants as asked

@@ -1,3 +1,3 @@
 pub mod Commands
 pub mod Requests
-pub use Rattle.router_machine.specs.States
+pub use Rattle.router_core.specs.States

@@ -7,10 +7,10 @@ use Rattle.std.specs.Ordering.{nat_cmp}
 use Rattle.datagrams.specs.declared.datagram.Passed.{Passed}
 use Rattle.datagrams.specs.declared.datagram.Passed.TheVariants as passes
 use Rattle.forwarding_table.specs.declared.action.Action.{Action}
-use Rattle.router_events.specs.declared.commands.Command.{Command}
-use Rattle.router_events.specs.declared.events.Made.{Made}
-use Rattle.router_events.specs.declared.events.Event.{Event}
-use Rattle.router_events.specs.declared.events.Event.TheVariants as events
+use Rattle.abstract_paths.specs.declared.commands.Command.{Command}
+use Rattle.abstract_paths.specs.declared.events.Made.{Made}
+use Rattle.abstract_paths.specs.declared.events.Event.{Event}
+use Rattle.abstract_paths.specs.declared.events.Event.TheVariants as events
 use Rattle.lsr_facts.specs.declared.bypass.Bypass.{Bypass}
 use Rattle.lsr_facts.specs.declared.key.Key.{Key}
 use Rattle.lsr_facts.specs.declared.refusal.Refusal.{Refusal}
@@ -18,17 +18,17 @@ use Rattle.lsr_facts.specs.declared.reply.Reply.{Reply}
 use Rattle.lsr_facts.specs.declared.reply.Reply.TheVariants as replies
 use Rattle.lsr_facts.specs.declared.router.Link.{Link}
 use Rattle.lsr_facts.specs.declared.tunnel.Tunnel.{Tunnel}
-use Rattle.resv_facts.specs.Claims.{reserved_of}
+use Rattle.lsr_facts.specs.Claims.{reserved_of}
 use Rattle.abstract_paths.specs.Places.{is_up}
 use Rattle.abstract_router.specs.Detours.{detours_of, over_at}
 use Rattle.abstract_router.specs.Preempting.{claims_of}
 use Rattle.abstract_router.specs.States.{State}
 use Rattle.abstract_router.specs.Tables.{look_tunnel}
-use Rattle.router_machine.specs.Below.labels.Rows.{IsTableOf}
-use Rattle.router_machine.specs.States.{RouterState}
-use Rattle.router_machine.specs.Machines.{IsDatagramServed, IsEventServed}
-use Rattle.router_machine.specs.declared.inputs.Served.{Served}
-use Rattle.router_machine.specs.declared.inputs.Served.TheVariants as serves
+use Rattle.router_core.specs.Below.labels.Rows.{IsTableOf}
+use Rattle.router_core.specs.States.{RouterState}
+use Rattle.router_core.specs.Machines.{IsDatagramServed, IsEventServed}
+use Rattle.router_core.specs.declared.inputs.Served.{Served}
+use Rattle.router_core.specs.declared.inputs.Served.TheVariants as serves
 use Rattle.lsr_text.specs.Answers.{answer_text, refusal_line, replies_text}
 use Rattle.lsr_text.specs.FrameLines.{delivery_line, sent_line}
 use Rattle.lsr_text.specs.Lsps.{path_lsp_text, resv_lsp_text}

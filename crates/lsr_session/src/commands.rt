@@ -2,9 +2,9 @@
 ghost use Rattle.std.specs.Prelude.{◌≡◌, IfOk};
 ghost use Rattle.lsr_session.specs.Commands.{IsChangeFor, IsCommandFor, IsTunnelFor};
 
+use abstract_paths::{Command, NewBypass, NewTunnel, TunnelChange};
 use lsr_lines::{BypassRequest, ChangeRequest, CommandRequest, TunnelRequest};
-use route_words::tspec_of;
-use router_events::{Command, NewBypass, NewTunnel, TunnelChange};
+use rsvp_bodies::tspec_of;
 use std::alloc::{AllocError, Global};
 
 /// The tunnel that is asked for. The only error is that memory ran out.

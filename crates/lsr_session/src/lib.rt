@@ -7,4 +7,4 @@ mod requests;
 mod shown;
 
 pub use requests::Session;
-pub use router_machine::Machine;
+pub use router_core::Machine;

@@ -3,7 +3,7 @@ ghost use Rattle.std.specs.Prelude.{◌≡◌, IfOk, string_bytes};
 ghost use Rattle.lsr_session.specs.Requests.{passed_text};
 
 use lsr_text::{push_delivery, push_sent};
-use router_machine::Passed;
+use router_core::Passed;
 use std::alloc::{AllocError, Global};
 
 /// The line of what became of a labelled frame. The only error is that memory ran out.

@@ -10,12 +10,12 @@ use crate::shown::{
     show_bypasses, show_links, show_path, show_paths, show_resv, show_resvs, show_summary,
     show_table, show_tunnels,
 };
+use abstract_paths::{Event, KIND_HOP, Made};
 use circular_buffer::HeapCircularBuffer;
 use lsr_facts::{Refusal, Reply};
 use lsr_lines::{Answers, Arrival, CommandRequest, Request};
 use lsr_text::{answer_text, push_replies};
-use router_events::{Event, KIND_HOP, Made};
-use router_machine::{Machine, Served};
+use router_core::{Machine, Served};
 use std::alloc::{AllocError, Global};
 use std::marker::Model;
 

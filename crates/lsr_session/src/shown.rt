@@ -7,14 +7,13 @@ ghost use Rattle.lsr_text.specs.Tunnels.{tunnels_text};
 ghost use Rattle.lsr_session.specs.Requests.{PrintsTable, bypass_text, bypasses_text, head_text, heads_text, key_of, link_text, links_text, room_text, summary_text, sums_of};
 
 use explicit_routes::is_up;
-use lsr_facts::{Bypass, Key, Link, Tunnel};
+use lsr_facts::{Bypass, Key, Link, Repair, State, Tunnel, WORST_PRIORITY};
 use lsr_lines::LspName;
 use lsr_text::{
     PRIORITIES, path_lsp_text, paths_text, push_bypass, push_counts, push_head, push_link,
     push_reserved_link, resv_lsp_text, resvs_text, table_text, tunnels_text,
 };
-use resv_facts::{Repair, State, WORST_PRIORITY};
-use router_machine::Machine;
+use router_core::Machine;
 use rsvp_contents::{Session, Template};
 use std::alloc::{AllocError, Global};
 

@@ -1,8 +1,8 @@
 -- What is printed for the answer to an event or a datagram.
 use Rattle.std.specs.Prelude.{ℕ, List, ◌++◌, codes, flat_map, Result, Ok, Err}
 use Rattle.std.specs.Fmt.{decimal}
-use Rattle.router_events.specs.declared.events.Made.{Made}
-use Rattle.router_events.specs.declared.events.Output.{Output}
+use Rattle.abstract_paths.specs.declared.events.Made.{Made}
+use Rattle.abstract_paths.specs.declared.events.Output.{Output}
 use Rattle.lsr_facts.specs.declared.refusal.Refusal.{Refusal}
 use Rattle.lsr_facts.specs.declared.reply.Reply.{Reply}
 use Rattle.lsr_facts.specs.declared.reply.Reply.TheVariants as replies

@@ -10,9 +10,9 @@ use Rattle.std.specs.Option.{option_and_then, option_map_or}
 use Rattle.std.specs.Ordering.{nat_cmp}
 use Rattle.std.specs.Result.{result_ok}
 use Rattle.hex.specs.Hex.{encode_lower}
-use Rattle.rsvp_traffic.specs.Rates.{rate_of}
-use Rattle.rsvp_traffic.specs.Traffic.{flowspec_rate, tspec_rate}
-use Rattle.session_attribute.specs.declared.attr.Attr.{Attr}
+use Rattle.rsvp_bodies.specs.Rates.{rate_of}
+use Rattle.rsvp_bodies.specs.Traffic.{flowspec_rate, tspec_rate}
+use Rattle.rsvp_bodies.specs.declared.attr.Attr.{Attr}
 use Rattle.rsvp_objects.specs.declared.values.FastReroute.{FastReroute}
 use Rattle.rsvp_objects.specs.declared.values.Hop.{Hop}
 use Rattle.lsr_facts.specs.Orders.{key_cmp}
@@ -24,10 +24,10 @@ use Rattle.lsr_facts.specs.declared.path_fact.Via.{Via}
 use Rattle.lsr_facts.specs.declared.path_fact.Via.TheVariants as vias
 use Rattle.lsr_facts.specs.declared.router.Link.{Link}
 use Rattle.lsr_facts.specs.declared.router.Router.{Router}
-use Rattle.resv_facts.specs.Priorities.{holding_of, setup_of}
-use Rattle.resv_facts.specs.declared.repair.Repair.{Repair}
-use Rattle.resv_facts.specs.declared.resv_fact.ResvFact.{ResvFact}
-use Rattle.resv_facts.specs.declared.state.State.{State}
+use Rattle.lsr_facts.specs.Priorities.{holding_of, setup_of}
+use Rattle.lsr_facts.specs.declared.repair.Repair.{Repair}
+use Rattle.lsr_facts.specs.declared.resv_fact.ResvFact.{ResvFact}
+use Rattle.lsr_facts.specs.declared.state.State.{State}
 use Rattle.lsr_text.specs.Routes.{flags_words, name_text, record_lines, route_line}
 use Rattle.object_text.specs.Traffic.{rate_bytes}
 use Rattle.lsr_text.specs.Rows.{style_text}

@@ -2,10 +2,10 @@
 use Rattle.std.specs.Prelude.{ℕ, Bool, true, false, not, ◌==◌, ◌&&◌, nat_le, List, [], ◌∷◌, ◌++◌, codes, flat_map, Option, Some, None, if◌then◌else◌}
 use Rattle.std.specs.Fmt.{decimal}
 use Rattle.hex.specs.Hex.{encode_lower}
-use Rattle.rsvp_routes.specs.declared.step.Step.{Step}
-use Rattle.rsvp_routes.specs.declared.step.Step.TheVariants as steps
-use Rattle.rsvp_routes.specs.declared.trace.Trace.{Trace}
-use Rattle.rsvp_routes.specs.declared.trace.Trace.TheVariants as traces
+use Rattle.rsvp_bodies.specs.declared.step.Step.{Step}
+use Rattle.rsvp_bodies.specs.declared.step.Step.TheVariants as steps
+use Rattle.rsvp_bodies.specs.declared.trace.Trace.{Trace}
+use Rattle.rsvp_bodies.specs.declared.trace.Trace.TheVariants as traces
 use Rattle.object_text.specs.Routes.{prefix_text}
 
 -- bytes that have no other form

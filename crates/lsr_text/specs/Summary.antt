@@ -4,7 +4,7 @@ use Rattle.std.specs.Fmt.{decimal}
 use Rattle.std.specs.List.{count_by}
 use Rattle.lsr_facts.specs.declared.router.LabelRange.{LabelRange}
 use Rattle.lsr_facts.specs.declared.router.Router.{Router}
-use Rattle.resv_facts.specs.declared.state.State.{State}
+use Rattle.lsr_facts.specs.declared.state.State.{State}
 
 -- at least nine tenths of the limit
 abbrev pub is_near : ℕ → ℕ → Bool

@@ -4,8 +4,8 @@ ghost use Rattle.lsr_text.specs.Answers.{answer_text, refusal_line, replies_text
 
 use crate::frames::push_sent;
 use crate::names::refusal_name;
+use abstract_paths::Made;
 use lsr_facts::{Refusal, Reply};
-use router_events::Made;
 use std::alloc::{AllocError, Global};
 use std::fmt::Write;
 

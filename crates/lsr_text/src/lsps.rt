@@ -7,11 +7,12 @@ ghost use Rattle.object_text.specs.Traffic.{rate_bytes};
 use crate::routes::{push_flags, push_name, push_record, push_route};
 use crate::rows::style_text;
 use crate::shown::{push_key, role_word};
-use lsr_facts::{Key, Link, Origin, PathFact, Role, Router, Via};
+use lsr_facts::{
+    Key, Link, Origin, PathFact, Repair, ResvFact, Role, Router, State, Via, holding_of, setup_of,
+};
 use object_text::rate_bytes;
-use resv_facts::{Repair, ResvFact, State, holding_of, setup_of};
+use rsvp_bodies::RateWord;
 use rsvp_contents::{Attr, FastReroute, Hop};
-use rsvp_traffic::RateWord;
 use std::alloc::{AllocError, Global};
 use std::fmt::Write;
 use std::net::Ipv4Addr;

@@ -3,8 +3,8 @@ ghost use Rattle.std.specs.Prelude.{◌≡◌, ◌++◌, OnOk, flat_map, string_
 ghost use Rattle.object_text.specs.Routes.{prefix_text};
 ghost use Rattle.lsr_text.specs.Routes.{bytes_text, flags_words, is_plain, name_letter, name_text, record_lines, route_line, step_words, trace_line};
 
+use rsvp_bodies::{Step, Trace};
 use rsvp_contents::{Prefix, Record, Route};
-use rsvp_routes::{Step, Trace};
 use std::alloc::{AllocError, Global};
 use std::fmt::Write;
 

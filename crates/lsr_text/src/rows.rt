@@ -4,9 +4,8 @@ ghost use Rattle.lsr_text.specs.Rows.{action_words, bypass_line, head_line, labe
 
 use crate::shown::push_key;
 use forwarding_table::Action;
-use lsr_facts::{Bypass, Key};
+use lsr_facts::{Bypass, Key, ResvFact, ResvStyle};
 use object_text::rate_bytes;
-use resv_facts::{ResvFact, ResvStyle};
 use std::alloc::{AllocError, Global};
 use std::fmt::Write;
 

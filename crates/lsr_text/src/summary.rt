@@ -3,8 +3,7 @@ ghost use Rattle.std.specs.Prelude.{◌≡◌, ◌++◌, OnOk, count_by, string_
 ghost use Rattle.lsr_text.specs.Summary.{counts_text, has_up, is_near, label_room, limited_line, links_line, lsps_lines, limit_words, reserved_line, tables_lines};
 
 use lsr_facts::limits::{MAX_BYPASSES, MAX_LSPS, MAX_ROUTES, MAX_TUNNELS};
-use lsr_facts::{LabelRange, Router};
-use resv_facts::State;
+use lsr_facts::{LabelRange, Router, State};
 use std::alloc::AllocError;
 use std::fmt::Write;
 

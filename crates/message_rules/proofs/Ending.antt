@@ -9,9 +9,9 @@ use Rattle.rsvp_objects.specs.Values.{session_body}
 use Rattle.rsvp_objects.specs.declared.object.Object.TheVariants as objects
 use Rattle.rsvp_objects.specs.declared.values.Session.{Session}
 use Rattle.rsvp_objects.specs.declared.values.Template.{Template}
-use Rattle.rsvp_flows.proofs.Totals.{length-flat_map-spelling, size_of, total, total-append}
-use Rattle.rsvp_flows.specs.Flows.{flow_objects, flowspec_objects, if_some}
-use Rattle.rsvp_flows.specs.declared.descriptors.FlowDescriptor.{FlowDescriptor}
+use Rattle.rsvp_contents.proofs.FlowTotals.{length-flat_map-spelling, size_of, total, total-append}
+use Rattle.rsvp_contents.specs.Flows.{flow_objects, flowspec_objects, if_some}
+use Rattle.rsvp_contents.specs.declared.descriptors.FlowDescriptor.{FlowDescriptor}
 use Rattle.rsvp_contents.proofs.Bytes.{resv_written}
 use Rattle.rsvp_contents.specs.Spelling.{IsMessage}
 use Rattle.rsvp_contents.specs.declared.messages.Content.TheVariants as contents

@@ -10,17 +10,17 @@ use Rattle.rsvp_objects.specs.declared.values.ErrorSpec.{ErrorSpec}
 use Rattle.rsvp_objects.specs.declared.values.Hop.{Hop}
 use Rattle.rsvp_objects.specs.declared.values.Session.{Session}
 use Rattle.rsvp_objects.specs.declared.values.Template.{Template}
-use Rattle.rsvp_flows.proofs.FlowsAgain.{one_total, same_bytes}
-use Rattle.rsvp_flows.proofs.Totals.{if_some_of, length-flat_map-spelling, size_of, total, total-append}
-use Rattle.rsvp_flows.specs.Errors.{counting_objects, error_objects}
-use Rattle.rsvp_flows.specs.Flows.{flow_objects, flowspec_objects, is_same}
-use Rattle.rsvp_flows.specs.declared.descriptors.ErrorDescriptor.{ErrorDescriptor}
-use Rattle.rsvp_flows.specs.declared.descriptors.FlowDescriptor.{FlowDescriptor}
-use Rattle.rsvp_traffic.proofs.Shapes.{has_shape-whole}
-use Rattle.rsvp_traffic.specs.Rates.{rate_of}
-use Rattle.rsvp_traffic.specs.TokenBuckets.{has_shape, rate_word_of, service_of, token_rate}
-use Rattle.rsvp_traffic.specs.Traffic.{flowspec_rate}
-use Rattle.rsvp_traffic.specs.declared.fault.TrafficFault.{TrafficFault}
+use Rattle.rsvp_contents.proofs.FlowsAgain.{one_total, same_bytes}
+use Rattle.rsvp_contents.proofs.FlowTotals.{if_some_of, length-flat_map-spelling, size_of, total, total-append}
+use Rattle.rsvp_contents.specs.Errors.{counting_objects, error_objects}
+use Rattle.rsvp_contents.specs.Flows.{flow_objects, flowspec_objects, is_same}
+use Rattle.rsvp_contents.specs.declared.descriptors.ErrorDescriptor.{ErrorDescriptor}
+use Rattle.rsvp_contents.specs.declared.descriptors.FlowDescriptor.{FlowDescriptor}
+use Rattle.rsvp_bodies.proofs.Shapes.{has_shape-whole}
+use Rattle.rsvp_bodies.specs.Rates.{rate_of}
+use Rattle.rsvp_bodies.specs.TokenBuckets.{has_shape, rate_word_of, service_of, token_rate}
+use Rattle.rsvp_bodies.specs.Traffic.{flowspec_rate}
+use Rattle.rsvp_bodies.specs.declared.traffic_fault.TrafficFault.{TrafficFault}
 use Rattle.rsvp_contents.specs.Written.{resv_err_objects, resv_objects}
 use Rattle.rsvp_contents.specs.declared.messages.Resv.{Resv}
 use Rattle.rsvp_contents.specs.declared.messages.ResvErr.{ResvErr}

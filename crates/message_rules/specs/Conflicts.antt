@@ -6,11 +6,11 @@ use Rattle.std.proofs.Common.{refl}
 use Rattle.lsr_facts.specs.Orders.{key_cmp}
 use Rattle.lsr_facts.specs.declared.key.Key.{Key}
 use Rattle.lsr_facts.specs.declared.path_fact.PathFact.{PathFact}
-use Rattle.resv_facts.specs.Claims.{claim_of, is_same_session}
-use Rattle.resv_facts.specs.Priorities.{holding_of}
-use Rattle.resv_facts.specs.declared.claim.Claim.{Claim}
-use Rattle.resv_facts.specs.declared.resv_fact.ResvFact.{ResvFact}
-use Rattle.resv_facts.specs.declared.resv_fact.ResvStyle.{ResvStyle}
+use Rattle.lsr_facts.specs.Claims.{claim_of, is_same_session}
+use Rattle.lsr_facts.specs.Priorities.{holding_of}
+use Rattle.lsr_facts.specs.declared.claim.Claim.{Claim}
+use Rattle.lsr_facts.specs.declared.resv_fact.ResvFact.{ResvFact}
+use Rattle.lsr_facts.specs.declared.resv_fact.ResvStyle.{ResvStyle}
 use Rattle.abstract_router.specs.Preempting.{attr_at, claims_of}
 use Rattle.abstract_router.specs.Reserving as reserving
 use Rattle.abstract_router.specs.Reserving.{is_same_style}

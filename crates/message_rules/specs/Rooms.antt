@@ -2,8 +2,8 @@
 use Rattle.std.specs.Prelude.{◌≤◌, List, length, None}
 use Rattle.std.specs.List.{flat_map}
 use Rattle.rsvp_objects.specs.Objects.{spelling}
-use Rattle.rsvp_flows.specs.Errors.{error_objects}
-use Rattle.rsvp_flows.specs.declared.descriptors.ErrorDescriptor.{ErrorDescriptor}
+use Rattle.rsvp_contents.specs.Errors.{error_objects}
+use Rattle.rsvp_contents.specs.declared.descriptors.ErrorDescriptor.{ErrorDescriptor}
 
 -- A ResvErr that names these LSPs has room for all else that it says.
 abbrev pub HaveRoom : List ErrorDescriptor → Type 0

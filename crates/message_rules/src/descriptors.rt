@@ -5,10 +5,8 @@ ghost use Rattle.abstract_router.specs.Reserving.{key_in, named, resv_by};
 
 use crate::messages::lsp;
 use crate::paths::lifetime;
-use lsr_facts::Key;
-use resv_facts::{ResvFact, ResvStyle};
-use rsvp_contents::Resv;
-use rsvp_flows::{ErrorDescriptor, FlowDescriptor};
+use lsr_facts::{Key, ResvFact, ResvStyle};
+use rsvp_contents::{ErrorDescriptor, FlowDescriptor, Resv};
 use std::alloc::AllocError;
 
 /// The LSP that a flow descriptor is for.

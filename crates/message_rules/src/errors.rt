@@ -6,10 +6,9 @@ ghost use Rattle.abstract_router.specs.Outcomes.{reservation_error};
 ghost use Rattle.abstract_router.specs.Reserving.{traffic_error};
 
 use crate::messages::found_here;
-use lsr_facts::{Router, RsvpError};
-use resv_facts::ResvStyle;
+use lsr_facts::{ResvStyle, Router, RsvpError};
+use rsvp_bodies::TrafficFault;
 use rsvp_objects::ErrorSpec;
-use rsvp_traffic::TrafficFault;
 
 /// 1/2: there isn't so much bandwidth (RFC 2205, B, 1).
 pub const NO_BANDWIDTH: RsvpError = RsvpError { code: 1, value: 2 };

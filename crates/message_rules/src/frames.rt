@@ -3,13 +3,14 @@
 ghost use Rattle.std.specs.Prelude.{◌≡◌, IfOk, Some, map};
 ghost use Rattle.rsvp_contents.specs.Spelling.{IsMessage};
 ghost use Rattle.rsvp_contents.specs.declared.messages.Content.TheVariants as contents;
-ghost use Rattle.router_events.specs.Frames.{frame_bytes};
+ghost use Rattle.abstract_paths.specs.Frames.{frame_bytes};
 ghost use Rattle.explicit_routes.specs.Below.paths.Outputs.{is_same_frame, tear_by, tear_of};
 
 use crate::messages::sent_by;
-use router_events::{Frame, Output, Payload};
-use rsvp_contents::{Content, Message, Path, PathTear, Reading, Resv, ResvTear};
-use rsvp_flows::{Filters, FlowDescriptor};
+use abstract_paths::{Frame, Output, Payload};
+use rsvp_contents::{
+    Content, Filters, FlowDescriptor, Message, Path, PathTear, Reading, Resv, ResvTear,
+};
 use rsvp_messages::write_frame;
 use std::alloc::{AllocError, Global};
 

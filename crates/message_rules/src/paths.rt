@@ -3,7 +3,7 @@
 ghost use Rattle.std.specs.Option.{option_map_or};
 ghost use Rattle.std.specs.Prelude.{◌≡◌, ◌==◌, IfOk, false, is_none, option_copied};
 ghost use Rattle.explicit_routes.specs.Below.paths.Paths.{drops_record, has_loop, is_same_record, lifetime, link_of, origins_of, rest_of, role_of, unknown_code, unknown_object, way_for, way_of};
-ghost use Rattle.rsvp_traffic.specs.TokenBuckets.{token_rate};
+ghost use Rattle.rsvp_bodies.specs.TokenBuckets.{token_rate};
 ghost use Rattle.explicit_routes.specs.Choosing.{IsChosen};
 ghost use Rattle.explicit_routes.specs.Below.paths.Places.{place_at};
 
@@ -11,10 +11,9 @@ use crate::spelling::is_same;
 use crate::wanted::goes_on;
 use explicit_routes::{RouteFault, choose_hop, has_loop, has_room};
 use lsr_facts::{Choice, Node, Origin, PathFact, Role, RsvpError, UNKNOWN_CLASS, UNKNOWN_CTYPE};
+use rsvp_bodies::{Record, Route, Tspec};
 use rsvp_contents::Path;
 use rsvp_objects::Kind;
-use rsvp_routes::{Record, Route};
-use rsvp_traffic::Tspec;
 use sorted_rows::{Table, TryCopy};
 use std::alloc::{AllocError, Global};
 use std::net::Ipv4Addr;

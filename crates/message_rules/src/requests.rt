@@ -3,12 +3,13 @@
 ghost use Rattle.std.specs.Option.{option_copied, option_map};
 ghost use Rattle.std.specs.Prelude.{◌≡◌, ◌≤◌, find};
 ghost use Rattle.abstract_router.specs.Preempting.{limit_of};
-ghost use Rattle.resv_facts.specs.Priorities.{holding_of, setup_of};
+ghost use Rattle.lsr_facts.specs.Priorities.{holding_of, setup_of};
 ghost use Rattle.message_rules.specs.Conflicts.{conflicts};
 
 use explicit_routes::link_at;
-use lsr_facts::{Key, Router};
-use resv_facts::{Claim, Request, ResvStyle, holding_of, is_same_session, is_same_style, setup_of};
+use lsr_facts::{
+    Claim, Key, Request, ResvStyle, Router, holding_of, is_same_session, is_same_style, setup_of,
+};
 use rsvp_objects::Attr;
 
 /// How much of a link may be reserved, in bytes per second: nothing of a link that the router doesn't have.

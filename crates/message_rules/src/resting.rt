@@ -5,7 +5,7 @@ ghost use Rattle.std.specs.Prelude.{◌≡◌, ◌&&◌, IfOk, false, not};
 ghost use Rattle.explicit_routes.specs.Below.paths.Outputs.{is_same_frame};
 
 use crate::frames::is_same_frame;
-use router_events::Output;
+use abstract_paths::Output;
 use std::alloc::{AllocError, Global};
 
 /// Whether it is the frame that was sent before, if one was.

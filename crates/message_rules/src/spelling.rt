@@ -5,7 +5,7 @@ ghost use Rattle.std.specs.List.{flat_map};
 ghost use Rattle.std.specs.Option.{option_eq};
 ghost use Rattle.std.specs.Prelude.{◌≡◌, IfOk, nat_eq};
 
-use rsvp_routes::{Subobject, Subobjects};
+use rsvp_bodies::{Subobject, Subobjects};
 use std::alloc::{AllocError, Global};
 
 /// The bytes that the subobjects are written as.

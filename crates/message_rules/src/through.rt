@@ -9,8 +9,7 @@ use explicit_routes::{Frame, Output};
 use forwarding_table::IMPLICIT_NULL;
 use label_stacks::{Stack, StackEntry};
 use link_frames::Payload;
-use lsr_facts::{Link, Router};
-use resv_facts::{Over, Repair};
+use lsr_facts::{Link, Over, Repair, Router};
 use rsvp_contents::Message;
 use rsvp_objects::{Hop, Template};
 

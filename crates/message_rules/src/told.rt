@@ -5,8 +5,8 @@ ghost use Rattle.std.specs.List.{AllByRecursion};
 ghost use Rattle.std.specs.Prelude.{◌≡◌, ◌∷◌, [], IfOk, IsOk, IsTrue, false};
 ghost use Rattle.rsvp_contents.specs.Spelling.{IsMessage};
 ghost use Rattle.rsvp_contents.specs.declared.messages.Content.TheVariants as contents;
-ghost use Rattle.rsvp_flows.specs.Errors.{counts_on};
-ghost use Rattle.rsvp_traffic.specs.Traffic.{flowspec_rate};
+ghost use Rattle.rsvp_contents.specs.Errors.{counts_on};
+ghost use Rattle.rsvp_bodies.specs.Traffic.{flowspec_rate};
 ghost use Rattle.abstract_router.specs.Outcomes.{told_downstream};
 ghost use Rattle.abstract_router.specs.Preempting.{told_preempted};
 ghost use Rattle.abstract_router.specs.Reserving.{named};
@@ -14,12 +14,10 @@ ghost use Rattle.message_rules.specs.Rooms.{HaveRoom};
 
 use crate::errors::{PREEMPTED, reservation_error};
 use crate::messages::sent_by;
+use abstract_paths::Output;
 use explicit_routes::link_at;
-use lsr_facts::{Key, Router};
-use resv_facts::ResvFact;
-use router_events::Output;
-use rsvp_contents::{Content, Message, Resv, ResvErr};
-use rsvp_flows::{ErrorDescriptor, ErrorDescriptors};
+use lsr_facts::{Key, ResvFact, Router};
+use rsvp_contents::{Content, ErrorDescriptor, ErrorDescriptors, Message, Resv, ResvErr};
 use rsvp_objects::{ErrorSpec, Hop, Session, Style, Template};
 use std::alloc::{AllocError, Global};
 

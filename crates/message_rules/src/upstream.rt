@@ -6,11 +6,11 @@ ghost use Rattle.explicit_routes.specs.Below.paths.Outcomes.{path_err, told_to, 
 ghost use Rattle.explicit_routes.specs.Below.paths.Places.{place_at};
 
 use crate::messages::sent_back;
+use abstract_paths::{Output, Outputs};
 use lsr_facts::{Key, Node, Origin, PathFact};
-use router_events::{Output, Outputs};
+use rsvp_bodies::Tspec;
 use rsvp_contents::{Content, Message, PathErr};
 use rsvp_objects::{ErrorSpec, Session, Template};
-use rsvp_traffic::Tspec;
 use std::alloc::{AllocError, Global};
 use std::net::Ipv4Addr;
 

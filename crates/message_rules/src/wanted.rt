@@ -7,9 +7,9 @@ ghost use Rattle.explicit_routes.specs.Below.paths.Onward.{path_onward};
 
 use explicit_routes::push_hop;
 use lsr_facts::{Key, Link, Node, PathFact, Role};
+use rsvp_bodies::Record;
 use rsvp_contents::Path;
 use rsvp_objects::{Hop, TimeValues};
-use rsvp_routes::Record;
 use std::alloc::{AllocError, Global};
 
 /// Whether a path of this role doesn't end here.

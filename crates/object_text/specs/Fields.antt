@@ -16,8 +16,8 @@ use Rattle.rsvp_objects.specs.declared.values.FastReroute.{FastReroute}
 use Rattle.rsvp_objects.specs.declared.values.Hop.{Hop}
 use Rattle.rsvp_objects.specs.declared.values.Session.{Session}
 use Rattle.rsvp_objects.specs.declared.values.Template.{Template}
-use Rattle.session_attribute.specs.declared.affinities.Affinities.{Affinities}
-use Rattle.session_attribute.specs.declared.attr.Attr.{Attr}
+use Rattle.rsvp_bodies.specs.declared.affinities.Affinities.{Affinities}
+use Rattle.rsvp_bodies.specs.declared.attr.Attr.{Attr}
 use Rattle.object_text.specs.Classes.{kind_words}
 use Rattle.object_text.specs.Errors.{error_name}
 use Rattle.object_text.specs.Flags.{attribute_flags, error_flags, reroute_flags}

@@ -1,11 +1,11 @@
 -- The subobjects of routes, a line for each (RFC 3209, 4.3.3 and 4.4.1).
 use Rattle.std.specs.Prelude.{ℕ, List, ◌++◌, codes, flat_map, Bool, true, false}
 use Rattle.std.specs.Fmt.{decimal}
-use Rattle.rsvp_routes.specs.declared.prefix.Prefix.{Prefix}
-use Rattle.rsvp_routes.specs.declared.step.Step.{Step}
-use Rattle.rsvp_routes.specs.declared.step.Step.TheVariants as steps
-use Rattle.rsvp_routes.specs.declared.trace.Trace.{Trace}
-use Rattle.rsvp_routes.specs.declared.trace.Trace.TheVariants as traces
+use Rattle.rsvp_bodies.specs.declared.prefix.Prefix.{Prefix}
+use Rattle.rsvp_bodies.specs.declared.step.Step.{Step}
+use Rattle.rsvp_bodies.specs.declared.step.Step.TheVariants as steps
+use Rattle.rsvp_bodies.specs.declared.trace.Trace.{Trace}
+use Rattle.rsvp_bodies.specs.declared.trace.Trace.TheVariants as traces
 use Rattle.object_text.specs.Flags.{address_flags, label_flags}
 use Rattle.object_text.specs.Words.{address_text, digits_word}
 

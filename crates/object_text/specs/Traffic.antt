@@ -2,7 +2,7 @@
 use Rattle.std.specs.Prelude.{ℕ, ◌==◌, List, [], ◌++◌, codes, length, drop, take, slice_index, Option, Some, None, if◌then◌else◌}
 use Rattle.std.specs.Fmt.{decimal}
 use Rattle.byteorder.specs.Endian.{big_number}
-use Rattle.rsvp_traffic.specs.Rates.{rate_of}
+use Rattle.rsvp_bodies.specs.Rates.{rate_of}
 use Rattle.object_text.specs.Words.{next_word, word_text}
 
 -- the IEEE 754 word of plus infinity

@@ -4,7 +4,7 @@ ghost use Rattle.object_text.specs.Traffic.{amount_text, amount_words, bucket_wo
 
 use crate::words::{push_next, push_word};
 use byteorder::{BigEndian, ByteOrder};
-use rsvp_traffic::RateWord;
+use rsvp_bodies::RateWord;
 use std::alloc::{AllocError, Global};
 use std::fmt::Write;
 

@@ -15,7 +15,7 @@ use Rattle.sorted_rows.proofs.Places.{sorted_by}
 use Rattle.lsr_facts.specs.OrderLaws.{key_total, session_total}
 use Rattle.lsr_facts.specs.Orders.{key_cmp, session_cmp, template_cmp}
 use Rattle.lsr_facts.specs.declared.key.Key.{Key}
-use Rattle.resv_facts.specs.Claims.{is_same_session}
+use Rattle.lsr_facts.specs.Claims.{is_same_session}
 
 -- a key that isn't below another has no lower session
 session_rises : (a b : Key) → is_lt (key_cmp a b) ≡ false → is_lt (session_cmp a.session b.session) ≡ false

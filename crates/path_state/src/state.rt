@@ -5,15 +5,14 @@ ghost use Rattle.std.specs.Ordering.{is_eq};
 ghost use Rattle.std.specs.Prelude.{◌≡◌, ◌≤◌, T, [], IfOk, filter, length, not, slice_get};
 ghost use Rattle.lsr_facts.specs.Lifetimes.{expire, expires};
 ghost use Rattle.lsr_facts.specs.Orders.{key_cmp};
-ghost use Rattle.resv_facts.specs.Claims.{is_same_session};
+ghost use Rattle.lsr_facts.specs.Claims.{is_same_session};
 ghost use Rattle.sorted_rows.specs.Edits.{edited};
 ghost use Rattle.sorted_rows.specs.Rows.{keys_of};
 ghost use Rattle.path_state.specs.Origins.{origins_of};
 
 use crate::expiry::Expiry;
 use lsr_facts::limits::MAX_LSPS;
-use lsr_facts::{Key, Origin, PathFact, keep_living, lives_on};
-use resv_facts::KeyNumber;
+use lsr_facts::{Key, KeyNumber, Origin, PathFact, keep_living, lives_on};
 use rsvp_objects::Session;
 use slot_rows::Probe;
 use sorted_rows::{Sweep, Table, TryCopy};

@@ -4,7 +4,7 @@ use Rattle.std.specs.FinMap.Entries.{find}
 use Rattle.std.proofs.Common.{refl, ◌∙◌}
 use Rattle.std.proofs.lemmas.Bool.{cond_both}
 use Rattle.rsvp_contents.specs.declared.messages.Path.{Path}
-use Rattle.rsvp_traffic.specs.TokenBuckets.{token_rate}
+use Rattle.rsvp_bodies.specs.TokenBuckets.{token_rate}
 use Rattle.lsr_facts.specs.Errors.{bad_tspec, routing_loop, unsupported_l3pid}
 use Rattle.lsr_facts.specs.Orders.{key_cmp}
 use Rattle.lsr_facts.specs.Tunnels.{is_head}

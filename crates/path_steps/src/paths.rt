@@ -6,7 +6,7 @@ ghost use Rattle.std.specs.Prelude.{◌≡◌, ◌≤◌, ◌^◌, ◌&&◌, ◌
 ghost use Rattle.lsr_facts.specs.Orders.{address_cmp};
 ghost use Rattle.rsvp_contents.specs.Spelling.{IsMessage};
 ghost use Rattle.rsvp_contents.specs.declared.messages.Content.TheVariants as contents;
-ghost use Rattle.rsvp_traffic.specs.TokenBuckets.{token_rate};
+ghost use Rattle.rsvp_bodies.specs.TokenBuckets.{token_rate};
 ghost use Rattle.abstract_paths.specs.Paths.{failed, origin_of, origins_of, path_arrival, path_by, path_on_its_way, taken, unknown_object, way_for};
 ghost use Rattle.abstract_paths.specs.Places.{place_of};
 ghost use Rattle.abstract_router.specs.Outcomes.{of_paths};

@@ -5,9 +5,9 @@ ghost use Rattle.abstract_paths.specs.Relays.{exceeds_hop_limit, is_limit_exceed
 ghost use Rattle.abstract_router.specs.Outcomes.{of_paths};
 ghost use Rattle.state_views.specs.Drafts.{IsDraft};
 
+use abstract_paths::{Event, Frame, Output, Outputs, Relay, Unread};
 use lsr_facts::{Refusal, Reply};
 use message_rules::{is_up, link_at, route_to};
-use router_events::{Event, Frame, Output, Outputs, Relay, Unread};
 use state_views::{Draft, Edits, StateView, node_of, refused};
 use std::alloc::{AllocError, Global};
 

@@ -4,7 +4,7 @@ ghost use Rattle.std.specs.Option.{option_copied, option_to_list};
 ghost use Rattle.std.specs.Prelude.{◌≡◌, IfOk, IsTrue, Some, is_some};
 ghost use Rattle.rsvp_contents.specs.Spelling.{IsMessage};
 ghost use Rattle.rsvp_contents.specs.declared.messages.Content.TheVariants as contents;
-ghost use Rattle.rsvp_traffic.specs.TokenBuckets.{token_rate};
+ghost use Rattle.rsvp_bodies.specs.TokenBuckets.{token_rate};
 ghost use Rattle.abstract_paths.specs.Merging.{stack_path_failed};
 ghost use Rattle.abstract_paths.specs.Outcomes.{found_here, path_err, sent_back};
 ghost use Rattle.abstract_paths.specs.Paths.{failed, record_errors};

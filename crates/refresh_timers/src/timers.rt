@@ -7,7 +7,7 @@ ghost use Rattle.sorted_rows.specs.Edits.{edited};
 ghost use Rattle.lsr_facts.specs.Lifetimes.{due_items};
 
 use crate::refresh::Refresh;
-use resv_facts::{KeyNumber, Numbered};
+use lsr_facts::{KeyNumber, Numbered};
 use sorted_rows::{Table, TryCopy};
 use std::alloc::{AllocError, Global};
 use std::marker::Model;

@@ -13,8 +13,8 @@ use Rattle.lsr_facts.specs.Orders.{key_cmp}
 use Rattle.lsr_facts.specs.Routers.{is_same, link_at}
 use Rattle.lsr_facts.specs.declared.key.Key.{Key}
 use Rattle.lsr_facts.specs.declared.router.Router.{Router}
-use Rattle.resv_facts.specs.declared.repair.Detour.{Detour}
-use Rattle.resv_facts.specs.declared.repair.Repair.{Repair}
+use Rattle.lsr_facts.specs.declared.repair.Detour.{Detour}
+use Rattle.lsr_facts.specs.declared.repair.Repair.{Repair}
 use Rattle.abstract_paths.specs.Merging.{under}
 use Rattle.abstract_router.specs.Detours.{detours_of}
 use Rattle.abstract_router.specs.Lsps.{around_of}

@@ -3,7 +3,7 @@ use Rattle.std.specs.Prelude.{◌≡◌, ℕ, Bool, List, map}
 use Rattle.sorted_rows.specs.Edits.{edited}
 use Rattle.lsr_facts.specs.Orders.{key_cmp}
 use Rattle.lsr_facts.specs.declared.key.Key.{Key}
-use Rattle.resv_facts.specs.declared.repair.Repair.{Repair}
+use Rattle.lsr_facts.specs.declared.repair.Repair.{Repair}
 use Rattle.abstract_router.specs.Reserving as reserving
 use Rattle.abstract_router.specs.States.{State}
 use Rattle.repair_arrivals.specs.declared.progress.Progress.{Progress}

@@ -7,8 +7,7 @@ ghost use Rattle.abstract_router.specs.Returning.{repair_from, repair_known_as, 
 ghost use Rattle.facility_backup.specs.Matching.{is_for};
 
 use facility_backup::is_for;
-use lsr_facts::Key;
-use resv_facts::Repair;
+use lsr_facts::{Key, Repair};
 use state_views::WholeState;
 use std::net::Ipv4Addr;
 

@@ -2,9 +2,8 @@
 
 ghost use Rattle.std.specs.Prelude.{◌≡◌, [], None, false};
 
-use lsr_facts::{Key, RsvpError};
-use resv_facts::Repair;
-use router_events::Outputs;
+use abstract_paths::Outputs;
+use lsr_facts::{Key, Repair, RsvpError};
 use sorted_rows::Table;
 use std::alloc::Global;
 

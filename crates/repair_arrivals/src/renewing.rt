@@ -14,12 +14,10 @@ ghost use Rattle.repair_arrivals.specs.Progresses.{IsReached, reached};
 use crate::matching::repair_from;
 use crate::progress::Progress;
 use crate::telling::told_back;
-use lsr_facts::RsvpError;
+use lsr_facts::{Repair, ResvStyle, RsvpError};
 use message_rules::{key_in, resv_by};
 use resv_arrivals::{Asked, Judgement, judge_beside, with_told};
-use resv_facts::{Repair, ResvStyle};
-use rsvp_contents::Resv;
-use rsvp_flows::FlowDescriptor;
+use rsvp_contents::{FlowDescriptor, Resv};
 use state_views::{StateView, WholeState};
 use std::alloc::{AllocError, Global};
 

@@ -10,9 +10,9 @@ ghost use Rattle.abstract_router.specs.Returning.{repair_from, returned_keys, re
 ghost use Rattle.state_views.specs.Drafts.{IsDraft};
 
 use crate::matching::repair_from;
+use abstract_paths::Outputs;
 use lsr_facts::{Key, Refusal, Reply};
 use message_rules::lsp;
-use router_events::Outputs;
 use rsvp_contents::ResvTear;
 use rsvp_objects::Template;
 use sorted_rows::Table;

@@ -1,7 +1,7 @@
 //! What a bypass's end is told about an LSP that is repaired (RFC 4090, 6.4.3).
 
 ghost use Rattle.std.specs.Prelude.{◌≡◌, ◌∷◌, [], IfOk, IsTrue, false, true};
-ghost use Rattle.rsvp_flows.specs.Errors.{counts_on};
+ghost use Rattle.rsvp_contents.specs.Errors.{counts_on};
 ghost use Rattle.abstract_router.specs.Lsps.{around_of};
 ghost use Rattle.abstract_router.specs.Outcomes.{reservation_error};
 ghost use Rattle.abstract_router.specs.Reserving.{named};
@@ -9,13 +9,11 @@ ghost use Rattle.abstract_router.specs.Soundness.{AreHeld};
 ghost use Rattle.abstract_router.specs.Through.{told_through};
 ghost use Rattle.resv_arrivals.specs.Below.rules.Rooms.{HaveRoom};
 
+use abstract_paths::Output;
 use facility_backup::over_at;
-use lsr_facts::RsvpError;
+use lsr_facts::{Repair, RsvpError};
 use message_rules::{hop_through, labelled_by, named, reservation_error, resv_err};
-use resv_facts::Repair;
-use router_events::Output;
-use rsvp_contents::{Resv, ResvErr};
-use rsvp_flows::{ErrorDescriptors, FlowDescriptor};
+use rsvp_contents::{ErrorDescriptors, FlowDescriptor, Resv, ResvErr};
 use rsvp_objects::{ErrorSpec, Session, Style};
 use state_views::StateView;
 use std::alloc::{AllocError, Global};

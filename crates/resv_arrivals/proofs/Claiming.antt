@@ -7,8 +7,8 @@ use Rattle.std.specs.Ordering.{eq_by_cmp, is_eq}
 use Rattle.std.specs.Result.{result_unwrap_or}
 use Rattle.std.specs.declared.cmp.Ordering.TheVariants.{Less}
 use Rattle.std.proofs.Common.{refl, sym, ap, subst, ◌∙◌, arith}
-use Rattle.rsvp_traffic.specs.Traffic.{flowspec_rate}
-use Rattle.rsvp_traffic.specs.declared.fault.TrafficFault.{TrafficFault}
+use Rattle.rsvp_bodies.specs.Traffic.{flowspec_rate}
+use Rattle.rsvp_bodies.specs.declared.traffic_fault.TrafficFault.{TrafficFault}
 use Rattle.sorted_rows.specs.ListLaws.{all-both}
 use Rattle.sorted_rows.specs.RowsLaws.{all-below, find-removed_other, first, second}
 use Rattle.lsr_facts.specs.OrderLaws.{key_total}
@@ -16,11 +16,11 @@ use Rattle.lsr_facts.specs.Orders.{key_cmp}
 use Rattle.lsr_facts.specs.declared.key.Key.{Key}
 use Rattle.lsr_facts.specs.declared.path_fact.PathFact.{PathFact}
 use Rattle.lsr_facts.specs.declared.router.Router.{Router}
-use Rattle.resv_facts.specs.ClaimLaws.{flowspec_rate-most}
-use Rattle.resv_facts.specs.Claims.{claim_of}
-use Rattle.resv_facts.specs.Priorities.{holding_of}
-use Rattle.resv_facts.specs.declared.claim.Claim.{Claim}
-use Rattle.resv_facts.specs.declared.resv_fact.ResvFact.{ResvFact}
+use Rattle.lsr_facts.specs.ClaimLaws.{flowspec_rate-most}
+use Rattle.lsr_facts.specs.Claims.{claim_of}
+use Rattle.lsr_facts.specs.Priorities.{holding_of}
+use Rattle.lsr_facts.specs.declared.claim.Claim.{Claim}
+use Rattle.lsr_facts.specs.declared.resv_fact.ResvFact.{ResvFact}
 use Rattle.abstract_router.specs.ClaimsLaws.{find-claims, length-claims, sorted-claims}
 use Rattle.abstract_router.specs.Preempting.{attr_at, claims_of}
 use Rattle.admission.specs.Bandwidths.{AreRated}

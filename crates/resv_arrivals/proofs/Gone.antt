@@ -8,9 +8,9 @@ use Rattle.sorted_rows.specs.Edits.{edited}
 use Rattle.lsr_facts.specs.OrderLaws.{key_exact, key_total}
 use Rattle.lsr_facts.specs.Orders.{key_cmp}
 use Rattle.lsr_facts.specs.declared.key.Key.{Key}
-use Rattle.resv_facts.specs.Admission.{without}
-use Rattle.resv_facts.specs.declared.claim.Claim.{Claim}
-use Rattle.resv_facts.specs.declared.resv_fact.ResvFact.{ResvFact}
+use Rattle.lsr_facts.specs.Admission.{without}
+use Rattle.lsr_facts.specs.declared.claim.Claim.{Claim}
+use Rattle.lsr_facts.specs.declared.resv_fact.ResvFact.{ResvFact}
 use Rattle.abstract_router.specs.States.{is_one_of}
 use Rattle.resv_arrivals.specs.Progresses.{without_edits, without_row}
 

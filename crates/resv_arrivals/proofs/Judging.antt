@@ -8,22 +8,22 @@ use Rattle.std.specs.Result.{result_unwrap_or}
 use Rattle.std.proofs.Common.{refl, sym, ap, subst, ◌∙◌}
 use Rattle.std.proofs.lemmas.Bool.{cond_both}
 use Rattle.std.proofs.lemmas.Cmp.{tied_itself}
-use Rattle.rsvp_traffic.specs.Traffic.{flowspec_rate}
-use Rattle.rsvp_traffic.specs.declared.fault.TrafficFault.{TrafficFault}
-use Rattle.session_attribute.specs.declared.attr.Attr.{Attr}
+use Rattle.rsvp_bodies.specs.Traffic.{flowspec_rate}
+use Rattle.rsvp_bodies.specs.declared.traffic_fault.TrafficFault.{TrafficFault}
+use Rattle.rsvp_bodies.specs.declared.attr.Attr.{Attr}
 use Rattle.sorted_rows.specs.RowsLaws.{ties}
 use Rattle.lsr_facts.specs.OrderLaws.{key_exact, session_total}
 use Rattle.lsr_facts.specs.Orders.{key_cmp}
 use Rattle.lsr_facts.specs.declared.key.Key.{Key}
 use Rattle.lsr_facts.specs.declared.path_fact.PathFact.{PathFact}
 use Rattle.lsr_facts.specs.declared.router.Router.{Router}
-use Rattle.resv_facts.specs.Admission as admission
-use Rattle.resv_facts.specs.Admission.{victims_of}
-use Rattle.resv_facts.specs.Claims.{is_same_session, reserved_of}
-use Rattle.resv_facts.specs.Priorities.{holding_of, setup_of}
-use Rattle.resv_facts.specs.declared.claim.Request.{Request}
-use Rattle.resv_facts.specs.declared.resv_fact.ResvFact.{ResvFact}
-use Rattle.resv_facts.specs.declared.resv_fact.ResvStyle.{ResvStyle}
+use Rattle.lsr_facts.specs.Admission as admission
+use Rattle.lsr_facts.specs.Admission.{victims_of}
+use Rattle.lsr_facts.specs.Claims.{is_same_session, reserved_of}
+use Rattle.lsr_facts.specs.Priorities.{holding_of, setup_of}
+use Rattle.lsr_facts.specs.declared.claim.Request.{Request}
+use Rattle.lsr_facts.specs.declared.resv_fact.ResvFact.{ResvFact}
+use Rattle.lsr_facts.specs.declared.resv_fact.ResvStyle.{ResvStyle}
 use Rattle.abstract_router.specs.Errors.{no_bandwidth, no_path, no_sender, style_conflict, unacceptable_label}
 use Rattle.abstract_router.specs.Preempting.{claims_of, fits, giving_way, limit_of, request_of}
 use Rattle.abstract_paths.specs.Paths.{has_loop}
@@ -31,7 +31,7 @@ use Rattle.abstract_paths.specs.Tears.{leaves_by}
 use Rattle.abstract_router.specs.Reserving.{Verdict, Failed, PassedOver, Granted, conflicts, verdict_by_rate, verdict_of, verdict_on_path}
 use Rattle.abstract_router.specs.States.{State, is_repaired}
 use Rattle.forwarding_table.specs.Labels.{is_label}
-use Rattle.resv_facts.specs.declared.claim.Claim.{Claim}
+use Rattle.lsr_facts.specs.declared.claim.Claim.{Claim}
 use Rattle.resv_arrivals.proofs.Claiming.{claims_sorted}
 use Rattle.resv_arrivals.proofs.Renewing.{fits_again, none_gives_way}
 use Rattle.resv_arrivals.specs.Progresses.{IsReached, IsRenewed, claims_at, fact_at, reached}

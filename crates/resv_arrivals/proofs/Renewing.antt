@@ -8,11 +8,11 @@ use Rattle.sorted_rows.specs.RowsLaws.{put-found}
 use Rattle.lsr_facts.specs.OrderLaws.{key_total}
 use Rattle.lsr_facts.specs.Orders.{key_cmp}
 use Rattle.lsr_facts.specs.declared.key.Key.{Key}
-use Rattle.resv_facts.specs.Admission.{fits, granted, is_enough, victims_of, without}
-use Rattle.resv_facts.specs.AdmissionLaws.{victims_of-none}
-use Rattle.resv_facts.specs.Claims.{reserved_of}
-use Rattle.resv_facts.specs.declared.claim.Claim.{Claim}
-use Rattle.resv_facts.specs.declared.claim.Request.{Request}
+use Rattle.lsr_facts.specs.Admission.{fits, granted, is_enough, victims_of, without}
+use Rattle.lsr_facts.specs.AdmissionLaws.{victims_of-none}
+use Rattle.lsr_facts.specs.Claims.{reserved_of}
+use Rattle.lsr_facts.specs.declared.claim.Claim.{Claim}
+use Rattle.lsr_facts.specs.declared.claim.Request.{Request}
 
 module _ (request : Request) (claims : List (Key × Claim)) (sorted : T (is_sorted key_cmp claims)) (found : find key_cmp request.key claims ≡ Some request.claim) where
   -- all claims stay

@@ -7,7 +7,7 @@ use Rattle.std.proofs.Common.{refl, sym, ap, ◌∙◌, append_assoc, append-nil
 use Rattle.lsr_facts.specs.Orders.{key_cmp}
 use Rattle.lsr_facts.specs.declared.key.Key.{Key}
 use Rattle.lsr_facts.specs.declared.router.Router.{Router}
-use Rattle.router_events.specs.declared.events.Output.{Output}
+use Rattle.abstract_paths.specs.declared.events.Output.{Output}
 use Rattle.abstract_router.specs.Preempting.{all_told_preempted, told_preempted}
 use Rattle.abstract_router.specs.States.{State}
 use Rattle.resv_arrivals.specs.Progresses.{told_of}

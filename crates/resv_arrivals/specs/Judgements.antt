@@ -1,7 +1,7 @@
 -- What becomes of a flow descriptor where there is room for what it asks for.
 use Rattle.std.specs.Prelude.{◌≡◌, Ok}
-use Rattle.rsvp_traffic.specs.Traffic.{flowspec_rate}
-use Rattle.resv_facts.specs.declared.resv_fact.ResvFact.{ResvFact}
+use Rattle.rsvp_bodies.specs.Traffic.{flowspec_rate}
+use Rattle.lsr_facts.specs.declared.resv_fact.ResvFact.{ResvFact}
 use Rattle.abstract_router.specs.Reserving as reserving
 use Rattle.resv_arrivals.specs.declared.judgement.Judgement.{Judgement}
 use Rattle.resv_arrivals.specs.declared.judgement.Judgement.TheVariants as judgements

@@ -4,14 +4,14 @@ use Rattle.std.specs.FinMap.Entries.{find, is_sorted, put, where_key}
 use Rattle.std.specs.List.{AllByRecursion}
 use Rattle.std.specs.Option.{option_and_then, option_to_list, unwrap_or}
 use Rattle.std.specs.Ordering.{is_eq}
-use Rattle.rsvp_traffic.specs.Traffic.{flowspec_rate}
+use Rattle.rsvp_bodies.specs.Traffic.{flowspec_rate}
 use Rattle.sorted_rows.specs.Edits.{edited}
 use Rattle.lsr_facts.specs.Orders.{key_cmp}
 use Rattle.lsr_facts.specs.declared.key.Key.{Key}
-use Rattle.resv_facts.specs.declared.claim.Claim.{Claim}
-use Rattle.resv_facts.specs.declared.resv_fact.ResvFact.{ResvFact}
+use Rattle.lsr_facts.specs.declared.claim.Claim.{Claim}
+use Rattle.lsr_facts.specs.declared.resv_fact.ResvFact.{ResvFact}
 use Rattle.lsr_facts.specs.declared.router.Router.{Router}
-use Rattle.router_events.specs.declared.events.Output.{Output}
+use Rattle.abstract_paths.specs.declared.events.Output.{Output}
 use Rattle.admission.specs.Bandwidths.{AreRated}
 use Rattle.abstract_router.specs.Preempting.{claims_of, giving_way, request_of, told_preempted}
 use Rattle.abstract_router.specs.Reserving as reserving

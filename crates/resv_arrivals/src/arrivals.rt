@@ -18,15 +18,13 @@ use crate::asked::Asked;
 use crate::granting::next_descriptor;
 use crate::progress::Progress;
 use crate::replies::{resv_replied, with_told};
-use lsr_facts::{Key, Reply, RsvpError};
+use abstract_paths::Outputs;
+use lsr_facts::{Key, Reply, ResvStyle, RsvpError};
 use message_rules::{
     UNKNOWN_STYLE, key_in, named, reservation_error, resv_leaves_room, told_downstream,
     unknown_object,
 };
-use resv_facts::ResvStyle;
-use router_events::Outputs;
-use rsvp_contents::Resv;
-use rsvp_flows::ErrorDescriptor;
+use rsvp_contents::{ErrorDescriptor, Resv};
 use state_views::{Draft, Edits, StateView, WholeState};
 use std::alloc::{AllocError, Global};
 

@@ -1,9 +1,7 @@
 //! What is asked for.
 
-use lsr_facts::Key;
-use resv_facts::ResvStyle;
-use rsvp_contents::Resv;
-use rsvp_flows::FlowDescriptor;
+use lsr_facts::{Key, ResvStyle};
+use rsvp_contents::{FlowDescriptor, Resv};
 
 /// One flow descriptor of a Resv.
 #[derive(Clone, Copy, Debug)]

@@ -5,11 +5,11 @@ ghost use Rattle.std.specs.FinMap.Entries.{find, put};
 ghost use Rattle.std.specs.Option.{option_map, unwrap_or};
 ghost use Rattle.std.specs.Prelude.{◌≡◌, ◌^◌, ◌≤◌, ◌↔◌, IfOk, IsOk, IsTrue, MatchOption, Some, false, find as find_first, fold};
 ghost use Rattle.lsr_facts.specs.Orders.{key_cmp};
-ghost use Rattle.resv_facts.specs.Admission as admission;
-ghost use Rattle.resv_facts.specs.Admission.{granted, without};
-ghost use Rattle.resv_facts.specs.Claims.{claim_of};
-ghost use Rattle.resv_facts.specs.Priorities.{holding_of};
-ghost use Rattle.rsvp_traffic.specs.Traffic.{flowspec_rate};
+ghost use Rattle.lsr_facts.specs.Admission as admission;
+ghost use Rattle.lsr_facts.specs.Admission.{granted, without};
+ghost use Rattle.lsr_facts.specs.Claims.{claim_of};
+ghost use Rattle.lsr_facts.specs.Priorities.{holding_of};
+ghost use Rattle.rsvp_bodies.specs.Traffic.{flowspec_rate};
 ghost use Rattle.abstract_router.specs.Preempting.{attr_at, claims_of, limit_of};
 ghost use Rattle.abstract_router.specs.Reserving.{conflicts};
 ghost use Rattle.resv_arrivals.specs.Progresses.{AreClaimed, IsReached, claims_at, resvs_at, without_row};
@@ -17,9 +17,8 @@ ghost use Rattle.resv_arrivals.specs.Progresses.{AreClaimed, IsReached, claims_a
 use crate::asked::Asked;
 use crate::progress::{Progress, resv_now};
 use admission::{reserved_with, victims_of};
-use lsr_facts::Key;
+use lsr_facts::{Claim, Key, Request, ResvFact, ResvStyle, is_same_style};
 use message_rules::{conflicting_style, limit_of};
-use resv_facts::{Claim, Request, ResvFact, ResvStyle, is_same_style};
 use sorted_rows::Table;
 use state_views::WholeState;
 use std::alloc::{AllocError, Global};
@@ -54,7 +53,7 @@ pub fn style_in_conflict<V: WholeState>(
 }
 
 /// Whether a request fits its link's limit (RFC 3209, 4.7.3). It asks for a rate of at most 2^50 bytes per second.
-#[tactic(auto, unfolding(resv_facts::specs::Admission::fits))]
+#[tactic(auto, unfolding(lsr_facts::specs::Admission::fits))]
 pub fn fits<V: WholeState>(view: &V, progress: &Progress, request: &Request) -> bool
     requires reached { IsReached (V.router view.now) (V.state view.now) progress.now }
     requires most { request.now.claim.rate ≤ 2 ^ 50 }

@@ -5,8 +5,7 @@ ghost use Rattle.std.specs.Prelude.{◌≡◌, IfOk, Some};
 ghost use Rattle.lsr_facts.specs.Orders.{key_cmp};
 ghost use Rattle.resv_arrivals.specs.Progresses.{without_edits};
 
-use lsr_facts::Key;
-use resv_facts::ResvFact;
+use lsr_facts::{Key, ResvFact};
 use sorted_rows::Table;
 use std::alloc::AllocError;
 

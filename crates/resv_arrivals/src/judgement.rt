@@ -2,7 +2,7 @@
 //! 7.3).
 
 ghost use Rattle.std.specs.Prelude.{◌≡◌, true};
-ghost use Rattle.rsvp_traffic.specs.Traffic.{flowspec_rate};
+ghost use Rattle.rsvp_bodies.specs.Traffic.{flowspec_rate};
 ghost use Rattle.abstract_router.specs.Reserving.{verdict_by_rate, verdict_by_style};
 ghost use Rattle.resv_arrivals.specs.Judgements.{IsJudgement};
 ghost use Rattle.resv_arrivals.specs.Progresses.{fact_at};
@@ -11,7 +11,7 @@ use crate::asked::Asked;
 use forwarding_table::is_label;
 use lsr_facts::RsvpError;
 use message_rules::{UNACCEPTABLE_LABEL, has_been_here, style_conflict, traffic_error};
-use rsvp_flows::FlowDescriptor;
+use rsvp_contents::FlowDescriptor;
 use state_views::{StateView, WholeState};
 
 /// What becomes of a flow descriptor, where there is room for what it asks for.

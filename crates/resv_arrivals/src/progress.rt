@@ -7,9 +7,8 @@ ghost use Rattle.lsr_facts.specs.Orders.{key_cmp};
 ghost use Rattle.sorted_rows.specs.Edits.{edited};
 ghost use Rattle.abstract_router.specs.States.{State, is_held};
 
-use lsr_facts::{Key, RsvpError};
-use resv_facts::{Claim, ResvFact};
-use router_events::Outputs;
+use abstract_paths::Outputs;
+use lsr_facts::{Claim, Key, ResvFact, RsvpError};
 use sorted_rows::Table;
 use state_views::StateView;
 use std::alloc::Global;

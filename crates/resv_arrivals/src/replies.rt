@@ -6,8 +6,8 @@ ghost use Rattle.abstract_router.specs.Reserving.{resv_replied};
 ghost use Rattle.state_views.specs.Drafts.{IsDraft};
 ghost use Rattle.state_views.specs.Edits.{edited};
 
+use abstract_paths::{Output, Outputs};
 use lsr_facts::{Refusal, Reply, RsvpError};
-use router_events::{Output, Outputs};
 use state_views::{Draft, Edits, StateView, refused};
 use std::alloc::{AllocError, Global};
 

@@ -3,7 +3,7 @@
 ghost use Rattle.std.specs.FinMap.Entries.{find};
 ghost use Rattle.std.specs.Prelude.{◌≡◌, Ok, Some, false, true};
 ghost use Rattle.lsr_facts.specs.Orders.{key_cmp};
-ghost use Rattle.rsvp_traffic.specs.Traffic.{flowspec_rate};
+ghost use Rattle.rsvp_bodies.specs.Traffic.{flowspec_rate};
 ghost use Rattle.abstract_paths.specs.Tears.{leaves_by};
 ghost use Rattle.abstract_router.specs.Preempting.{fits};
 ghost use Rattle.abstract_router.specs.Reserving as reserving;
@@ -15,9 +15,8 @@ use crate::asked::Asked;
 use crate::claims::{fits, is_claimed, style_in_conflict};
 use crate::judgement::{Judgement, judge};
 use crate::progress::Progress;
-use lsr_facts::{PathFact, RsvpError};
+use lsr_facts::{PathFact, Request, RsvpError};
 use message_rules::{NO_BANDWIDTH, NO_PATH, NO_SENDER, leaves_by, request_of, style_conflict};
-use resv_facts::Request;
 use state_views::WholeState;
 
 /// What becomes of a flow descriptor.

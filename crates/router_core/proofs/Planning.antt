@@ -16,14 +16,14 @@ use Rattle.router_tables.specs.Below.labels.RowLaws.{detours-alike, table-alike}
 use Rattle.router_tables.specs.Below.labels.Rows.{AreTableEdits}
 use Rattle.router_tables.specs.Below.labels.TunnelLaws.{look_tunnel-alike, tunnel_table-alike}
 use Rattle.router_tables.specs.Below.labels.TunnelRows.{AreTunnelEdits}
-use Rattle.rsvp_traffic.specs.Traffic.{flowspec_rate}
-use Rattle.resv_facts.specs.Upstreams.{upstream_cmp}
-use Rattle.resv_facts.specs.declared.repair.Repair.{Repair}
-use Rattle.resv_facts.specs.declared.resv_fact.ResvFact.{ResvFact}
-use Rattle.resv_facts.specs.declared.upstream.Upstream.{Upstream}
-use Rattle.router_events.specs.declared.events.Event.{Event}
-use Rattle.router_events.specs.declared.events.Event.TheVariants as events
-use Rattle.router_events.specs.declared.events.Output.{Output}
+use Rattle.rsvp_bodies.specs.Traffic.{flowspec_rate}
+use Rattle.lsr_facts.specs.Upstreams.{upstream_cmp}
+use Rattle.lsr_facts.specs.declared.repair.Repair.{Repair}
+use Rattle.lsr_facts.specs.declared.resv_fact.ResvFact.{ResvFact}
+use Rattle.lsr_facts.specs.declared.upstream.Upstream.{Upstream}
+use Rattle.abstract_paths.specs.declared.events.Event.{Event}
+use Rattle.abstract_paths.specs.declared.events.Event.TheVariants as events
+use Rattle.abstract_paths.specs.declared.events.Output.{Output}
 use Rattle.abstract_paths.specs.Relays.{exceeds_hop_limit}
 use Rattle.abstract_paths.specs.Soundness.{ArePaths}
 use Rattle.router_soundness.proofs.Drafting.{outcome-leaves}

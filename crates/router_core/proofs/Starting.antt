@@ -2,7 +2,7 @@
 use Rattle.std.specs.Prelude.{◌≡◌, true, false, []}
 use Rattle.std.proofs.Common.{refl, sym, ◌∙◌}
 use Rattle.lsr_facts.specs.declared.router.Router.{Router}
-use Rattle.router_events.specs.declared.events.Event.TheVariants as events
+use Rattle.abstract_paths.specs.declared.events.Event.TheVariants as events
 use Rattle.abstract_router.specs.Soundness.{IsSound}
 use Rattle.abstract_router.specs.States.{State}
 use Rattle.abstract_router.specs.Steps.{Step}

@@ -5,8 +5,8 @@ use Rattle.lsr_facts.specs.declared.refusal.Refusal.{Refusal}
 use Rattle.lsr_facts.specs.declared.refusal.Refusal.TheVariants.{HopLimit, NoMemory}
 use Rattle.lsr_facts.specs.declared.reply.Reply.TheVariants as replies
 use Rattle.lsr_facts.specs.declared.router.Router.{Router}
-use Rattle.router_events.specs.declared.events.Event.{Event}
-use Rattle.router_events.specs.declared.events.Made.{Made}
+use Rattle.abstract_paths.specs.declared.events.Event.{Event}
+use Rattle.abstract_paths.specs.declared.events.Made.{Made}
 use Rattle.abstract_paths.specs.Relays.{exceeds_hop_limit}
 use Rattle.abstract_router.specs.Arrivals.{outcome}
 use Rattle.abstract_router.specs.Labels.{IsLabelling}

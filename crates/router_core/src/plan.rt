@@ -3,8 +3,8 @@
 ghost use Rattle.std.specs.Prelude.{◌≡◌, ◌≢◌, ◌||◌, Bool, Err, IfErr, IfOk, MatchOption, OnErr, false, true};
 ghost use Rattle.lsr_facts.specs.Orders.{key_cmp};
 ghost use Rattle.lsr_facts.specs.declared.key.Key.{Key};
-ghost use Rattle.router_events.specs.declared.events.Event.{Event};
-ghost use Rattle.router_events.specs.declared.events.Event.TheVariants as events;
+ghost use Rattle.abstract_paths.specs.declared.events.Event.{Event};
+ghost use Rattle.abstract_paths.specs.declared.events.Event.TheVariants as events;
 ghost use Rattle.lsr_facts.specs.declared.refusal.Refusal.TheVariants.{HopLimit};
 ghost use Rattle.abstract_paths.specs.Relays.{exceeds_hop_limit};
 ghost use Rattle.abstract_paths.specs.Soundness.{ArePaths};
@@ -22,10 +22,9 @@ ghost use Rattle.router_tables.specs.Below.labels.TunnelRows.{AreTunnelEdits};
 ghost use Rattle.router_core.specs.Plans.{IsOutFor, IsPlanOf, IsSendingPlan, after_plan, drafted};
 ghost use Rattle.router_core.specs.States.{RouterState};
 
+use abstract_paths::{Command, Event, Outputs};
 use forwarding_table::Action;
-use lsr_facts::{Item, Key, Refusal, Reply};
-use resv_facts::{ResvFact, Upstream};
-use router_events::{Command, Event, Outputs};
+use lsr_facts::{Item, Key, Refusal, Reply, ResvFact, Upstream};
 use router_steps::{draft_of, exceeds_hop_limit};
 use router_tables::{Change, Draft, Edits, Tables, table_edits, tunnel_edits};
 use rsvp_contents::Reading;

@@ -2,9 +2,9 @@
 
 ghost use Rattle.std.specs.Prelude.{◌≡◌, ◌≢◌, Err, IfErr, IfOk, OnErr, false, true};
 ghost use Rattle.lsr_facts.specs.Routers.{IsRouter};
-ghost use Rattle.router_events.specs.declared.events.Event.{Event};
-ghost use Rattle.router_events.specs.declared.events.Event.TheVariants as events;
-ghost use Rattle.resv_facts.specs.Claims.{reserved_of};
+ghost use Rattle.abstract_paths.specs.declared.events.Event.{Event};
+ghost use Rattle.abstract_paths.specs.declared.events.Event.TheVariants as events;
+ghost use Rattle.lsr_facts.specs.Claims.{reserved_of};
 ghost use Rattle.lsr_facts.specs.declared.refusal.Refusal.TheVariants.{HopLimit};
 ghost use Rattle.abstract_paths.specs.Relays.{exceeds_hop_limit};
 ghost use Rattle.abstract_router.specs.Preempting.{claims_of};
@@ -15,10 +15,10 @@ ghost use Rattle.router_core.specs.Plans.{IsOutFor, IsPlanOf, after_plan, made_b
 ghost use Rattle.router_core.specs.States.{IsEmpty, cold, emptied, opened};
 
 use crate::plan::{Plan, plan_of};
+use abstract_paths::{Event, Made, Outputs};
 use forwarding_table::Action;
 use lsr_config::Config;
 use lsr_facts::{Key, Refusal};
-use router_events::{Event, Made, Outputs};
 use router_tables::Tables;
 use sorted_rows::Table;
 use std::alloc::{AllocError, Global};

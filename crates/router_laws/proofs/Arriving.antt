@@ -17,9 +17,9 @@ use Rattle.rsvp_contents.specs.declared.messages.PathTear.{PathTear}
 use Rattle.rsvp_contents.specs.declared.messages.Resv.{Resv}
 use Rattle.rsvp_contents.specs.declared.messages.ResvErr.{ResvErr}
 use Rattle.rsvp_contents.specs.declared.messages.ResvTear.{ResvTear}
-use Rattle.rsvp_flows.specs.declared.descriptors.FlowDescriptor.{FlowDescriptor}
+use Rattle.rsvp_contents.specs.declared.descriptors.FlowDescriptor.{FlowDescriptor}
 use Rattle.rsvp_objects.specs.declared.values.ErrorSpec.{ErrorSpec}
-use Rattle.rsvp_traffic.specs.TokenBuckets.{token_rate}
+use Rattle.rsvp_bodies.specs.TokenBuckets.{token_rate}
 use Rattle.lsr_facts.specs.Errors.{system_error}
 use Rattle.lsr_facts.specs.Lifetimes.{begins_here}
 use Rattle.lsr_facts.specs.Orders.{key_cmp}
@@ -33,14 +33,14 @@ use Rattle.lsr_facts.specs.declared.path_fact.Origin.{Origin}
 use Rattle.lsr_facts.specs.declared.path_fact.PathFact.{PathFact}
 use Rattle.lsr_facts.specs.declared.refusal.Refusal.TheVariants.{LinkDown, NoMatch, UnknownLink}
 use Rattle.lsr_facts.specs.declared.router.Router.{Router}
-use Rattle.resv_facts.specs.Reservations.{style_of}
-use Rattle.resv_facts.specs.declared.repair.Repair.{Repair}
-use Rattle.resv_facts.specs.declared.resv_fact.ResvFact.{ResvFact}
-use Rattle.resv_facts.specs.declared.resv_fact.ResvStyle.{ResvStyle}
-use Rattle.router_events.specs.declared.events.Output.{Output}
-use Rattle.router_events.specs.declared.ways.ArrivalWay.{ArrivalWay}
-use Rattle.router_events.specs.declared.ways.ArrivalWay.TheVariants as ways
-use Rattle.router_events.specs.declared.ways.Arrive.{Arrive}
+use Rattle.lsr_facts.specs.Reservations.{style_of}
+use Rattle.lsr_facts.specs.declared.repair.Repair.{Repair}
+use Rattle.lsr_facts.specs.declared.resv_fact.ResvFact.{ResvFact}
+use Rattle.lsr_facts.specs.declared.resv_fact.ResvStyle.{ResvStyle}
+use Rattle.abstract_paths.specs.declared.events.Output.{Output}
+use Rattle.abstract_paths.specs.declared.ways.ArrivalWay.{ArrivalWay}
+use Rattle.abstract_paths.specs.declared.ways.ArrivalWay.TheVariants as ways
+use Rattle.abstract_paths.specs.declared.ways.Arrive.{Arrive}
 use Rattle.abstract_paths.specs.Changes.{with_path, without_path}
 use Rattle.abstract_paths.proofs.Merging.{stack_path_by}
 use Rattle.abstract_paths.specs.Heads.{with_noted}

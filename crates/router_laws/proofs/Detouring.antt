@@ -17,7 +17,7 @@ use Rattle.lsr_facts.specs.declared.bypass.Bypass.{Bypass}
 use Rattle.lsr_facts.specs.declared.facts.Facts.{Facts}
 use Rattle.lsr_facts.specs.declared.router.Router.{Router}
 use Rattle.lsr_facts.specs.declared.tunnel.Tunnel.{Tunnel}
-use Rattle.resv_facts.specs.declared.repair.Detour.{Detour}
+use Rattle.lsr_facts.specs.declared.repair.Detour.{Detour}
 use Rattle.abstract_paths.specs.Changes.{with_tunnel}
 use Rattle.abstract_paths.specs.TouchedLaws.{find-made}
 use Rattle.abstract_router.specs.Detours.{detour_by, detour_of, detours_of, over_at, over_by, over_of}

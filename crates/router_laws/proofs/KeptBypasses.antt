@@ -15,9 +15,9 @@ use Rattle.lsr_facts.specs.declared.key.Key.{Key}
 use Rattle.lsr_facts.specs.declared.router.Router.{Router}
 use Rattle.lsr_facts.specs.declared.tunnel.Tunnel.{Tunnel}
 use Rattle.lsr_facts.specs.Changes.{switched}
-use Rattle.router_events.specs.declared.events.Event.TheVariants as events
-use Rattle.router_events.specs.declared.events.Made.{Made}
-use Rattle.router_events.specs.declared.ways.Arrive.{Arrive}
+use Rattle.abstract_paths.specs.declared.events.Event.TheVariants as events
+use Rattle.abstract_paths.specs.declared.events.Made.{Made}
+use Rattle.abstract_paths.specs.declared.ways.Arrive.{Arrive}
 use Rattle.abstract_paths.specs.Changes.{with_tunnel}
 use Rattle.abstract_paths.specs.Heads.{noted, with_noted}
 use Rattle.abstract_router.specs.Arrivals.{arrival}

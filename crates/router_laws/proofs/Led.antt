@@ -2,8 +2,8 @@
 use Rattle.std.specs.Prelude.{◌≡◌}
 use Rattle.std.proofs.Common.{ap, ◌∙◌}
 use Rattle.lsr_facts.specs.declared.router.Router.{Router}
-use Rattle.router_events.specs.declared.events.Event.{Event}
-use Rattle.router_events.specs.declared.events.Made.{Made}
+use Rattle.abstract_paths.specs.declared.events.Event.{Event}
+use Rattle.abstract_paths.specs.declared.events.Made.{Made}
 use Rattle.abstract_router.specs.Arrivals.{outcome}
 use Rattle.abstract_router.specs.Outcomes.{Outcome}
 use Rattle.abstract_router.specs.States.{State}

@@ -14,7 +14,7 @@ use Rattle.rsvp_contents.specs.declared.messages.Path.{Path}
 use Rattle.rsvp_contents.specs.declared.messages.PathErr.{PathErr}
 use Rattle.sorted_rows.specs.Rows.{keys_of}
 use Rattle.sorted_rows.specs.RowsLaws.{find-put_same}
-use Rattle.rsvp_routes.specs.declared.step.Step.{Step}
+use Rattle.rsvp_bodies.specs.declared.step.Step.{Step}
 use Rattle.lsr_facts.specs.Lifetimes.{begins_here}
 use Rattle.lsr_facts.specs.Orders.{is_one_of, item_cmp, key_cmp}
 use Rattle.lsr_facts.specs.Routers.{HasLink}
@@ -29,9 +29,9 @@ use Rattle.lsr_facts.specs.declared.refusal.Refusal.TheVariants.{LinkDown, NoMat
 use Rattle.lsr_facts.specs.declared.reply.Reply.TheVariants as replies
 use Rattle.lsr_facts.specs.declared.router.Router.{Router}
 use Rattle.lsr_facts.specs.declared.tunnel.Tunnel.{Tunnel}
-use Rattle.resv_facts.specs.Upstreams.{upstream_cmp}
-use Rattle.router_events.specs.Arrivals.{hop_arrive}
-use Rattle.router_events.specs.declared.events.Made.{Made}
+use Rattle.lsr_facts.specs.Upstreams.{upstream_cmp}
+use Rattle.abstract_paths.specs.Arrivals.{hop_arrive}
+use Rattle.abstract_paths.specs.declared.events.Made.{Made}
 use Rattle.abstract_paths.proofs.Alongside.{with_noted-same}
 use Rattle.abstract_paths.proofs.EventStanding.{with_noted-stands}
 use Rattle.abstract_paths.proofs.Heads.{head_known}

@@ -10,9 +10,9 @@ use Rattle.std.proofs.lemmas.Cmp.{tied_itself}
 use Rattle.std.proofs.lemmas.List.Elements.{recursion_from_All}
 use Rattle.rsvp_contents.specs.declared.messages.Content.TheVariants as contents
 use Rattle.rsvp_contents.specs.declared.messages.Resv.{Resv}
-use Rattle.rsvp_flows.specs.declared.descriptors.FlowDescriptor.{FlowDescriptor}
-use Rattle.rsvp_traffic.specs.Traffic.{flowspec_rate}
-use Rattle.rsvp_traffic.specs.declared.fault.TrafficFault.{TrafficFault}
+use Rattle.rsvp_contents.specs.declared.descriptors.FlowDescriptor.{FlowDescriptor}
+use Rattle.rsvp_bodies.specs.Traffic.{flowspec_rate}
+use Rattle.rsvp_bodies.specs.declared.traffic_fault.TrafficFault.{TrafficFault}
 use Rattle.sorted_rows.specs.ListLaws.{all-always, all-weaker, filter-all_pass}
 use Rattle.sorted_rows.specs.RowsLaws.{all_found, find-all_row, put-found, ties}
 use Rattle.lsr_facts.specs.OrderLaws.{key_exact, key_total, session_total}
@@ -23,16 +23,16 @@ use Rattle.lsr_facts.specs.declared.path_fact.PathFact.{PathFact}
 use Rattle.lsr_facts.specs.declared.refusal.Refusal.TheVariants.{LinkDown, NoMatch, UnknownLink}
 use Rattle.lsr_facts.specs.declared.reply.Reply.TheVariants as replies
 use Rattle.lsr_facts.specs.declared.router.Router.{Router}
-use Rattle.resv_facts.specs.Admission as admission
-use Rattle.resv_facts.specs.Admission.{granted, is_enough, without}
-use Rattle.resv_facts.specs.AdmissionLaws.{victims_of-none}
-use Rattle.resv_facts.specs.Claims.{is_same_session, reserved_of}
-use Rattle.resv_facts.specs.Reservations.{style_of}
-use Rattle.resv_facts.specs.declared.claim.Claim.{Claim}
-use Rattle.resv_facts.specs.declared.resv_fact.ResvFact.{ResvFact}
-use Rattle.resv_facts.specs.declared.resv_fact.ResvStyle.{ResvStyle}
-use Rattle.router_events.specs.Arrivals.{comes, hop_arrive}
-use Rattle.router_events.specs.declared.events.Made.{Made}
+use Rattle.lsr_facts.specs.Admission as admission
+use Rattle.lsr_facts.specs.Admission.{granted, is_enough, without}
+use Rattle.lsr_facts.specs.AdmissionLaws.{victims_of-none}
+use Rattle.lsr_facts.specs.Claims.{is_same_session, reserved_of}
+use Rattle.lsr_facts.specs.Reservations.{style_of}
+use Rattle.lsr_facts.specs.declared.claim.Claim.{Claim}
+use Rattle.lsr_facts.specs.declared.resv_fact.ResvFact.{ResvFact}
+use Rattle.lsr_facts.specs.declared.resv_fact.ResvStyle.{ResvStyle}
+use Rattle.abstract_paths.specs.Arrivals.{comes, hop_arrive}
+use Rattle.abstract_paths.specs.declared.events.Made.{Made}
 use Rattle.abstract_paths.specs.Paths.{has_loop}
 use Rattle.abstract_paths.specs.Places.{is_up}
 use Rattle.abstract_paths.specs.Tears.{leaves_by}

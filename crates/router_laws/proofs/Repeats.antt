@@ -10,11 +10,11 @@ use Rattle.std.specs.declared.net.ipv4_addr.Ipv4Addr.{Ipv4Addr}
 use Rattle.std.proofs.Common.{refl, sym, ap, subst, ◌∙◌}
 use Rattle.std.proofs.lemmas.Bool.{cond_both}
 use Rattle.std.proofs.lemmas.Cmp.{nat_list_eq_equiv, tied_itself}
-use Rattle.rsvp_routes.specs.Steps.{route_bytes}
-use Rattle.rsvp_routes.specs.Traces.{record_bytes}
+use Rattle.rsvp_bodies.specs.Steps.{route_bytes}
+use Rattle.rsvp_bodies.specs.Traces.{record_bytes}
 use Rattle.rsvp_contents.specs.declared.messages.Content.TheVariants as contents
 use Rattle.rsvp_contents.specs.declared.messages.Path.{Path}
-use Rattle.rsvp_traffic.specs.TokenBuckets.{token_rate}
+use Rattle.rsvp_bodies.specs.TokenBuckets.{token_rate}
 use Rattle.sorted_rows.specs.RowsLaws.{find-put_same, put-found}
 use Rattle.lsr_facts.specs.Errors.{bad_tspec, system_error, routing_loop, unsupported_l3pid, record_too_long}
 use Rattle.lsr_facts.specs.OrderLaws.{address_total, key_total}
@@ -33,9 +33,9 @@ use Rattle.lsr_facts.specs.declared.refusal.Refusal.TheVariants.{LinkDown, NoMat
 use Rattle.lsr_facts.specs.declared.reply.Reply.TheVariants as replies
 use Rattle.lsr_facts.specs.declared.router.Router.{Router}
 use Rattle.lsr_facts.specs.declared.tunnel.Tunnel.{Tunnel}
-use Rattle.router_events.specs.Arrivals.{hop_arrive}
-use Rattle.router_events.specs.declared.ways.Arrive.{Arrive}
-use Rattle.router_events.specs.declared.events.Made.{Made}
+use Rattle.abstract_paths.specs.Arrivals.{hop_arrive}
+use Rattle.abstract_paths.specs.declared.ways.Arrive.{Arrive}
+use Rattle.abstract_paths.specs.declared.events.Made.{Made}
 use Rattle.abstract_paths.proofs.Heads.{head_known}
 use Rattle.abstract_paths.proofs.PathTable.{role_of-elsewhere}
 use Rattle.abstract_paths.specs.Changes.{with_path}

@@ -7,7 +7,7 @@ use Rattle.std.specs.Ordering.{eq_by_cmp}
 use Rattle.std.specs.declared.net.ipv4_addr.Ipv4Addr.{Ipv4Addr}
 use Rattle.std.proofs.Common.{refl, sym, ap, subst, ◌∙◌}
 use Rattle.sorted_rows.specs.ListLaws.{all-always, all-map, all-weaker, filter-all_pass}
-use Rattle.rsvp_routes.specs.declared.prefix.Prefix.{Prefix}
+use Rattle.rsvp_bodies.specs.declared.prefix.Prefix.{Prefix}
 use Rattle.lsr_facts.specs.Orders.{is_one_of, key_cmp}
 use Rattle.lsr_facts.specs.Tunnels.{current_key, head_key}
 use Rattle.lsr_facts.specs.declared.bypass.Bypass.{Bypass}
@@ -17,9 +17,9 @@ use Rattle.lsr_facts.specs.declared.router.Router.{Router}
 use Rattle.lsr_facts.specs.declared.tunnel.Tunnel.{Tunnel}
 use Rattle.lsr_facts.specs.declared.tunnel.TunnelLsp.{TunnelLsp}
 use Rattle.lsr_facts.specs.Changes.{cancelled, switched, switched_to}
-use Rattle.router_events.specs.declared.events.Event.{Event}
-use Rattle.router_events.specs.declared.events.Event.TheVariants as events
-use Rattle.router_events.specs.declared.events.Made.{Made}
+use Rattle.abstract_paths.specs.declared.events.Event.{Event}
+use Rattle.abstract_paths.specs.declared.events.Event.TheVariants as events
+use Rattle.abstract_paths.specs.declared.events.Made.{Made}
 use Rattle.router_soundness.proofs.Silence.{silent_keeps}
 use Rattle.abstract_router.specs.Arrivals.{lost, outcome}
 use Rattle.abstract_router.specs.Outcomes.{Outcome}

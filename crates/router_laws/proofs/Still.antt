@@ -18,11 +18,11 @@ use Rattle.lsr_facts.specs.declared.path_fact.PathFact.{PathFact}
 use Rattle.lsr_facts.specs.declared.reply.Reply.{Reply}
 use Rattle.lsr_facts.specs.declared.reply.Reply.TheVariants as replies
 use Rattle.lsr_facts.specs.declared.router.Router.{Router}
-use Rattle.resv_facts.specs.UpstreamOrder.{upstream_exact, upstream_total}
-use Rattle.resv_facts.specs.Upstreams.{upstream_cmp}
-use Rattle.router_events.specs.declared.events.Event.{Event}
-use Rattle.router_events.specs.declared.events.Made.{Made}
-use Rattle.router_events.specs.declared.events.Output.{Output}
+use Rattle.lsr_facts.specs.UpstreamOrder.{upstream_exact, upstream_total}
+use Rattle.lsr_facts.specs.Upstreams.{upstream_cmp}
+use Rattle.abstract_paths.specs.declared.events.Event.{Event}
+use Rattle.abstract_paths.specs.declared.events.Made.{Made}
+use Rattle.abstract_paths.specs.declared.events.Output.{Output}
 use Rattle.abstract_paths.specs.Outputs.{between, send_for, tear_for}
 use Rattle.abstract_paths.specs.StampLaws.{keys-stamps}
 use Rattle.abstract_paths.specs.Stamps.{stamps}

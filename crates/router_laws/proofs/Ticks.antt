@@ -29,16 +29,16 @@ use Rattle.lsr_facts.specs.declared.refusal.Refusal.TheVariants.{BadMoment, Late
 use Rattle.lsr_facts.specs.declared.reply.Reply.TheVariants as replies
 use Rattle.lsr_facts.specs.declared.router.Router.{Router}
 use Rattle.lsr_facts.specs.declared.tunnel.Tunnel.{Tunnel}
-use Rattle.resv_facts.specs.Reservations as reservations
-use Rattle.resv_facts.specs.UpstreamOrder.{upstream_exact, upstream_total}
-use Rattle.resv_facts.specs.Upstreams.{upstream_cmp}
-use Rattle.resv_facts.specs.declared.repair.Repair.{Repair}
-use Rattle.resv_facts.specs.declared.repair.Selected.{Selected}
-use Rattle.resv_facts.specs.declared.resv_fact.ResvFact.{ResvFact}
-use Rattle.resv_facts.specs.declared.upstream.Upstream.{Upstream}
-use Rattle.router_events.specs.declared.events.Event.TheVariants as events
-use Rattle.router_events.specs.declared.events.Made.{Made}
-use Rattle.router_events.specs.declared.events.Output.{Output}
+use Rattle.lsr_facts.specs.Reservations as reservations
+use Rattle.lsr_facts.specs.UpstreamOrder.{upstream_exact, upstream_total}
+use Rattle.lsr_facts.specs.Upstreams.{upstream_cmp}
+use Rattle.lsr_facts.specs.declared.repair.Repair.{Repair}
+use Rattle.lsr_facts.specs.declared.repair.Selected.{Selected}
+use Rattle.lsr_facts.specs.declared.resv_fact.ResvFact.{ResvFact}
+use Rattle.lsr_facts.specs.declared.upstream.Upstream.{Upstream}
+use Rattle.abstract_paths.specs.declared.events.Event.TheVariants as events
+use Rattle.abstract_paths.specs.declared.events.Made.{Made}
+use Rattle.abstract_paths.specs.declared.events.Output.{Output}
 use Rattle.abstract_paths.specs.Outcomes as paths
 use Rattle.abstract_paths.specs.Outputs.{between, errors_out, is_same_frame, rests, send_for, tear_for}
 use Rattle.abstract_paths.specs.Places.{is_up}

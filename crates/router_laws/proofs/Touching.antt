@@ -19,7 +19,7 @@ use Rattle.rsvp_contents.specs.declared.messages.PathTear.{PathTear}
 use Rattle.rsvp_contents.specs.declared.messages.Resv.{Resv}
 use Rattle.rsvp_contents.specs.declared.messages.ResvErr.{ResvErr}
 use Rattle.rsvp_contents.specs.declared.messages.ResvTear.{ResvTear}
-use Rattle.rsvp_flows.specs.declared.descriptors.FlowDescriptor.{FlowDescriptor}
+use Rattle.rsvp_contents.specs.declared.descriptors.FlowDescriptor.{FlowDescriptor}
 use Rattle.rsvp_objects.specs.declared.values.ErrorSpec.{ErrorSpec}
 use Rattle.rsvp_objects.specs.declared.values.Template.{Template}
 use Rattle.sorted_rows.specs.ListLaws.{all-filter}
@@ -35,16 +35,16 @@ use Rattle.lsr_facts.specs.declared.key.Key.{Key}
 use Rattle.lsr_facts.specs.declared.path_fact.PathFact.{PathFact}
 use Rattle.lsr_facts.specs.declared.refusal.Refusal.TheVariants.{LinkDown, NoMatch, UnknownLink}
 use Rattle.lsr_facts.specs.declared.router.Router.{Router}
-use Rattle.resv_facts.specs.Reservations.{style_of}
-use Rattle.resv_facts.specs.declared.repair.Repair.{Repair}
-use Rattle.resv_facts.specs.declared.resv_fact.ResvFact.{ResvFact}
-use Rattle.resv_facts.specs.declared.resv_fact.ResvStyle.{ResvStyle}
-use Rattle.router_events.specs.declared.ways.ArrivalWay.{ArrivalWay}
-use Rattle.router_events.specs.declared.ways.ArrivalWay.TheVariants as ways
-use Rattle.router_events.specs.declared.ways.Arrive.{Arrive}
-use Rattle.router_events.specs.declared.events.Event.TheVariants as events
-use Rattle.router_events.specs.declared.events.Made.{Made}
-use Rattle.router_events.specs.declared.events.Output.{Output}
+use Rattle.lsr_facts.specs.Reservations.{style_of}
+use Rattle.lsr_facts.specs.declared.repair.Repair.{Repair}
+use Rattle.lsr_facts.specs.declared.resv_fact.ResvFact.{ResvFact}
+use Rattle.lsr_facts.specs.declared.resv_fact.ResvStyle.{ResvStyle}
+use Rattle.abstract_paths.specs.declared.ways.ArrivalWay.{ArrivalWay}
+use Rattle.abstract_paths.specs.declared.ways.ArrivalWay.TheVariants as ways
+use Rattle.abstract_paths.specs.declared.ways.Arrive.{Arrive}
+use Rattle.abstract_paths.specs.declared.events.Event.TheVariants as events
+use Rattle.abstract_paths.specs.declared.events.Made.{Made}
+use Rattle.abstract_paths.specs.declared.events.Output.{Output}
 use Rattle.abstract_paths.proofs.Alongside.{with_noted-same}
 use Rattle.abstract_paths.specs.Changes.{without_path}
 use Rattle.abstract_paths.specs.Heads.{with_noted}

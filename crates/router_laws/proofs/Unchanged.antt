@@ -15,9 +15,9 @@ use Rattle.lsr_facts.specs.declared.path_fact.PathFact.{PathFact}
 use Rattle.lsr_facts.specs.declared.refusal.Refusal.TheVariants.{NoMatch, UnknownLink}
 use Rattle.lsr_facts.specs.declared.reply.Reply.TheVariants as replies
 use Rattle.lsr_facts.specs.declared.router.Router.{Router}
-use Rattle.router_events.specs.declared.events.Event.TheVariants as events
-use Rattle.router_events.specs.declared.events.Made.{Made}
-use Rattle.router_events.specs.declared.ways.Relay.{Relay}
+use Rattle.abstract_paths.specs.declared.events.Event.TheVariants as events
+use Rattle.abstract_paths.specs.declared.events.Made.{Made}
+use Rattle.abstract_paths.specs.declared.ways.Relay.{Relay}
 use Rattle.abstract_paths.specs.Changes.{with_link}
 use Rattle.abstract_paths.specs.Links.{link_change}
 use Rattle.abstract_paths.specs.Outcomes as paths

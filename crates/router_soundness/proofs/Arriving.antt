@@ -21,9 +21,9 @@ use Rattle.lsr_facts.specs.OrderLaws.{key_exact}
 use Rattle.lsr_facts.specs.Orders.{key_cmp}
 use Rattle.lsr_facts.specs.Routers.{HasLink, IsRouter, link_at}
 use Rattle.lsr_facts.specs.Tunnels.{is_head}
-use Rattle.router_events.specs.declared.ways.ArrivalWay.{ArrivalWay}
-use Rattle.router_events.specs.declared.ways.ArrivalWay.TheVariants as ways
-use Rattle.router_events.specs.declared.ways.Arrive.{Arrive}
+use Rattle.abstract_paths.specs.declared.ways.ArrivalWay.{ArrivalWay}
+use Rattle.abstract_paths.specs.declared.ways.ArrivalWay.TheVariants as ways
+use Rattle.abstract_paths.specs.declared.ways.Arrive.{Arrive}
 use Rattle.abstract_paths.proofs.EventStanding.{LeavesStanding, path_err_passed_on-stands, path_arrival-stands, path_fits, torn-stands, stack_path-stands, stack_tear-stands}
 use Rattle.abstract_paths.proofs.Heads.{head_known}
 use Rattle.abstract_paths.specs.Merging.{stack_path_arrival, stack_tear_arrival}

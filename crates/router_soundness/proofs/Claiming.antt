@@ -4,15 +4,15 @@ use Rattle.std.specs.FinMap.Entries.{find, is_sorted, where_key}
 use Rattle.std.specs.List.{AllByRecursion}
 use Rattle.std.proofs.Common.{refl, sym, ap, ◌∙◌, arith}
 use Rattle.std.proofs.lemmas.Bool.{cond_both, ltb-true, ltb-false}
-use Rattle.session_attribute.specs.declared.attr.Attr.{Attr}
+use Rattle.rsvp_bodies.specs.declared.attr.Attr.{Attr}
 use Rattle.sorted_rows.specs.RowsLaws.{where_key-kept}
 use Rattle.lsr_facts.specs.OrderLaws.{key_total}
 use Rattle.lsr_facts.specs.Orders.{key_cmp}
 use Rattle.lsr_facts.specs.declared.key.Key.{Key}
 use Rattle.lsr_facts.specs.declared.path_fact.PathFact.{PathFact}
-use Rattle.resv_facts.specs.Holdings.{but_holding}
-use Rattle.resv_facts.specs.Priorities.{counted, holding_of, lesser, setup_of}
-use Rattle.resv_facts.specs.declared.resv_fact.ResvFact.{ResvFact}
+use Rattle.lsr_facts.specs.Holdings.{but_holding}
+use Rattle.lsr_facts.specs.Priorities.{counted, holding_of, lesser, setup_of}
+use Rattle.lsr_facts.specs.declared.resv_fact.ResvFact.{ResvFact}
 use Rattle.abstract_router.specs.ClaimsLaws.{claim_at, claims-where}
 use Rattle.abstract_router.specs.Preempting.{attr_at, claims_of}
 

@@ -15,14 +15,14 @@ use Rattle.lsr_facts.specs.declared.refusal.Refusal.TheVariants.{InUse, NoMatch}
 use Rattle.lsr_facts.specs.declared.router.Router.{Router}
 use Rattle.lsr_facts.specs.declared.tunnel.Tunnel.{Tunnel}
 use Rattle.lsr_facts.specs.declared.tunnel.TunnelLsp.{TunnelLsp}
-use Rattle.resv_facts.specs.Reservations.{expire, expire_repairs, lives_past}
-use Rattle.resv_facts.specs.declared.repair.Repair.{Repair}
-use Rattle.resv_facts.specs.declared.resv_fact.ResvFact.{ResvFact}
-use Rattle.router_events.specs.declared.commands.Command.{Command}
-use Rattle.router_events.specs.declared.commands.Command.TheVariants.{AddTunnel, ChangeTunnel, CancelChange, DropTunnel, AddBypass, DropBypass, AddRoute, DropRoute}
-use Rattle.router_events.specs.declared.ways.Relay.{Relay}
-use Rattle.router_events.specs.declared.events.Event.TheVariants as events
-use Rattle.router_events.specs.declared.events.Event.{Event}
+use Rattle.lsr_facts.specs.Reservations.{expire, expire_repairs, lives_past}
+use Rattle.lsr_facts.specs.declared.repair.Repair.{Repair}
+use Rattle.lsr_facts.specs.declared.resv_fact.ResvFact.{ResvFact}
+use Rattle.abstract_paths.specs.declared.commands.Command.{Command}
+use Rattle.abstract_paths.specs.declared.commands.Command.TheVariants.{AddTunnel, ChangeTunnel, CancelChange, DropTunnel, AddBypass, DropBypass, AddRoute, DropRoute}
+use Rattle.abstract_paths.specs.declared.ways.Relay.{Relay}
+use Rattle.abstract_paths.specs.declared.events.Event.TheVariants as events
+use Rattle.abstract_paths.specs.declared.events.Event.{Event}
 use Rattle.abstract_paths.proofs.Alongside.{commanded-all, commanded-time, signalled-all, signalled-same}
 use Rattle.abstract_paths.proofs.Commanding.{MayAsk, command-stands}
 use Rattle.abstract_paths.specs.Commands.{begun_by, command, commanded, refusal_of}
@@ -50,7 +50,7 @@ use Rattle.abstract_router.specs.Choosing.{HasLabel}
 use Rattle.abstract_router.specs.Detours.{detours_of}
 use Rattle.abstract_router.specs.Preempting.{claims_of}
 use Rattle.abstract_router.specs.Upstreams.{upstream_of}
-use Rattle.resv_facts.specs.Claims.{rate_of_all, reserved_of}
+use Rattle.lsr_facts.specs.Claims.{rate_of_all, reserved_of}
 use Rattle.abstract_router.specs.Outcomes.{Outcome, of_paths, refused}
 use Rattle.abstract_router.specs.Soundness.{IsResv, IsSound}
 use Rattle.abstract_router.specs.States.{State, is_one_of, with_facts, with_repairs_where, with_resvs_where, without_held, without_resvs}

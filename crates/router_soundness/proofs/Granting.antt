@@ -7,8 +7,8 @@ use Rattle.std.specs.Ordering.{eq_by_cmp, is_eq}
 use Rattle.std.proofs.Common.{refl, sym, ap, subst, ◌∙◌, arith}
 use Rattle.std.proofs.lemmas.Bool.{cond_both, eqb-true, not-false, or_parts}
 use Rattle.std.proofs.lemmas.Cmp.{tied_itself}
-use Rattle.rsvp_traffic.specs.Traffic.{flowspec_rate}
-use Rattle.rsvp_traffic.specs.declared.fault.TrafficFault.{TrafficFault}
+use Rattle.rsvp_bodies.specs.Traffic.{flowspec_rate}
+use Rattle.rsvp_bodies.specs.declared.traffic_fault.TrafficFault.{TrafficFault}
 use Rattle.sorted_rows.specs.RowsLaws.{all-put_row, ties}
 use Rattle.lsr_facts.specs.OrderLaws.{key_exact, key_total, session_exact, session_total}
 use Rattle.lsr_facts.specs.Orders.{key_cmp, session_cmp}
@@ -16,12 +16,12 @@ use Rattle.lsr_facts.specs.declared.key.Key.{Key}
 use Rattle.lsr_facts.specs.declared.path_fact.PathFact.{PathFact}
 use Rattle.lsr_facts.specs.declared.router.Router.{Router}
 use Rattle.forwarding_table.specs.Labels.{is_label}
-use Rattle.resv_facts.specs.Admission.{granted, without}
-use Rattle.resv_facts.specs.AdmissionLaws.{granted-elsewhere-le, granted-within, victims_of-is_enough}
-use Rattle.resv_facts.specs.Claims.{is_same_session, reserved_of}
-use Rattle.resv_facts.specs.declared.resv_fact.ResvFact.{ResvFact}
-use Rattle.resv_facts.specs.declared.resv_fact.ResvStyle.{ResvStyle}
-use Rattle.resv_facts.specs.declared.resv_fact.ResvStyle.TheVariants.{FixedFilter, SharedExplicit}
+use Rattle.lsr_facts.specs.Admission.{granted, without}
+use Rattle.lsr_facts.specs.AdmissionLaws.{granted-elsewhere-le, granted-within, victims_of-is_enough}
+use Rattle.lsr_facts.specs.Claims.{is_same_session, reserved_of}
+use Rattle.lsr_facts.specs.declared.resv_fact.ResvFact.{ResvFact}
+use Rattle.lsr_facts.specs.declared.resv_fact.ResvStyle.{ResvStyle}
+use Rattle.lsr_facts.specs.declared.resv_fact.ResvStyle.TheVariants.{FixedFilter, SharedExplicit}
 use Rattle.abstract_paths.specs.Paths.{has_loop}
 use Rattle.abstract_paths.specs.Tears.{leaves_by}
 use Rattle.abstract_router.specs.ClaimsLaws.{claims-put, claims-where, sorted-claims}

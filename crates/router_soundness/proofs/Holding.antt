@@ -12,10 +12,10 @@ use Rattle.lsr_facts.specs.Orders.{key_cmp}
 use Rattle.lsr_facts.specs.declared.facts.Facts.{Facts}
 use Rattle.lsr_facts.specs.declared.key.Key.{Key}
 use Rattle.lsr_facts.specs.declared.router.Router.{Router}
-use Rattle.resv_facts.specs.AdmissionLaws.{reserved_of-better-le, reserved_of-but_holding, reserved_of-where_key-le}
-use Rattle.resv_facts.specs.Claims.{reserved_of}
-use Rattle.resv_facts.specs.declared.repair.Repair.{Repair}
-use Rattle.resv_facts.specs.declared.resv_fact.ResvFact.{ResvFact}
+use Rattle.lsr_facts.specs.AdmissionLaws.{reserved_of-better-le, reserved_of-but_holding, reserved_of-where_key-le}
+use Rattle.lsr_facts.specs.Claims.{reserved_of}
+use Rattle.lsr_facts.specs.declared.repair.Repair.{Repair}
+use Rattle.lsr_facts.specs.declared.resv_fact.ResvFact.{ResvFact}
 use Rattle.abstract_router.specs.ClaimsLaws.{sorted-claims}
 use Rattle.router_soundness.proofs.Claiming.{claims-filter, claims-other_paths, claims_most}
 use Rattle.abstract_router.specs.Preempting.{claims_of, limit_of}

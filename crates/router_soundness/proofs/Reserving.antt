@@ -12,15 +12,15 @@ use Rattle.rsvp_contents.specs.declared.messages.ResvTear.{ResvTear}
 use Rattle.rsvp_contents.specs.Fitting.{are_passed_by, fits_resv, has_adspec_last, have_short_records, written_len}
 use Rattle.rsvp_contents.specs.Limits.{is_short_passing, is_short_record}
 use Rattle.rsvp_contents.specs.Spelling.{IsMessage}
-use Rattle.rsvp_flows.specs.declared.descriptors.FlowDescriptor.{FlowDescriptor}
-use Rattle.rsvp_flows.specs.Flows.{fits_style}
+use Rattle.rsvp_contents.specs.declared.descriptors.FlowDescriptor.{FlowDescriptor}
+use Rattle.rsvp_contents.specs.Flows.{fits_style}
 use Rattle.lsr_facts.specs.declared.errors.RsvpError.{RsvpError}
 use Rattle.lsr_facts.specs.declared.key.Key.{Key}
 use Rattle.lsr_facts.specs.declared.refusal.Refusal.TheVariants.{NoMatch}
 use Rattle.lsr_facts.specs.declared.router.Router.{Router}
-use Rattle.resv_facts.specs.declared.resv_fact.ResvStyle.{ResvStyle}
-use Rattle.resv_facts.specs.Reservations.{style_of}
-use Rattle.router_events.specs.declared.events.Output.{Output}
+use Rattle.lsr_facts.specs.declared.resv_fact.ResvStyle.{ResvStyle}
+use Rattle.lsr_facts.specs.Reservations.{style_of}
+use Rattle.abstract_paths.specs.declared.events.Output.{Output}
 use Rattle.abstract_paths.specs.Soundness.{IsStanding}
 use Rattle.router_soundness.proofs.Granting.{granted_means, held_granted, IsAccepted}
 use Rattle.router_soundness.proofs.Holding.{held_where}

@@ -11,13 +11,13 @@ use Rattle.rsvp_contents.specs.declared.messages.Resv.{Resv}
 use Rattle.rsvp_contents.specs.declared.messages.ResvTear.{ResvTear}
 use Rattle.rsvp_contents.specs.Fitting.{have_short_records}
 use Rattle.rsvp_contents.specs.Limits.{is_short_record}
-use Rattle.rsvp_flows.specs.declared.descriptors.FlowDescriptor.{FlowDescriptor}
+use Rattle.rsvp_contents.specs.declared.descriptors.FlowDescriptor.{FlowDescriptor}
 use Rattle.sorted_rows.specs.ListLaws.{all-filter}
 use Rattle.lsr_facts.specs.declared.key.Key.{Key}
 use Rattle.lsr_facts.specs.declared.router.Router.{Router}
 use Rattle.lsr_facts.specs.Orders.{key_cmp}
-use Rattle.resv_facts.specs.declared.repair.Repair.{Repair}
-use Rattle.resv_facts.specs.declared.resv_fact.ResvStyle.{ResvStyle}
+use Rattle.lsr_facts.specs.declared.repair.Repair.{Repair}
+use Rattle.lsr_facts.specs.declared.resv_fact.ResvStyle.{ResvStyle}
 use Rattle.abstract_paths.proofs.EventStanding.{err_of_path-stands}
 use Rattle.abstract_paths.specs.Outcomes.{lsp}
 use Rattle.abstract_paths.specs.Tears.{err_of_path}

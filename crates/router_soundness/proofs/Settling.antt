@@ -8,7 +8,7 @@ use Rattle.lsr_facts.specs.declared.key.Key.{Key}
 use Rattle.lsr_facts.specs.declared.router.Router.{Router}
 use Rattle.abstract_paths.proofs.Primitives.{sound_sent}
 use Rattle.abstract_paths.specs.StampLaws.{keys-stamps}
-use Rattle.resv_facts.specs.Upstreams.{upstream_cmp}
+use Rattle.lsr_facts.specs.Upstreams.{upstream_cmp}
 use Rattle.router_soundness.proofs.Holding.{held_where, held_with_facts}
 use Rattle.router_soundness.proofs.Labelling.{labelled_after}
 use Rattle.router_soundness.proofs.Repairing.{repaired_left, repaired_with_facts}

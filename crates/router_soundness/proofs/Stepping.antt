@@ -23,16 +23,16 @@ use Rattle.lsr_facts.specs.declared.refusal.Refusal.{Refusal}
 use Rattle.lsr_facts.specs.declared.refusal.Refusal.TheVariants.{InUse, LinkDown, NoMatch, UnknownLink}
 use Rattle.lsr_facts.specs.declared.reply.Reply.TheVariants as replies
 use Rattle.lsr_facts.specs.declared.router.Router.{Router}
-use Rattle.resv_facts.specs.Reservations.{expire, expire_repairs, style_of}
-use Rattle.resv_facts.specs.declared.resv_fact.ResvStyle.{ResvStyle}
-use Rattle.router_events.specs.declared.commands.Command.{Command}
-use Rattle.router_events.specs.declared.ways.ArrivalWay.{ArrivalWay}
-use Rattle.router_events.specs.declared.ways.ArrivalWay.TheVariants as ways
-use Rattle.router_events.specs.declared.ways.Arrive.{Arrive}
-use Rattle.router_events.specs.declared.events.Event.{Event}
-use Rattle.router_events.specs.declared.events.Event.TheVariants as events
-use Rattle.router_events.specs.declared.events.Made.{Made}
-use Rattle.router_events.specs.declared.events.Output.{Output}
+use Rattle.lsr_facts.specs.Reservations.{expire, expire_repairs, style_of}
+use Rattle.lsr_facts.specs.declared.resv_fact.ResvStyle.{ResvStyle}
+use Rattle.abstract_paths.specs.declared.commands.Command.{Command}
+use Rattle.abstract_paths.specs.declared.ways.ArrivalWay.{ArrivalWay}
+use Rattle.abstract_paths.specs.declared.ways.ArrivalWay.TheVariants as ways
+use Rattle.abstract_paths.specs.declared.ways.Arrive.{Arrive}
+use Rattle.abstract_paths.specs.declared.events.Event.{Event}
+use Rattle.abstract_paths.specs.declared.events.Event.TheVariants as events
+use Rattle.abstract_paths.specs.declared.events.Made.{Made}
+use Rattle.abstract_paths.specs.declared.events.Output.{Output}
 use Rattle.abstract_paths.proofs.Refusals as paths
 use Rattle.abstract_paths.specs.Outcomes as path_outcomes
 use Rattle.abstract_paths.specs.Paths.{key_of, path_arrival, unknown_object}

@@ -2,14 +2,14 @@
 //! function that does nothing.
 
 ghost use Rattle.std.specs.Prelude.{List, ℕ};
-ghost use Rattle.rsvp_routes.specs.declared.prefix.Prefix.{Prefix};
+ghost use Rattle.rsvp_bodies.specs.declared.prefix.Prefix.{Prefix};
 ghost use Rattle.lsr_facts.specs.Bypasses.{AreBypasses};
 ghost use Rattle.lsr_facts.specs.Routers.{AreRoutes, IsRouter};
 ghost use Rattle.lsr_facts.specs.Tunnels.{AreTunnels};
 ghost use Rattle.lsr_facts.specs.declared.bypass.Bypass.{Bypass};
 ghost use Rattle.lsr_facts.specs.declared.router.Router.{Router};
 ghost use Rattle.lsr_facts.specs.declared.tunnel.Tunnel.{Tunnel};
-ghost use Rattle.router_events.specs.declared.events.Made.{Made};
+ghost use Rattle.abstract_paths.specs.declared.events.Made.{Made};
 ghost use Rattle.abstract_router.specs.Soundness.{IsSound};
 ghost use Rattle.abstract_router.specs.States.{State};
 ghost use Rattle.abstract_router.specs.Steps.{opening, Run, Step};

@@ -7,7 +7,7 @@ use Rattle.rsvp_contents.specs.declared.messages.ResvErr.{ResvErr}
 use Rattle.lsr_facts.specs.declared.refusal.Refusal.TheVariants.{NoMatch}
 use Rattle.lsr_facts.specs.declared.reply.Reply.TheVariants as replies
 use Rattle.lsr_facts.specs.declared.router.Router.{Router}
-use Rattle.router_events.specs.declared.events.Output.{Output}
+use Rattle.abstract_paths.specs.declared.events.Output.{Output}
 use Rattle.abstract_router.specs.Outcomes.{refused, replied}
 use Rattle.abstract_router.specs.States.{State}
 use Rattle.abstract_router.specs.Tearing.{resv_err_passed_on}

@@ -6,7 +6,7 @@ use Rattle.lsr_facts.specs.Lifetimes.{expire, lives_on, living}
 use Rattle.lsr_facts.specs.Orders.{key_cmp}
 use Rattle.lsr_facts.specs.declared.key.Key.{Key}
 use Rattle.lsr_facts.specs.declared.path_fact.PathFact.{PathFact}
-use Rattle.resv_facts.specs.Reservations as resvs
+use Rattle.lsr_facts.specs.Reservations as resvs
 use Rattle.abstract_router.specs.States.{State}
 
 -- what a moment leaves of a path: nothing, or the path with the origins that live past it

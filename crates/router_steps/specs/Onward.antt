@@ -1,9 +1,9 @@
 -- What becomes of a ResvErr that came over a link, or through a stack of labels (RFC 2205, 3.1.8; RFC 4090, 7.1).
 use Rattle.std.specs.Prelude.{ℕ, List, filter_map, Option, Some, None}
 use Rattle.rsvp_contents.specs.declared.messages.ResvErr.{ResvErr}
-use Rattle.rsvp_flows.specs.declared.descriptors.ErrorDescriptor.{ErrorDescriptor}
+use Rattle.rsvp_contents.specs.declared.descriptors.ErrorDescriptor.{ErrorDescriptor}
 use Rattle.lsr_facts.specs.declared.router.Router.{Router}
-use Rattle.router_events.specs.declared.events.Output.{Output}
+use Rattle.abstract_paths.specs.declared.events.Output.{Output}
 use Rattle.abstract_router.specs.Outcomes.{Outcome}
 use Rattle.abstract_router.specs.States.{State}
 use Rattle.abstract_router.specs.Tearing.{err_onward, resv_err_passed_on, stack_err_onward}

@@ -13,15 +13,13 @@ ghost use Rattle.abstract_router.specs.Through.{err_through};
 ghost use Rattle.state_views.specs.Drafts.{IsDraft};
 ghost use Rattle.router_steps.specs.Onward.{err_by, passed_on};
 
-use lsr_facts::{Key, PathFact, Refusal, Reply};
+use abstract_paths::{Output, Outputs};
+use lsr_facts::{Key, PathFact, Refusal, Repair, Reply};
 use message_rules::{goes_on, head_through, is_from, link_at, lsp, renamed_leaves_room};
 use path_steps::path_through;
 use repair_arrivals::told_through;
 use resv_arrivals::{resv_err_leaves_room, told_downstream};
-use resv_facts::Repair;
-use router_events::{Output, Outputs};
-use rsvp_contents::ResvErr;
-use rsvp_flows::{ErrorDescriptor, ErrorDescriptors};
+use rsvp_contents::{ErrorDescriptor, ErrorDescriptors, ResvErr};
 use rsvp_objects::Template;
 use state_views::{Draft, Edits, StateView, WholeState, refused};
 use std::alloc::{AllocError, Global};

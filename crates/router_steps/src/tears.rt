@@ -9,9 +9,9 @@ ghost use Rattle.abstract_router.specs.Tearing.{resv_tear_arrival};
 ghost use Rattle.state_views.specs.Drafts.{IsDraft};
 ghost use Rattle.router_steps.specs.Torn.{is_reserved_on, torn_keys};
 
+use abstract_paths::Outputs;
 use lsr_facts::{Key, Refusal, Reply};
 use message_rules::lsp;
-use router_events::Outputs;
 use rsvp_contents::ResvTear;
 use sorted_rows::Table;
 use state_views::{Draft, Edits, StateView, refused, without_rows};

@@ -6,7 +6,7 @@ ghost use Rattle.std.specs.Prelude.{◌≡◌, IfOk, OnErr, T, false, is_some, t
 ghost use Rattle.lsr_facts.specs.Lifetimes as paths;
 ghost use Rattle.lsr_facts.specs.Orders.{key_cmp};
 ghost use Rattle.lsr_facts.specs.Tunnels.{AreTunnels};
-ghost use Rattle.resv_facts.specs.Reservations as resvs;
+ghost use Rattle.lsr_facts.specs.Reservations as resvs;
 ghost use Rattle.sorted_rows.specs.Edits as rows;
 ghost use Rattle.abstract_router.specs.Arrivals.{moment_comes};
 ghost use Rattle.state_views.specs.Drafts.{IsDraft};
@@ -15,10 +15,9 @@ ghost use Rattle.router_steps.specs.Expiring.{expired, expiry_at, left_of};
 ghost use Rattle.path_steps.specs.Signalling.{AreOfKnown};
 
 use lsr_facts::limits::MAX_MOMENT;
-use lsr_facts::{Key, PathFact, Refusal, Reply, keep_living, lives_on};
+use lsr_facts::{Key, PathFact, Refusal, Repair, Reply, ResvFact, keep_living, lives_on};
 use message_rules::Outputs;
 use path_steps::signalled;
-use resv_facts::{Repair, ResvFact};
 use sorted_rows::{Table, TryCopy};
 use state_views::{Draft, Edits, StateView, WholeState, refused, without_rows};
 use std::alloc::{AllocError, Global};

@@ -6,7 +6,7 @@ use Rattle.std.proofs.Common.{ap, ◌∙◌}
 use Rattle.sorted_rows.specs.Edits as in_rows
 use Rattle.admission.specs.Bandwidths.{claim_edits, with_edits}
 use Rattle.lsr_facts.specs.Orders.{item_cmp, key_cmp}
-use Rattle.resv_facts.specs.Upstreams.{upstream_cmp}
+use Rattle.lsr_facts.specs.Upstreams.{upstream_cmp}
 use Rattle.router_tables.specs.Changes.{IsChange}
 use Rattle.router_tables.specs.States.{AreTables, state_of}
 use Rattle.router_tables.specs.declared.change.Change.{Change}

@@ -3,7 +3,7 @@ use Rattle.std.specs.Prelude.{◌≡◌, false}
 use Rattle.std.specs.List.{IsDistinct}
 use Rattle.std.proofs.Common.{refl, arith}
 use Rattle.lsr_facts.specs.declared.router.Router.{Router}
-use Rattle.resv_facts.specs.Claims.{rate_of_all, reserved_of}
+use Rattle.lsr_facts.specs.Claims.{rate_of_all, reserved_of}
 use Rattle.abstract_paths.proofs.Primitives.{sound_restarted}
 use Rattle.abstract_router.specs.Lsps.{lsps_of}
 use Rattle.abstract_router.specs.Wanted.{items_of}

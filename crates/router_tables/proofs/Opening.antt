@@ -12,7 +12,7 @@ use Rattle.lsr_facts.specs.Routers.{IsRouter}
 use Rattle.lsr_facts.specs.declared.key.Item.{Item}
 use Rattle.lsr_facts.specs.declared.router.Router.{Router}
 use Rattle.refresh_timers.specs.Timers.{Timers}
-use Rattle.resv_facts.specs.declared.upstream.Upstream.{Upstream}
+use Rattle.lsr_facts.specs.declared.upstream.Upstream.{Upstream}
 use Rattle.abstract_router.specs.Preempting.{claims_of}
 use Rattle.abstract_router.specs.Soundness.{IsSound}
 use Rattle.abstract_router.specs.States.{State}

@@ -13,9 +13,9 @@ use Rattle.lsr_facts.specs.declared.key.Item.TheVariants.{Backup}
 use Rattle.lsr_facts.specs.declared.key.Key.{Key}
 use Rattle.lsr_facts.specs.declared.path_fact.PathFact.{PathFact}
 use Rattle.lsr_facts.specs.declared.router.Router.{Router}
-use Rattle.resv_facts.specs.declared.repair.Repair.{Repair}
-use Rattle.resv_facts.specs.declared.resv_fact.ResvFact.{ResvFact}
-use Rattle.resv_facts.specs.declared.upstream.Upstream.{Upstream}
+use Rattle.lsr_facts.specs.declared.repair.Repair.{Repair}
+use Rattle.lsr_facts.specs.declared.resv_fact.ResvFact.{ResvFact}
+use Rattle.lsr_facts.specs.declared.upstream.Upstream.{Upstream}
 use Rattle.abstract_paths.specs.TouchedLaws.{find-made, is_sorted-made}
 use Rattle.abstract_paths.specs.Paths.{goes_on}
 use Rattle.abstract_paths.specs.Places.{is_up}

@@ -5,7 +5,7 @@ use Rattle.std.specs.Ordering.{nat_cmp}
 use Rattle.sorted_rows.specs.Edits as rows
 use Rattle.lsr_facts.specs.Orders.{item_cmp, key_cmp}
 use Rattle.lsr_facts.specs.declared.router.Router.{Router}
-use Rattle.resv_facts.specs.Upstreams.{upstream_cmp}
+use Rattle.lsr_facts.specs.Upstreams.{upstream_cmp}
 use Rattle.abstract_router.specs.Preempting.{claims_of}
 use Rattle.abstract_router.specs.Soundness.{IsSound}
 use Rattle.abstract_router.specs.States.{State}

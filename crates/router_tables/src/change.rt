@@ -7,9 +7,8 @@ ghost use Rattle.abstract_router.specs.Tables.{TellsChange};
 ghost use Rattle.router_tables.specs.Changes.{IsChange, changed};
 
 use forwarding_table::Action;
-use lsr_facts::{Bypass, Item, Key, PathFact, Tunnel};
-use resv_facts::{Repair, ResvFact, Upstream};
-use rsvp_routes::Prefix;
+use lsr_facts::{Bypass, Item, Key, PathFact, Repair, ResvFact, Tunnel, Upstream};
+use rsvp_bodies::Prefix;
 use sorted_rows::Table;
 
 /// Edits of what LSPs have: from now on this reservation, kept at this priority, or none.

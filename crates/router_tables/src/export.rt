@@ -5,8 +5,7 @@ ghost use Rattle.router_tables.specs.States.{state_of};
 
 use crate::rows::Rows;
 use crate::tunnels::tunnels_copied;
-use lsr_facts::Facts;
-use resv_facts::State;
+use lsr_facts::{Facts, State};
 use sorted_rows::TryCopy;
 use std::alloc::{AllocError, Global};
 

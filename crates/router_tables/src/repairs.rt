@@ -1,12 +1,11 @@
 //! The repairs of LSPs that run over bypasses, in memory that is taken when the router is opened.
 
 ghost use Rattle.std.specs.Prelude.{◌≡◌, IfOk, filter, not};
-ghost use Rattle.resv_facts.specs.Reservations.{lives_past};
+ghost use Rattle.lsr_facts.specs.Reservations.{lives_past};
 ghost use Rattle.sorted_rows.specs.Rows.{keys_of};
 
-use lsr_facts::Key;
 use lsr_facts::limits::MAX_LSPS;
-use resv_facts::{KeyNumber, Repair};
+use lsr_facts::{Key, KeyNumber, Repair};
 use slot_rows::{RowTest, SlotTable};
 use std::alloc::{AllocError, Global};
 
@@ -21,7 +20,7 @@ struct ExpiresAt {
 
 impl RowTest<Key, Repair> for ExpiresAt {
     ghost use Rattle.std.specs.Prelude.{not};
-    ghost use Rattle.resv_facts.specs.Reservations.{lives_past};
+    ghost use Rattle.lsr_facts.specs.Reservations.{lives_past};
 
     ghost passes = { λ test repair. not (lives_past test.moment repair.1.resv) };
 

@@ -6,7 +6,7 @@ ghost use Rattle.std.specs.Prelude.{◌≡◌, ◌≤◌, [], All, IfSome, lengt
 ghost use Rattle.forwarding_table.specs.Actions.{WritesLabels};
 ghost use Rattle.sorted_rows.specs.Edits as in_rows;
 ghost use Rattle.lsr_facts.specs.Orders.{item_cmp, key_cmp};
-ghost use Rattle.resv_facts.specs.Upstreams.{upstream_cmp};
+ghost use Rattle.lsr_facts.specs.Upstreams.{upstream_cmp};
 ghost use Rattle.admission.specs.Bandwidths.{AreEdits, resv_edits, with_edits};
 ghost use Rattle.label_space.specs.Bindings.{AreHeldOf};
 ghost use Rattle.router_tables.specs.Changes.{IsChange, changed};
@@ -20,11 +20,10 @@ use forwarding_table::{Action, ForwardingTable};
 use label_space::LabelBindings;
 use lsr_facts::laws::items_are_in_order;
 use lsr_facts::limits::MAX_LSPS;
-use lsr_facts::{Bypass, Item, Key, PathFact, Router, Tunnel};
+use lsr_facts::{Bypass, Item, Key, PathFact, Repair, Router, Tunnel, Upstream};
 use path_state::PathState;
 use refresh_timers::RefreshTimers;
-use resv_facts::{Repair, Upstream};
-use rsvp_routes::Prefix;
+use rsvp_bodies::Prefix;
 use slot_rows::make_edits;
 use sorted_rows::Table;
 

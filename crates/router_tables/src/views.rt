@@ -6,8 +6,10 @@ ghost use Rattle.abstract_router.specs.Preempting.{limit_of};
 use crate::repairs::expiring;
 use crate::tables::Tables;
 use explicit_routes::link_at;
-use lsr_facts::{Bypass, Item, Key, Node, PathFact, Tunnel};
-use resv_facts::{Claim, Repair, Request, ResvFact, ResvStyle, Upstream};
+use lsr_facts::{
+    Bypass, Claim, Item, Key, Node, PathFact, Repair, Request, ResvFact, ResvStyle, Tunnel,
+    Upstream,
+};
 use rsvp_objects::Session;
 use sorted_rows::Table;
 use state_views::{StateView, WholeState};

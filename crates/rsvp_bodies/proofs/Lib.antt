@@ -1,2 +1,11 @@
 pub mod Addresses
+pub mod AttrAgain
+pub mod Codes
+pub mod Counts
+pub mod RateMeaning
+pub mod Rounding
+pub mod RouteCodes
 pub mod Sequences
+pub mod Shapes
+pub mod Texts
+pub mod Tspecs

@@ -11,7 +11,7 @@ use Rattle.rsvp_objects.specs.declared.object.Object.{Object}
 use Rattle.rsvp_objects.specs.declared.object.Object.TheVariants as objects
 use Rattle.rsvp_objects.specs.Raw.{Raw}
 use Rattle.rsvp_objects.specs.Objects.{spelling}
-use Rattle.rsvp_flows.specs.Flows.{flow_objects}
+use Rattle.rsvp_contents.specs.Flows.{flow_objects}
 use Rattle.rsvp_contents.specs.declared.messages.Path.{Path}
 use Rattle.rsvp_contents.specs.declared.messages.Resv.{Resv}
 use Rattle.rsvp_contents.specs.declared.messages.Content.TheVariants as contents

@@ -1,7 +1,10 @@
 pub mod Addressed
 pub mod Again
 pub mod Bytes
+pub mod ErrorsAgain
 pub mod Fitted
+pub mod FlowTotals
+pub mod FlowsAgain
 pub mod Kept
 pub mod LastAlone
 pub mod Listed
@@ -16,5 +19,7 @@ pub mod ResvAgain
 pub mod Rows
 pub mod Said
 pub mod Seen
+pub mod Sizes
 pub mod Spelled
+pub mod Stepwise
 pub mod Totals

@@ -13,7 +13,7 @@ use Rattle.rsvp_objects.specs.declared.object.Object.{Object}
 use Rattle.rsvp_objects.specs.declared.object.Object.TheVariants as objects
 use Rattle.rsvp_objects.specs.Raw.{Raw}
 use Rattle.rsvp_objects.specs.Kinds.{kind_of}
-use Rattle.rsvp_flows.specs.Flows.{if_some}
+use Rattle.rsvp_contents.specs.Flows.{if_some}
 use Rattle.rsvp_contents.specs.Counting.{class_of, is_flow_class, is_used_by_path, repeats_as, passes_as, passes, refuses_as}
 use Rattle.rsvp_contents.specs.Fitting.{are_passed_by, has_adspec_last, has_one_fast_reroute}
 use Rattle.rsvp_contents.specs.Written.{before_sender, adspec}

@@ -17,7 +17,7 @@ use Rattle.rsvp_objects.specs.declared.object.Object.TheVariants as objects
 use Rattle.rsvp_objects.specs.Raw.{Raw}
 use Rattle.rsvp_objects.specs.Kinds.{kind_of}
 use Rattle.rsvp_objects.specs.Objects.{raw_of}
-use Rattle.rsvp_flows.specs.Flows.{if_some}
+use Rattle.rsvp_contents.specs.Flows.{if_some}
 use Rattle.rsvp_contents.specs.declared.messages.Path.{Path}
 use Rattle.rsvp_contents.specs.declared.messages.PathErr.{PathErr}
 use Rattle.rsvp_contents.specs.declared.messages.PathTear.{PathTear}

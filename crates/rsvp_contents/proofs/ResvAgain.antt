@@ -13,12 +13,12 @@ use Rattle.rsvp_objects.specs.declared.object.Object.TheVariants as objects
 use Rattle.rsvp_objects.specs.Raw.{Raw}
 use Rattle.rsvp_objects.specs.Kinds.{kind_of}
 use Rattle.rsvp_objects.specs.Objects.{raw_of}
-use Rattle.rsvp_flows.specs.declared.descriptors.FlowDescriptor.{FlowDescriptor}
-use Rattle.rsvp_flows.specs.Errors.{counts_on, error_objects, errors_of, filters_of}
-use Rattle.rsvp_flows.specs.Flows.{if_some, is_flow, is_same, are_shared, fits_style, flow_objects, flowspec_objects, styled_flows}
-use Rattle.rsvp_flows.specs.Styles.{is_other, is_shared}
-use Rattle.rsvp_flows.proofs.ErrorsAgain.{errors_again, errors_are_flow, filters_again, filters_are_flow}
-use Rattle.rsvp_flows.proofs.FlowsAgain.{style_again, flows_are_flow}
+use Rattle.rsvp_contents.specs.declared.descriptors.FlowDescriptor.{FlowDescriptor}
+use Rattle.rsvp_contents.specs.Errors.{counts_on, error_objects, errors_of, filters_of}
+use Rattle.rsvp_contents.specs.Flows.{if_some, is_flow, is_same, are_shared, fits_style, flow_objects, flowspec_objects, styled_flows}
+use Rattle.rsvp_contents.specs.Styles.{is_other, is_shared}
+use Rattle.rsvp_contents.proofs.ErrorsAgain.{errors_again, errors_are_flow, filters_again, filters_are_flow}
+use Rattle.rsvp_contents.proofs.FlowsAgain.{style_again, flows_are_flow}
 use Rattle.rsvp_contents.specs.declared.messages.Resv.{Resv}
 use Rattle.rsvp_contents.specs.declared.messages.ResvErr.{ResvErr}
 use Rattle.rsvp_contents.specs.declared.messages.ResvTear.{ResvTear}

@@ -9,7 +9,7 @@ use Rattle.rsvp_objects.specs.declared.object.Object.TheVariants as objects
 use Rattle.rsvp_objects.specs.Raw.{Raw}
 use Rattle.rsvp_objects.specs.Kinds.{kind_of}
 use Rattle.rsvp_objects.specs.Objects.{raw_of}
-use Rattle.rsvp_flows.specs.Flows.{if_some, is_flow}
+use Rattle.rsvp_contents.specs.Flows.{if_some, is_flow}
 use Rattle.rsvp_contents.specs.declared.parts.Parts.{Parts}
 use Rattle.rsvp_contents.specs.Counting.{class_of, has_style, is_flow_class, refuses_as, refuses}
 use Rattle.rsvp_contents.specs.Picking.{parts_in}

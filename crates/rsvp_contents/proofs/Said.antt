@@ -14,12 +14,12 @@ use Rattle.rsvp_objects.specs.declared.kind.Kind.TheVariants as kinds
 use Rattle.rsvp_objects.specs.declared.kind.Treatment.TheVariants as treatments
 use Rattle.rsvp_objects.specs.Kinds.{kind_of}
 use Rattle.rsvp_objects.specs.Objects.{raw_of}
-use Rattle.rsvp_flows.specs.declared.descriptors.FlowDescriptor.{FlowDescriptor}
-use Rattle.rsvp_flows.specs.Errors.{error_objects, errors_of, filters_of}
-use Rattle.rsvp_flows.specs.Flows.{is_flow, flow_objects, flows_of, styled_flows}
-use Rattle.rsvp_flows.specs.Styles.{is_other}
-use Rattle.rsvp_flows.proofs.ErrorsAgain.{errors_within, errors_count_on, filters_within}
-use Rattle.rsvp_flows.proofs.FlowsAgain.{flows_within, style_fits}
+use Rattle.rsvp_contents.specs.declared.descriptors.FlowDescriptor.{FlowDescriptor}
+use Rattle.rsvp_contents.specs.Errors.{error_objects, errors_of, filters_of}
+use Rattle.rsvp_contents.specs.Flows.{is_flow, flow_objects, flows_of, styled_flows}
+use Rattle.rsvp_contents.specs.Styles.{is_other}
+use Rattle.rsvp_contents.proofs.ErrorsAgain.{errors_within, errors_count_on, filters_within}
+use Rattle.rsvp_contents.proofs.FlowsAgain.{flows_within, style_fits}
 use Rattle.rsvp_contents.specs.declared.dropped.Dropped.TheVariants as dropped
 use Rattle.rsvp_contents.specs.declared.messages.Path.{Path}
 use Rattle.rsvp_contents.specs.declared.messages.Resv.{Resv}

@@ -4,7 +4,7 @@ use Rattle.std.specs.List.{filter}
 use Rattle.rsvp_objects.specs.declared.object.Object.{Object}
 use Rattle.rsvp_objects.specs.declared.object.Object.TheVariants as objects
 use Rattle.rsvp_objects.specs.Kinds.{kind_of}
-use Rattle.rsvp_flows.specs.Flows.{is_flow}
+use Rattle.rsvp_contents.specs.Flows.{is_flow}
 use Rattle.rsvp_contents.specs.Counting.{passes}
 use Rattle.rsvp_contents.specs.Values.{picked, as_session, as_hop, as_time, as_error, as_style, as_sender, as_tspec, as_label_request, as_route, as_own_record, as_attr, as_fast_reroute}
 use Rattle.rsvp_contents.proofs.Totals.{total, if_some_of}

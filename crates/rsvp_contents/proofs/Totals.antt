@@ -6,7 +6,7 @@ use Rattle.rsvp_bodies.specs.Reading.{SpellsEach}
 use Rattle.rsvp_objects.specs.declared.object.Object.{Object}
 use Rattle.rsvp_objects.specs.Objects.{SpellsObject, spelling}
 use Rattle.rsvp_contents.specs.Counting.{class_of, object_kind, has_class, repeats, counted, counting}
-pub use Rattle.rsvp_flows.proofs.Totals.{total, size_of, one_if, if_some_of, total-append, total-if_some, length-flat_map-spelling, count-total}
+pub use Rattle.rsvp_contents.proofs.FlowTotals.{total, size_of, one_if, if_some_of, total-append, total-if_some, length-flat_map-spelling, count-total}
 use Rattle.rsvp_objects.proofs.Sizes.{written_no_longer}
 
 -- one more object is counted at most once

@@ -4,8 +4,8 @@ use Rattle.std.specs.List.{list_any}
 use Rattle.std.specs.Option.{option_map_or}
 use Rattle.rsvp_objects.specs.declared.object.Object.{Object}
 use Rattle.rsvp_objects.specs.declared.object.Object.TheVariants as objects
-use Rattle.rsvp_flows.specs.Flows.{is_flow}
-use Rattle.rsvp_flows.specs.Styles.{is_other}
+use Rattle.rsvp_contents.specs.Flows.{is_flow}
+use Rattle.rsvp_contents.specs.Styles.{is_other}
 use Rattle.rsvp_contents.specs.Counting.{class_of, has_style, is_flow_class}
 use Rattle.rsvp_contents.specs.Values.{picked, as_style}
 

@@ -7,9 +7,9 @@ use Rattle.rsvp_objects.specs.declared.object.Object.TheVariants as objects
 use Rattle.rsvp_objects.specs.Raw.{Raw}
 use Rattle.rsvp_contents.specs.declared.messages.Path.{Path}
 use Rattle.rsvp_objects.specs.Objects.{spelling}
-use Rattle.rsvp_flows.specs.declared.descriptors.FlowDescriptor.{FlowDescriptor}
-use Rattle.rsvp_flows.specs.Errors.{counts_on, error_objects}
-use Rattle.rsvp_flows.specs.Flows.{fits_style, flow_objects}
+use Rattle.rsvp_contents.specs.declared.descriptors.FlowDescriptor.{FlowDescriptor}
+use Rattle.rsvp_contents.specs.Errors.{counts_on, error_objects}
+use Rattle.rsvp_contents.specs.Flows.{fits_style, flow_objects}
 use Rattle.rsvp_contents.specs.declared.messages.Resv.{Resv}
 use Rattle.rsvp_contents.specs.declared.messages.Content.{Content}
 use Rattle.rsvp_contents.specs.declared.messages.Content.TheVariants as contents

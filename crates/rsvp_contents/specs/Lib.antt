@@ -4,9 +4,14 @@ pub mod Behind
 pub mod Below
 pub mod Counting
 pub mod Dropping
+pub mod Errors
+pub mod Firsts
 pub mod Fitting
+pub mod Flows
+pub mod Lengths
 pub mod Limits
 pub mod Picking
 pub mod Spelling
+pub mod Styles
 pub mod Values
 pub mod Written

@@ -7,10 +7,10 @@ use Rattle.rsvp_objects.specs.declared.object.Object.TheVariants as objects
 use Rattle.rsvp_objects.specs.declared.values.Style.{Style}
 use Rattle.rsvp_objects.specs.Raw.{Raw}
 use Rattle.rsvp_objects.specs.Objects.{raw_of}
-use Rattle.rsvp_flows.specs.declared.descriptors.FlowDescriptor.{FlowDescriptor}
-use Rattle.rsvp_flows.specs.Errors.{errors_of, filters_of}
-use Rattle.rsvp_flows.specs.Flows.{styled_flows}
-use Rattle.rsvp_flows.specs.Styles.{is_other}
+use Rattle.rsvp_contents.specs.declared.descriptors.FlowDescriptor.{FlowDescriptor}
+use Rattle.rsvp_contents.specs.Errors.{errors_of, filters_of}
+use Rattle.rsvp_contents.specs.Flows.{styled_flows}
+use Rattle.rsvp_contents.specs.Styles.{is_other}
 use Rattle.rsvp_contents.specs.declared.dropped.Dropped.{Dropped}
 use Rattle.rsvp_contents.specs.declared.dropped.Dropped.TheVariants as dropped
 use Rattle.rsvp_contents.specs.declared.messages.Content.{Content}

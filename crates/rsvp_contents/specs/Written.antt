@@ -10,9 +10,9 @@ use Rattle.rsvp_objects.specs.Objects.{spelling}
 use Rattle.rsvp_contents.specs.declared.messages.Path.{Path}
 use Rattle.rsvp_contents.specs.declared.messages.PathErr.{PathErr}
 use Rattle.rsvp_contents.specs.declared.messages.PathTear.{PathTear}
-use Rattle.rsvp_flows.specs.Errors.{error_objects}
-pub use Rattle.rsvp_flows.specs.Flows.{if_some}
-use Rattle.rsvp_flows.specs.Flows.{flow_objects}
+use Rattle.rsvp_contents.specs.Errors.{error_objects}
+pub use Rattle.rsvp_contents.specs.Flows.{if_some}
+use Rattle.rsvp_contents.specs.Flows.{flow_objects}
 use Rattle.rsvp_contents.specs.declared.messages.Resv.{Resv}
 use Rattle.rsvp_contents.specs.declared.messages.ResvErr.{ResvErr}
 use Rattle.rsvp_contents.specs.declared.messages.ResvTear.{ResvTear}

@@ -9,7 +9,7 @@ use crate::lengths::*;
 use crate::limits::{is_short_passing, is_short_record, is_short_route, passes};
 use crate::messages::{Content, Path, Resv};
 use crate::numbers::{MAX_MESSAGE_LEN, TYPE_PATH, TYPE_RESV};
-use rsvp_flows::{FlowDescriptor, counts_on, fits_style};
+use crate::{FlowDescriptor, counts_on, fits_style};
 use rsvp_objects::numbers::{CLASS_ADSPEC, CLASS_FAST_REROUTE};
 use rsvp_objects::{FastReroute, Opaque, Record, Route};
 

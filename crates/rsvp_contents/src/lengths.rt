@@ -11,7 +11,7 @@ ghost use Rattle.rsvp_contents.specs.Written.{if_some};
 use crate::messages::{Path, PathErr, PathTear, Resv, ResvErr, ResvTear};
 use crate::numbers::{ADDRESS_LEN, HEADER_LEN, MAX_MESSAGE_LEN};
 use crate::passing::Passing;
-use rsvp_flows::{are_errors_within, are_filters_within, are_flows_within};
+use crate::{are_errors_within, are_filters_within, are_flows_within};
 use rsvp_objects::numbers::{
     AFFINITIES_LEN, ATTRIBUTE_HEAD_LEN, ERROR_SPEC_LEN, FAST_REROUTE_LEN,
     HEADER_LEN as OBJECT_HEADER_LEN, HOP_LEN, LABEL_REQUEST_LEN, SESSION_LEN, STYLE_LEN,

@@ -1,7 +1,7 @@
 ghost use Rattle.std.specs.Prelude.{◌≡◌};
 
 use crate::passing::Passing;
-use rsvp_flows::{ErrorDescriptors, Filters, FlowDescriptors};
+use crate::{ErrorDescriptors, Filters, FlowDescriptors};
 use rsvp_objects::{
     Attr, ErrorSpec, FastReroute, Hop, LabelRequest, Record, Route, Session, Style, Template,
     TimeValues, Tspec,

@@ -1,4 +1,4 @@
-use rsvp_flows::Sequence;
+use crate::Sequence;
 use rsvp_objects::Opaque;
 
 /// Objects that a message passes on unread, in their order. Contracts see the list of them.

@@ -1,4 +1,9 @@
+pub mod Answering
+pub mod Counts
 pub mod Frames
+pub mod Headers
+pub mod Joining
+pub mod Parts
 pub use Rattle.internet_checksum.specs.Checksums
 pub use Rattle.rsvp_contents.specs.Answers
 pub use Rattle.rsvp_contents.specs.Dropping

@@ -1,6 +1,7 @@
 //! Messages of RSVP and the frames of datagrams, for whoever embeds them: Path, Resv, PathErr, ResvErr, PathTear and ResvTear
 //! (RFC 2205, 3.1; RFC 3209, 3) are read from bytes as values and written to bytes again, with their header, their
-//! length and their checksum. This crate gathers what the crates below it have of messages, whose contracts are theirs.
+//! length and their checksum. What messages say is defined in `rsvp_contents`, what objects say in `rsvp_objects`: both are
+//! passed on here.
 //!
 //! [`read_message`] reads what came, [`write_message`] appends what is to go out. A [`Message`] is
 //! [`Content`] that can be written; what is read is one. The [`laws`] say what holds of all messages, and
@@ -27,25 +28,34 @@
 //! ```
 #![tactic(auto)]
 
-mod reading;
-mod writing;
+mod content_reading;
+mod content_writing;
+mod counts;
+mod flows_writing;
+mod frame_reading;
+mod frame_writing;
+mod header_reading;
+mod header_writing;
+mod look;
+mod message_reading;
+mod message_writing;
+mod objects_writing;
+mod parts_reading;
+mod parts_writing;
 
+pub use frame_reading::read_frame;
+pub use frame_writing::write_frame;
 pub use internet_checksum::{checksum, has_good_checksum};
 pub use link_frames::{Frame, KIND_HOP, KIND_LABELLED, KIND_ROUTED, Payload};
-pub use message_reader::read_message;
-pub use message_writer::write_message;
-pub use reading::read_frame;
+pub use message_reading::read_message;
+pub use message_writing::write_message;
 pub use rsvp_contents::{
-    Content, Dropped, Message, Passing, Path, PathErr, PathTear, Reading, Resv, ResvErr, ResvTear,
-    laws, limits, numbers,
-};
-pub use rsvp_flows::{
-    ErrorDescriptor, ErrorDescriptors, Filters, FlowDescriptor, FlowDescriptors, is_fixed,
-    is_other, is_shared,
+    Content, Dropped, ErrorDescriptor, ErrorDescriptors, Filters, FlowDescriptor, FlowDescriptors,
+    Message, Passing, Path, PathErr, PathTear, Reading, Resv, ResvErr, ResvTear, is_fixed,
+    is_other, is_shared, laws, limits, numbers,
 };
 pub use rsvp_objects::{
     Affinities, Attr, Body, ErrorSpec, FastReroute, Hop, Kind, LabelRequest, Name, Opaque,
     OtherStep, OtherTrace, Prefix, RateWord, Record, Route, Session, Step, Subobject, Subobjects,
     Template, TimeValues, Trace, TrafficFault, Treatment, Tspec, numbers as object_numbers,
 };
-pub use writing::write_frame;

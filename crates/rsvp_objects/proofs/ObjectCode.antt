@@ -1,14 +1,14 @@
 -- Objects are spelled so that a reader knows where each ends and which it is.
 use Rattle.std.proofs.Common.{◌≡◌, ℕ, List, [], ◌++◌, Some, refl, sym, ap, ◌∙◌, subst}
 use Rattle.rsvp_bodies.proofs.Sequences.{IsCode, SpellsEach-unique}
-use Rattle.rsvp_routes.specs.declared.step.Step.{Step}
-use Rattle.rsvp_routes.specs.declared.trace.Trace.{Trace}
-use Rattle.rsvp_routes.proofs.RouteCodes.{step_code, trace_code}
+use Rattle.rsvp_bodies.specs.declared.step.Step.{Step}
+use Rattle.rsvp_bodies.specs.declared.trace.Trace.{Trace}
+use Rattle.rsvp_bodies.proofs.RouteCodes.{step_code, trace_code}
 use Rattle.rsvp_objects.specs.declared.kind.Kind.{Kind}
 use Rattle.rsvp_objects.specs.declared.kind.Kind.TheVariants as kinds
 use Rattle.rsvp_objects.specs.declared.object.Object.{Object}
 use Rattle.rsvp_objects.specs.declared.object.Object.TheVariants as objects
-use Rattle.session_attribute.specs.declared.attr.Attr.{Attr}
+use Rattle.rsvp_bodies.specs.declared.attr.Attr.{Attr}
 use Rattle.rsvp_objects.specs.Raw.{Raw, object_bytes}
 use Rattle.rsvp_objects.specs.Kinds.{kind_of}
 use Rattle.rsvp_objects.specs.Framing.{frame_in}

@@ -4,22 +4,22 @@ use Rattle.std.specs.Prelude.{slice_index}
 use Rattle.std.proofs.lemmas.List.{length-take, length-take-le, length-drop}
 use Rattle.rsvp_bodies.specs.Bodies.{IsBody}
 use Rattle.rsvp_bodies.proofs.Sequences.{length-flat_map-spelled}
-use Rattle.rsvp_routes.specs.Steps.{SpellsStep, step_bytes}
-use Rattle.rsvp_routes.specs.Traces.{SpellsTrace, trace_bytes}
-use Rattle.rsvp_routes.specs.StepLaws.{same_length_lem}
-use Rattle.rsvp_routes.specs.TraceLaws as traces
+use Rattle.rsvp_bodies.specs.Steps.{SpellsStep, step_bytes}
+use Rattle.rsvp_bodies.specs.Traces.{SpellsTrace, trace_bytes}
+use Rattle.rsvp_bodies.specs.StepLaws.{same_length_lem}
+use Rattle.rsvp_bodies.specs.TraceLaws as traces
 use Rattle.rsvp_objects.specs.declared.kind.Kind.{Kind}
 use Rattle.rsvp_objects.specs.declared.kind.Kind.TheVariants as kinds
 use Rattle.rsvp_objects.specs.declared.object.Object.{Object}
 use Rattle.rsvp_objects.specs.declared.object.Object.TheVariants as objects
-use Rattle.session_attribute.specs.declared.attr.Attr.{Attr}
+use Rattle.rsvp_bodies.specs.declared.attr.Attr.{Attr}
 use Rattle.rsvp_objects.specs.Raw.{Raw, object_bytes}
 use Rattle.rsvp_objects.specs.Kinds.{kind_of}
 use Rattle.rsvp_objects.specs.Values.{session_at, hop_at, error_spec_at, template_at}
-use Rattle.session_attribute.specs.Affinities.{affinities_at}
-use Rattle.session_attribute.specs.Attributes.{HasName, attr_with, name_body}
+use Rattle.rsvp_bodies.specs.Affinities.{affinities_at}
+use Rattle.rsvp_bodies.specs.Attributes.{HasName, attr_with, name_body}
 use Rattle.rsvp_objects.specs.Objects.{SpellsAs, SpellsObject, raw_of, spelling}
-use Rattle.session_attribute.proofs.AttrAgain.{length-name_body}
+use Rattle.rsvp_bodies.proofs.AttrAgain.{length-name_body}
 
 -- how long the body is that the object is written with
 abbrev written : Object → ℕ

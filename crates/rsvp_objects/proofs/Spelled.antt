@@ -5,17 +5,17 @@ use Rattle.rsvp_objects.specs.declared.kind.Kind.{Kind}
 use Rattle.rsvp_objects.specs.declared.kind.Kind.TheVariants as kinds
 use Rattle.rsvp_objects.specs.declared.object.Object.{Object}
 use Rattle.rsvp_objects.specs.declared.object.Object.TheVariants as objects
-use Rattle.session_attribute.specs.declared.attr.Attr.{Attr}
+use Rattle.rsvp_bodies.specs.declared.attr.Attr.{Attr}
 use Rattle.rsvp_objects.specs.Raw.{Raw, IsRaw}
 use Rattle.rsvp_objects.specs.Kinds.{kind_of, is_kept}
 use Rattle.byteorder.specs.Numbers.{big_number-reads_back}
-use Rattle.session_attribute.specs.declared.affinities.Affinities.{Affinities}
+use Rattle.rsvp_bodies.specs.declared.affinities.Affinities.{Affinities}
 use Rattle.rsvp_objects.specs.Values.{session_body, hop_body, time_values_body, error_spec_body, style_body, template_body, label_body, label_request_body, fast_reroute_body}
-use Rattle.session_attribute.specs.Affinities.{affinities_body}
-use Rattle.session_attribute.specs.Attributes.{name_body, IsAttr}
+use Rattle.rsvp_bodies.specs.Affinities.{affinities_body}
+use Rattle.rsvp_bodies.specs.Attributes.{name_body, IsAttr}
 use Rattle.rsvp_objects.specs.Objects.{SpellsAs, SpellsObject, raw_of, spelling, IsObject}
 use Rattle.rsvp_objects.proofs.Again.{session_again, hop_again, error_spec_again, template_again, word_again, fast_reroute_again}
-use Rattle.session_attribute.proofs.AttrAgain.{length-name_body, HasName-name_body, attr_again, attr_ra_again}
+use Rattle.rsvp_bodies.proofs.AttrAgain.{length-name_body, HasName-name_body, attr_again, attr_ra_again}
 
 -- a body of n bytes is a body
 sized_body : (n : ℕ) (body : List ℕ) → length body ≡ n → n % 4 ≡ 0 → n ≤ 65528 → IsBody body

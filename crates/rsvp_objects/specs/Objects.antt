@@ -1,20 +1,20 @@
 -- Which bytes spell which object.
 use Rattle.std.specs.Prelude.{◌≡◌, ◌<◌, ◌^◌, ℕ, List, length, IsTrue}
-use Rattle.rsvp_routes.specs.declared.step.Step.{Step}
-use Rattle.rsvp_routes.specs.declared.trace.Trace.{Trace}
-use Rattle.rsvp_routes.specs.Steps.{SpellsRoute, route_bytes}
-use Rattle.rsvp_routes.specs.Traces.{SpellsRecord, record_bytes}
+use Rattle.rsvp_bodies.specs.declared.step.Step.{Step}
+use Rattle.rsvp_bodies.specs.declared.trace.Trace.{Trace}
+use Rattle.rsvp_bodies.specs.Steps.{SpellsRoute, route_bytes}
+use Rattle.rsvp_bodies.specs.Traces.{SpellsRecord, record_bytes}
 use Rattle.rsvp_objects.specs.declared.kind.Kind.{Kind}
 use Rattle.rsvp_objects.specs.declared.kind.Kind.TheVariants as kinds
 use Rattle.rsvp_objects.specs.declared.object.Object.{Object}
 use Rattle.rsvp_objects.specs.declared.object.Object.TheVariants as objects
-use Rattle.session_attribute.specs.declared.attr.Attr.{Attr}
+use Rattle.rsvp_bodies.specs.declared.attr.Attr.{Attr}
 use Rattle.rsvp_objects.specs.Raw.{Raw, object_bytes, IsRaw}
 use Rattle.rsvp_bodies.specs.Bodies.{IsBody}
 use Rattle.rsvp_objects.specs.Kinds.{kind_of, is_kept}
 use Rattle.rsvp_objects.specs.Ranges.{IsSession, IsHop, IsErrorSpec, IsTemplate, IsFastReroute}
 use Rattle.rsvp_objects.specs.Values.{session_at, session_body, hop_at, hop_body, time_values_at, time_values_body, error_spec_at, error_spec_body, style_at, style_body, template_at, template_body, label_at, label_body, label_request_at, label_request_body, fast_reroute_at, fast_reroute_body}
-use Rattle.session_attribute.specs.Attributes.{SpellsAttr, SpellsAttrRa, attr_body, attr_ctype, IsAttr}
+use Rattle.rsvp_bodies.specs.Attributes.{SpellsAttr, SpellsAttrRa, attr_body, attr_ctype, IsAttr}
 
 -- The object has a body of n bytes, and is this one.
 abbrev pub IsSized : ℕ → List ℕ → Object → Object → Type 0

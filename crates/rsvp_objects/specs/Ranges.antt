@@ -7,7 +7,7 @@ use Rattle.rsvp_objects.specs.declared.values.Session.{Session}
 use Rattle.rsvp_objects.specs.declared.values.Hop.{Hop}
 use Rattle.rsvp_objects.specs.declared.values.ErrorSpec.{ErrorSpec}
 use Rattle.rsvp_objects.specs.declared.values.Template.{Template}
-use Rattle.session_attribute.specs.Affinities.{IsAffinities}
+use Rattle.rsvp_bodies.specs.Affinities.{IsAffinities}
 use Rattle.rsvp_objects.specs.declared.values.FastReroute.{FastReroute}
 
 -- four octets

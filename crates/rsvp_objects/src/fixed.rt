@@ -8,9 +8,7 @@ use crate::values::{
     ErrorSpec, FastReroute, Hop, Label, LabelRequest, Session, Style, Template, TimeValues,
 };
 use byteorder::{BigEndian, ByteOrder};
-use rsvp_bodies::address_of;
-use rsvp_traffic::RateWord;
-use session_attribute::Affinities;
+use rsvp_bodies::{Affinities, RateWord, address_of};
 
 /// The SESSION that a body of its length says (RFC 3209, 4.6.1.1). Bytes 4 and 5 are reserved and not read.
 pub fn session_of(body: &[u8]) -> Session

@@ -2,7 +2,7 @@ ghost use Rattle.std.specs.Prelude.{◌≡◌, if◌then◌else◌};
 ghost use Rattle.rsvp_objects.specs.Kinds.{kind_of, treatment_of, is_kept};
 
 use crate::numbers::*;
-use session_attribute::numbers::{CTYPE_LSP_TUNNEL, CTYPE_LSP_TUNNEL_RA};
+use rsvp_bodies::attr_numbers::{CTYPE_LSP_TUNNEL, CTYPE_LSP_TUNNEL_RA};
 
 /// What a router does with an object whose class it doesn't know, by the two top bits of the class
 /// (RFC 2205, 3.10).

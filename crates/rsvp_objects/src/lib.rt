@@ -19,12 +19,11 @@ pub use laws::{one_object, written_no_longer};
 pub use object::Object;
 pub use opaque::Opaque;
 pub use reading::read_object;
-pub use rsvp_bodies::{Body, ObjectFault, is_same_address};
-pub use rsvp_routes::{
-    OtherStep, OtherTrace, Prefix, Record, Route, Step, Subobject, Subobjects, Trace,
+pub use rsvp_bodies::{
+    Affinities, Attr, Body, Flowspec, Name, NameRule, ObjectFault, OtherStep, OtherTrace, Prefix,
+    RateWord, Record, Route, Step, Subobject, Subobjects, Trace, TrafficFault, Tspec,
+    is_same_address,
 };
-pub use rsvp_traffic::{Flowspec, RateWord, TrafficFault, Tspec};
-pub use session_attribute::{Affinities, Attr, Name, NameRule};
 pub use values::{
     ErrorSpec, FastReroute, Hop, Label, LabelRequest, Session, Style, Template, TimeValues,
 };

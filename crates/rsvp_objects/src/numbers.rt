@@ -1,6 +1,6 @@
 //! The numbers of the protocol, each in one place: Class-Nums, C-Types and lengths of bodies in bytes.
 
-pub use session_attribute::numbers::{AFFINITIES_LEN, HEAD_LEN as ATTRIBUTE_HEAD_LEN};
+pub use rsvp_bodies::attr_numbers::{AFFINITIES_LEN, HEAD_LEN as ATTRIBUTE_HEAD_LEN};
 
 /// Bytes of an object's header: length 16 bits, Class-Num 8, C-Type 8 (RFC 2205, 3.1.2).
 pub const HEADER_LEN: usize = 4;

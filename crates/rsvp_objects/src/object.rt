@@ -5,9 +5,7 @@ use crate::opaque::Opaque;
 use crate::values::{
     ErrorSpec, FastReroute, Hop, Label, LabelRequest, Session, Style, Template, TimeValues,
 };
-use rsvp_routes::{Record, Route};
-use rsvp_traffic::{Flowspec, Tspec};
-use session_attribute::Attr;
+use rsvp_bodies::{Attr, Flowspec, Record, Route, Tspec};
 
 /// An object of RSVP (RFC 2205, 3.1.2 and A; RFC 3209, 4; RFC 4090, 4.1).
 #[derive(Debug, Drop)]

@@ -12,10 +12,9 @@ use crate::numbers::*;
 use crate::object::Object;
 use crate::opaque::Opaque;
 use byteorder::{BigEndian, ByteOrder};
-use rsvp_bodies::{Body, ObjectFault};
-use rsvp_routes::{read_record, read_route};
-use rsvp_traffic::{Flowspec, Tspec};
-use session_attribute::{read_attr, read_attr_ra};
+use rsvp_bodies::{
+    Body, Flowspec, ObjectFault, Tspec, read_attr, read_attr_ra, read_record, read_route,
+};
 use std::alloc::Global;
 
 /// The parts of an object where it lies.

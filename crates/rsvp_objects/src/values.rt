@@ -1,5 +1,4 @@
-use rsvp_traffic::RateWord;
-use session_attribute::Affinities;
+use rsvp_bodies::{Affinities, RateWord};
 use std::net::Ipv4Addr;
 
 /// SESSION of an LSP tunnel (RFC 3209, 4.6.1.1): what all LSPs of a tunnel share.

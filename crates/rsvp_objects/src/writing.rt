@@ -3,15 +3,13 @@ ghost use Rattle.byteorder.specs.Endian.{big_bytes};
 ghost use Rattle.rsvp_bodies.specs.Bodies.{IsBody};
 ghost use Rattle.rsvp_objects.specs.Objects.{IsObject, SpellsObject, attr_raw, raw_of, spelling};
 ghost use Rattle.rsvp_objects.specs.Raw.{object_bytes};
-ghost use Rattle.session_attribute.specs.Attributes.{IsAttr};
+ghost use Rattle.rsvp_bodies.specs.Attributes.{IsAttr};
 
 use crate::fixed::*;
 use crate::numbers::*;
 use crate::object::Object;
 use crate::opaque::Opaque;
-use rsvp_routes::{Record, Route, write_record, write_route};
-use rsvp_traffic::{Flowspec, Tspec};
-use session_attribute::Attr;
+use rsvp_bodies::{Attr, Flowspec, Record, Route, Tspec, write_record, write_route};
 use std::alloc::AllocError;
 
 /// Appends an object's header: its length with these four bytes, its class and its C-Type.

@@ -9,23 +9,23 @@ use Rattle.lsr_facts.specs.declared.facts.Facts.{Facts}
 use Rattle.lsr_facts.specs.declared.key.Key.{Key}
 use Rattle.lsr_facts.specs.declared.router.Router.{Router}
 use Rattle.lsr_facts.specs.declared.tunnel.Tunnel.{Tunnel}
-use Rattle.resv_facts.specs.declared.upstream.Upstream.{Upstream}
-use Rattle.router_events.specs.declared.events.Event.{Event}
+use Rattle.lsr_facts.specs.declared.upstream.Upstream.{Upstream}
+use Rattle.abstract_paths.specs.declared.events.Event.{Event}
 use Rattle.abstract_router.specs.Detours.{detours_of}
 use Rattle.abstract_router.specs.Lsps.{lsps_of}
 use Rattle.abstract_router.specs.Soundness.{IsSound}
 use Rattle.abstract_router.specs.States.{State}
 use Rattle.abstract_router.specs.Tables.{ForwardAlike, TellsChange, look, look_tunnel, table_of, tunnel_entry, tunnel_table_of}
 use Rattle.abstract_paths.specs.Restarts.{opening_facts}
-use Rattle.router_machine.specs.Below.core.Plans.{IsPlanOf, after_plan}
-use Rattle.router_machine.specs.Below.core.declared.plan.Plan.{Plan}
-use Rattle.router_machine.specs.Below.labels.Rows.{AreTableEdits}
-use Rattle.router_machine.specs.Below.labels.TunnelRows.{AreTunnelEdits}
-use Rattle.router_machine.specs.Readies.{IsReady, after_ready, with_cold}
-use Rattle.router_machine.proofs.Cooling.{told_started}
-use Rattle.router_machine.specs.States.{RouterState, emptied}
-use Rattle.router_machine.specs.declared.ready.Ready.{Ready}
-use Rattle.router_machine.specs.declared.ready.Ready.TheVariants as readies
+use Rattle.router_core.specs.Plans.{IsPlanOf, after_plan}
+use Rattle.router_core.specs.declared.plan.Plan.{Plan}
+use Rattle.router_core.specs.Below.labels.Rows.{AreTableEdits}
+use Rattle.router_core.specs.Below.labels.TunnelRows.{AreTunnelEdits}
+use Rattle.router_core.specs.Readies.{IsReady, after_ready, with_cold}
+use Rattle.router_core.proofs.Cooling.{told_started}
+use Rattle.router_core.specs.States.{RouterState, emptied}
+use Rattle.router_core.specs.declared.ready.Ready.{Ready}
+use Rattle.router_core.specs.declared.ready.Ready.TheVariants as readies
 use Rattle.lookup_plane.specs.Changes as planes
 use Rattle.lookup_plane.specs.Changes.{Changes, IsChangeOf}
 use Rattle.lookup_plane.specs.ChangesLaws.{look_added, look_none, look_tunnel_added, look_tunnel_none}

@@ -3,10 +3,10 @@ use Rattle.std.proofs.Common.{◌≡◌, ◌<◌, ◌^◌, ◌&&◌, ◌||◌, n
 use Rattle.std.proofs.lemmas.Bool.{leb-false}
 use Rattle.lsr_facts.specs.declared.refusal.Refusal.{Refusal}
 use Rattle.lsr_facts.specs.declared.refusal.Refusal.TheVariants.{HopLimit, IsCold, JournalFull, NoMemory, WrongPort}
-use Rattle.router_events.specs.declared.events.Event.{Event}
-use Rattle.router_events.specs.declared.events.Event.TheVariants as events
+use Rattle.abstract_paths.specs.declared.events.Event.{Event}
+use Rattle.abstract_paths.specs.declared.events.Event.TheVariants as events
 use Rattle.abstract_router.specs.Steps.{IsNoStep}
-use Rattle.router_machine.specs.Machines.{IsEventLeft}
+use Rattle.router_core.specs.Machines.{IsEventLeft}
 use Rattle.run_journal.specs.Journals.{IsRefusedLate, Journal, early_refusal, is_start}
 use Rattle.run_journal.specs.Marks.{is_known}
 use Rattle.run_journal.specs.declared.mark.Mark.{Mark}

@@ -19,8 +19,8 @@ use Rattle.abstract_router.specs.Soundness.{IsSound}
 use Rattle.lsr_facts.specs.Orders.{key_cmp}
 use Rattle.router_soundness.proofs.Entries.{entry_stands}
 use Rattle.sorted_rows.specs.RowsLaws.{find-all}
-use Rattle.router_machine.specs.Below.labels.Rows.{AreTableEdits}
-use Rattle.router_machine.specs.Below.labels.TunnelRows.{AreTunnelEdits}
+use Rattle.router_core.specs.Below.labels.Rows.{AreTableEdits}
+use Rattle.router_core.specs.Below.labels.TunnelRows.{AreTunnelEdits}
 use Rattle.lookup_plane.specs.Changes as changes
 use Rattle.lookup_plane.specs.ChangesLaws.{look_added, look_tunnel_added}
 use Rattle.lookup_plane.specs.declared.change.TableChange.{TableChange}

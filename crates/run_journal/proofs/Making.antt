@@ -1,13 +1,13 @@
 -- A step that is made is recorded by its entry.
 use Rattle.std.proofs.Common.{◌≡◌, refl, sym, ap, subst}
-use Rattle.router_events.specs.declared.events.Event.{Event}
+use Rattle.abstract_paths.specs.declared.events.Event.{Event}
 use Rattle.abstract_router.specs.States.{State}
 use Rattle.abstract_router.specs.Steps.{Step}
 use Rattle.abstract_router.specs.Tables.{TellsChange}
-use Rattle.router_machine.specs.Readies.{IsReady, after_ready, made_of}
-use Rattle.router_machine.specs.States.{RouterState}
-use Rattle.router_machine.specs.declared.ready.Ready.{Ready}
-use Rattle.router_machine.specs.declared.ready.Ready.TheVariants as readies
+use Rattle.router_core.specs.Readies.{IsReady, after_ready, made_of}
+use Rattle.router_core.specs.States.{RouterState}
+use Rattle.router_core.specs.declared.ready.Ready.{Ready}
+use Rattle.router_core.specs.declared.ready.Ready.TheVariants as readies
 use Rattle.run_journal.specs.Entries.{Recorded}
 use Rattle.run_journal.specs.Journals.{IsEntryFor}
 use Rattle.run_journal.specs.declared.entry.Entry.{Entry}

@@ -1,7 +1,7 @@
 -- Entries that record a run, one more, and the steps that they record.
 use Rattle.std.proofs.Common.{◌++◌, ◌∷◌, List, [], refl, subst}
 use Rattle.lsr_facts.specs.declared.router.Router.{Router}
-use Rattle.router_events.specs.declared.events.Made.{Made}
+use Rattle.abstract_paths.specs.declared.events.Made.{Made}
 use Rattle.abstract_router.specs.States.{State}
 use Rattle.abstract_router.specs.Steps.{Run}
 use Rattle.run_journal.specs.Entries.{AreEntriesOf, AreRecorded, Recorded}

@@ -2,12 +2,12 @@
 use Rattle.std.specs.Prelude.{◌≡◌, List, [], ◌∷◌, map}
 use Rattle.link_frames.specs.Frames.{frame_bytes}
 use Rattle.lsr_facts.specs.declared.router.Router.{Router}
-use Rattle.router_events.specs.declared.events.Made.{Made}
-use Rattle.router_events.specs.declared.events.Output.{Output}
+use Rattle.abstract_paths.specs.declared.events.Made.{Made}
+use Rattle.abstract_paths.specs.declared.events.Output.{Output}
 use Rattle.abstract_router.specs.States.{State}
 use Rattle.abstract_router.specs.Steps.{Step}
 use Rattle.abstract_router.specs.Tables.{TellsChange}
-use Rattle.event_bytes.specs.Events.{event_bytes}
+use Rattle.journal_bytes.specs.Events.{event_bytes}
 use Rattle.run_journal.specs.declared.entry.Entry.{Entry}
 use Rattle.run_journal.specs.declared.entry.WrittenFrame.{WrittenFrame}
 

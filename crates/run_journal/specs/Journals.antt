@@ -1,14 +1,14 @@
 -- A router under its lock, with the journal of what it did since its base.
 use Rattle.std.specs.Prelude.{◌≡◌, ◌<◌, ◌≤◌, ◌^◌, ◌&&◌, ◌||◌, not, nat_le, ℕ, Bool, false, true, if◌then◌else◌, List, [], ◌∷◌, ◌++◌, All, Option, Some, None, Result, Ok, Err, length}
-use Rattle.rsvp_routes.specs.declared.prefix.Prefix.{Prefix}
+use Rattle.rsvp_bodies.specs.declared.prefix.Prefix.{Prefix}
 use Rattle.lsr_facts.specs.declared.bypass.Bypass.{Bypass}
 use Rattle.lsr_facts.specs.declared.tunnel.Tunnel.{Tunnel}
 use Rattle.lsr_facts.specs.Routers.{IsRouter}
 use Rattle.lsr_facts.specs.declared.refusal.Refusal.{Refusal}
 use Rattle.lsr_facts.specs.declared.refusal.Refusal.TheVariants.{HopLimit, IsCold, JournalFull, NoMemory, WrongPort}
 use Rattle.lsr_facts.specs.declared.router.Router.{Router}
-use Rattle.router_events.specs.declared.events.Event.{Event}
-use Rattle.router_events.specs.declared.events.Event.TheVariants as events
+use Rattle.abstract_paths.specs.declared.events.Event.{Event}
+use Rattle.abstract_paths.specs.declared.events.Event.TheVariants as events
 use Rattle.abstract_paths.specs.Relays.{exceeds_hop_limit}
 use Rattle.abstract_router.specs.Soundness.{IsSound}
 use Rattle.abstract_router.specs.States.{State}
@@ -17,10 +17,10 @@ use Rattle.abstract_router.specs.Tables.{TellsChange, look, look_tunnel}
 use Rattle.lookup_plane.specs.Changes as planes
 use Rattle.lookup_plane.specs.Changes.{Changes, IsChangeOf}
 use Rattle.lookup_plane.specs.declared.change.TableChange.{TableChange}
-use Rattle.event_bytes.specs.Events.{event_bytes}
-use Rattle.router_machine.specs.States.{RouterState}
-use Rattle.router_machine.specs.Readies.{IsReady, after_ready, made_of}
-use Rattle.router_machine.specs.declared.ready.Ready.{Ready}
+use Rattle.journal_bytes.specs.Events.{event_bytes}
+use Rattle.router_core.specs.States.{RouterState}
+use Rattle.router_core.specs.Readies.{IsReady, after_ready, made_of}
+use Rattle.router_core.specs.declared.ready.Ready.{Ready}
 use Rattle.run_journal.specs.Entries.{AreRecorded, IsEntryOf, Recorded}
 use Rattle.run_journal.specs.Marks.{Counts, IsWithin, counted, counted_all, is_known, receipt_of}
 use Rattle.run_journal.specs.declared.entry.Entry.{Entry}

@@ -14,7 +14,7 @@ pub use entry::{AnyRule, Bytes, ChosenLabels, Entry, Frames, Listed, WrittenFram
 pub use locked::Locked;
 pub use mark::Mark;
 pub use receipt::Receipt;
-pub use router_machine::{Datagram, Passed};
+pub use router_core::{Datagram, Passed};
 pub use segment::Segment;
 pub use tally::Tally;
 pub use writing::{written_event, written_frames};

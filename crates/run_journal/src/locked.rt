@@ -1,8 +1,8 @@
 //! A router with its journal, as it stands under a lock.
 
 ghost use Rattle.std.specs.Prelude.{◌≡◌, ◌<◌, ◌≤◌, ◌-◌, ◌+◌, ◌^◌, ◌++◌, ◌∷◌, [], All, IfOk, MatchResult, None, OnErr, OnOk, false, length};
-ghost use Rattle.router_machine.specs.States.{opened};
-ghost use Rattle.router_machine.specs.Readies.{IsReady};
+ghost use Rattle.router_core.specs.States.{opened};
+ghost use Rattle.router_core.specs.Readies.{IsReady};
 ghost use Rattle.lookup_plane.specs.Changes.{IsChangeOf};
 ghost use Rattle.lookup_plane.specs.declared.change.TableChange.{TableChange};
 ghost use Rattle.run_journal.specs.Journals.{IsAnnounced, IsAnswered, IsChangeFor, IsEntered, IsEntryFor, IsKept, IsOpening, LeadToTable, early_refusal, opened_journal, rotated, router_in, stretch_of};
@@ -15,12 +15,11 @@ use crate::segment::Segment;
 use crate::tally::Tally;
 use crate::writing::{written_event, written_frames};
 use crate::{MAX_ENTRIES, MAX_NUMBER};
+use abstract_paths::Event;
 use lookup_plane::{LookupReader, OpenFault, Plane, TableChange};
 use lsr_config::Config;
-use lsr_facts::{Refusal, Router};
-use resv_facts::State;
-use router_events::Event;
-use router_machine::{Machine, Ready};
+use lsr_facts::{Refusal, Router, State};
+use router_core::{Machine, Ready};
 use sorted_rows::{Table, TryCopy};
 use std::alloc::{AllocError, Global};
 use std::marker::Model;

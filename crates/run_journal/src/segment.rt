@@ -1,15 +1,14 @@
 //! A stretch of the journal.
 
 ghost use Rattle.std.specs.Prelude.{◌≡◌, List};
-ghost use Rattle.router_events.specs.declared.events.Made.{Made};
+ghost use Rattle.abstract_paths.specs.declared.events.Made.{Made};
 ghost use Rattle.abstract_router.specs.Steps.{Run};
 ghost use Rattle.run_journal.specs.Entries.{AreEntriesOf};
 ghost use Rattle.run_journal.specs.Journals.{IsSegment};
 
 use crate::entry::Entry;
 use crate::tally::Tally;
-use lsr_facts::Router;
-use resv_facts::State;
+use lsr_facts::{Router, State};
 use std::marker::Model;
 
 /// A stretch of the journal: what the router knew before it, its entries, and what the router knew after it. Contracts see

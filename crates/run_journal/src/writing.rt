@@ -1,12 +1,12 @@
 //! What is written of events and of frames that are sent.
 
 ghost use Rattle.std.specs.Prelude.{◌≡◌, IfOk, map};
-ghost use Rattle.event_bytes.specs.Events.{event_bytes};
+ghost use Rattle.journal_bytes.specs.Events.{event_bytes};
 ghost use Rattle.run_journal.specs.Entries.{written_frame};
 
 use crate::entry::{Bytes, Frames, Listed, WrittenFrame};
-use event_bytes::write_event;
-use router_events::{Event, Frame, Output};
+use abstract_paths::{Event, Frame, Output};
+use journal_bytes::write_event;
 use rsvp_bodies::Kept;
 use rsvp_contents::Reading;
 use rsvp_messages::write_frame;

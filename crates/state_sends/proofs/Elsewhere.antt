@@ -21,10 +21,10 @@ use Rattle.lsr_facts.specs.OrderLaws.{item_total, key_exact, key_total}
 use Rattle.lsr_facts.specs.Orders.{item_cmp, key_cmp}
 use Rattle.lsr_facts.specs.declared.key.Key.{Key}
 use Rattle.lsr_facts.specs.declared.router.Router.{Router}
-use Rattle.resv_facts.specs.SumLaws.{filter-map}
-use Rattle.resv_facts.specs.UpstreamOrder.{upstream_total}
-use Rattle.resv_facts.specs.Upstreams.{upstream_cmp}
-use Rattle.router_events.specs.declared.events.Output.{Output}
+use Rattle.lsr_facts.specs.SumLaws.{filter-map}
+use Rattle.lsr_facts.specs.UpstreamOrder.{upstream_total}
+use Rattle.lsr_facts.specs.Upstreams.{upstream_cmp}
+use Rattle.abstract_paths.specs.declared.events.Output.{Output}
 use Rattle.abstract_paths.specs.Outputs.{is_due}
 use Rattle.abstract_paths.specs.RowLaws.{keys-map}
 use Rattle.abstract_paths.specs.StampLaws.{ties}

@@ -11,7 +11,7 @@ use Rattle.sorted_rows.specs.Rows.{keys_of}
 use Rattle.lsr_facts.specs.Orders.{key_cmp}
 use Rattle.lsr_facts.specs.declared.key.Key.{Key}
 use Rattle.lsr_facts.specs.declared.router.Router.{Router}
-use Rattle.router_events.specs.declared.events.Output.{Output}
+use Rattle.abstract_paths.specs.declared.events.Output.{Output}
 use Rattle.abstract_paths.specs.Outputs.{between, is_due, send_for, tear_for}
 use Rattle.abstract_paths.specs.Soundness.{ArePaths}
 use Rattle.abstract_paths.specs.Stamps.{stamps}

@@ -6,9 +6,9 @@ use Rattle.std.proofs.Common.{ap, refl}
 use Rattle.lsr_facts.specs.Orders.{item_cmp, key_cmp}
 use Rattle.lsr_facts.specs.declared.key.Key.{Key}
 use Rattle.lsr_facts.specs.declared.router.Router.{Router}
-use Rattle.resv_facts.specs.Upstreams.{upstream_cmp}
-use Rattle.resv_facts.specs.declared.upstream.Upstream.{Upstream}
-use Rattle.router_events.specs.declared.events.Output.{Output}
+use Rattle.lsr_facts.specs.Upstreams.{upstream_cmp}
+use Rattle.lsr_facts.specs.declared.upstream.Upstream.{Upstream}
+use Rattle.abstract_paths.specs.declared.events.Output.{Output}
 use Rattle.abstract_paths.specs.Soundness.{ArePaths}
 use Rattle.abstract_paths.specs.Touched.{key_of_item}
 use Rattle.abstract_router.specs.Lsps.{Around, Lsp, around_of, lsps_of}

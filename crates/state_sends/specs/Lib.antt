@@ -1,2 +1,4 @@
+pub mod Going
 pub mod KeptAlive
+pub mod Placing
 pub mod Touching

@@ -9,7 +9,7 @@ ghost use Rattle.std.specs.declared.cmp.Ordering.TheVariants.{Equal};
 ghost use Rattle.lsr_facts.specs.Orders.{key_cmp};
 ghost use Rattle.lsr_facts.specs.declared.key.Key.{Key};
 ghost use Rattle.lsr_facts.specs.declared.router.Router.{Router};
-ghost use Rattle.router_events.specs.declared.events.Output.{Output};
+ghost use Rattle.abstract_paths.specs.declared.events.Output.{Output};
 ghost use Rattle.abstract_paths.specs.Soundness.{ArePaths};
 ghost use Rattle.abstract_paths.specs.Touched.{is_among};
 ghost use Rattle.abstract_router.specs.Lsps.{Around, Lsp, around_of, lsps_of};
@@ -22,8 +22,7 @@ ghost use Rattle.state_sends.specs.Touching.{IsSaidAgain};
 use crate::same::{is_same_downstream, is_same_lsp};
 use crate::touched::Lsps;
 use lsr_facts::laws::items_are_in_order;
-use lsr_facts::{Item, Key};
-use resv_facts::Upstream;
+use lsr_facts::{Item, Key, Upstream};
 use state_views::{Edits, Output, StateView};
 use std::alloc::{AllocError, Global};
 use wanted_messages::{items_at_keys, upstream_at_keys};
@@ -142,8 +141,8 @@ impl KeptAlive for Item {
 }
 
 impl KeptAlive for Upstream {
-    ghost use Rattle.resv_facts.specs.UpstreamOrder.{upstream_exact, upstream_total};
-    ghost use Rattle.resv_facts.specs.Upstreams.{upstream_cmp};
+    ghost use Rattle.lsr_facts.specs.UpstreamOrder.{upstream_exact, upstream_total};
+    ghost use Rattle.lsr_facts.specs.Upstreams.{upstream_cmp};
     ghost use Rattle.state_sends.specs.KeptAlive.{no_resv_rows, resv_parts, resv_rows, resvs_in_order, resvs_said};
     ghost use Rattle.state_sends.specs.Touching.{said_by_resvs};
 

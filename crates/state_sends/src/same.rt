@@ -6,13 +6,12 @@ ghost use Rattle.std.specs.Option.{option_copied, option_map};
 ghost use Rattle.std.specs.Prelude.{◌≡◌, true};
 ghost use Rattle.lsr_facts.specs.Orders.{key_cmp};
 ghost use Rattle.lsr_facts.specs.Timeless.{timeless_path};
-ghost use Rattle.resv_facts.specs.Reservations.{timeless_repair, timeless_resv};
+ghost use Rattle.lsr_facts.specs.Reservations.{timeless_repair, timeless_resv};
 ghost use Rattle.abstract_router.specs.Lsps.{lsp_at};
 ghost use Rattle.state_views.specs.Edits.{edited};
 ghost use Rattle.state_sends.specs.Touching.{IsSaidAgain, said_by_paths};
 
-use lsr_facts::{Key, PathFact};
-use resv_facts::{Repair, ResvFact};
+use lsr_facts::{Key, PathFact, Repair, ResvFact};
 use state_views::{Edits, StateView};
 
 /// Whether what is known of a path is the same, but for when it expires.

@@ -7,7 +7,7 @@ ghost use Rattle.sorted_rows.specs.Edits as rows;
 ghost use Rattle.sorted_rows.specs.Rows.{keys_of};
 ghost use Rattle.lsr_facts.specs.Orders.{item_cmp, key_cmp};
 ghost use Rattle.lsr_facts.specs.declared.key.Key.{Key};
-ghost use Rattle.resv_facts.specs.Upstreams.{upstream_cmp};
+ghost use Rattle.lsr_facts.specs.Upstreams.{upstream_cmp};
 ghost use Rattle.abstract_paths.specs.Outputs.{between, send_for, tear_for};
 ghost use Rattle.abstract_paths.specs.Soundness.{ArePaths};
 ghost use Rattle.abstract_paths.specs.Stamps.{stamps};
@@ -24,9 +24,8 @@ use crate::kept_alive::KeptAlive;
 use crate::touched::{
     Lsps, changed_for, changed_lsps, is_same_everywhere, sharing_lsps, touched_by,
 };
-use lsr_facts::{Item, Key};
-use resv_facts::Upstream;
-use router_sends::{Sends, errors_out, sends_again, sends_between};
+use crate::{Sends, errors_out, sends_again, sends_between};
+use lsr_facts::{Item, Key, Upstream};
 use sorted_rows::Table;
 use state_views::{Changed, Edits, Outputs, StateView, WholeState};
 use std::alloc::{AllocError, Global};

@@ -12,8 +12,7 @@ ghost use Rattle.state_sends.specs.Touching.{AreAllSharing, AreAllTouched, IsSai
 
 use crate::kept_alive::KeptAlive;
 use facility_backup::is_same_around;
-use lsr_facts::Key;
-use resv_facts::Upstream;
+use lsr_facts::{Key, Upstream};
 use sorted_rows::{Table, TryCopy};
 use state_views::{Edits, StateView, WholeState};
 use std::alloc::{AllocError, Global};

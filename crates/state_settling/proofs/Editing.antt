@@ -7,7 +7,7 @@ use Rattle.std.specs.Ordering.{eq_by_cmp}
 use Rattle.std.proofs.Common.{refl, sym, ap, subst, ◌∙◌, append_assoc, arith}
 use Rattle.std.proofs.lemmas.List.{reverse-append}
 use Rattle.std.proofs.lemmas.Bool.{cond_both, eqb-true, ltb-false}
-use Rattle.rsvp_traffic.specs.Traffic.{flowspec_rate}
+use Rattle.rsvp_bodies.specs.Traffic.{flowspec_rate}
 use Rattle.sorted_rows.specs.RowsLaws.{all-from_find, find-all, find-map, is_sorted-both, ties}
 use Rattle.sorted_rows.specs.EditLaws.{find-edited, is_sorted-edited}
 use Rattle.sorted_rows.specs.Edits.{edited, over}
@@ -15,10 +15,10 @@ use Rattle.lsr_facts.specs.OrderLaws.{key_exact, key_total}
 use Rattle.lsr_facts.specs.Orders.{key_cmp}
 use Rattle.lsr_facts.specs.declared.key.Key.{Key}
 use Rattle.lsr_facts.specs.declared.path_fact.PathFact.{PathFact}
-use Rattle.resv_facts.specs.Claims.{claim_of}
-use Rattle.resv_facts.specs.Priorities.{counted, holding_of, lesser}
-use Rattle.session_attribute.specs.declared.attr.Attr.{Attr}
-use Rattle.resv_facts.specs.declared.resv_fact.ResvFact.{ResvFact}
+use Rattle.lsr_facts.specs.Claims.{claim_of}
+use Rattle.lsr_facts.specs.Priorities.{counted, holding_of, lesser}
+use Rattle.rsvp_bodies.specs.declared.attr.Attr.{Attr}
+use Rattle.lsr_facts.specs.declared.resv_fact.ResvFact.{ResvFact}
 use Rattle.abstract_paths.specs.RowLaws.{keys-map}
 use Rattle.abstract_router.specs.Preempting.{attr_at, claims_of}
 use Rattle.admission.specs.Bandwidths.{AreEdits, Edit, IsEdit, claim_edits, resv_edits}

@@ -9,7 +9,7 @@ use Rattle.lsr_facts.specs.OrderLaws.{key_exact, key_total}
 use Rattle.lsr_facts.specs.Orders.{key_cmp}
 use Rattle.lsr_facts.specs.declared.key.Key.{Key}
 use Rattle.lsr_facts.specs.declared.path_fact.PathFact.{PathFact}
-use Rattle.resv_facts.specs.declared.resv_fact.ResvFact.{ResvFact}
+use Rattle.lsr_facts.specs.declared.resv_fact.ResvFact.{ResvFact}
 use Rattle.admission.specs.Bandwidths.{Edit}
 use Rattle.state_settling.specs.Keeping.{edit_at, holding_at, moved, with_edit}
 use Rattle.make_before_break.specs.SwitchingLaws.{or_none}

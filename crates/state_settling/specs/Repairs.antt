@@ -5,7 +5,7 @@ use Rattle.std.specs.Option.{option_and_then}
 use Rattle.lsr_facts.specs.Orders.{key_cmp}
 use Rattle.lsr_facts.specs.declared.key.Key.{Key}
 use Rattle.lsr_facts.specs.declared.router.Router.{Router}
-use Rattle.resv_facts.specs.declared.repair.Repair.{Repair}
+use Rattle.lsr_facts.specs.declared.repair.Repair.{Repair}
 use Rattle.abstract_router.specs.Repairing.{repair_of}
 use Rattle.abstract_router.specs.States.{State}
 

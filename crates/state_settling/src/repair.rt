@@ -18,9 +18,8 @@ ghost use Rattle.state_views.specs.Joining.{joined_rows};
 ghost use Rattle.state_settling.specs.Repairs.{repair_at};
 
 use facility_backup::{Held, repair, select};
-use lsr_facts::{Key, Node, PathFact};
+use lsr_facts::{Key, Node, PathFact, Repair, ResvFact, Selected};
 use message_rules::{LOCALLY_REPAIRED, found_here, is_up, leaves_by, told_upstream};
-use resv_facts::{Repair, ResvFact, Selected};
 use sorted_rows::{Table, TryCopy};
 use state_views::{Changed, Edits, Outputs, StateView, WholeState, joined_rows, node_of};
 use std::alloc::{AllocError, Global};

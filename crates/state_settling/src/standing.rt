@@ -11,9 +11,8 @@ ghost use Rattle.abstract_router.specs.Steps.{resvs_left, stands};
 ghost use Rattle.state_views.specs.Edits.{edited};
 ghost use Rattle.state_settling.specs.Falling.{fallen_key, has_fallen};
 
-use lsr_facts::Key;
+use lsr_facts::{Key, ResvFact};
 use message_rules::{is_up, leaves_by};
-use resv_facts::ResvFact;
 use sorted_rows::Table;
 use state_views::{Changed, Edits, StateView, WholeState, node_of, without_rows};
 use std::alloc::{AllocError, Global};

@@ -5,8 +5,8 @@ ghost use Rattle.state_views.specs.Drafts.{IsDraft};
 
 use crate::edits::Edits;
 use crate::views::StateView;
+use abstract_paths::Outputs;
 use lsr_facts::{Refusal, Reply};
-use router_events::Outputs;
 use std::alloc::Global;
 
 /// What an event does of itself.

@@ -11,9 +11,8 @@ ghost use Rattle.state_views.specs.Edits.{edited, unedited, without_rows};
 ghost use Rattle.state_views.specs.Joining.{joined_rows};
 
 use crate::views::StateView;
-use lsr_facts::{Bypass, Key, Node, PathFact, Tunnel};
-use resv_facts::{Repair, ResvFact};
-use rsvp_routes::Prefix;
+use lsr_facts::{Bypass, Key, Node, PathFact, Repair, ResvFact, Tunnel};
+use rsvp_bodies::Prefix;
 use sorted_rows::Table;
 use std::alloc::{AllocError, Global};
 

@@ -6,7 +6,7 @@ mod draft;
 mod edits;
 mod views;
 
+pub use abstract_paths::{Output, Outputs};
 pub use draft::{Draft, refused};
 pub use edits::{Changed, Edits, joined_rows, without_rows};
-pub use router_events::{Output, Outputs};
 pub use views::{StateView, WholeState, node_of};

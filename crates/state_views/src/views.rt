@@ -8,10 +8,10 @@ ghost use Rattle.std.specs.Prelude.{◌≡◌, ◌≤◌, ◌^◌, IfOk, IfSome,
 ghost use Rattle.lsr_facts.specs.Lifetimes.{due_items, expires};
 ghost use Rattle.lsr_facts.specs.Orders.{item_cmp, key_cmp};
 ghost use Rattle.lsr_facts.specs.declared.router.Router.{Router};
-ghost use Rattle.resv_facts.specs.Admission.{fits, victims_of};
-ghost use Rattle.resv_facts.specs.Claims.{is_same_session};
-ghost use Rattle.resv_facts.specs.Reservations.{lives_past};
-ghost use Rattle.resv_facts.specs.Upstreams.{upstream_cmp};
+ghost use Rattle.lsr_facts.specs.Admission.{fits, victims_of};
+ghost use Rattle.lsr_facts.specs.Claims.{is_same_session};
+ghost use Rattle.lsr_facts.specs.Reservations.{lives_past};
+ghost use Rattle.lsr_facts.specs.Upstreams.{upstream_cmp};
 ghost use Rattle.sorted_rows.specs.Rows.{keys_of};
 ghost use Rattle.abstract_paths.specs.Places.{place_at, place_of};
 ghost use Rattle.abstract_router.specs.Labels.{MayBeGiven, has_free_label};
@@ -19,8 +19,10 @@ ghost use Rattle.abstract_router.specs.Preempting.{claims_of, limit_of};
 ghost use Rattle.abstract_router.specs.Reserving.{conflicts};
 ghost use Rattle.abstract_router.specs.States.{State};
 
-use lsr_facts::{Bypass, Item, Key, Node, PathFact, Tunnel};
-use resv_facts::{Claim, Repair, Request, ResvFact, ResvStyle, Upstream};
+use lsr_facts::{
+    Bypass, Claim, Item, Key, Node, PathFact, Repair, Request, ResvFact, ResvStyle, Tunnel,
+    Upstream,
+};
 use rsvp_objects::Session;
 use sorted_rows::Table;
 use std::alloc::{AllocError, Global};

@@ -8,15 +8,15 @@ use Rattle.std.specs.Result.{is_err}
 use Rattle.std.specs.declared.net.ipv4_addr.Ipv4Addr.{Ipv4Addr}
 use Rattle.std.proofs.Common.{refl, sym, ap, ◌∙◌}
 use Rattle.rsvp_contents.specs.Limits.{is_short_route}
-use Rattle.rsvp_routes.specs.declared.step.Step.{Step}
+use Rattle.rsvp_bodies.specs.declared.step.Step.{Step}
 use Rattle.lsr_facts.specs.Tunnels.{route_from}
 use Rattle.lsr_facts.specs.declared.facts.Facts.{Facts}
 use Rattle.lsr_facts.specs.declared.refusal.Refusal.{Refusal}
 use Rattle.lsr_facts.specs.declared.router.Router.{Router}
 use Rattle.lsr_facts.specs.declared.tunnel.Tunnel.{Tunnel}
-use Rattle.router_events.specs.declared.commands.Command.TheVariants.{AddTunnel, ChangeTunnel}
-use Rattle.router_events.specs.declared.tunnels.NewTunnel.{NewTunnel}
-use Rattle.router_events.specs.declared.tunnels.TunnelChange.{TunnelChange}
+use Rattle.abstract_paths.specs.declared.commands.Command.TheVariants.{AddTunnel, ChangeTunnel}
+use Rattle.abstract_paths.specs.declared.tunnels.NewTunnel.{NewTunnel}
+use Rattle.abstract_paths.specs.declared.tunnels.TunnelChange.{TunnelChange}
 use Rattle.abstract_paths.specs.Commands.{has_rate, is_bad_request, refusal_of, tests_of}
 use Rattle.abstract_paths.specs.Heads.{head_hop}
 use Rattle.abstract_paths.specs.Places.{is_own, place_of}

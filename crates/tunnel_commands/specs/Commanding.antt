@@ -1,7 +1,7 @@
 -- What is known after a command that isn't refused.
 use Rattle.std.specs.Prelude.{option_to_list}
 use Rattle.lsr_facts.specs.declared.router.Router.{Router}
-use Rattle.router_events.specs.declared.commands.Command.{Command}
+use Rattle.abstract_paths.specs.declared.commands.Command.{Command}
 use Rattle.abstract_paths.specs.Commands.{begun_by, commanded}
 use Rattle.abstract_router.specs.States.{State, with_facts, without_held}
 

@@ -6,8 +6,8 @@ ghost use Rattle.abstract_paths.specs.Commands.{bypass_by};
 ghost use Rattle.abstract_router.specs.States.{with_facts};
 ghost use Rattle.state_views.specs.Edits.{edited};
 
+use abstract_paths::NewBypass;
 use lsr_facts::Bypass;
-use router_events::NewBypass;
 use sorted_rows::TryCopy;
 use state_views::{Edits, StateView};
 use std::alloc::{AllocError, Global};

@@ -6,7 +6,7 @@ ghost use Rattle.lsr_facts.specs.Orders.{key_cmp};
 ghost use Rattle.abstract_paths.specs.Commands.{commanded, refusal_of};
 ghost use Rattle.abstract_router.specs.Arrivals.{command_comes};
 ghost use Rattle.abstract_router.specs.States.{with_facts};
-ghost use Rattle.router_events.specs.declared.commands.Command.TheVariants.{CancelChange, ChangeTunnel, DropTunnel};
+ghost use Rattle.abstract_paths.specs.declared.commands.Command.TheVariants.{CancelChange, ChangeTunnel, DropTunnel};
 ghost use Rattle.state_views.specs.Drafts.{IsDraft};
 ghost use Rattle.state_views.specs.Edits.{edited};
 ghost use Rattle.tunnel_commands.specs.Commanding.{commanded_state};
@@ -15,8 +15,8 @@ use crate::bypasses::{with_bypass, without_bypass};
 use crate::refusals::{refusal_of, takes_used_bypass};
 use crate::routes::{with_route, without_route};
 use crate::tunnels::{with_begun, with_cancelled, with_change, with_dropped};
+use abstract_paths::{Command, TunnelChange};
 use lsr_facts::{Refusal, Reply};
-use router_events::{Command, TunnelChange};
 use state_views::{Draft, Edits, Outputs, StateView, WholeState, refused};
 use std::alloc::{AllocError, Global};
 

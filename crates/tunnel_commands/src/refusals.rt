@@ -6,16 +6,16 @@ ghost use Rattle.std.specs.Prelude.{◌≡◌, ◌≤◌, ◌==◌, false, slice
 ghost use Rattle.abstract_paths.specs.Commands.{has_route, refusal_of};
 ghost use Rattle.abstract_paths.specs.Heads.{is_full};
 ghost use Rattle.abstract_router.specs.Arrivals.{takes_used_bypass};
-ghost use Rattle.router_events.specs.declared.commands.Command.TheVariants.{AddTunnel, ChangeTunnel, CancelChange, DropTunnel, AddBypass, DropBypass, AddRoute, DropRoute};
+ghost use Rattle.abstract_paths.specs.declared.commands.Command.TheVariants.{AddTunnel, ChangeTunnel, CancelChange, DropTunnel, AddBypass, DropBypass, AddRoute, DropRoute};
 
 use crate::protecting::{is_for_bypass, is_onto_its_link, runs_over};
 use crate::requests::{is_bad_tunnel, requested_way};
 use crate::routes::{MAX_LENGTH, masked_prefix};
+use abstract_paths::{Command, NewBypass, NewTunnel, TunnelChange};
 use explicit_routes::link_at;
 use lsr_facts::Refusal;
 use lsr_facts::changes::MAX_LSP_ID;
 use lsr_facts::limits::{MAX_BYPASSES, MAX_LSPS, MAX_ROUTES, MAX_TUNNELS};
-use router_events::{Command, NewBypass, NewTunnel, TunnelChange};
 use rsvp_contents::Prefix;
 use state_views::{StateView, WholeState};
 

@@ -2,7 +2,7 @@
 
 ghost use Rattle.std.specs.Prelude.{◌≡◌, IfSome, Ok, false, is_none, length};
 ghost use Rattle.rsvp_contents.specs.Limits.{is_short_route};
-ghost use Rattle.rsvp_routes.specs.declared.step.Step.TheVariants.{Ipv4};
+ghost use Rattle.rsvp_bodies.specs.declared.step.Step.TheVariants.{Ipv4};
 ghost use Rattle.lsr_facts.specs.Tunnels.{route_from};
 ghost use Rattle.abstract_paths.specs.Commands.{has_rate, is_bad_request, is_bad_tunnel};
 ghost use Rattle.abstract_paths.specs.Heads.{head_hop};
@@ -10,15 +10,14 @@ ghost use Rattle.abstract_paths.specs.Places.{place_of};
 ghost use Rattle.explicit_routes.specs.Choosing.{choice_of};
 
 use crate::routes::MAX_LENGTH;
+use abstract_paths::NewTunnel;
 use byteorder::{BigEndian, ByteOrder};
 use explicit_routes::{Way, head_way, is_own};
 use lsr_facts::Router;
-use router_events::NewTunnel;
+use rsvp_bodies::{RateWord, Step, Subobject};
 use rsvp_contents::limits::is_short_route;
 use rsvp_contents::numbers::{MAX_ROUTE_LEN, MAX_STEPS};
 use rsvp_contents::{Prefix, Route, Tspec};
-use rsvp_routes::{Step, Subobject};
-use rsvp_traffic::RateWord;
 use state_views::{StateView, node_of};
 use std::net::Ipv4Addr;
 

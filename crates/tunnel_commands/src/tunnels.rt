@@ -14,10 +14,10 @@ ghost use Rattle.abstract_router.specs.States.{State, with_facts, without_held};
 ghost use Rattle.state_views.specs.Edits.{edited};
 ghost use Rattle.path_steps.specs.Signalling.{with_some};
 
+use abstract_paths::{NewTunnel, TunnelChange};
 use lsr_facts::changes::{begin, cancel};
 use lsr_facts::{Key, PathFact, Router, Tunnel, TunnelLsp};
 use path_steps::{current_key, head_key, head_of, pending_key};
-use router_events::{NewTunnel, TunnelChange};
 use sorted_rows::{Table, TryCopy};
 use state_views::{Edits, StateView, without_rows};
 use std::alloc::{AllocError, Global};

@@ -7,8 +7,8 @@ use Rattle.lsr_facts.specs.declared.key.Key.{Key}
 use Rattle.lsr_facts.specs.declared.path_fact.PathFact.{PathFact}
 use Rattle.lsr_facts.specs.declared.router.Link.{Link}
 use Rattle.lsr_facts.specs.declared.router.Router.{Router}
-use Rattle.resv_facts.specs.declared.repair.Detour.{Detour}
-use Rattle.resv_facts.specs.declared.repair.Repair.{Repair}
+use Rattle.lsr_facts.specs.declared.repair.Detour.{Detour}
+use Rattle.lsr_facts.specs.declared.repair.Repair.{Repair}
 use Rattle.abstract_paths.specs.Onward.{path_onward}
 use Rattle.abstract_router.specs.Through.{backup_path}
 use Rattle.abstract_router.specs.Upstreams.{Reserved}

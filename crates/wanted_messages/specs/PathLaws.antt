@@ -11,7 +11,7 @@ use Rattle.sorted_rows.specs.RowsLaws.{find-all_row}
 use Rattle.rsvp_objects.specs.Ranges.{IsAddress}
 use Rattle.rsvp_objects.specs.Raw.{Raw}
 use Rattle.rsvp_objects.specs.declared.values.FastReroute.{FastReroute}
-use Rattle.rsvp_routes.specs.declared.step.Step.{Step}
+use Rattle.rsvp_bodies.specs.declared.step.Step.{Step}
 use Rattle.rsvp_contents.specs.Fitting.{are_passed_on, fits_path, has_adspec_last, has_one_fast_reroute}
 use Rattle.rsvp_contents.specs.Limits.{is_short_passing, is_short_record, is_short_route}
 use Rattle.rsvp_contents.specs.declared.messages.Path.{Path}
@@ -21,9 +21,9 @@ use Rattle.lsr_facts.specs.declared.key.Key.{Key}
 use Rattle.lsr_facts.specs.declared.path_fact.PathFact.{PathFact}
 use Rattle.lsr_facts.specs.declared.router.Link.{Link}
 use Rattle.lsr_facts.specs.declared.router.Router.{Router}
-use Rattle.resv_facts.specs.declared.repair.Detour.{Detour}
-use Rattle.resv_facts.specs.declared.repair.Over.{Over}
-use Rattle.resv_facts.specs.declared.repair.Repair.{Repair}
+use Rattle.lsr_facts.specs.declared.repair.Detour.{Detour}
+use Rattle.lsr_facts.specs.declared.repair.Over.{Over}
+use Rattle.lsr_facts.specs.declared.repair.Repair.{Repair}
 use Rattle.forwarding_table.specs.Labels.{is_label}
 use Rattle.abstract_paths.proofs.Detouring.{route_after-short}
 use Rattle.abstract_paths.specs.Detouring.{route_after}

@@ -10,18 +10,18 @@ use Rattle.std.proofs.lemmas.List.{length-set}
 use Rattle.byteorder.specs.Endian.{big_number}
 use Rattle.rsvp_objects.specs.Ranges.{IsAddress}
 use Rattle.rsvp_objects.specs.declared.object.Object.TheVariants as objects
-use Rattle.rsvp_routes.specs.Traces.{record_bytes}
-use Rattle.rsvp_routes.specs.declared.trace.Trace.{Trace}
-use Rattle.rsvp_traffic.specs.Rates.{rate_of}
-use Rattle.rsvp_traffic.specs.TokenBuckets.{has_shape, rate_word_of, service_of, token_rate}
-use Rattle.rsvp_traffic.specs.Traffic.{flowspec_rate}
-use Rattle.rsvp_traffic.specs.declared.fault.TrafficFault.{TrafficFault}
-use Rattle.rsvp_traffic.specs.declared.fault.TrafficFault.TheVariants.{BadFlowspec, ServiceUnsupported}
-use Rattle.rsvp_traffic.proofs.Shapes.{has_shape-whole}
-use Rattle.rsvp_flows.specs.declared.descriptors.FlowDescriptor.{FlowDescriptor}
-use Rattle.rsvp_flows.specs.Flows.{fits_style, if_some}
-use Rattle.rsvp_flows.proofs.Sizes.{flow_parts}
-use Rattle.rsvp_flows.proofs.Totals.{if_some_of, length-flat_map-spelling, size_of, total-if_some}
+use Rattle.rsvp_bodies.specs.Traces.{record_bytes}
+use Rattle.rsvp_bodies.specs.declared.trace.Trace.{Trace}
+use Rattle.rsvp_bodies.specs.Rates.{rate_of}
+use Rattle.rsvp_bodies.specs.TokenBuckets.{has_shape, rate_word_of, service_of, token_rate}
+use Rattle.rsvp_bodies.specs.Traffic.{flowspec_rate}
+use Rattle.rsvp_bodies.specs.declared.traffic_fault.TrafficFault.{TrafficFault}
+use Rattle.rsvp_bodies.specs.declared.traffic_fault.TrafficFault.TheVariants.{BadFlowspec, ServiceUnsupported}
+use Rattle.rsvp_bodies.proofs.Shapes.{has_shape-whole}
+use Rattle.rsvp_contents.specs.declared.descriptors.FlowDescriptor.{FlowDescriptor}
+use Rattle.rsvp_contents.specs.Flows.{fits_style, if_some}
+use Rattle.rsvp_contents.proofs.Sizes.{flow_parts}
+use Rattle.rsvp_contents.proofs.FlowTotals.{if_some_of, length-flat_map-spelling, size_of, total-if_some}
 use Rattle.rsvp_contents.specs.Fitting.{HasRoom, are_passed_by, fits_resv, has_adspec_last}
 use Rattle.rsvp_contents.specs.Limits.{is_short_passing, is_short_record}
 use Rattle.rsvp_contents.specs.declared.messages.Content.TheVariants as contents
@@ -31,14 +31,14 @@ use Rattle.lsr_facts.specs.declared.key.Key.{Key}
 use Rattle.lsr_facts.specs.declared.path_fact.Origin.{Origin}
 use Rattle.lsr_facts.specs.declared.path_fact.PathFact.{PathFact}
 use Rattle.lsr_facts.specs.declared.router.Router.{Router}
-use Rattle.resv_facts.specs.Reservations.{timeless_repair, timeless_resv}
-use Rattle.resv_facts.specs.declared.repair.Repair.{Repair}
-use Rattle.resv_facts.specs.declared.resv_fact.ResvFact.{ResvFact}
-use Rattle.resv_facts.specs.declared.resv_fact.ResvStyle.{ResvStyle}
-use Rattle.resv_facts.specs.declared.resv_fact.ResvStyle.TheVariants.{FixedFilter, SharedExplicit}
+use Rattle.lsr_facts.specs.Reservations.{timeless_repair, timeless_resv}
+use Rattle.lsr_facts.specs.declared.repair.Repair.{Repair}
+use Rattle.lsr_facts.specs.declared.resv_fact.ResvFact.{ResvFact}
+use Rattle.lsr_facts.specs.declared.resv_fact.ResvStyle.{ResvStyle}
+use Rattle.lsr_facts.specs.declared.resv_fact.ResvStyle.TheVariants.{FixedFilter, SharedExplicit}
 use Rattle.sorted_rows.specs.RowsLaws.{find-all_row}
 use Rattle.abstract_paths.specs.Paths.{goes_on}
-use Rattle.resv_facts.specs.Reservations.{style_word}
+use Rattle.lsr_facts.specs.Reservations.{style_word}
 use Rattle.abstract_router.specs.Lsps.{Around, Lsp, held_of, lsp_of}
 use Rattle.abstract_router.specs.Soundness.{IsResv}
 use Rattle.abstract_router.specs.States.{State}

@@ -16,13 +16,12 @@ ghost use Rattle.wanted_messages.specs.Fitting.{CanGoThrough};
 use crate::addresses::has_four_octets;
 use crate::downstream::Wanted;
 use crate::routes::route_after;
+use abstract_paths::Output;
 use facility_backup::detour_at;
-use lsr_facts::{Item, Key, Link, Node, PathFact};
+use lsr_facts::{Detour, Item, Key, Link, Node, PathFact, Repair};
 use message_rules::{head_through, hop_through, labelled_by, link_at, path_onward};
-use resv_facts::{Detour, Repair};
-use router_events::Output;
+use rsvp_bodies::Route;
 use rsvp_contents::{Content, Message, Path};
-use rsvp_routes::Route;
 use state_views::{StateView, node_of};
 use std::alloc::{AllocError, Global};
 

@@ -14,9 +14,9 @@ ghost use Rattle.abstract_router.specs.Wanted.{backup_at, downstream_at, downstr
 ghost use Rattle.wanted_messages.specs.Fitting.{CanGoOn};
 
 use crate::backups::backup_row;
+use abstract_paths::Output;
 use lsr_facts::{Item, Key, PathFact};
 use message_rules::{goes_on, is_up, link_at, path_onward, sent_by};
-use router_events::Output;
 use rsvp_contents::{Content, Message};
 use state_views::{StateView, node_of};
 use std::alloc::{AllocError, Global};

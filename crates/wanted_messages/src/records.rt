@@ -10,8 +10,8 @@ ghost use Rattle.abstract_paths.specs.Paths.{short_only};
 use crate::reserved::records_labels;
 use explicit_routes::node_at;
 use lsr_facts::{PathFact, Router};
+use rsvp_bodies::{Record, Trace};
 use rsvp_contents::limits::is_short_record;
-use rsvp_routes::{Record, Trace};
 use std::alloc::{AllocError, Global};
 
 /// The flag of a label that holds on every link of its node (RFC 3209, 4.4.1.3).

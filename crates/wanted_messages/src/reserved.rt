@@ -7,13 +7,11 @@ ghost use Rattle.abstract_router.specs.Upstreams.{records_labels, reserved_by_en
 ghost use Rattle.wanted_messages.specs.Telling.{said};
 
 use facility_backup::{held_of, own_flags};
-use lsr_facts::{Key, PathFact};
+use lsr_facts::{Key, PathFact, ResvFact, ResvStyle};
 use message_rules::goes_on;
-use resv_facts::{ResvFact, ResvStyle};
+use rsvp_bodies::{Flowspec, Record};
 use rsvp_contents::Passing;
 use rsvp_objects::Attr;
-use rsvp_routes::Record;
-use rsvp_traffic::Flowspec;
 use state_views::StateView;
 use std::alloc::{AllocError, Global};
 

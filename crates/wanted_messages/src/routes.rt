@@ -8,7 +8,7 @@ ghost use Rattle.abstract_paths.specs.Places.{contains};
 ghost use Rattle.abstract_paths.specs.Routing.{nodes_of};
 
 use explicit_routes::{contains, copy_behind, node_at, nodes_of, step_to};
-use rsvp_routes::{Route, Step};
+use rsvp_bodies::{Route, Step};
 use std::alloc::{AllocError, Global};
 use std::net::Ipv4Addr;
 

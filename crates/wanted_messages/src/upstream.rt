@@ -15,9 +15,8 @@ ghost use Rattle.wanted_messages.specs.Telling.{said};
 
 use crate::reserved::reserved_for;
 use crate::resvs::{ToldLsp, upstream_row};
-use lsr_facts::{Key, Origin, PathFact};
-use resv_facts::Upstream;
-use router_events::Output;
+use abstract_paths::Output;
+use lsr_facts::{Key, Origin, PathFact, Upstream};
 use state_views::StateView;
 use std::alloc::{AllocError, Global};
 use std::net::Ipv4Addr;

@@ -1,7 +1,7 @@
 //! A journal that is full.
 
+use abstract_paths::Event;
 use lsr_facts::Refusal;
-use router_events::Event;
 use std::alloc::Global;
 use std::sync::Wait;
 use std::sync::ledger::Ledger;

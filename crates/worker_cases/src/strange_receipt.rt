@@ -1,6 +1,6 @@
 //! A receipt of another router.
 
-use router_events::Event;
+use abstract_paths::Event;
 use std::alloc::Global;
 use std::slice;
 use std::sync::Wait;

@@ -3,7 +3,7 @@ ghost use Rattle.std.specs.Prelude.{◌≡◌, ◌<◌, ◌^◌, ◌-◌, IfOk, 
 
 use crate::link_ends::{Ends, FAR, NEAR, free_ends, open_last};
 use crate::small_runs::served_by;
-use resv_facts::State;
+use lsr_facts::State;
 use sorted_rows::Table;
 use std::alloc::{AllocError, Global};
 use std::net::Net;

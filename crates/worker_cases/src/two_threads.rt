@@ -2,8 +2,8 @@
 ghost use Rattle.std.specs.Prelude.{◌≡◌};
 
 use crate::wires::Silent;
+use abstract_paths::Event;
 use lsr_config::BUILT_IN;
-use router_events::Event;
 use std::alloc::{AllocError, Global};
 use std::marker::Brand;
 use std::sync::Wait;

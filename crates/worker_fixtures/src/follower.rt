@@ -1,11 +1,11 @@
 //! A port of a router, and a reader of its label table that learns from it.
 
 use crate::left::count_entries;
+use abstract_paths::Event;
 use datagrams::{Datagram, Passed};
 use forwarding_table::Action;
 use lsr_facts::{Refusal, Router};
 use lsr_serve::workers::{Closed, Core, CoreReader, Mark, Port, read_by};
-use router_events::Event;
 use std::alloc::{AllocError, Global};
 use std::fmt;
 use std::sync::Wait;

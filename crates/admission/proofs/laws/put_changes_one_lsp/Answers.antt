@@ -1,7 +1,7 @@
 use Rattle.sorted_rows.specs.RowsLaws.{find-put_same, find-put_apart}
 use Rattle.lsr_facts.specs.Orders.{key_cmp}
 use Rattle.lsr_facts.specs.OrderLaws.{key_exact, key_total}
-use Rattle.resv_facts.specs.Claims.{claim_of}
+use Rattle.lsr_facts.specs.Claims.{claim_of}
 use Rattle.admission.proofs.laws.put_changes_one_lsp.Goals as goal
 
 pub returns-clause-fact : goal.returns-clause-fact

@@ -1,7 +1,7 @@
 use Rattle.std.proofs.Common.{refl}
 use Rattle.std.specs.FinMap.Entries.{find}
 use Rattle.lsr_facts.specs.Orders.{key_cmp}
-use Rattle.resv_facts.specs.declared.claim.Claim.{Claim}
+use Rattle.lsr_facts.specs.declared.claim.Claim.{Claim}
 use Rattle.admission.proofs.Holdings.{find_become, find_other}
 use Rattle.admission.proofs.laws.set_holding_changes_one_lsp.Goals as goal
 

@@ -1,6 +1,6 @@
 use Rattle.std.proofs.Common.{[], ◌∙◌}
 use Rattle.lsr_facts.specs.Orders.{key_cmp}
-use Rattle.resv_facts.specs.Claims.{counts, reserved_of}
+use Rattle.lsr_facts.specs.Claims.{counts, reserved_of}
 use Rattle.sorted_rows.specs.RowsLaws.{is_sorted-filter}
 use Rattle.admission.proofs.reserved.reserved.Goals as goal
 

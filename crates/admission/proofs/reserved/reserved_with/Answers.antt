@@ -4,8 +4,8 @@ use Rattle.std.specs.List.{filter}
 use Rattle.std.proofs.lemmas.List.Elements.{filter-append}
 use Rattle.lsr_facts.specs.Orders.{key_cmp}
 use Rattle.lsr_facts.specs.OrderLaws.{key_total}
-use Rattle.resv_facts.specs.Admission.{granted}
-use Rattle.resv_facts.specs.Claims.{counts, rate_of_all, reserved_of}
+use Rattle.lsr_facts.specs.Admission.{granted}
+use Rattle.lsr_facts.specs.Claims.{counts, rate_of_all, reserved_of}
 use Rattle.sorted_rows.specs.RowsLaws.{is_sorted-filter}
 use Rattle.admission.specs.Sums.{AddsClaims}
 use Rattle.admission.proofs.Around.{parts_few, parts_rated}

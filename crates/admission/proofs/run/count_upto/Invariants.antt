@@ -1,6 +1,6 @@
 use Rattle.std.proofs.Common.{◌≡◌, ℕ, ◌<◌, true, get_or}
 use Rattle.lsr_facts.specs.declared.key.Key.{Key}
-use Rattle.resv_facts.specs.declared.claim.Claim.{Claim}
+use Rattle.lsr_facts.specs.declared.claim.Claim.{Claim}
 use Rattle.admission.proofs.Runs.{comes_upto}
 use Rattle.admission.proofs.run.count_upto.Given as goal
 

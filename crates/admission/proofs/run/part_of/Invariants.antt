@@ -1,6 +1,6 @@
 use Rattle.std.proofs.Common.{◌*◌, ◌^◌, ◌≤◌, take}
 use Rattle.std.specs.List.{filter}
-use Rattle.resv_facts.specs.Claims.{counts}
+use Rattle.lsr_facts.specs.Claims.{counts}
 use Rattle.admission.specs.Sums.{IsRateOf}
 use Rattle.admission.proofs.run.part_of.Given as goal
 

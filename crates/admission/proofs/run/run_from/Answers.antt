@@ -6,8 +6,8 @@ use Rattle.sorted_rows.specs.ListLaws.{all-filter, all-filter_passes}
 use Rattle.sorted_rows.specs.RowsLaws.{is_sorted-filter}
 use Rattle.lsr_facts.specs.Orders.{key_cmp}
 use Rattle.lsr_facts.specs.declared.key.Key.{Key}
-use Rattle.resv_facts.specs.Claims.{is_of}
-use Rattle.resv_facts.specs.declared.claim.Claim.{Claim}
+use Rattle.lsr_facts.specs.Claims.{is_of}
+use Rattle.lsr_facts.specs.declared.claim.Claim.{Claim}
 use Rattle.admission.specs.Bandwidths.{AreRated}
 use Rattle.admission.proofs.Runs.{from_sorted, run_is}
 use Rattle.admission.proofs.run.run_from.Goals as goal

@@ -1,5 +1,5 @@
 use Rattle.std.proofs.Common.{sym, ◌∙◌}
-use Rattle.resv_facts.specs.ClaimLaws.{flowspec_rate-most}
+use Rattle.lsr_facts.specs.ClaimLaws.{flowspec_rate-most}
 use Rattle.admission.proofs.state.claim_of.Goals as goal
 
 pub returns-clause-most : goal.returns-clause-most

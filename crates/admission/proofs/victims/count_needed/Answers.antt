@@ -2,10 +2,10 @@ use Rattle.std.proofs.Common.{◌≡◌, ◌≤◌, [], T, nat_le, drop, refl, s
 use Rattle.std.specs.FinMap.Entries.{is_sorted}
 use Rattle.std.proofs.lemmas.Bool.{le-leb, lt-leb}
 use Rattle.lsr_facts.specs.Orders.{key_cmp}
-use Rattle.resv_facts.specs.Admission.{granted, is_enough, shortest}
-use Rattle.resv_facts.specs.Claims.{reserved_of}
+use Rattle.lsr_facts.specs.Admission.{granted, is_enough, shortest}
+use Rattle.lsr_facts.specs.Claims.{reserved_of}
 use Rattle.admission.specs.Bandwidths.{AreRated}
-use Rattle.resv_facts.specs.TurnLaws.{shortest-none}
+use Rattle.lsr_facts.specs.TurnLaws.{shortest-none}
 use Rattle.admission.specs.RoomLaws.{without_none}
 use Rattle.admission.proofs.Leaving.{granted_few, granted_next, granted_rated, granted_sorted}
 use Rattle.admission.proofs.Turns.{turn_last, turn_next}

@@ -1,6 +1,6 @@
 use Rattle.std.proofs.Common.{◌≡◌, [], drop, take}
-use Rattle.resv_facts.specs.Admission.{granted, is_enough, shortest, without}
-use Rattle.resv_facts.specs.Claims.{reserved_of}
+use Rattle.lsr_facts.specs.Admission.{granted, is_enough, shortest, without}
+use Rattle.lsr_facts.specs.Claims.{reserved_of}
 use Rattle.admission.proofs.victims.count_needed.Given as goal
 
 -- those so far are gone and the request is granted, so much is reserved then, and the shortest beginning of all is that

@@ -1,6 +1,6 @@
 use Rattle.std.proofs.Common.{◌<◌, arith}
 use Rattle.std.specs.List.{filter}
-use Rattle.resv_facts.specs.Admission.{can_give_way, in_turn}
+use Rattle.lsr_facts.specs.Admission.{can_give_way, in_turn}
 use Rattle.admission.proofs.Turns.{held_next}
 use Rattle.admission.proofs.victims.in_turn.Goals as goal
 

@@ -1,6 +1,6 @@
 use Rattle.std.proofs.Common.{◌≡◌, ◌++◌, map, suc}
 use Rattle.std.specs.List.{filter}
-use Rattle.resv_facts.specs.Admission.{can_give_way, in_turn}
+use Rattle.lsr_facts.specs.Admission.{can_give_way, in_turn}
 use Rattle.admission.proofs.Turns.{below}
 use Rattle.admission.proofs.victims.in_turn.Given as goal
 

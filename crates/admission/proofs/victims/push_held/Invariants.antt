@@ -1,8 +1,8 @@
 use Rattle.std.proofs.Common.{◌≡◌, ◌==◌, ◌&&◌, ◌++◌, Bor, map}
 use Rattle.std.specs.List.{filter}
 use Rattle.lsr_facts.specs.declared.key.Key.{Key}
-use Rattle.resv_facts.specs.Admission.{can_give_way}
-use Rattle.resv_facts.specs.declared.claim.Claim.{Claim}
+use Rattle.lsr_facts.specs.Admission.{can_give_way}
+use Rattle.lsr_facts.specs.declared.claim.Claim.{Claim}
 use Rattle.admission.proofs.victims.push_held.Given as goal
 
 -- of the claims so far those stand behind that pass both tests

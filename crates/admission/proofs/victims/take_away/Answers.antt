@@ -5,8 +5,8 @@ use Rattle.std.proofs.lemmas.List.Sums.{count_by-le-length, length-filter}
 use Rattle.sorted_rows.specs.ListLaws.{all-filter}
 use Rattle.lsr_facts.specs.Orders.{key_cmp}
 use Rattle.lsr_facts.specs.declared.key.Key.{Key}
-use Rattle.resv_facts.specs.Claims.{reserved_of}
-use Rattle.resv_facts.specs.declared.claim.Claim.{Claim}
+use Rattle.lsr_facts.specs.Claims.{reserved_of}
+use Rattle.lsr_facts.specs.declared.claim.Claim.{Claim}
 use Rattle.admission.specs.Bandwidths.{AreRated}
 use Rattle.admission.proofs.Claiming.{exchanged}
 use Rattle.admission.proofs.Moving.{mine, others_removed}

@@ -3,7 +3,7 @@ use Rattle.std.specs.List.{All}
 use Rattle.std.specs.Ordering.{is_eq}
 use Rattle.std.proofs.lemmas.Bool.{le-leb}
 use Rattle.lsr_facts.specs.Orders.{key_cmp}
-use Rattle.resv_facts.specs.AdmissionLaws.{victims_of-none}
+use Rattle.lsr_facts.specs.AdmissionLaws.{victims_of-none}
 use Rattle.admission.specs.RoomLaws.{enough_is}
 use Rattle.admission.proofs.Leaving.{turns_apart}
 use Rattle.admission.proofs.victims.victims_from.Goals as goal

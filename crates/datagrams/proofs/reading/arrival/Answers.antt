@@ -1,5 +1,5 @@
 use Rattle.std.proofs.Common.{◌≡◌, true, refl}
-use Rattle.router_events.specs.Ways.{takes}
+use Rattle.abstract_paths.specs.Ways.{takes}
 use Rattle.datagrams.proofs.Read.{message_arrives}
 use Rattle.datagrams.proofs.reading.arrival.Goals as goal
 

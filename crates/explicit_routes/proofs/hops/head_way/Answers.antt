@@ -1,10 +1,10 @@
 use Rattle.std.proofs.Common.{◌≡◌, ◌∙◌, true, List, Some, drop, sym, ap, subst, arith, rules, refl}
 use Rattle.std.specs.List.{prefix_len}
 use Rattle.std.specs.declared.net.ipv4_addr.Ipv4Addr.{Ipv4Addr}
-use Rattle.rsvp_routes.specs.Steps.{step_bytes}
+use Rattle.rsvp_bodies.specs.Steps.{step_bytes}
 use Rattle.lsr_facts.specs.Tunnels.{route_from}
 use Rattle.lsr_facts.specs.declared.router.Router.{Router}
-use Rattle.rsvp_routes.specs.declared.step.Step.{Step}
+use Rattle.rsvp_bodies.specs.declared.step.Step.{Step}
 use Rattle.abstract_paths.specs.Places.{Place, contains, is_here, place_at}
 use Rattle.abstract_paths.specs.Routing.{hop_by_rest, hop_by_route, leads_here, next_hop}
 use Rattle.explicit_routes.specs.Choosing.{IsWay}

@@ -1,7 +1,7 @@
 use Rattle.std.proofs.Common.{◌≡◌, List, ◌∙◌, ◌≤◌, ◌∷◌, length, sym, ap, arith, rules}
 use Rattle.std.specs.List.{prefix_len}
-use Rattle.rsvp_routes.specs.Steps.{route_bytes}
-use Rattle.rsvp_routes.specs.declared.step.Step.{Step}
+use Rattle.rsvp_bodies.specs.Steps.{route_bytes}
+use Rattle.rsvp_bodies.specs.declared.step.Step.{Step}
 use Rattle.abstract_paths.specs.Routing.{leads_here}
 use Rattle.explicit_routes.proofs.Room.{room_for_one}
 use Rattle.explicit_routes.proofs.hops.hop_by_route.Goals as goal

@@ -1,5 +1,5 @@
 use Rattle.std.proofs.Common.{◌≡◌, ◌≤◌, List, length}
-use Rattle.rsvp_routes.specs.declared.step.Step.{Step}
+use Rattle.rsvp_bodies.specs.declared.step.Step.{Step}
 use Rattle.lsr_lines.specs.Commands.{words_left}
 use Rattle.lsr_lines.proofs.WordLaws.{AreRead}
 use Rattle.lsr_lines.proofs.commands.is_route.Given as goal

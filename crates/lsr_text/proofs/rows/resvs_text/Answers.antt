@@ -2,7 +2,7 @@
 use Rattle.std.proofs.Common.{◌≡◌, ◌+◌, ◌++◌, ◌∷◌, [], ap, sym, ◌∙◌, take, string_bytes}
 use Rattle.std.proofs.lemmas.List.{take_more}
 use Rattle.lsr_facts.specs.declared.key.Key.{Key}
-use Rattle.resv_facts.specs.declared.resv_fact.ResvFact.{ResvFact}
+use Rattle.lsr_facts.specs.declared.resv_fact.ResvFact.{ResvFact}
 use Rattle.lsr_text.specs.Rows.{resv_line}
 use Rattle.object_text.proofs.Growing.{rows_push_after}
 use Rattle.lsr_text.proofs.rows.resvs_text.Goals as goal

@@ -1,8 +1,8 @@
 use Rattle.std.specs.Result.{is_err}
 use Rattle.std.proofs.Common.{ap, ◌∙◌}
-use Rattle.rsvp_traffic.specs.TokenBuckets.{token_rate}
-use Rattle.rsvp_traffic.specs.Traffic.{tspec_rate}
-use Rattle.rsvp_traffic.specs.declared.fault.TrafficFault.TheVariants.{BadTspec}
+use Rattle.rsvp_bodies.specs.TokenBuckets.{token_rate}
+use Rattle.rsvp_bodies.specs.Traffic.{tspec_rate}
+use Rattle.rsvp_bodies.specs.declared.traffic_fault.TrafficFault.TheVariants.{BadTspec}
 use Rattle.message_rules.proofs.Choices.{missing}
 use Rattle.message_rules.proofs.paths.has_no_rate.Goals as goal
 

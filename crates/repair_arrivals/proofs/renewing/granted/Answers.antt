@@ -2,7 +2,7 @@
 use Rattle.std.proofs.Common.{◌≡◌, Some, ap, refl, true, ◌∙◌}
 use Rattle.std.specs.FinMap.Entries.{put}
 use Rattle.lsr_facts.specs.Orders.{key_cmp}
-use Rattle.resv_facts.specs.declared.resv_fact.ResvFact.{ResvFact}
+use Rattle.lsr_facts.specs.declared.resv_fact.ResvFact.{ResvFact}
 use Rattle.resv_arrivals.specs.Progresses.{fact_at}
 use Rattle.repair_arrivals.proofs.Renewals.{granted_leads, granted_reached}
 use Rattle.repair_arrivals.specs.declared.progress.Progress.{Progress}

@@ -1,8 +1,8 @@
 use Rattle.std.proofs.Common.{◌≢◌, ◌+◌, List, [], None, drop, false, length, ap, arith, ne_eqb, subst, sym, ◌∙◌}
 use Rattle.std.specs.Prelude.{fold}
 use Rattle.lsr_facts.specs.declared.key.Key.{Key}
-use Rattle.rsvp_flows.proofs.Sizes.{drop_one}
-use Rattle.rsvp_flows.specs.declared.descriptors.FlowDescriptor.{FlowDescriptor}
+use Rattle.rsvp_contents.proofs.Sizes.{drop_one}
+use Rattle.rsvp_contents.specs.declared.descriptors.FlowDescriptor.{FlowDescriptor}
 use Rattle.abstract_router.specs.Reserving as reserving
 use Rattle.abstract_router.specs.Reserving.{PassedOver, next_descriptor, resv_by, verdict_of}
 use Rattle.resv_arrivals.proofs.Hearing.{heard_all, heard_next, on_err, still_heard}

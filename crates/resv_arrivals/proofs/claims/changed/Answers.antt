@@ -1,7 +1,7 @@
 use Rattle.std.proofs.Common.{List, Option, sym, ap, ◌∙◌}
 use Rattle.std.specs.Option.{unwrap_or}
 use Rattle.lsr_facts.specs.declared.key.Key.{Key}
-use Rattle.resv_facts.specs.declared.claim.Claim.{Claim}
+use Rattle.lsr_facts.specs.declared.claim.Claim.{Claim}
 use Rattle.abstract_router.specs.Preempting.{claims_of}
 use Rattle.resv_arrivals.proofs.Claiming.{are_claimed}
 use Rattle.resv_arrivals.proofs.claims.changed.Goals as goal

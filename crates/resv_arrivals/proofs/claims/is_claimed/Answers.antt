@@ -2,10 +2,10 @@ use Rattle.std.proofs.Common.{◌≡◌, IsOk, Option, Some, ap, subst, sym, ◌
 use Rattle.std.specs.FinMap.Entries.{find}
 use Rattle.std.specs.Option.{option_copied}
 use Rattle.std.specs.Prelude.{IfSome}
-use Rattle.rsvp_traffic.specs.Traffic.{flowspec_rate}
+use Rattle.rsvp_bodies.specs.Traffic.{flowspec_rate}
 use Rattle.sorted_rows.specs.RowsLaws.{find-all}
 use Rattle.lsr_facts.specs.Orders.{key_cmp}
-use Rattle.resv_facts.specs.declared.resv_fact.ResvFact.{ResvFact}
+use Rattle.lsr_facts.specs.declared.resv_fact.ResvFact.{ResvFact}
 use Rattle.resv_arrivals.proofs.Claiming.{claimed_as, claimed_none}
 use Rattle.resv_arrivals.specs.Progresses.{resvs_at}
 use Rattle.resv_arrivals.proofs.claims.is_claimed.Goals as goal

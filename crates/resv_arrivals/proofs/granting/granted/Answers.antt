@@ -2,8 +2,8 @@ use Rattle.std.proofs.Common.{◌^◌, ◌≤◌, List, Some, sym, subst, ap, �
 use Rattle.std.specs.Option.{unwrap_or}
 use Rattle.std.specs.Prelude.{fold}
 use Rattle.lsr_facts.specs.declared.key.Key.{Key}
-use Rattle.resv_facts.specs.Admission.{granted, without}
-use Rattle.resv_facts.specs.declared.claim.Request.{Request}
+use Rattle.lsr_facts.specs.Admission.{granted, without}
+use Rattle.lsr_facts.specs.declared.claim.Request.{Request}
 use Rattle.abstract_router.specs.Preempting.{claims_of}
 use Rattle.resv_arrivals.proofs.Claiming.{rate_most}
 use Rattle.resv_arrivals.proofs.Reaching.{granted_leads}

@@ -3,10 +3,10 @@ use Rattle.std.specs.FinMap.Entries.{find}
 use Rattle.std.specs.Option.{option_copied}
 use Rattle.std.specs.Prelude.{IfSome}
 use Rattle.sorted_rows.specs.Edits.{edited}
-use Rattle.rsvp_traffic.specs.Traffic.{flowspec_rate}
+use Rattle.rsvp_bodies.specs.Traffic.{flowspec_rate}
 use Rattle.sorted_rows.specs.RowsLaws.{find-all}
 use Rattle.lsr_facts.specs.Orders.{key_cmp}
-use Rattle.resv_facts.specs.declared.resv_fact.ResvFact.{ResvFact}
+use Rattle.lsr_facts.specs.declared.resv_fact.ResvFact.{ResvFact}
 use Rattle.resv_arrivals.proofs.granting.told_preempted_at.Goals as goal
 
 pub told_preempted-requires : goal.told_preempted-requires

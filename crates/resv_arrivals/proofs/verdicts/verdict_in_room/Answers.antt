@@ -1,6 +1,6 @@
 use Rattle.std.proofs.Common.{◌^◌, ◌≡◌, ◌≤◌, false, true, not, sym, subst, ap, ◌∙◌}
-use Rattle.resv_facts.specs.ClaimLaws.{flowspec_rate-most}
-use Rattle.resv_facts.specs.declared.claim.Request.{Request}
+use Rattle.lsr_facts.specs.ClaimLaws.{flowspec_rate-most}
+use Rattle.lsr_facts.specs.declared.claim.Request.{Request}
 use Rattle.abstract_router.specs.Preempting.{request_of}
 use Rattle.abstract_router.specs.Reserving.{verdict_by_rate}
 use Rattle.resv_arrivals.proofs.Judging.{as_it_fits, asks_is, renewed_is}

@@ -5,11 +5,11 @@ use Rattle.std.proofs.Common.{ap, subst, sym, ◌∙◌}
 use Rattle.sorted_rows.specs.Edits as rows
 use Rattle.lsr_facts.specs.Orders.{key_cmp}
 use Rattle.lsr_facts.specs.declared.key.Key.{Key}
-use Rattle.resv_facts.specs.declared.resv_fact.ResvFact.{ResvFact}
-use Rattle.rsvp_traffic.specs.Traffic.{flowspec_rate}
+use Rattle.lsr_facts.specs.declared.resv_fact.ResvFact.{ResvFact}
+use Rattle.rsvp_bodies.specs.Traffic.{flowspec_rate}
 use Rattle.abstract_router.specs.Preempting.{claims_of}
 use Rattle.abstract_router.specs.Outputs.{outputs_of}
-use Rattle.router_events.specs.declared.events.Output.{Output}
+use Rattle.abstract_paths.specs.declared.events.Output.{Output}
 use Rattle.router_tables.specs.Below.views.Drafts.{due_by, upstream_due_by}
 use Rattle.router_tables.specs.Below.views.Edits.{edited}
 use Rattle.router_core.specs.Plans.{IsSendingPlan, drafted}

@@ -3,8 +3,8 @@ use Rattle.std.proofs.lemmas.Result.{IfOk-weaker}
 use Rattle.sorted_rows.specs.Edits.{edited}
 use Rattle.lsr_facts.specs.Orders.{key_cmp}
 use Rattle.lsr_facts.specs.declared.key.Key.{Key}
-use Rattle.resv_facts.specs.Reservations.{expire, lives_past}
-use Rattle.resv_facts.specs.declared.resv_fact.ResvFact.{ResvFact}
+use Rattle.lsr_facts.specs.Reservations.{expire, lives_past}
+use Rattle.lsr_facts.specs.declared.resv_fact.ResvFact.{ResvFact}
 use Rattle.state_views.specs.Edits.{without_rows}
 use Rattle.router_steps.proofs.Staying.{edited_staying}
 use Rattle.router_steps.proofs.ticks.resv_expiries.Goals as goal

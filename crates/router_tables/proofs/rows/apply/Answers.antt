@@ -8,7 +8,7 @@ use Rattle.label_space.specs.Bindings.{AreHeldOf}
 use Rattle.label_table.specs.TunnelLaws.{length_tunnel_table}
 use Rattle.lsr_facts.specs.Orders.{item_cmp, key_cmp}
 use Rattle.lsr_facts.specs.declared.router.LabelRange.{LabelRange}
-use Rattle.resv_facts.specs.Upstreams.{upstream_cmp}
+use Rattle.lsr_facts.specs.Upstreams.{upstream_cmp}
 use Rattle.router_tables.specs.Changes.{changed}
 use Rattle.router_tables.specs.States.{AreTables, state_of}
 use Rattle.router_tables.specs.declared.rows.Rows.{Rows}

@@ -4,7 +4,7 @@ use Rattle.std.specs.declared.cmp.Ordering.TheVariants.{Equal}
 use Rattle.sorted_rows.specs.Edits as in_rows
 use Rattle.lsr_facts.specs.OrderLaws.{item_exact}
 use Rattle.lsr_facts.specs.declared.key.Item.{Item}
-use Rattle.resv_facts.specs.UpstreamOrder.{upstream_exact}
+use Rattle.lsr_facts.specs.UpstreamOrder.{upstream_exact}
 use Rattle.router_tables.proofs.rows.edit_moments.Goals as goal
 
 pub edit-requires : goal.edit-requires

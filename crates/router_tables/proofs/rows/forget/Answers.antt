@@ -8,7 +8,7 @@ use Rattle.label_table.specs.Rows.{IsTableOf}
 use Rattle.label_table.specs.TunnelLaws.{tunnel_table-none}
 use Rattle.lsr_facts.specs.declared.key.Item.{Item}
 use Rattle.refresh_timers.specs.Timers.{Timers}
-use Rattle.resv_facts.specs.declared.upstream.Upstream.{Upstream}
+use Rattle.lsr_facts.specs.declared.upstream.Upstream.{Upstream}
 use Rattle.abstract_router.specs.Preempting.{claims_of}
 use Rattle.abstract_router.specs.Soundness.{IsSound}
 use Rattle.abstract_router.specs.States.{State}

@@ -3,7 +3,7 @@ use Rattle.std.proofs.Common.{◌≡◌, ◌≤◌, ◌+◌, ◌∙◌, None, le
 use Rattle.std.specs.List.{flat_map}
 use Rattle.std.proofs.lemmas.Bool.{le-leb}
 use Rattle.rsvp_objects.specs.Objects.{spelling}
-use Rattle.rsvp_flows.specs.Flows.{flow_objects}
+use Rattle.rsvp_contents.specs.Flows.{flow_objects}
 use Rattle.rsvp_contents.specs.Fitting.{written_len}
 use Rattle.rsvp_contents.specs.declared.messages.Content.TheVariants as contents
 use Rattle.rsvp_contents.proofs.Bytes.{no_room_left, passing_most, resv_written, room_left}

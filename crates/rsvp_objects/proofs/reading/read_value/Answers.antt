@@ -3,7 +3,7 @@ use Rattle.std.proofs.Common.{subst}
 use Rattle.rsvp_bodies.specs.Reading.{ReadsWhole}
 use Rattle.rsvp_objects.specs.declared.kind.Kind.{Kind}
 use Rattle.rsvp_objects.specs.declared.object.Object.TheVariants as objects
-use Rattle.session_attribute.specs.Attributes.{SpellsAttr}
+use Rattle.rsvp_bodies.specs.Attributes.{SpellsAttr}
 use Rattle.rsvp_objects.specs.Objects.{SpellsAs}
 use Rattle.rsvp_objects.proofs.Mapped.{reads_mapped}
 use Rattle.rsvp_objects.proofs.reading.read_value.Goals as goal

@@ -1,7 +1,7 @@
 -- The entry's parts are those of the step.
 use Rattle.std.proofs.Common.{rules, ap, sym, ◌∙◌}
-use Rattle.router_events.specs.declared.events.Event.{Event}
-use Rattle.event_bytes.specs.Events.{event_bytes}
+use Rattle.abstract_paths.specs.declared.events.Event.{Event}
+use Rattle.journal_bytes.specs.Events.{event_bytes}
 use Rattle.run_journal.specs.Entries.{written_frame}
 use Rattle.std.proofs.Common.{map, refl}
 use Rattle.run_journal.proofs.Making.{made-event}

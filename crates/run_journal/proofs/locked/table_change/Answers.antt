@@ -1,8 +1,8 @@
 -- The change is that of the step, whatever this is.
 use Rattle.std.proofs.Common.{IfOk, rules, subst, sym}
 use Rattle.std.proofs.lemmas.Result.{IfOk-weaker}
-use Rattle.router_machine.specs.declared.ready.Ready.{Ready}
-use Rattle.router_machine.specs.declared.ready.Ready.TheVariants as readies
+use Rattle.router_core.specs.declared.ready.Ready.{Ready}
+use Rattle.router_core.specs.declared.ready.Ready.TheVariants as readies
 use Rattle.lookup_plane.specs.declared.change.TableChange.{TableChange}
 use Rattle.run_journal.specs.Journals.{IsChangeFor}
 use Rattle.run_journal.proofs.Announcing.{for_plan, for_restart, for_start, for_still}

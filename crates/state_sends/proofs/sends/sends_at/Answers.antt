@@ -7,7 +7,7 @@ use Rattle.std.specs.declared.cmp.Ordering.{Ordering}
 use Rattle.sorted_rows.specs.Edits as edits
 use Rattle.sorted_rows.specs.Rows.{keys_of}
 use Rattle.lsr_facts.specs.Orders.{key_cmp}
-use Rattle.router_events.specs.declared.events.Output.{Output}
+use Rattle.abstract_paths.specs.declared.events.Output.{Output}
 use Rattle.abstract_paths.specs.Outputs.{between, send_for, tear_for}
 use Rattle.abstract_paths.specs.Stamps.{stamps}
 use Rattle.abstract_paths.specs.Touched.{is_among, moments_between}

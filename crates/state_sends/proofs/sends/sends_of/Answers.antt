@@ -3,9 +3,9 @@ use Rattle.std.proofs.Common.{◌≡◌, ◌++◌, List, ap, subst, sym, ◌∙�
 use Rattle.std.specs.List.Sorted.{IsSorted}
 use Rattle.lsr_facts.specs.Orders.{item_cmp}
 use Rattle.lsr_facts.specs.declared.key.Item.{Item}
-use Rattle.resv_facts.specs.Upstreams.{upstream_cmp}
-use Rattle.resv_facts.specs.declared.upstream.Upstream.{Upstream}
-use Rattle.router_events.specs.declared.events.Output.{Output}
+use Rattle.lsr_facts.specs.Upstreams.{upstream_cmp}
+use Rattle.lsr_facts.specs.declared.upstream.Upstream.{Upstream}
+use Rattle.abstract_paths.specs.declared.events.Output.{Output}
 use Rattle.abstract_paths.specs.Outputs.{between, errors_out, send_for}
 use Rattle.abstract_paths.specs.Stamps.{stamps}
 use Rattle.abstract_router.specs.Outputs.{item_stamps, outputs_of, upstream_stamps}

@@ -8,7 +8,7 @@ use Rattle.sorted_rows.specs.Edits.{over}
 use Rattle.lsr_facts.specs.OrderLaws.{key_total}
 use Rattle.lsr_facts.specs.Orders.{key_cmp}
 use Rattle.lsr_facts.specs.declared.key.Key.{Key}
-use Rattle.resv_facts.specs.declared.resv_fact.ResvFact.{ResvFact}
+use Rattle.lsr_facts.specs.declared.resv_fact.ResvFact.{ResvFact}
 use Rattle.state_views.specs.Edits.{edited}
 use Rattle.state_settling.specs.Repairs.{repair_at}
 use Rattle.state_settling.specs.RepairsLaws.{repairs_of_all, repairs_of_edits}

@@ -2,7 +2,7 @@ use Rattle.std.proofs.Common.{T, List, Option, ap, map, subst, sym, ◌∙◌}
 use Rattle.std.specs.FinMap.Entries.{is_sorted}
 use Rattle.lsr_facts.specs.Orders.{key_cmp}
 use Rattle.lsr_facts.specs.declared.key.Key.{Key}
-use Rattle.resv_facts.specs.declared.repair.Repair.{Repair}
+use Rattle.lsr_facts.specs.declared.repair.Repair.{Repair}
 use Rattle.abstract_router.specs.Repairing.{put_repair}
 use Rattle.state_settling.specs.RepairsLaws.{sorted_put}
 use Rattle.state_settling.proofs.repair.with_put.Goals as goal

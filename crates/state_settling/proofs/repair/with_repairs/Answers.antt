@@ -7,8 +7,8 @@ use Rattle.sorted_rows.specs.RowsLaws.{all_found}
 use Rattle.lsr_facts.specs.OrderLaws.{key_exact, key_total}
 use Rattle.lsr_facts.specs.Orders.{key_cmp}
 use Rattle.lsr_facts.specs.declared.key.Key.{Key}
-use Rattle.resv_facts.specs.declared.repair.Repair.{Repair}
-use Rattle.resv_facts.specs.declared.resv_fact.ResvFact.{ResvFact}
+use Rattle.lsr_facts.specs.declared.repair.Repair.{Repair}
+use Rattle.lsr_facts.specs.declared.resv_fact.ResvFact.{ResvFact}
 use Rattle.abstract_paths.specs.StampLaws.{none-is}
 use Rattle.abstract_router.specs.Repairing.{repair_of}
 use Rattle.state_settling.specs.Repairs.{repair_at}

@@ -4,7 +4,7 @@ use Rattle.std.specs.List.{AllByRecursion}
 use Rattle.std.specs.Prelude.{Some}
 use Rattle.lsr_facts.specs.declared.key.Key.{Key}
 use Rattle.lsr_facts.specs.declared.path_fact.PathFact.{PathFact}
-use Rattle.resv_facts.specs.declared.state.State.{State}
+use Rattle.lsr_facts.specs.declared.state.State.{State}
 use Rattle.abstract_paths.specs.MessageLaws.{LeavesRoom}
 use Rattle.abstract_router.specs.Repairing.{repaired, repairs_left}
 use Rattle.abstract_router.specs.Steps.{resvs_left, taken_over}

@@ -2,7 +2,7 @@ use Rattle.std.proofs.Common.{◌≡◌, ◌∙◌, IfOk, None, Result, option_t
 use Rattle.std.specs.declared.alloc.AllocError.{AllocError}
 use Rattle.std.proofs.lemmas.Result.{IfOk-weaker}
 use Rattle.lsr_facts.specs.declared.router.Router.{Router}
-use Rattle.router_events.specs.declared.commands.Command.{Command}
+use Rattle.abstract_paths.specs.declared.commands.Command.{Command}
 use Rattle.abstract_paths.specs.Commands.{begun_by, commanded}
 use Rattle.abstract_router.specs.States.{State, with_facts, without_held}
 use Rattle.state_views.specs.Edits.{edited}

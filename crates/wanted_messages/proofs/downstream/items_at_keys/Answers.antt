@@ -1,7 +1,7 @@
 -- What each of some LSPs wants is what is wanted of them all.
 use Rattle.std.proofs.Common.{IfOk, List, subst, ◌≡◌}
 use Rattle.lsr_facts.specs.declared.key.Item.{Item}
-use Rattle.router_events.specs.declared.events.Output.{Output}
+use Rattle.abstract_paths.specs.declared.events.Output.{Output}
 use Rattle.abstract_router.specs.WantedLaws.{items-among}
 use Rattle.wanted_messages.proofs.downstream.items_at_keys.Goals as goal
 

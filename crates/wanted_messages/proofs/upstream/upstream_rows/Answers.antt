@@ -2,8 +2,8 @@
 use Rattle.std.proofs.Common.{◌≡◌, [], IfOk, IfSome, List, Option, Some, ap, filter_map, map, subst, sym, ◌∙◌}
 use Rattle.std.specs.Option.{option_map, option_map_or}
 use Rattle.lsr_facts.specs.Timeless.{timeless_origin}
-use Rattle.resv_facts.specs.declared.upstream.Upstream.{Upstream}
-use Rattle.router_events.specs.declared.events.Output.{Output}
+use Rattle.lsr_facts.specs.declared.upstream.Upstream.{Upstream}
+use Rattle.abstract_paths.specs.declared.events.Output.{Output}
 use Rattle.lsr_facts.specs.declared.key.Key.{Key}
 use Rattle.abstract_router.specs.Lsps.{Lsp, around_of, lsp_of}
 use Rattle.abstract_router.specs.UpstreamLaws.{rows-timeless}

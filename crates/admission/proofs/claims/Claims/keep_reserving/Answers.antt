@@ -4,7 +4,7 @@ use Rattle.std.proofs.lemmas.List.{map-id}
 use Rattle.sorted_rows.specs.ListLaws.{all-filter}
 use Rattle.lsr_facts.specs.Orders.{key_cmp}
 use Rattle.lsr_facts.specs.declared.key.Key.{Key}
-use Rattle.resv_facts.specs.declared.claim.Claim.{Claim}
+use Rattle.lsr_facts.specs.declared.claim.Claim.{Claim}
 use Rattle.admission.specs.Bandwidths.{AreRated, claims_of}
 use Rattle.admission.specs.Running.{AreSums}
 use Rattle.admission.proofs.Claiming.{filter-full}

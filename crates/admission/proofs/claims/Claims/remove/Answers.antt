@@ -5,7 +5,7 @@ use Rattle.sorted_rows.specs.ListLaws.{all-filter}
 use Rattle.sorted_rows.specs.RowsLaws.{where_key-absent}
 use Rattle.lsr_facts.specs.Orders.{key_cmp}
 use Rattle.lsr_facts.specs.declared.key.Key.{Key}
-use Rattle.resv_facts.specs.declared.claim.Claim.{Claim}
+use Rattle.lsr_facts.specs.declared.claim.Claim.{Claim}
 use Rattle.admission.specs.Bandwidths.{AreRated}
 use Rattle.admission.specs.Running.{AreSums}
 use Rattle.admission.specs.declared.running.Touched.{Touched}

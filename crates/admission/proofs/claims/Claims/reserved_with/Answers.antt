@@ -3,9 +3,9 @@ use Rattle.std.specs.FinMap.Entries.{is_sorted-put}
 use Rattle.sorted_rows.specs.RowsLaws.{all-put, length-put-le}
 use Rattle.lsr_facts.specs.Orders.{key_cmp}
 use Rattle.lsr_facts.specs.OrderLaws.{key_total}
-use Rattle.resv_facts.specs.Admission.{granted}
-use Rattle.resv_facts.specs.Claims.{reserved_of}
-use Rattle.resv_facts.specs.declared.claim.Claim.{Claim}
+use Rattle.lsr_facts.specs.Admission.{granted}
+use Rattle.lsr_facts.specs.Claims.{reserved_of}
+use Rattle.lsr_facts.specs.declared.claim.Claim.{Claim}
 use Rattle.admission.proofs.Claiming.{exchanged}
 use Rattle.admission.proofs.Moving.{mine, mine_granted, others_put}
 use Rattle.admission.proofs.claims.Claims.reserved_with.Goals as goal

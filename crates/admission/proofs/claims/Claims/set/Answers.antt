@@ -3,7 +3,7 @@ use Rattle.std.specs.FinMap.Entries.{put}
 use Rattle.sorted_rows.specs.RowsLaws.{all-put, put-found}
 use Rattle.lsr_facts.specs.Orders.{key_cmp}
 use Rattle.lsr_facts.specs.OrderLaws.{key_total}
-use Rattle.resv_facts.specs.declared.claim.Claim.{Claim}
+use Rattle.lsr_facts.specs.declared.claim.Claim.{Claim}
 use Rattle.admission.specs.Bandwidths.{AreRated}
 use Rattle.admission.specs.Running.{AreSums}
 use Rattle.admission.proofs.Claiming.{put_keeps}

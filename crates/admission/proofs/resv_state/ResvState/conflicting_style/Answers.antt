@@ -9,9 +9,9 @@ use Rattle.rsvp_objects.specs.declared.values.Session.{Session}
 use Rattle.lsr_facts.specs.OrderLaws.{session_total}
 use Rattle.lsr_facts.specs.Orders.{key_cmp, session_cmp, template_cmp}
 use Rattle.lsr_facts.specs.declared.key.Key.{Key}
-use Rattle.resv_facts.specs.Conflicts.{conflicts, is_same_style}
-use Rattle.resv_facts.specs.declared.resv_fact.ResvFact.{ResvFact}
-use Rattle.resv_facts.specs.declared.resv_fact.ResvStyle.{ResvStyle}
+use Rattle.lsr_facts.specs.Conflicts.{conflicts, is_same_style}
+use Rattle.lsr_facts.specs.declared.resv_fact.ResvFact.{ResvFact}
+use Rattle.lsr_facts.specs.declared.resv_fact.ResvStyle.{ResvStyle}
 use Rattle.slot_rows.specs.Runs.{RisesBy}
 use Rattle.admission.proofs.resv_state.ResvState.conflicting_style.Goals as goal
 

@@ -1,7 +1,7 @@
 use Rattle.std.proofs.Common.{◌≡◌, ℕ, IfOk, Some, not, nat_le, nat_lt, arith, subst}
 use Rattle.std.specs.List.{filter}
 use Rattle.std.proofs.lemmas.Bool.Decides.{nat_tests}
-use Rattle.resv_facts.specs.Reservations.{lives_past}
+use Rattle.lsr_facts.specs.Reservations.{lives_past}
 use Rattle.sorted_rows.specs.Rows.{keys_of}
 use Rattle.timer_wheel.specs.Due.{has_come}
 use Rattle.admission.proofs.resv_state.ResvState.expiring.Goals as goal

@@ -5,8 +5,8 @@ use Rattle.std.specs.Option.{option_map}
 use Rattle.lsr_facts.specs.Orders.{key_cmp}
 use Rattle.sorted_rows.specs.Edits.{edited}
 use Rattle.sorted_rows.specs.InTurn.{given, in_turn}
-use Rattle.resv_facts.specs.Claims.{claim_of}
-use Rattle.resv_facts.specs.declared.resv_fact.ResvFact.{ResvFact}
+use Rattle.lsr_facts.specs.Claims.{claim_of}
+use Rattle.lsr_facts.specs.declared.resv_fact.ResvFact.{ResvFact}
 use Rattle.admission.specs.Bandwidths.{AreEdits, Bandwidth, claim_edits, resv_edits}
 use Rattle.admission.proofs.Editing.{passes_by}
 use Rattle.admission.proofs.state.Admission.edit.Goals as goal

@@ -1,7 +1,7 @@
 use Rattle.std.proofs.Common.{◌≡◌, ap, ◌∙◌}
 use Rattle.lsr_facts.specs.declared.key.Key.{Key}
-use Rattle.resv_facts.specs.Reservations.{expire, lives_past}
-use Rattle.resv_facts.specs.declared.resv_fact.ResvFact.{ResvFact}
+use Rattle.lsr_facts.specs.Reservations.{expire, lives_past}
+use Rattle.lsr_facts.specs.declared.resv_fact.ResvFact.{ResvFact}
 use Rattle.admission.specs.Bandwidths.{claims_of, left_at}
 use Rattle.admission.proofs.Matching.{matched_claims_of, same_bandwidth}
 use Rattle.admission.proofs.state.Admission.expire.Goals as goal

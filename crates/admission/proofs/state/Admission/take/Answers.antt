@@ -1,7 +1,7 @@
 use Rattle.std.proofs.Common.{ℕ, not, ap, ◌∙◌}
 use Rattle.std.specs.Option.{option_map}
-use Rattle.resv_facts.specs.Claims.{claim_of}
-use Rattle.resv_facts.specs.declared.resv_fact.ResvFact.{ResvFact}
+use Rattle.lsr_facts.specs.Claims.{claim_of}
+use Rattle.lsr_facts.specs.declared.resv_fact.ResvFact.{ResvFact}
 use Rattle.admission.specs.Bandwidths.{Bandwidth}
 use Rattle.admission.proofs.Editing.{gives_next, none_alike, takes_next}
 use Rattle.admission.proofs.state.Admission.take.Goals as goal

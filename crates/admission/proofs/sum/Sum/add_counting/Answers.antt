@@ -1,6 +1,6 @@
 use Rattle.std.proofs.Common.{◌+◌, ◌*◌, ◌^◌, ◌≤◌, sym, subst, arith, ap, ◌∙◌, take}
 use Rattle.std.specs.List.{filter}
-use Rattle.resv_facts.specs.Claims.{counts}
+use Rattle.lsr_facts.specs.Claims.{counts}
 use Rattle.admission.specs.Sums.{AddsClaims}
 use Rattle.admission.specs.declared.sum.Sum.{Sum}
 use Rattle.admission.proofs.Summing.{adds_more, adds_same, total_more}

@@ -1,6 +1,6 @@
 use Rattle.std.proofs.Common.{◌+◌, ◌*◌, ◌^◌, ◌≤◌, take}
 use Rattle.std.specs.List.{filter}
-use Rattle.resv_facts.specs.Claims.{counts}
+use Rattle.lsr_facts.specs.Claims.{counts}
 use Rattle.admission.specs.Sums.{AddsClaims}
 use Rattle.admission.proofs.sum.Sum.add_counting.Given as goal
 

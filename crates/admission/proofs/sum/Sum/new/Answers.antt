@@ -1,5 +1,5 @@
 use Rattle.std.proofs.Common.{refl}
-use Rattle.resv_facts.specs.Claims.{rate_of_all}
+use Rattle.lsr_facts.specs.Claims.{rate_of_all}
 use Rattle.admission.proofs.sum.Sum.new.Goals as goal
 
 pub returns-clause-none : goal.returns-clause-none

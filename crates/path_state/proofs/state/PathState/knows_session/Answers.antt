@@ -1,6 +1,6 @@
 use Rattle.std.proofs.Common.{ap, ◌∙◌}
 use Rattle.std.specs.List.{list_any}
-use Rattle.resv_facts.specs.Claims.{is_same_session}
+use Rattle.lsr_facts.specs.Claims.{is_same_session}
 use Rattle.path_state.proofs.Sessions.{found_where}
 use Rattle.path_state.proofs.state.PathState.knows_session.Goals as goal
 

@@ -1,9 +1,9 @@
 -- The event is applied, or refused for what is wrong with it.
 use Rattle.std.proofs.Common.{◌≡◌, ◌-◌, ◌<◌, ◌^◌, ℕ, Err, None, length, ap, refl, rules, subst, sym, ◌∙◌}
 use Rattle.std.proofs.lemmas.Result.{err_from_is_err_and}
-use Rattle.router_machine.specs.Machines.{IsEventLeft}
-use Rattle.router_machine.specs.Readies.{IsReady}
-use Rattle.event_bytes.specs.Events.{event_bytes}
+use Rattle.router_core.specs.Machines.{IsEventLeft}
+use Rattle.router_core.specs.Readies.{IsReady}
+use Rattle.journal_bytes.specs.Events.{event_bytes}
 use Rattle.run_journal.specs.Journals.{IsEntryFor, IsRefusedLate, Journal, router_in}
 use Rattle.run_journal.specs.Marks.{Follows, receipt_of}
 use Rattle.run_journal.specs.declared.entry.Entry.{Entry}

@@ -1,6 +1,6 @@
 -- The router of a configuration is opened with what that says.
 use Rattle.std.proofs.Common.{refl, subst, sym}
-use Rattle.router_machine.specs.States.{RouterState}
+use Rattle.router_core.specs.States.{RouterState}
 use Rattle.run_journal.specs.Journals.{IsOpening}
 use Rattle.run_journal.proofs.locked.Locked.new.Given.{Over}
 use Rattle.run_journal.proofs.locked.Locked.new.Goals as goal

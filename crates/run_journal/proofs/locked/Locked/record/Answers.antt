@@ -3,8 +3,8 @@ use Rattle.std.proofs.Common.{◌≡◌, ◌+◌, ◌<◌, ◌-◌, ◌^◌, ◌
 use Rattle.std.proofs.lemmas.Result.{err_from_is_err_and}
 use Rattle.lsr_facts.specs.declared.router.Router.{Router}
 use Rattle.abstract_router.specs.Soundness.{IsSound}
-use Rattle.router_machine.specs.Readies.{IsReady, after_ready}
-use Rattle.router_machine.specs.States.{RouterState}
+use Rattle.router_core.specs.Readies.{IsReady, after_ready}
+use Rattle.router_core.specs.States.{RouterState}
 use Rattle.run_journal.specs.Entries.{Recorded}
 use Rattle.run_journal.specs.Journals.{IsEntered, IsKept, IsPlaneOf, IsShownMore, Journal, LeadToTable, router_in}
 use Rattle.run_journal.specs.Marks.{counted, one_if}

@@ -1,5 +1,5 @@
 use Rattle.std.proofs.Common.{List, subst}
-use Rattle.router_events.specs.declared.events.Made.{Made}
+use Rattle.abstract_paths.specs.declared.events.Made.{Made}
 use Rattle.abstract_router.specs.Steps.{Run}
 use Rattle.run_journal.specs.Entries.{AreEntriesOf}
 use Rattle.run_journal.specs.Journals.{Stretch}

@@ -1,0 +1,33 @@
+-- The label table says nothing of whether a router is cold, and so neither does what becomes of datagrams by it.
+use Rattle.std.specs.Prelude.{◌≡◌, ℕ, false, List, Result}
+use Rattle.std.proofs.Common.{ap, subst}
+use Rattle.label_stacks.specs.declared.entry.StackEntry.{StackEntry}
+use Rattle.forwarding_table.specs.Forwarding.{forward_of}
+use Rattle.forwarding_table.specs.declared.forwarding.Forwarding.{Forwarding}
+use Rattle.lsr_facts.specs.declared.facts.Facts.{Facts}
+use Rattle.lsr_facts.specs.declared.refusal.Refusal.{Refusal}
+use Rattle.lsr_facts.specs.declared.router.Router.{Router}
+use Rattle.abstract_router.specs.Detours.{detours_of}
+use Rattle.abstract_router.specs.States.{State}
+use Rattle.abstract_router.specs.LspLaws.{AreAlike, look-alike}
+use Rattle.abstract_router.specs.Tables.{forwarded}
+use Rattle.datagrams.specs.Datagrams.{IsDatagram}
+use Rattle.datagrams.specs.declared.datagram.Datagram.{Datagram}
+use Rattle.router_core.specs.Below.labels.RowLaws.{detours-alike}
+
+-- a router knows this, and its tables say it as if it ran
+pub record IsAsRunning (s t : State) : Type 0 where
+  pub facts : s.facts ≡ record t.facts { cold = false }
+  pub lsps : AreAlike s t
+
+-- bypasses run over the same
+pub detours_running : (r : Router) (s t : State) → IsAsRunning s t → detours_of r s ≡ detours_of r t
+detours_running r s t runs =
+    detours-alike r s t (ap (λ (f : Facts). f.up) runs.facts) (ap (λ (f : Facts). f.tunnels) runs.facts) (ap (λ (f : Facts). f.bypasses) runs.facts) runs.lsps.resvs
+
+-- What a datagram is for a router that runs, it is for the same router while that is cold.
+pub datagram_alike : (q r : Router) (s t : State) (link : ℕ) (bytes : List ℕ) (answer : Result Datagram Refusal) → q ≡ r → IsAsRunning s t
+    → IsDatagram q (forwarded q s) link bytes answer → IsDatagram r (forwarded r t) link bytes answer
+datagram_alike q r s t link bytes answer router runs is =
+    let forwards : forwarded q s ≡ forwarded q t = λ i stack. forward_of (λ label. look-alike q s t label (detours_running q s t runs) (ap (λ (f : Facts). f.paths) runs.facts) runs.lsps i) stack in
+    subst (λ (p : Router). IsDatagram p (forwarded p t) link bytes answer) router (subst (λ (f : List StackEntry → Forwarding). IsDatagram q f link bytes answer) forwards is)

@@ -1,6 +1,0 @@
-use Rattle.std.proofs.Common.{◌≡◌, take}
-use Rattle.router_events.proofs.events.OutputsTryCopy.try_copy.Given as goal
-
--- so many are copied
-abbrev pub invariant-loop-output : goal.invariant-loop-output
-invariant-loop-output l = l.items.items ≡ take l.output-index l.output-items

@@ -1,4 +1,0 @@
-pub mod Answering
-pub mod Cooling
-pub mod Making
-pub mod WhileCold

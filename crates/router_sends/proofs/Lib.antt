@@ -1,4 +1,0 @@
-pub mod Asking
-pub mod Placing
-pub mod Repeating
-pub mod Searching

@@ -1,3 +1,0 @@
-pub mod RateMeaning
-pub mod Rounding
-pub mod Shapes

@@ -1,4 +1,0 @@
-pub mod RateLaws
-pub mod Rates
-pub mod TokenBuckets
-pub mod Traffic

@@ -1,3 +1,0 @@
-pub mod Affinities
-pub mod Attributes
-pub mod Names
