@@ -1,6 +1,6 @@
 -- Make-before-break (RFC 3209, 2.5): a tunnel and the LSP that is to take the place of its current one.
 use Rattle.std.specs.Prelude.{ℕ, ◌+◌, List, Option, Some, None}
-use Rattle.rsvp_contents.specs.Below.routes.declared.step.Step.{Step}
+use Rattle.rsvp_contents.specs.Below.bodies.declared.step.Step.{Step}
 use Rattle.lsr_facts.specs.declared.tunnel.Tunnel.{Tunnel}
 use Rattle.lsr_facts.specs.declared.tunnel.TunnelLsp.{TunnelLsp}
 

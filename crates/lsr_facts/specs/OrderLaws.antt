@@ -10,7 +10,7 @@ use Rattle.std.proofs.lemmas.Cmp.{nat_cmp_total, on_total, then_total}
 use Rattle.std.proofs.lemmas.Map.Lookups.{CmpEqualImpliesEq, exact_bytes, exact_pairs, exact_unsigned}
 use Rattle.rsvp_contents.specs.Below.objects.declared.values.Session.{Session}
 use Rattle.rsvp_contents.specs.Below.objects.declared.values.Template.{Template}
-use Rattle.rsvp_contents.specs.Below.routes.declared.prefix.Prefix.{Prefix}
+use Rattle.rsvp_contents.specs.Below.bodies.declared.prefix.Prefix.{Prefix}
 use Rattle.lsr_facts.specs.declared.key.Key.{Key}
 use Rattle.lsr_facts.specs.declared.key.Item.{Item}
 use Rattle.lsr_facts.specs.declared.key.Item.TheVariants.{Down, Backup}

@@ -9,7 +9,7 @@ use Rattle.std.specs.declared.cmp.Ordering.TheVariants.{Less, Greater}
 use Rattle.std.specs.declared.net.ipv4_addr.Ipv4Addr.{Ipv4Addr}
 use Rattle.rsvp_contents.specs.Below.objects.declared.values.Session.{Session}
 use Rattle.rsvp_contents.specs.Below.objects.declared.values.Template.{Template}
-use Rattle.rsvp_contents.specs.Below.routes.declared.prefix.Prefix.{Prefix}
+use Rattle.rsvp_contents.specs.Below.bodies.declared.prefix.Prefix.{Prefix}
 use Rattle.lsr_facts.specs.declared.key.Key.{Key}
 use Rattle.lsr_facts.specs.declared.key.Item.{Item}
 use Rattle.lsr_facts.specs.declared.key.Item.TheVariants.{Down, Backup}

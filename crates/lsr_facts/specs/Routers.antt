@@ -8,7 +8,7 @@ use Rattle.std.specs.Int.{to_be_bytes, w32}
 use Rattle.std.specs.Ordering.{nat_cmp}
 use Rattle.std.specs.declared.net.ipv4_addr.Ipv4Addr.{Ipv4Addr}
 use Rattle.rsvp_contents.specs.Below.objects.Ranges.{IsAddress}
-use Rattle.rsvp_contents.specs.Below.routes.declared.prefix.Prefix.{Prefix}
+use Rattle.rsvp_contents.specs.Below.bodies.declared.prefix.Prefix.{Prefix}
 use Rattle.lsr_facts.specs.Orders.{prefix_cmp}
 use Rattle.lsr_facts.specs.declared.router.LabelRange.{LabelRange}
 use Rattle.lsr_facts.specs.declared.router.Link.{Link}

@@ -6,8 +6,8 @@ use Rattle.std.specs.Option.{option_map_or}
 use Rattle.std.specs.Ordering.{nat_cmp}
 use Rattle.std.specs.declared.net.ipv4_addr.Ipv4Addr.{Ipv4Addr}
 use Rattle.rsvp_contents.specs.Below.objects.Ranges.{IsAddress}
-use Rattle.rsvp_contents.specs.Below.routes.declared.step.Step.{Step}
-use Rattle.rsvp_contents.specs.Below.routes.declared.step.Step.TheVariants.{Ipv4}
+use Rattle.rsvp_contents.specs.Below.bodies.declared.step.Step.{Step}
+use Rattle.rsvp_contents.specs.Below.bodies.declared.step.Step.TheVariants.{Ipv4}
 use Rattle.rsvp_contents.specs.Limits.{is_short_route}
 use Rattle.lsr_facts.specs.Orders.{is_one_of}
 use Rattle.lsr_facts.specs.Routers.{is_same, own_addresses}

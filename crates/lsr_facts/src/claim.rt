@@ -1,5 +1,5 @@
+use crate::Key;
 use crate::resv_fact::ResvStyle;
-use lsr_facts::Key;
 
 /// What an LSP takes of a link's bandwidth.
 #[derive(Clone, Copy, Debug, PartialEq, Eq)]

@@ -4,7 +4,7 @@ ghost use Rattle.std.specs.declared.cmp.Ordering.TheVariants.{Equal};
 ghost use Rattle.lsr_facts.specs.Numbers.{key_number};
 
 use crate::upstream::Upstream;
-use lsr_facts::{Item, Key};
+use crate::{Item, Key};
 
 /// What has a number by which it is looked for.
 pub trait Numbered: Ord {

@@ -2,7 +2,7 @@ ghost use Rattle.std.specs.Prelude.{◌≡◌, nat_lt, true};
 ghost use Rattle.lsr_facts.specs.Conflicts.{is_same_style};
 ghost use Rattle.lsr_facts.specs.Reservations.{lives_past, style_bits, style_of, style_word, timeless_resv};
 
-use lsr_facts::{Passing, Same};
+use crate::{Passing, Same};
 use rsvp_bodies::{Flowspec, Record};
 use rsvp_contents::{FIXED_FILTER, SHARED_EXPLICIT, is_fixed, is_shared};
 use rsvp_objects::Style;

@@ -3,7 +3,7 @@
 use crate::repair::Repair;
 use crate::resv_fact::ResvFact;
 use crate::upstream::Upstream;
-use lsr_facts::{Facts, Key};
+use crate::{Facts, Key};
 use sorted_rows::{Table, TryCopy};
 use std::alloc::{AllocError, Global};
 

@@ -1,4 +1,4 @@
-use lsr_facts::Key;
+use crate::Key;
 use std::net::Ipv4Addr;
 
 /// A Resv that is kept alive at a neighbour upstream (RFC 2205, 3.1.4 and 3.7). They stand in the order of key,

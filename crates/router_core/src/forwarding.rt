@@ -3,10 +3,10 @@
 ghost use Rattle.std.specs.Prelude.{◌≡◌};
 ghost use Rattle.abstract_router.specs.Tables.{forwarded};
 
+use crate::Tables;
 use datagrams::Forwards;
 use forwarding_table::Forwarding;
 use label_stacks::Stack;
-use router_core::Tables;
 
 /// The label table among a router's tables.
 #[derive(Debug, Drop)]

@@ -21,12 +21,12 @@ ghost use Rattle.router_core.specs.Machines.{AreAnswered, IsCopyServed, IsDatagr
 use crate::forwarding::Labels;
 use crate::inputs::{Input, Served};
 use crate::ready::Ready;
+use crate::{Cold, Plan, Running, Tables};
 use abstract_paths::{Event, Made, Outputs};
 use datagrams::{Datagram, read_datagram};
 use forwarding_table::Action;
 use lsr_config::Config;
 use lsr_facts::{Key, Over, Refusal, Router, State};
-use router_core::{Cold, Plan, Running, Tables};
 use sorted_rows::Table;
 use std::alloc::{AllocError, Global};
 use std::marker::Model;

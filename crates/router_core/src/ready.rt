@@ -6,9 +6,9 @@ ghost use Rattle.abstract_router.specs.Tables.{TellsChange};
 ghost use Rattle.router_core.specs.States.{RouterState};
 ghost use Rattle.router_core.specs.Readies.{IsReady, after_ready, made_of};
 
+use crate::Plan;
 use abstract_paths::Output;
 use lsr_facts::{Key, Reply};
-use router_core::Plan;
 
 /// A step that is made ready, with all the memory that it takes. It is of use once, on the router that it was made for, as
 /// that stood then: [`crate::Machine::make`] takes it.

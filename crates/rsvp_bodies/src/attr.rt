@@ -4,7 +4,7 @@ ghost use Rattle.rsvp_bodies.specs.Names.{IsName};
 
 use crate::affinities::{Affinities, write_affinities};
 use crate::attr_numbers::*;
-use rsvp_bodies::{Kept, Rule};
+use crate::{Kept, Rule};
 use std::alloc::AllocError;
 
 /// The rule of names: at most [`MAX_NAME_LEN`] bytes.

@@ -2,10 +2,10 @@ ghost use Rattle.std.specs.Prelude.{◌≡◌, ◌↔◌, IsTrue, IfOk};
 ghost use Rattle.rsvp_bodies.specs.Reading.{ReadsWhole};
 ghost use Rattle.rsvp_bodies.specs.Attributes.{HasName, attr_with, SpellsAttr, SpellsAttrRa};
 
+use crate::ObjectFault;
 use crate::affinities::{Affinities, affinities_of};
 use crate::attr::{Attr, Name};
 use crate::attr_numbers::*;
-use rsvp_bodies::ObjectFault;
 use std::alloc::{AllocError, Global};
 
 /// True where priorities, flags and a name fit the bytes.

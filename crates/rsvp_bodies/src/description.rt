@@ -3,7 +3,7 @@ ghost use Rattle.std.specs.Cmp.{partial_equiv_from_equiv};
 ghost use Rattle.std.specs.Cmp.Lexicographic.{pointwise, nat_list_eq_equiv};
 ghost use Rattle.rsvp_bodies.specs.Bodies.{IsBody};
 
-use rsvp_bodies::Body;
+use crate::Body;
 use std::alloc::AllocError;
 use std::marker::{Model, PhantomData};
 

@@ -1,8 +1,7 @@
 ghost use Rattle.std.specs.Prelude.{◌≡◌, ◌≤◌, ℕ, length, IfOk, Ok, OnOk};
 ghost use Rattle.rsvp_bodies.specs.Traffic.{flowspec_of, flowspec_rate, tspec_rate};
 
-use crate::{Description, TrafficFault, Tspec, numbers, shape};
-use rsvp_bodies::Body;
+use crate::{Body, Description, TrafficFault, Tspec, shape, traffic_numbers};
 use std::alloc::{AllocError, Global};
 
 /// The side that receives.
@@ -22,7 +21,7 @@ impl Flowspec {
         ensures rate { IfOk result (λ flowspec. (rate : ℕ) → tspec_rate tspec.now ≡ Ok rate → flowspec_rate flowspec ≡ Ok rate) }
     {
         let mut bytes = Vec::from_slice(alloc, tspec.as_slice())?;
-        bytes[numbers::SERVICE_AT] = numbers::CONTROLLED_LOAD;
+        bytes[traffic_numbers::SERVICE_AT] = traffic_numbers::CONTROLLED_LOAD;
         Ok(Flowspec::from_body(Body::from_vec(bytes)))
     }
 
@@ -38,12 +37,12 @@ impl Flowspec {
         ensures whole { OnOk result (length self.now ≡ 32) }
     {
         let body = self.as_slice();
-        if body.len() < numbers::LEN_WITH_SERVICE {
+        if body.len() < traffic_numbers::LEN_WITH_SERVICE {
             return Err(TrafficFault::BadFlowspec);
         }
-        if body[numbers::SERVICE_AT] != numbers::CONTROLLED_LOAD {
+        if body[traffic_numbers::SERVICE_AT] != traffic_numbers::CONTROLLED_LOAD {
             return Err(TrafficFault::ServiceUnsupported);
         }
-        shape::rate(body, numbers::CONTROLLED_LOAD).ok_or(TrafficFault::BadFlowspec)
+        shape::rate(body, traffic_numbers::CONTROLLED_LOAD).ok_or(TrafficFault::BadFlowspec)
     }
 }

@@ -3,7 +3,7 @@ ghost use Rattle.std.specs.Cmp.{decided, partial_equiv_from_equiv};
 ghost use Rattle.rsvp_bodies.specs.PrefixLaws.{equal_is_same_lem, same_prefix};
 ghost use Rattle.rsvp_bodies.specs.Prefixes.{prefix_at};
 
-use rsvp_bodies::{address_of, is_same_address};
+use crate::{address_of, is_same_address};
 use std::net::Ipv4Addr;
 
 /// A set of IPv4 addresses, as subobjects carry it (RFC 3209, 4.3.3.2).

@@ -3,8 +3,7 @@ ghost use Rattle.rsvp_bodies.specs.TokenBuckets.{rate_word_of};
 ghost use Rattle.rsvp_bodies.specs.Finding.{Finds};
 ghost use Rattle.rsvp_bodies.specs.RateWords.{IsRateText, tspec_with};
 
-use crate::{RateWord, Tspec, traffic_numbers};
-use rsvp_bodies::Body;
+use crate::{Body, RateWord, Tspec, traffic_numbers};
 use std::alloc::{AllocError, Global};
 
 /// How many digits write a rate.
@@ -19,18 +18,18 @@ const PLUS: char = '+';
 /// What stands before the rate in a description of traffic: how many words are after each of its three headers (RFC 2210,
 /// 3.1).
 const HEADERS: [u8; 12] = [
-    numbers::FORMAT_VERSION,
+    traffic_numbers::FORMAT_VERSION,
     0,
     0,
-    numbers::OVERALL_WORDS as u8,
-    numbers::GENERIC_SERVICE,
+    traffic_numbers::OVERALL_WORDS as u8,
+    traffic_numbers::GENERIC_SERVICE,
     0,
     0,
-    numbers::SERVICE_WORDS as u8,
-    numbers::TOKEN_BUCKET,
+    traffic_numbers::SERVICE_WORDS as u8,
+    traffic_numbers::TOKEN_BUCKET,
     0,
     0,
-    numbers::TOKEN_BUCKET_WORDS as u8,
+    traffic_numbers::TOKEN_BUCKET_WORDS as u8,
 ];
 
 /// A peak rate that is infinite, as the bits of an IEEE 754 number (RFC 2215, 3.6).

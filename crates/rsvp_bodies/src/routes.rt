@@ -4,10 +4,10 @@ ghost use Rattle.rsvp_bodies.specs.Reading.{ReadsWhole};
 ghost use Rattle.rsvp_bodies.specs.Steps.{SpellsRoute, route_bytes};
 ghost use Rattle.rsvp_bodies.specs.Traces.{SpellsRecord, record_bytes};
 
+use crate::ObjectFault;
 use crate::step::Step;
 use crate::subobjects::Subobjects;
 use crate::trace::Trace;
-use rsvp_bodies::ObjectFault;
 use std::alloc::{AllocError, Global};
 
 /// The route that a path is to take: the steps of an EXPLICIT_ROUTE, the nearest first (RFC 3209, 4.3).

@@ -3,7 +3,7 @@ ghost use Rattle.std.specs.Prelude.{◌≡◌};
 use crate::prefix::{Prefix, prefix_of};
 use crate::route_numbers::{HEAD_LEN, IPV4_LEN, IPV4_TYPE, LOOSE, PREFIX_TAIL_LEN};
 use crate::subobject::Subobject;
-use rsvp_bodies::{Kept, ObjectFault, Rule};
+use crate::{Kept, ObjectFault, Rule};
 use std::alloc::{AllocError, Global};
 
 /// A step of an explicit route (RFC 3209, 4.3.3).

@@ -2,8 +2,8 @@ ghost use Rattle.std.specs.Prelude.{◌≡◌, ◌≤◌, ◌<◌, ◌++◌, len
 ghost use Rattle.rsvp_bodies.specs.Reading.{ReadsWhole};
 ghost use Rattle.rsvp_bodies.specs.Subobjects.{IsSubobject, BeginsWithSubobject};
 
+use crate::ObjectFault;
 use crate::route_numbers::WORD_LEN;
-use rsvp_bodies::ObjectFault;
 use std::alloc::{AllocError, Global};
 
 /// One of the parts that the body of an EXPLICIT_ROUTE or of a RECORD_ROUTE is made of: a type, a length

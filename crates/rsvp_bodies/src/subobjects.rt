@@ -5,7 +5,7 @@ ghost use Rattle.rsvp_bodies.specs.Bodies.{IsBody};
 ghost use Rattle.rsvp_bodies.specs.Reading.{ReadsWhole, SpellsEach};
 
 use crate::subobject::{Subobject, split_first};
-use rsvp_bodies::{Body, ObjectFault};
+use crate::{Body, ObjectFault};
 use std::alloc::{AllocError, Global};
 use std::marker::Model;
 

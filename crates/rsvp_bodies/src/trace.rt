@@ -5,8 +5,8 @@ use crate::route_numbers::{
     HEAD_LEN, IPV4_LEN, IPV4_TYPE, LABEL_C_TYPE, LABEL_LEN, LABEL_TYPE, PREFIX_TAIL_LEN,
 };
 use crate::subobject::Subobject;
+use crate::{Kept, ObjectFault, Rule};
 use byteorder::{BigEndian, ByteOrder};
-use rsvp_bodies::{Kept, ObjectFault, Rule};
 use std::alloc::{AllocError, Global};
 
 /// An entry of a recorded route (RFC 3209, 4.4.1).

@@ -1,7 +1,7 @@
 ghost use Rattle.std.specs.Prelude.{◌≡◌, length, OnOk};
 ghost use Rattle.rsvp_bodies.specs.Traffic.{tspec_rate};
 
-use crate::{Description, TrafficFault, numbers, shape};
+use crate::{Description, TrafficFault, shape, traffic_numbers};
 
 /// The side that sends.
 #[derive(Debug, Drop)]
@@ -20,6 +20,6 @@ impl Tspec {
         ensures rate { result ≡ tspec_rate self.now }
         ensures whole { OnOk result (length self.now ≡ 32) }
     {
-        shape::rate(self.as_slice(), numbers::GENERIC_SERVICE).ok_or(TrafficFault::BadTspec)
+        shape::rate(self.as_slice(), traffic_numbers::GENERIC_SERVICE).ok_or(TrafficFault::BadTspec)
     }
 }

@@ -6,14 +6,14 @@ use Rattle.std.proofs.lemmas.Bool.{and_from, eqb-true, eq-eqb}
 use Rattle.std.proofs.lemmas.List.{length-take, length-drop}
 use Rattle.rsvp_bodies.specs.Addresses.{address_at}
 use Rattle.rsvp_bodies.specs.Reading.{SpellsEach}
-use Rattle.rsvp_objects.specs.Below.routes.Prefixes.{prefix_at}
-use Rattle.rsvp_objects.specs.Below.routes.Steps.{SpellsRoute, SpellsStep}
-use Rattle.rsvp_objects.specs.Below.routes.Traces.{SpellsRecord, SpellsTrace}
-use Rattle.rsvp_objects.specs.Below.routes.Subobjects.{is_label}
-use Rattle.rsvp_objects.specs.Below.routes.declared.step.Step.{Step}
-use Rattle.rsvp_objects.specs.Below.routes.declared.step.Step.TheVariants as steps
-use Rattle.rsvp_objects.specs.Below.routes.declared.trace.Trace.{Trace}
-use Rattle.rsvp_objects.specs.Below.routes.declared.trace.Trace.TheVariants as traces
+use Rattle.rsvp_objects.specs.Below.bodies.Prefixes.{prefix_at}
+use Rattle.rsvp_objects.specs.Below.bodies.Steps.{SpellsRoute, SpellsStep}
+use Rattle.rsvp_objects.specs.Below.bodies.Traces.{SpellsRecord, SpellsTrace}
+use Rattle.rsvp_objects.specs.Below.bodies.Subobjects.{is_label}
+use Rattle.rsvp_objects.specs.Below.bodies.declared.step.Step.{Step}
+use Rattle.rsvp_objects.specs.Below.bodies.declared.step.Step.TheVariants as steps
+use Rattle.rsvp_objects.specs.Below.bodies.declared.trace.Trace.{Trace}
+use Rattle.rsvp_objects.specs.Below.bodies.declared.trace.Trace.TheVariants as traces
 use Rattle.rsvp_objects.specs.declared.kind.Kind.{Kind}
 use Rattle.rsvp_objects.specs.declared.kind.Kind.TheVariants as kinds
 use Rattle.rsvp_objects.specs.declared.object.Object.{Object}

@@ -5,8 +5,8 @@ use Rattle.std.specs.List.{filter, flat_map}
 use Rattle.std.specs.Option.{option_map_or}
 use Rattle.std.proofs.lemmas.Bool.{and_parts, cases_Bool, false_from_ne_true, le-leb, leb-true}
 use Rattle.std.proofs.lemmas.List.Sums.{sum_by-cons}
-use Rattle.rsvp_objects.specs.Below.routes.declared.step.Step.{Step}
-use Rattle.rsvp_objects.specs.Below.routes.declared.trace.Trace.{Trace}
+use Rattle.rsvp_objects.specs.Below.bodies.declared.step.Step.{Step}
+use Rattle.rsvp_objects.specs.Below.bodies.declared.trace.Trace.{Trace}
 use Rattle.rsvp_objects.specs.declared.object.Object.{Object}
 use Rattle.rsvp_objects.specs.declared.object.Object.TheVariants as objects
 use Rattle.rsvp_objects.specs.Raw.{Raw}
@@ -15,7 +15,7 @@ use Rattle.rsvp_contents.specs.Flows.{flow_objects}
 use Rattle.rsvp_contents.specs.declared.messages.Path.{Path}
 use Rattle.rsvp_contents.specs.declared.messages.Resv.{Resv}
 use Rattle.rsvp_contents.specs.declared.messages.Content.TheVariants as contents
-use Rattle.rsvp_objects.specs.Below.routes.Steps.{route_bytes}
+use Rattle.rsvp_objects.specs.Below.bodies.Steps.{route_bytes}
 use Rattle.rsvp_contents.specs.Limits.{is_short_route, is_short_record, is_short_passing}
 use Rattle.rsvp_contents.specs.Fitting.{written_len}
 use Rattle.rsvp_contents.specs.Written.{if_some, before_sender, adspec, path_objects, resv_objects}

@@ -3,7 +3,7 @@ use Rattle.std.proofs.Common.{◌≡◌, ◌≤◌, ◌+◌, ℕ, Bool, true, fa
 use Rattle.std.specs.List.{list_all, count_by}
 use Rattle.std.specs.Cmp.Lexicographic.{bytes_decides}
 use Rattle.std.proofs.lemmas.Bool.{and_parts, and_from, cond-true, cond-false, ne_eqb, not_from_false, le-ltb, ltb-false, false≢true}
-use Rattle.rsvp_objects.specs.Below.routes.declared.trace.Trace.{Trace}
+use Rattle.rsvp_objects.specs.Below.bodies.declared.trace.Trace.{Trace}
 use Rattle.rsvp_objects.specs.declared.values.Label.{Label}
 use Rattle.rsvp_objects.specs.declared.values.Style.{Style}
 use Rattle.rsvp_objects.specs.declared.values.Template.{Template}

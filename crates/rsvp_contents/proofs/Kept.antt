@@ -4,7 +4,7 @@ use Rattle.std.specs.Prelude.{nat_eq}
 use Rattle.std.specs.List.{filter}
 use Rattle.std.proofs.lemmas.Bool.{false≢true, eqb-true, cond-true, cond-false, false_from_ne_true}
 use Rattle.std.specs.Option.{option_map_or}
-use Rattle.rsvp_objects.specs.Below.attributes.declared.affinities.Affinities.{Affinities}
+use Rattle.rsvp_objects.specs.Below.bodies.declared.affinities.Affinities.{Affinities}
 use Rattle.rsvp_objects.specs.declared.object.Object.{Object}
 use Rattle.rsvp_objects.specs.declared.object.Object.TheVariants as objects
 use Rattle.rsvp_objects.specs.Raw.{Raw}

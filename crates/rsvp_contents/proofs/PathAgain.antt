@@ -5,9 +5,9 @@ use Rattle.std.specs.Option.{option_map_or}
 use Rattle.std.proofs.lemmas.Bool.{and_parts, and_from}
 use Rattle.std.proofs.lemmas.List.{map-append}
 use Rattle.std.proofs.lemmas.List.Elements.{filter-append}
-use Rattle.rsvp_objects.specs.Below.routes.declared.step.Step.{Step}
-use Rattle.rsvp_objects.specs.Below.routes.declared.trace.Trace.{Trace}
-use Rattle.rsvp_objects.specs.Below.attributes.declared.attr.Attr.{Attr}
+use Rattle.rsvp_objects.specs.Below.bodies.declared.step.Step.{Step}
+use Rattle.rsvp_objects.specs.Below.bodies.declared.trace.Trace.{Trace}
+use Rattle.rsvp_objects.specs.Below.bodies.declared.attr.Attr.{Attr}
 use Rattle.rsvp_objects.specs.declared.values.ErrorSpec.{ErrorSpec}
 use Rattle.rsvp_objects.specs.declared.values.FastReroute.{FastReroute}
 use Rattle.rsvp_objects.specs.declared.values.Session.{Session}

@@ -5,7 +5,7 @@ use Rattle.std.specs.Option.{option_map_or}
 use Rattle.std.proofs.lemmas.Bool.{and_parts, and_from, cond-true, cond-false, cases_Bool, false≢true, eqb-true}
 use Rattle.std.proofs.lemmas.List.{nil_from_length}
 use Rattle.std.proofs.lemmas.List.Elements.{filter-append}
-use Rattle.rsvp_objects.specs.Below.routes.declared.trace.Trace.{Trace}
+use Rattle.rsvp_objects.specs.Below.bodies.declared.trace.Trace.{Trace}
 use Rattle.rsvp_objects.specs.declared.values.Style.{Style}
 use Rattle.rsvp_objects.specs.declared.values.Template.{Template}
 use Rattle.rsvp_objects.specs.declared.object.Object.{Object}

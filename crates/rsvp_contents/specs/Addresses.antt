@@ -1,8 +1,8 @@
 -- Addresses of four octets: every address that a message carries.
 use Rattle.std.specs.Prelude.{Bool, true, ◌&&◌}
 use Rattle.std.specs.List.{list_all}
-use Rattle.rsvp_objects.specs.Below.routes.declared.trace.Trace.{Trace}
-use Rattle.rsvp_objects.specs.Below.routes.declared.trace.Trace.TheVariants as traces
+use Rattle.rsvp_objects.specs.Below.bodies.declared.trace.Trace.{Trace}
+use Rattle.rsvp_objects.specs.Below.bodies.declared.trace.Trace.TheVariants as traces
 use Rattle.rsvp_objects.specs.declared.object.Object.{Object}
 use Rattle.rsvp_objects.specs.declared.object.Object.TheVariants as objects
 use Rattle.rsvp_contents.specs.declared.messages.Content.{Content}

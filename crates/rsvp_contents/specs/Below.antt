@@ -1,3 +1,3 @@
 -- The words of crates further down, as the crates above this one name them.
 pub use Rattle.rsvp_objects.specs as objects
-pub use Rattle.rsvp_objects.specs.Below.routes as routes
+pub use Rattle.rsvp_objects.specs.Below.bodies as bodies

@@ -3,11 +3,11 @@ use Rattle.std.specs.Prelude.{Bool, true, ◌&&◌, ◌==◌, nat_le, List, leng
 use Rattle.std.specs.List.{list_all}
 use Rattle.std.specs.Net.Addr.{ipv4_octets}
 use Rattle.std.specs.declared.net.Ipv4Addr.{Ipv4Addr}
-use Rattle.rsvp_objects.specs.Below.routes.declared.step.Step.{Step}
-use Rattle.rsvp_objects.specs.Below.routes.declared.step.Step.TheVariants as steps
-use Rattle.rsvp_objects.specs.Below.routes.declared.trace.Trace.{Trace}
-use Rattle.rsvp_objects.specs.Below.routes.Steps.{route_bytes}
-use Rattle.rsvp_objects.specs.Below.routes.Traces.{record_bytes}
+use Rattle.rsvp_objects.specs.Below.bodies.declared.step.Step.{Step}
+use Rattle.rsvp_objects.specs.Below.bodies.declared.step.Step.TheVariants as steps
+use Rattle.rsvp_objects.specs.Below.bodies.declared.trace.Trace.{Trace}
+use Rattle.rsvp_objects.specs.Below.bodies.Steps.{route_bytes}
+use Rattle.rsvp_objects.specs.Below.bodies.Traces.{record_bytes}
 use Rattle.rsvp_objects.specs.declared.object.Object.{Object}
 use Rattle.rsvp_objects.specs.declared.object.Object.TheVariants as objects
 use Rattle.rsvp_objects.specs.Raw.{Raw}

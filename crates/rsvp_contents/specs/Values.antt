@@ -1,7 +1,7 @@
 -- The values that objects say, and what the first of them say.
 use Rattle.std.specs.Prelude.{ℕ, Bool, if◌then◌else◌, List, [], ◌∷◌, Option, Some, None}
-use Rattle.rsvp_objects.specs.Below.routes.declared.step.Step.{Step}
-use Rattle.rsvp_objects.specs.Below.routes.declared.trace.Trace.{Trace}
+use Rattle.rsvp_objects.specs.Below.bodies.declared.step.Step.{Step}
+use Rattle.rsvp_objects.specs.Below.bodies.declared.trace.Trace.{Trace}
 use Rattle.rsvp_objects.specs.declared.values.Session.{Session}
 use Rattle.rsvp_objects.specs.declared.values.Hop.{Hop}
 use Rattle.rsvp_objects.specs.declared.values.TimeValues.{TimeValues}
@@ -10,7 +10,7 @@ use Rattle.rsvp_objects.specs.declared.values.Style.{Style}
 use Rattle.rsvp_objects.specs.declared.values.Template.{Template}
 use Rattle.rsvp_objects.specs.declared.values.LabelRequest.{LabelRequest}
 use Rattle.rsvp_objects.specs.declared.values.FastReroute.{FastReroute}
-use Rattle.rsvp_objects.specs.Below.attributes.declared.attr.Attr.{Attr}
+use Rattle.rsvp_objects.specs.Below.bodies.declared.attr.Attr.{Attr}
 use Rattle.rsvp_objects.specs.declared.object.Object.{Object}
 use Rattle.rsvp_objects.specs.declared.object.Object.TheVariants as objects
 

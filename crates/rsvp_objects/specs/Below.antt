@@ -1,3 +1,2 @@
 -- The words of crates further down, as the crates above this one name them.
-pub use Rattle.rsvp_bodies.specs as routes
-pub use Rattle.rsvp_bodies.specs as attributes
+pub use Rattle.rsvp_bodies.specs as bodies
