@@ -2,7 +2,7 @@ pub mod Alongside
 pub mod Apart
 pub mod Bypasses
 pub mod Commanding
-pub mod Detouring
+pub mod BackupRoutes
 pub mod EventStanding
 pub mod Heads
 pub mod Masked

@@ -2,7 +2,7 @@ pub mod Arrivals
 pub mod Changes
 pub mod Commanding
 pub mod Commands
-pub mod Detouring
+pub mod BackupRoutes
 pub mod Heads
 pub mod Links
 pub mod Merging

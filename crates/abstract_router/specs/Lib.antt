@@ -2,7 +2,7 @@ pub mod Arrivals
 pub mod Choosing
 pub mod ChoosingLaws
 pub mod ClaimsLaws
-pub mod Detours
+pub mod BypassTunnels
 pub mod Errors
 pub mod LabelLaws
 pub mod Labels

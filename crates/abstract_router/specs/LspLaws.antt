@@ -16,7 +16,7 @@ use Rattle.abstract_paths.specs.RowLaws.{keys-map}
 use Rattle.abstract_paths.specs.StampLaws.{find-map_row}
 use Rattle.abstract_paths.specs.Touched.{is_among}
 use Rattle.abstract_paths.specs.TouchedLaws.{same_elsewhere, where_key-among}
-use Rattle.abstract_router.specs.Detours.{detours_of}
+use Rattle.abstract_router.specs.BypassTunnels.{bypass_tunnels_of}
 use Rattle.abstract_router.specs.Lsps.{Lsp, lsp_at, lsp_of, lsps_of}
 use Rattle.abstract_router.specs.States.{State}
 use Rattle.abstract_router.specs.Tables.{entry_of, look, table_of}
@@ -63,7 +63,7 @@ lsps-alike s t paths are =
     λ i. map (λ (row : Key × PathFact). (row.0, lsp_of (record s { resvs = are.resvs i; repairs = are.repairs i; labels = are.labels i }) row.0 row.1)) (paths i)
 
 -- and so does the action of a label, with what bypasses run over.
-pub look-alike : (r : Router) (s t : State) (label : ℕ) → detours_of r s ≡ detours_of r t → s.facts.paths ≡ t.facts.paths → AreAlike s t → look r s label ≡ look r t label
+pub look-alike : (r : Router) (s t : State) (label : ℕ) → bypass_tunnels_of r s ≡ bypass_tunnels_of r t → s.facts.paths ≡ t.facts.paths → AreAlike s t → look r s label ≡ look r t label
 unfolding look table_of
-look-alike r s t label detours paths are =
-    λ i. option_map (λ (entry : ℕ × Action). entry.1) (find_first (λ (entry : ℕ × Action). entry.0 == label) (filter_map (λ (lsp : Key × Lsp). entry_of (record { place = place_of r s.facts; detours = detours i }) lsp.1) (lsps-alike s t paths are i)))
+look-alike r s t label bypass_tunnels paths are =
+    λ i. option_map (λ (entry : ℕ × Action). entry.1) (find_first (λ (entry : ℕ × Action). entry.0 == label) (filter_map (λ (lsp : Key × Lsp). entry_of (record { place = place_of r s.facts; bypass_tunnels = bypass_tunnels i }) lsp.1) (lsps-alike s t paths are i)))

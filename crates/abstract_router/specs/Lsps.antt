@@ -8,11 +8,11 @@ use Rattle.lsr_facts.specs.declared.key.Key.{Key}
 use Rattle.lsr_facts.specs.declared.path_fact.PathFact.{PathFact}
 use Rattle.lsr_facts.specs.declared.router.Router.{Router}
 use Rattle.lsr_facts.specs.Reservations.{timeless_repair, timeless_resv}
-use Rattle.lsr_facts.specs.declared.repair.Detour.{Detour}
+use Rattle.lsr_facts.specs.declared.repair.BypassTunnel.{BypassTunnel}
 use Rattle.lsr_facts.specs.declared.repair.Repair.{Repair}
 use Rattle.lsr_facts.specs.declared.resv_fact.ResvFact.{ResvFact}
 use Rattle.abstract_paths.specs.Places.{Place, place_of}
-use Rattle.abstract_router.specs.Detours.{detours_of}
+use Rattle.abstract_router.specs.BypassTunnels.{bypass_tunnels_of}
 use Rattle.abstract_router.specs.States.{State}
 
 -- All that is known of one LSP but its key, and but for when it expires: its path, and its label, its reservation and its
@@ -26,11 +26,11 @@ pub record Lsp : Type 0 where
 -- What all LSPs share: where the router stands, with its links that are up and its static routes, and its bypasses.
 pub record Around : Type 0 where
   pub place : Place
-  pub detours : List (ℕ × Detour)
+  pub bypass_tunnels : List (ℕ × BypassTunnel)
 
 -- by what is known
 abbrev pub around_of : Router → State → Around
-around_of r s = record { place = place_of r s.facts; detours = detours_of r s }
+around_of r s = record { place = place_of r s.facts; bypass_tunnels = bypass_tunnels_of r s }
 
 -- the LSP whose path this is
 abbrev pub lsp_of : State → Key → PathFact → Lsp

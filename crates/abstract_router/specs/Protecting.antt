@@ -11,7 +11,7 @@ use Rattle.lsr_facts.specs.Routers.{is_same, link_at}
 use Rattle.lsr_facts.specs.declared.key.Key.{Key}
 use Rattle.lsr_facts.specs.declared.path_fact.PathFact.{PathFact}
 use Rattle.lsr_facts.specs.declared.router.Router.{Router}
-use Rattle.lsr_facts.specs.declared.repair.Detour.{Detour}
+use Rattle.lsr_facts.specs.declared.repair.BypassTunnel.{BypassTunnel}
 use Rattle.lsr_facts.specs.declared.repair.Repair.{Repair}
 use Rattle.lsr_facts.specs.declared.repair.Selected.{Selected}
 use Rattle.lsr_facts.specs.declared.resv_fact.ResvFact.{ResvFact}
@@ -27,12 +27,12 @@ abbrev pub wants_protection : PathFact → Bool
 wants_protection path = has_flag 0x01 path || option_map_or (λ wanted. wanted.flags / 0x02 % 2 == 1) path.fast_reroute false
 
 -- it wants the next router protected too (RFC 4090, 4.3: flag 0x10)
-abbrev pub wants_later : PathFact → Bool
-wants_later path = has_flag 0x10 path
+abbrev pub wants_node_protection : PathFact → Bool
+wants_node_protection path = has_flag 0x10 path
 
 -- the LSP begins here, and is one of a tunnel that a bypass runs in
 abbrev pub carries_bypass : Around → Key → PathFact → Bool
-carries_bypass a key path = begins_here path.role && list_any (λ detour. detour.1.tunnel == key.session.tunnel) a.detours
+carries_bypass a key path = begins_here path.role && list_any (λ bypass_tunnel. bypass_tunnel.1.tunnel == key.session.tunnel) a.bypass_tunnels
 
 -- An LSP is protected where its head wants that, and it carries no bypass of this router.
 abbrev pub is_protected : Around → Key → PathFact → Bool
@@ -56,28 +56,28 @@ label_after a [] = None
 label_after a (entry ∷ entries) = option_or (if names_router a entry then first_label entries else None) (label_after a entries)
 
 -- a bypass protects the link of a reservation, and is up over another link
-abbrev pub leads_around : ResvFact → Detour → Bool
-leads_around resv detour = (detour.protects == resv.link) && option_map_or (λ over. not (over.link == resv.link)) detour.over false
+abbrev pub leads_around : ResvFact → BypassTunnel → Bool
+leads_around resv bypass_tunnel = (bypass_tunnel.protects == resv.link) && option_map_or (λ over. not (over.link == resv.link)) bypass_tunnel.over false
 
 -- it ends at the router at the other end of that link
-abbrev pub ends_at_peer : Router → ResvFact → Detour → Bool
-ends_at_peer r resv detour = option_map_or (λ link. is_same link.peer_router detour.ends_at) (link_at r resv.link) false
+abbrev pub ends_at_peer : Router → ResvFact → BypassTunnel → Bool
+ends_at_peer r resv bypass_tunnel = option_map_or (λ link. is_same link.peer_router bypass_tunnel.ends_at) (link_at r resv.link) false
 
 -- An LSP with this reservation may be repaired over a bypass: that ends at the next router, which takes the label that it
 -- gave, or at a later one, which takes the label that the record says (RFC 4090, 6.4.2).
-abbrev pub selected_by : Router → ResvFact → ℕ × Detour → Option Selected
-selected_by r resv detour =
-    if not (leads_around resv detour.1) then None
-    else if ends_at_peer r resv detour.1 then Some (record { bypass = detour.0; is_later = false; label = resv.label })
-    else option_map (λ label. record { bypass = detour.0; is_later = true; label = label }) (label_after detour.1.ends_at (unwrap_or resv.recorded []))
+abbrev pub selected_by : Router → ResvFact → ℕ × BypassTunnel → Option Selected
+selected_by r resv bypass_tunnel =
+    if not (leads_around resv bypass_tunnel.1) then None
+    else if ends_at_peer r resv bypass_tunnel.1 then Some (record { bypass = bypass_tunnel.0; is_nnhop = false; label = resv.label })
+    else option_map (λ label. record { bypass = bypass_tunnel.0; is_nnhop = true; label = label }) (label_after bypass_tunnel.1.ends_at (unwrap_or resv.recorded []))
 
 -- all bypasses over which it may, in the order of their numbers
 unfoldable pub candidates_of : Around → ResvFact → List Selected
-candidates_of a resv = filter_map (selected_by a.place.router resv) a.detours
+candidates_of a resv = filter_map (selected_by a.place.router resv) a.bypass_tunnels
 
 -- a bypass ends where the head would have it: later where it wants the next router protected, else at that router
 abbrev pub is_preferred : PathFact → Selected → Bool
-is_preferred path choice = if wants_later path then choice.is_later else not choice.is_later
+is_preferred path choice = if wants_node_protection path then choice.is_nnhop else not choice.is_nnhop
 
 -- The bypass over which a protected LSP would be repaired: the first that the head prefers, else the first (RFC 4090, 6.2).
 unfoldable pub selected : Around → Key → PathFact → ResvFact → Option Selected
@@ -88,4 +88,4 @@ selected a key path resv =
 
 -- the repair of a reservation over a bypass: the label is the one that the bypass's end takes
 abbrev pub repair_with : ResvFact → Selected → Repair
-repair_with resv choice = record { bypass = choice.bypass; is_later = choice.is_later; resv = record resv { label = choice.label } }
+repair_with resv choice = record { bypass = choice.bypass; is_nnhop = choice.is_nnhop; resv = record resv { label = choice.label } }

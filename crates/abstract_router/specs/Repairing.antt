@@ -14,7 +14,7 @@ use Rattle.abstract_paths.specs.declared.events.Output.{Output}
 use Rattle.abstract_paths.specs.Outcomes.{found_here, told_upstream}
 use Rattle.abstract_paths.specs.Places.{is_up, place_of}
 use Rattle.abstract_paths.specs.Tears.{leaves_by}
-use Rattle.abstract_router.specs.Detours.{detours_of, over_at}
+use Rattle.abstract_router.specs.BypassTunnels.{bypass_tunnels_of, over_at}
 use Rattle.abstract_router.specs.Errors.{locally_repaired}
 use Rattle.abstract_router.specs.Lsps.{around_of}
 use Rattle.abstract_router.specs.Protecting.{repair_with, selected}
@@ -53,7 +53,7 @@ told_repaired r s = flat_map (told_of r s) (new_repairs r s)
 -- A repair stands where its bypass is up, and its path leaves by the link that it protects.
 abbrev pub repair_stands : Router → State → Key × Repair → Bool
 repair_stands r s repair =
-    is_some (over_at (detours_of r s) repair.1.bypass)
+    is_some (over_at (bypass_tunnels_of r s) repair.1.bypass)
     && option_map_or (leaves_by repair.1.resv.link) (find key_cmp repair.0 s.facts.paths) false
 
 -- the repairs that stand are left

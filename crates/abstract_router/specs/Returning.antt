@@ -28,7 +28,7 @@ use Rattle.abstract_paths.specs.Merging.{under}
 use Rattle.abstract_paths.specs.Outcomes.{lsp}
 use Rattle.abstract_paths.specs.Paths.{unknown_object}
 use Rattle.abstract_paths.specs.Tears.{err_of_path}
-use Rattle.abstract_router.specs.Detours.{detours_of}
+use Rattle.abstract_router.specs.BypassTunnels.{bypass_tunnels_of}
 use Rattle.abstract_router.specs.Lsps.{around_of}
 use Rattle.abstract_router.specs.Outcomes.{Outcome, of_paths, refused, replied, reservation_error}
 use Rattle.abstract_router.specs.Reserving.{Progress, Verdict, first_named, named, resv_by, resv_replied, verdict_by_style}
@@ -47,7 +47,7 @@ is_known_as r key repair = option_map_or (λ link. is_eq (key_cmp (under link.ad
 
 -- its bypass ends at the router of this address
 abbrev pub ends_at : Router → State → Ipv4Addr → Key × Repair → Bool
-ends_at r s hop repair = option_map_or (λ detour. is_same detour.ends_at hop) (find nat_cmp repair.1.bypass (detours_of r s)) false
+ends_at r s hop repair = option_map_or (λ bypass_tunnel. is_same bypass_tunnel.ends_at hop) (find nat_cmp repair.1.bypass (bypass_tunnels_of r s)) false
 
 -- the repair that a PathErr is for: the one of an LSP that is known so
 unfoldable pub repair_known_as : Router → State → Key → Option (Key × Repair)

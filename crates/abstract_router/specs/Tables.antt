@@ -9,7 +9,7 @@ use Rattle.lsr_facts.specs.declared.key.Key.{Key}
 use Rattle.lsr_facts.specs.declared.path_fact.PathFact.{PathFact}
 use Rattle.lsr_facts.specs.declared.router.Router.{Router}
 use Rattle.lsr_facts.specs.declared.tunnel.Tunnel.{Tunnel}
-use Rattle.lsr_facts.specs.declared.repair.Detour.{Detour}
+use Rattle.lsr_facts.specs.declared.repair.BypassTunnel.{BypassTunnel}
 use Rattle.lsr_facts.specs.declared.repair.Over.{Over}
 use Rattle.lsr_facts.specs.declared.repair.Repair.{Repair}
 use Rattle.lsr_facts.specs.declared.resv_fact.ResvFact.{ResvFact}
@@ -20,7 +20,7 @@ use Rattle.forwarding_table.specs.declared.forwarding.Forwarding.{Forwarding}
 use Rattle.label_stacks.specs.declared.entry.StackEntry.{StackEntry}
 use Rattle.abstract_paths.specs.Paths.{goes_on}
 use Rattle.abstract_paths.specs.Places.{is_up}
-use Rattle.abstract_router.specs.Detours.{detours_of, over_at}
+use Rattle.abstract_router.specs.BypassTunnels.{bypass_tunnels_of, over_at}
 use Rattle.abstract_router.specs.Lsps.{Around, Lsp, around_of, lsps_of}
 use Rattle.abstract_router.specs.States.{State}
 
@@ -29,13 +29,13 @@ abbrev pub swap_by : ResvFact → Action
 swap_by resv = Swap resv.label resv.link
 
 -- and with one of a repaired LSP: it goes on with the label of its bypass's end, under that of the bypass (RFC 4090, 3.2)
-abbrev pub swap_through : List (ℕ × Detour) → Repair → Option Action
-swap_through detours repair = option_map (λ over. SwapPush repair.resv.label over.label over.link) (over_at detours repair.bypass)
+abbrev pub swap_through : List (ℕ × BypassTunnel) → Repair → Option Action
+swap_through bypass_tunnels repair = option_map (λ over. SwapPush repair.resv.label over.label over.link) (over_at bypass_tunnels repair.bypass)
 
 -- what is done with a frame of an LSP: it ends here, or it goes on where it is reserved or repaired
 abbrev pub action_of : Around → Lsp → Option Action
 action_of a lsp =
-    if goes_on lsp.path.role then option_or (option_map swap_by lsp.resv) (option_and_then (swap_through a.detours) lsp.repair) else Some Pop
+    if goes_on lsp.path.role then option_or (option_map swap_by lsp.resv) (option_and_then (swap_through a.bypass_tunnels) lsp.repair) else Some Pop
 
 -- and under which label
 abbrev pub entry_of : Around → Lsp → Option (ℕ × Action)
@@ -54,14 +54,14 @@ abbrev pub push_by : ResvFact → Action
 push_by resv = PushHead None resv.label resv.link
 
 -- and where that LSP is repaired, under the label of its bypass's end, under that of the bypass
-abbrev pub push_through : List (ℕ × Detour) → Repair → Option Action
-push_through detours repair = option_map (λ over. PushHead (Some repair.resv.label) over.label over.link) (over_at detours repair.bypass)
+abbrev pub push_through : List (ℕ × BypassTunnel) → Repair → Option Action
+push_through bypass_tunnels repair = option_map (λ over. PushHead (Some repair.resv.label) over.label over.link) (over_at bypass_tunnels repair.bypass)
 
 -- what is done with it
 abbrev pub push_of : Router → State → ℕ × Tunnel → Option Action
 push_of r s tunnel =
     option_or (option_map push_by (rows.find key_cmp (current_key r tunnel) s.resvs))
-    (option_and_then (push_through (detours_of r s)) (rows.find key_cmp (current_key r tunnel) s.repairs))
+    (option_and_then (push_through (bypass_tunnels_of r s)) (rows.find key_cmp (current_key r tunnel) s.repairs))
 
 -- and for which tunnel
 abbrev pub tunnel_entry : Router → State → ℕ × Tunnel → Option (ℕ × Action)
@@ -86,7 +86,7 @@ pub record IsThrough (r : Router) (s : State) (key : Key) : Type 0 where
   pub repair : Repair
   pub repaired : rows.find key_cmp key s.repairs ≡ Some repair
   pub over : Over
-  pub bypass : over_at (detours_of r s) repair.bypass ≡ Some over
+  pub bypass : over_at (bypass_tunnels_of r s) repair.bypass ≡ Some over
   pub up : is_up s.facts.up over.link ≡ true
 
 -- why an action is one of a path's: it ends here and the label is popped; or it is reserved, and the label is swapped for

@@ -21,14 +21,14 @@ use Rattle.lsr_facts.specs.declared.key.Key.{Key}
 use Rattle.lsr_facts.specs.declared.path_fact.PathFact.{PathFact}
 use Rattle.lsr_facts.specs.declared.router.Link.{Link}
 use Rattle.lsr_facts.specs.declared.router.Router.{Router}
-use Rattle.lsr_facts.specs.declared.repair.Detour.{Detour}
+use Rattle.lsr_facts.specs.declared.repair.BypassTunnel.{BypassTunnel}
 use Rattle.lsr_facts.specs.declared.repair.Over.{Over}
 use Rattle.lsr_facts.specs.declared.repair.Repair.{Repair}
 use Rattle.abstract_paths.specs.declared.events.Output.{Output}
 use Rattle.forwarding_table.specs.Labels.{implicit_null}
-use Rattle.abstract_paths.specs.Detouring.{route_after}
+use Rattle.abstract_paths.specs.BackupRoutes.{route_after}
 use Rattle.abstract_paths.specs.Onward.{path_onward}
-use Rattle.abstract_router.specs.Detours.{over_at}
+use Rattle.abstract_router.specs.BypassTunnels.{over_at}
 use Rattle.abstract_router.specs.Lsps.{Around}
 
 -- the stack of a message through a bypass: one entry, and none where implicit null was given (RFC 3032, 2.1 and 2.4.1)
@@ -41,7 +41,7 @@ labelled_by over content = record { link = over.link; frame = frames.Labelled (s
 
 -- a message about a repaired LSP, where its bypass is up
 abbrev pub through : Around → Repair → Content → Option Output
-through a repair content = option_map (λ over. labelled_by over content) (over_at a.detours repair.bypass)
+through a repair content = option_map (λ over. labelled_by over content) (over_at a.bypass_tunnels repair.bypass)
 
 -- The LSP as the bypass's end is told of it: its sender is this router's address on the link that is protected (RFC 4090,
 -- 6.4.3: sender template specific).
@@ -54,23 +54,23 @@ hop_through r repair = record { address = r.id; interface = repair.resv.link }
 
 -- The Path of a repaired LSP: from another sender and another hop, on from the bypass's end, with no FAST_REROUTE; all
 -- else is as in the Path that went over the link (RFC 4090, 6.4.3 and 6.4.4).
-abbrev pub backup_path : Router → Key → PathFact → Repair → Detour → Link → Path
-backup_path r key path repair detour link = record (path_onward r key path link) {
+abbrev pub backup_path : Router → Key → PathFact → Repair → BypassTunnel → Link → Path
+backup_path r key path repair bypass_tunnel link = record (path_onward r key path link) {
   hop = hop_through r repair;
-  route = option_map (route_after key.session.endpoint detour.ends_at repair.is_later) path.rest;
+  route = option_map (route_after key.session.endpoint bypass_tunnel.ends_at repair.is_nnhop) path.rest;
   fast_reroute = None;
   sender = head_through key.sender link;
 }
 
 -- it goes through this bypass, where that is up
-abbrev pub backup_over : Router → Key → PathFact → Repair → Detour → Option Output
-backup_over r key path repair detour =
-    option_and_then (λ link. option_map (λ over. labelled_by over (contents.Path (backup_path r key path repair detour link))) detour.over)
+abbrev pub backup_over : Router → Key → PathFact → Repair → BypassTunnel → Option Output
+backup_over r key path repair bypass_tunnel =
+    option_and_then (λ link. option_map (λ over. labelled_by over (contents.Path (backup_path r key path repair bypass_tunnel link))) bypass_tunnel.over)
     (link_at r repair.resv.link)
 
 -- and so through the bypass of its number
 abbrev pub backup_of : Around → Key → PathFact → Repair → Option Output
-backup_of a key path repair = option_and_then (backup_over a.place.router key path repair) (find nat_cmp repair.bypass a.detours)
+backup_of a key path repair = option_and_then (backup_over a.place.router key path repair) (find nat_cmp repair.bypass a.bypass_tunnels)
 
 -- a ResvErr for a repaired LSP, as it goes through the bypass
 abbrev pub told_through : Around → Repair → Session → ErrorSpec → Style → List ErrorDescriptor → Option Output

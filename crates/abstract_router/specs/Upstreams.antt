@@ -69,15 +69,15 @@ reserved_by_next flags resv = record { style = resv.style; flowspec = resv.flows
 -- how a bypass protects, in this router's own entry: local protection is available (0x01), in use (0x02), and protects the
 -- next router too (0x08) (RFC 4090, 4.4)
 abbrev pub protection_flags : Bool → Bool → ℕ
-protection_flags in_use is_later = 0x01 + (if in_use then 0x02 else 0) + (if is_later then 0x08 else 0)
+protection_flags in_use is_nnhop = 0x01 + (if in_use then 0x02 else 0) + (if is_nnhop then 0x08 else 0)
 
 -- how an LSP is protected that is reserved: by the bypass over which it would be repaired, if there is one
 abbrev pub flags_ready : Around → Key × Lsp → ResvFact → ℕ
-flags_ready a lsp resv = option_map_or (λ choice. protection_flags false choice.is_later) (selected a lsp.0 lsp.1.path resv) 0
+flags_ready a lsp resv = option_map_or (λ choice. protection_flags false choice.is_nnhop) (selected a lsp.0 lsp.1.path resv) 0
 
 -- How this router protects an LSP: by the bypass over which it runs, or would run.
 unfoldable pub own_flags : Around → Key × Lsp → ℕ
-own_flags a lsp = option_map_or (flags_ready a lsp) lsp.1.resv (option_map_or (λ repair. protection_flags true repair.is_later) lsp.1.repair 0)
+own_flags a lsp = option_map_or (flags_ready a lsp) lsp.1.resv (option_map_or (λ repair. protection_flags true repair.is_nnhop) lsp.1.repair 0)
 
 -- what is said of an LSP to its origins, if it is reserved or repaired
 abbrev pub reserved_for : Around → Key × Lsp → Option Reserved

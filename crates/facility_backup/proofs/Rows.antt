@@ -17,26 +17,26 @@ use Rattle.lsr_facts.specs.declared.path_fact.PathFact.{PathFact}
 use Rattle.lsr_facts.specs.declared.router.Router.{Router}
 use Rattle.lsr_facts.specs.declared.tunnel.Tunnel.{Tunnel}
 use Rattle.lsr_facts.specs.Reservations.{timeless_resv}
-use Rattle.lsr_facts.specs.declared.repair.Detour.{Detour}
+use Rattle.lsr_facts.specs.declared.repair.BypassTunnel.{BypassTunnel}
 use Rattle.lsr_facts.specs.declared.repair.Repair.{Repair}
 use Rattle.lsr_facts.specs.declared.resv_fact.ResvFact.{ResvFact}
 use Rattle.abstract_paths.specs.StampLaws.{none-is}
-use Rattle.abstract_router.specs.Detours.{detour_by, detour_of, detours_of}
+use Rattle.abstract_router.specs.BypassTunnels.{bypass_tunnel_by, bypass_tunnel_of, bypass_tunnels_of}
 use Rattle.abstract_router.specs.Lsps.{Around, Lsp, around_of, lsp_of}
 use Rattle.abstract_router.specs.Protecting.{candidates_of, is_preferred, is_protected, selected}
 use Rattle.abstract_router.specs.States.{State}
 use Rattle.abstract_router.specs.Upstreams.{flags_ready, own_flags, protection_flags}
 use Rattle.state_views.specs.Edits.{edited}
 use Rattle.state_views.specs.declared.edits.Edits.{Edits}
-use Rattle.facility_backup.specs.Asking.{candidate_by, candidates, find-detours, row_by}
+use Rattle.facility_backup.specs.Asking.{candidate_by, candidates, find-bypass_tunnels, row_by}
 use Rattle.facility_backup.specs.Choosing.{best, best_of}
 
 -- the bypass of a number, where its row is found
-pub found_detour : (r : Router) (s : State) (number : ℕ) (row : Option Bypass) (bypasses : List (ℕ × Bypass)) → T (is_sorted nat_cmp bypasses) → bypasses ≡ s.facts.bypasses → row ≡ find nat_cmp number bypasses
-    → option_and_then (λ bypass. detour_by r s (number, bypass)) row ≡ find nat_cmp number (detours_of r s)
-found_detour r s number row bypasses sorted are found =
-    ap (option_and_then (λ bypass. detour_by r s (number, bypass))) (found ∙ ap (find nat_cmp number) are)
-    ∙ sym (find-detours r s number (subst (λ (rows : List (ℕ × Bypass)). T (is_sorted nat_cmp rows)) are sorted))
+pub found_bypass_tunnel : (r : Router) (s : State) (number : ℕ) (row : Option Bypass) (bypasses : List (ℕ × Bypass)) → T (is_sorted nat_cmp bypasses) → bypasses ≡ s.facts.bypasses → row ≡ find nat_cmp number bypasses
+    → option_and_then (λ bypass. bypass_tunnel_by r s (number, bypass)) row ≡ find nat_cmp number (bypass_tunnels_of r s)
+found_bypass_tunnel r s number row bypasses sorted are found =
+    ap (option_and_then (λ bypass. bypass_tunnel_by r s (number, bypass))) (found ∙ ap (find nat_cmp number) are)
+    ∙ sym (find-bypass_tunnels r s number (subst (λ (rows : List (ℕ × Bypass)). T (is_sorted nat_cmp rows)) are sorted))
 
 -- when a path or a reservation expires is nothing to the choice
 pub selected_timeless : (a : Around) (key : Key) (path : PathFact) (resv : ResvFact) → selected a key (timeless_path path) resv ≡ selected a key path resv
@@ -53,7 +53,7 @@ unfolding own_flags
 own_ready a s key path resv found =
     let lsp : Key × Lsp = (key, lsp_of s key path) in
     sym (flags_ready_timeless a lsp resv)
-    ∙ ap (λ o. option_map_or (flags_ready a lsp) (option_map timeless_resv o) (option_map_or (λ (repair : Repair). protection_flags true repair.is_later) lsp.1.repair 0)) found
+    ∙ ap (λ o. option_map_or (flags_ready a lsp) (option_map timeless_resv o) (option_map_or (λ (repair : Repair). protection_flags true repair.is_nnhop) lsp.1.repair 0)) found
 
 -- where no tunnel is there, no bypass runs in it
 without : (same known any : Bool) → (same ≡ true → false ≡ known) → (known && any) ≡ (known && (same || any))
@@ -72,21 +72,21 @@ and-false false = refl
 
 -- A bypass runs in a tunnel where that is there, and a bypass names it.
 carrying_each : (r : Router) (s : State) (number : ℕ) (bypasses : List (ℕ × Bypass))
-    → list_any (λ (detour : ℕ × Detour). detour.1.tunnel == number) (filter_map (row_by r s) bypasses) ≡ (is_some (find nat_cmp number s.facts.tunnels) && list_any (λ (bypass : ℕ × Bypass). bypass.1.tunnel == number) bypasses)
+    → list_any (λ (bypass_tunnel : ℕ × BypassTunnel). bypass_tunnel.1.tunnel == number) (filter_map (row_by r s) bypasses) ≡ (is_some (find nat_cmp number s.facts.tunnels) && list_any (λ (bypass : ℕ × Bypass). bypass.1.tunnel == number) bypasses)
 carrying_each r s number [] = and-false (is_some (find nat_cmp number s.facts.tunnels))
 carrying_each r s number (bypass ∷ bypasses) =
     by (find nat_cmp bypass.1.tunnel s.facts.tunnels) (λ same. ap (λ n. is_some (find nat_cmp n s.facts.tunnels)) (eqb-true bypass.1.tunnel number same)) (carrying_each r s number bypasses)
   where
     by : (tunnel : Option Tunnel) → ((bypass.1.tunnel == number) ≡ true → is_some tunnel ≡ is_some (find nat_cmp number s.facts.tunnels))
-        → list_any (λ (detour : ℕ × Detour). detour.1.tunnel == number) (filter_map (row_by r s) bypasses) ≡ (is_some (find nat_cmp number s.facts.tunnels) && list_any (λ (bypass : ℕ × Bypass). bypass.1.tunnel == number) bypasses)
-        → list_any (λ (detour : ℕ × Detour). detour.1.tunnel == number) (cons_option (option_map {U = ℕ × Detour} (λ detour. (bypass.0, detour)) (option_map (detour_of r s bypass.1) tunnel)) (filter_map (row_by r s) bypasses))
+        → list_any (λ (bypass_tunnel : ℕ × BypassTunnel). bypass_tunnel.1.tunnel == number) (filter_map (row_by r s) bypasses) ≡ (is_some (find nat_cmp number s.facts.tunnels) && list_any (λ (bypass : ℕ × Bypass). bypass.1.tunnel == number) bypasses)
+        → list_any (λ (bypass_tunnel : ℕ × BypassTunnel). bypass_tunnel.1.tunnel == number) (cons_option (option_map {U = ℕ × BypassTunnel} (λ bypass_tunnel. (bypass.0, bypass_tunnel)) (option_map (bypass_tunnel_of r s bypass.1) tunnel)) (filter_map (row_by r s) bypasses))
         ≡ (is_some (find nat_cmp number s.facts.tunnels) && ((bypass.1.tunnel == number) || list_any (λ (bypass : ℕ × Bypass). bypass.1.tunnel == number) bypasses))
     by None same rest = rest ∙ without _ _ _ same
     by (Some tunnel) same rest = ap (λ b. (bypass.1.tunnel == number) || b) rest ∙ within _ _ _ same
 
 pub carried : (r : Router) (s : State) (number : ℕ) (bypasses : List (ℕ × Bypass)) (tunnel : Option Tunnel) → bypasses ≡ s.facts.bypasses → tunnel ≡ find nat_cmp number s.facts.tunnels
-    → (is_some tunnel && list_any (λ (bypass : ℕ × Bypass). bypass.1.tunnel == number) bypasses) ≡ list_any (λ (detour : ℕ × Detour). detour.1.tunnel == number) (detours_of r s)
-unfolding detours_of
+    → (is_some tunnel && list_any (λ (bypass : ℕ × Bypass). bypass.1.tunnel == number) bypasses) ≡ list_any (λ (bypass_tunnel : ℕ × BypassTunnel). bypass_tunnel.1.tunnel == number) (bypass_tunnels_of r s)
+unfolding bypass_tunnels_of
 carried r s number bypasses tunnel are found =
     (λ i. is_some (found i) && list_any (λ (bypass : ℕ × Bypass). bypass.1.tunnel == number) (are i))
     ∙ sym (carrying_each r s number s.facts.bypasses)
@@ -108,15 +108,15 @@ chosen r s key path resv bypasses are is =
     ∙ sym (ap (λ b. cond b (option_or (find_first (is_preferred path) (candidates_of (around_of r s) resv)) (find_first (λ choice. true) (candidates_of (around_of r s) resv))) None) is)
 
 -- one more bypass is as it was
-pub leaves_more : (r : Router) (s t : State) (bypasses : List (ℕ × Bypass)) (i : ℕ) (d : ℕ × Bypass) (was now : Option Detour) → i < length bypasses
-    → was ≡ detour_by r s (get_or bypasses i d) → was ≡ now → now ≡ detour_by r t (get_or bypasses i d)
+pub leaves_more : (r : Router) (s t : State) (bypasses : List (ℕ × Bypass)) (i : ℕ) (d : ℕ × Bypass) (was now : Option BypassTunnel) → i < length bypasses
+    → was ≡ bypass_tunnel_by r s (get_or bypasses i d) → was ≡ now → now ≡ bypass_tunnel_by r t (get_or bypasses i d)
     → filter_map (row_by r s) (take i bypasses) ≡ filter_map (row_by r t) (take i bypasses) → filter_map (row_by r s) (take (i + 1) bypasses) ≡ filter_map (row_by r t) (take (i + 1) bypasses)
 leaves_more r s t bypasses i d was now more before same after so_far =
     let one = get_or bypasses i d in
     let taken = take_more bypasses i d more in
     ap (filter_map (row_by r s)) taken
     ∙ filter_map-append (row_by r s) (take i bypasses) (one ∷ [])
-    ∙ (λ k. so_far k ++ cons_option (option_map {U = ℕ × Detour} (λ detour. (one.0, detour)) ((sym before ∙ same ∙ after) k)) [])
+    ∙ (λ k. so_far k ++ cons_option (option_map {U = ℕ × BypassTunnel} (λ bypass_tunnel. (one.0, bypass_tunnel)) ((sym before ∙ same ∙ after) k)) [])
     ∙ sym (filter_map-append (row_by r t) (take i bypasses) (one ∷ []))
     ∙ sym (ap (filter_map (row_by r t)) taken)
 
@@ -132,12 +132,12 @@ untouched r s e up tunnels resvs =
 -- Edits that leave each bypass as it is, and no link or route comes or goes, leave all that LSPs share.
 pub same_around : (r : Router) (s : State) (e : Edits) → e.up ≡ None → e.routes ≡ None → e.bypasses ≡ None
     → filter_map (row_by r s) s.facts.bypasses ≡ filter_map (row_by r (edited e s)) s.facts.bypasses → around_of r s ≡ around_of r (edited e s)
-unfolding detours_of
+unfolding bypass_tunnels_of
 same_around r s e up routes bypasses same =
-    let detours = same ∙ sym (ap (λ o. filter_map (row_by r (edited e s)) (unwrap_or o s.facts.bypasses)) bypasses) in
+    let bypass_tunnels = same ∙ sym (ap (λ o. filter_map (row_by r (edited e s)) (unwrap_or o s.facts.bypasses)) bypasses) in
     λ i. record {
       place = record { router = r; up = unwrap_or (sym up i) s.facts.up; routes = unwrap_or (sym routes i) s.facts.routes };
-      detours = detours i;
+      bypass_tunnels = bypass_tunnels i;
     }
 
 -- no rows

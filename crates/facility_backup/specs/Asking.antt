@@ -9,28 +9,28 @@ use Rattle.std.proofs.lemmas.Cmp.{nat_cmp_total}
 use Rattle.std.proofs.lemmas.Map.Lookups.{exact_unsigned}
 use Rattle.lsr_facts.specs.declared.bypass.Bypass.{Bypass}
 use Rattle.lsr_facts.specs.declared.router.Router.{Router}
-use Rattle.lsr_facts.specs.declared.repair.Detour.{Detour}
+use Rattle.lsr_facts.specs.declared.repair.BypassTunnel.{BypassTunnel}
 use Rattle.lsr_facts.specs.declared.repair.Selected.{Selected}
 use Rattle.lsr_facts.specs.declared.resv_fact.ResvFact.{ResvFact}
 use Rattle.abstract_paths.specs.TouchedLaws.{find-made}
-use Rattle.abstract_router.specs.Detours.{detour_by, detours_of}
+use Rattle.abstract_router.specs.BypassTunnels.{bypass_tunnel_by, bypass_tunnels_of}
 use Rattle.abstract_router.specs.Lsps.{around_of}
 use Rattle.abstract_router.specs.Protecting.{candidates_of, selected_by}
 use Rattle.abstract_router.specs.States.{State}
 
 -- a bypass with its number, among all
-abbrev pub row_by : Router → State → ℕ × Bypass → Option (ℕ × Detour)
-row_by r s bypass = option_map (λ detour. (bypass.0, detour)) (detour_by r s bypass)
+abbrev pub row_by : Router → State → ℕ × Bypass → Option (ℕ × BypassTunnel)
+row_by r s bypass = option_map (λ bypass_tunnel. (bypass.0, bypass_tunnel)) (bypass_tunnel_by r s bypass)
 
 -- a bypass as a candidate for a reservation
 abbrev pub candidate_by : Router → State → ResvFact → ℕ × Bypass → Option Selected
-candidate_by r s resv bypass = option_and_then (λ detour. selected_by r resv (bypass.0, detour)) (detour_by r s bypass)
+candidate_by r s resv bypass = option_and_then (λ bypass_tunnel. selected_by r resv (bypass.0, bypass_tunnel)) (bypass_tunnel_by r s bypass)
 
 -- The bypass of a number is that of its row: no two rows have one number.
-pub find-detours : (r : Router) (s : State) (number : ℕ) → T (is_sorted nat_cmp s.facts.bypasses)
-    → find nat_cmp number (detours_of r s) ≡ option_and_then (λ bypass. detour_by r s (number, bypass)) (find nat_cmp number s.facts.bypasses)
-unfolding detours_of
-find-detours r s number sorted = find-made nat_cmp nat_cmp_total exact_unsigned (detour_by r s) number s.facts.bypasses sorted
+pub find-bypass_tunnels : (r : Router) (s : State) (number : ℕ) → T (is_sorted nat_cmp s.facts.bypasses)
+    → find nat_cmp number (bypass_tunnels_of r s) ≡ option_and_then (λ bypass. bypass_tunnel_by r s (number, bypass)) (find nat_cmp number s.facts.bypasses)
+unfolding bypass_tunnels_of
+find-bypass_tunnels r s number sorted = find-made nat_cmp nat_cmp_total exact_unsigned (bypass_tunnel_by r s) number s.facts.bypasses sorted
 
 -- what is picked of what is picked
 picked-twice : {A B C : Type 0} (f : A → Option B) (name : A → B → C) (g : C → Option Selected) (xs : List A)
@@ -44,5 +44,5 @@ picked-twice {A} {B} {C} f name g (x ∷ xs) =
 
 -- The candidates are those of all bypasses, in their order.
 pub candidates : (r : Router) (s : State) (resv : ResvFact) → candidates_of (around_of r s) resv ≡ filter_map (candidate_by r s resv) s.facts.bypasses
-unfolding candidates_of detours_of
-candidates r s resv = picked-twice (detour_by r s) (λ bypass detour. (bypass.0, detour)) (selected_by r resv) s.facts.bypasses
+unfolding candidates_of bypass_tunnels_of
+candidates r s resv = picked-twice (bypass_tunnel_by r s) (λ bypass bypass_tunnel. (bypass.0, bypass_tunnel)) (selected_by r resv) s.facts.bypasses

@@ -3,7 +3,7 @@
 //! be repaired. No decision takes memory.
 #![tactic(auto)]
 
-mod detours;
+mod bypass_tunnels;
 mod labels;
 mod matching;
 mod protecting;
@@ -12,7 +12,7 @@ mod selecting;
 mod standing;
 mod surroundings;
 
-pub use detours::{detour_at, detour_by, over_at};
+pub use bypass_tunnels::{bypass_tunnel_at, bypass_tunnel_by, over_at};
 pub use matching::is_for;
 pub use repairs::{Held, Repaired, repair};
 pub use selecting::{own_flags, select};

@@ -4,7 +4,7 @@ ghost use Rattle.std.specs.Prelude.{◌≡◌};
 ghost use Rattle.abstract_router.specs.Returning.{ends_at, is_known_as};
 ghost use Rattle.facility_backup.specs.Matching.{is_for};
 
-use crate::detours::detour_at;
+use crate::bypass_tunnels::bypass_tunnel_at;
 use lsr_facts::{Key, Repair, Router};
 use message_rules::{head_through, link_at};
 use state_views::StateView;
@@ -29,8 +29,8 @@ fn is_known_as(router: &Router, key: &Key, repair: &(Key, Repair)) -> bool
 fn ends_at<V: StateView>(view: &V, hop: Ipv4Addr, repair: &(Key, Repair)) -> bool
     ensures { result ≡ ends_at (V.router view.now) (V.state view.now) hop repair.now }
 {
-    match detour_at(view, repair.1.bypass) {
-        Some(detour) => detour.ends_at == hop,
+    match bypass_tunnel_at(view, repair.1.bypass) {
+        Some(bypass_tunnel) => bypass_tunnel.ends_at == hop,
         None => false,
     }
 }

@@ -3,12 +3,12 @@
 ghost use Rattle.std.specs.List.{list_any};
 ghost use Rattle.std.specs.Option.{unwrap_or};
 ghost use Rattle.std.specs.Prelude.{◌≡◌, ◌==◌, []};
-ghost use Rattle.abstract_router.specs.Detours.{detours_of};
+ghost use Rattle.abstract_router.specs.BypassTunnels.{bypass_tunnels_of};
 ghost use Rattle.abstract_router.specs.Lsps.{around_of};
-ghost use Rattle.abstract_router.specs.Protecting.{carries_bypass, ends_at_peer, has_flag, is_preferred, is_protected, label_after, leads_around, selected_by, wants_later, wants_protection};
+ghost use Rattle.abstract_router.specs.Protecting.{carries_bypass, ends_at_peer, has_flag, is_preferred, is_protected, label_after, leads_around, selected_by, wants_node_protection, wants_protection};
 
 use crate::labels::label_after;
-use lsr_facts::{Bypass, Detour, Key, PathFact, ResvFact, Router, Selected, begins_here};
+use lsr_facts::{Bypass, BypassTunnel, Key, PathFact, ResvFact, Router, Selected, begins_here};
 use message_rules::link_at;
 use rsvp_bodies::Record;
 use state_views::StateView;
@@ -48,8 +48,8 @@ fn wants_protection(path: &PathFact) -> bool
 
 /// Whether it wants the next router protected too.
 #[tactic(auto, using(crate::proofs::Flags::node_flag))]
-fn wants_later(path: &PathFact) -> bool
-    ensures { result ≡ wants_later path.now }
+fn wants_node_protection(path: &PathFact) -> bool
+    ensures { result ≡ wants_node_protection path.now }
 {
     match &path.attr {
         Some(attr) => attr.flags & NODE_PROTECTION != 0,
@@ -66,8 +66,8 @@ fn names_tunnel(bypasses: &[(u16, Bypass)], number: u16) -> bool
 
 /// Whether a bypass runs in the tunnel of this number.
 fn is_bypass_tunnel<V: StateView>(view: &V, number: u16) -> bool
-    ensures { result ≡ list_any (λ detour. detour.1.tunnel == number)
-        (detours_of (V.router view.now) (V.state view.now)) }
+    ensures { result ≡ list_any (λ bypass_tunnel. bypass_tunnel.1.tunnel == number)
+        (bypass_tunnels_of (V.router view.now) (V.state view.now)) }
 {
     match view.tunnel(number) {
         Some(_) => names_tunnel(view.bypasses().as_slice(), number),
@@ -90,24 +90,24 @@ pub(crate) fn is_protected<V: StateView>(view: &V, key: &Key, path: &PathFact) -
 }
 
 /// Whether a bypass protects the link of a reservation, and is up over another link.
-fn leads_around(resv: &ResvFact, detour: &Detour) -> bool
-    ensures { result ≡ leads_around resv.now detour.now }
+fn leads_around(resv: &ResvFact, bypass_tunnel: &BypassTunnel) -> bool
+    ensures { result ≡ leads_around resv.now bypass_tunnel.now }
 {
-    if detour.protects != resv.link {
+    if bypass_tunnel.protects != resv.link {
         return false;
     }
-    match detour.over {
+    match bypass_tunnel.over {
         Some(over) => over.link != resv.link,
         None => false,
     }
 }
 
 /// Whether it ends at the router at the other end of that link.
-fn ends_at_peer(router: &Router, resv: &ResvFact, detour: &Detour) -> bool
-    ensures { result ≡ ends_at_peer router.now resv.now detour.now }
+fn ends_at_peer(router: &Router, resv: &ResvFact, bypass_tunnel: &BypassTunnel) -> bool
+    ensures { result ≡ ends_at_peer router.now resv.now bypass_tunnel.now }
 {
     match link_at(router, resv.link) {
-        Some(link) => link.peer_router == detour.ends_at,
+        Some(link) => link.peer_router == bypass_tunnel.ends_at,
         None => false,
     }
 }
@@ -129,24 +129,24 @@ pub(crate) fn selected_by(
     router: &Router,
     resv: &ResvFact,
     number: u16,
-    detour: &Detour,
+    bypass_tunnel: &BypassTunnel,
 ) -> Option<Selected>
-    ensures { result ≡ selected_by router.now resv.now (number, detour.now) }
+    ensures { result ≡ selected_by router.now resv.now (number, bypass_tunnel.now) }
 {
-    if !leads_around(resv, detour) {
+    if !leads_around(resv, bypass_tunnel) {
         return None;
     }
-    if ends_at_peer(router, resv, detour) {
+    if ends_at_peer(router, resv, bypass_tunnel) {
         return Some(Selected {
             bypass: number,
-            is_later: false,
+            is_nnhop: false,
             label: resv.label,
         });
     }
-    let label = recorded_label(detour.ends_at, &resv.recorded)?;
+    let label = recorded_label(bypass_tunnel.ends_at, &resv.recorded)?;
     Some(Selected {
         bypass: number,
-        is_later: true,
+        is_nnhop: true,
         label,
     })
 }
@@ -156,9 +156,9 @@ pub(crate) fn selected_by(
 pub(crate) fn is_preferred(path: &PathFact, choice: Selected) -> bool
     ensures { result ≡ is_preferred path.now choice }
 {
-    if wants_later(path) {
-        choice.is_later
+    if wants_node_protection(path) {
+        choice.is_nnhop
     } else {
-        !choice.is_later
+        !choice.is_nnhop
     }
 }

@@ -34,7 +34,7 @@ pub fn repair(held: Held, choice: Selected) -> Repaired
         key: held.key,
         repair: Repair {
             bypass: choice.bypass,
-            is_later: choice.is_later,
+            is_nnhop: choice.is_nnhop,
             resv,
         },
     }

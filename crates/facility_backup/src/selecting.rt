@@ -7,7 +7,7 @@ ghost use Rattle.abstract_router.specs.Upstreams.{flags_ready, own_flags, protec
 ghost use Rattle.facility_backup.specs.Asking.{candidate_by};
 ghost use Rattle.facility_backup.specs.Choosing.{best_of};
 
-use crate::detours::detour_by;
+use crate::bypass_tunnels::bypass_tunnel_by;
 use crate::protecting::{is_preferred, is_protected, selected_by};
 use lsr_facts::{Bypass, Key, PathFact, ResvFact, Selected};
 use state_views::StateView;
@@ -23,8 +23,8 @@ const NODE_PROTECTION: u8 = 0x08;
 fn candidate_by<V: StateView>(view: &V, resv: &ResvFact, bypass: &(u16, Bypass)) -> Option<Selected>
     ensures { result ≡ candidate_by (V.router view.now) (V.state view.now) resv.now bypass.now }
 {
-    let detour = detour_by(view, bypass)?;
-    selected_by(view.node().router, resv, bypass.0, &detour)
+    let bypass_tunnel = bypass_tunnel_by(view, bypass)?;
+    selected_by(view.node().router, resv, bypass.0, &bypass_tunnel)
 }
 
 /// The first candidate among these bypasses that the head prefers, else the first.
@@ -66,11 +66,11 @@ pub fn select<V: StateView>(
 }
 
 /// How a bypass protects, in this router's own entry of a record (RFC 4090, 4.4).
-fn protection_flags(in_use: bool, is_later: bool) -> u8
-    ensures { result ≡ protection_flags in_use is_later }
+fn protection_flags(in_use: bool, is_nnhop: bool) -> u8
+    ensures { result ≡ protection_flags in_use is_nnhop }
 {
     let use_flag = if in_use { PROTECTION_IN_USE } else { 0 };
-    let node_flag = if is_later { NODE_PROTECTION } else { 0 };
+    let node_flag = if is_nnhop { NODE_PROTECTION } else { 0 };
     PROTECTION_AVAILABLE + use_flag + node_flag
 }
 
@@ -81,7 +81,7 @@ fn flags_ready<V: StateView>(view: &V, key: &Key, path: &PathFact, resv: &ResvFa
         result ≡ flags_ready (around_of (V.router view.now) s) (key.now, lsp_of s key.now path.now) resv.now }
 {
     match select(view, key, path, resv) {
-        Some(choice) => protection_flags(false, choice.is_later),
+        Some(choice) => protection_flags(false, choice.is_nnhop),
         None => 0,
     }
 }
@@ -97,7 +97,7 @@ pub fn own_flags<V: StateView>(view: &V, key: &Key, path: &PathFact) -> u8
         return flags_ready(view, key, path, resv);
     }
     match view.repair(key) {
-        Some(repair) => protection_flags(true, repair.is_later),
+        Some(repair) => protection_flags(true, repair.is_nnhop),
         None => 0,
     }
 }

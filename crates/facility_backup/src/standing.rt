@@ -7,7 +7,7 @@ ghost use Rattle.lsr_facts.specs.Reservations.{timeless_resv};
 ghost use Rattle.abstract_router.specs.Lsps.{held_of, lsp_of};
 ghost use Rattle.abstract_router.specs.Repairing.{repair_stands};
 
-use crate::detours::over_at;
+use crate::bypass_tunnels::over_at;
 use lsr_facts::{Key, Repair, ResvFact};
 use message_rules::leaves_by;
 use state_views::StateView;

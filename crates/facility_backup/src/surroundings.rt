@@ -1,17 +1,17 @@
 //! Whether edits leave what all LSPs share as it is: the links that are up, the static routes and the bypasses.
 
 ghost use Rattle.std.specs.Prelude.{◌≡◌, filter_map, true};
-ghost use Rattle.abstract_router.specs.Detours.{detour_by};
+ghost use Rattle.abstract_router.specs.BypassTunnels.{bypass_tunnel_by};
 ghost use Rattle.abstract_router.specs.Lsps.{around_of};
 ghost use Rattle.facility_backup.specs.Asking.{row_by};
 ghost use Rattle.state_views.specs.Edits.{edited};
 
-use crate::detours::detour_by;
-use lsr_facts::{Bypass, Detour};
+use crate::bypass_tunnels::bypass_tunnel_by;
+use lsr_facts::{Bypass, BypassTunnel};
 use state_views::{Changed, Edits, StateView};
 
 /// Whether these are the same bypass.
-fn is_same_detour(was: Option<Detour>, now: Option<Detour>) -> bool
+fn is_same_bypass_tunnel(was: Option<BypassTunnel>, now: Option<BypassTunnel>) -> bool
     ensures { result ≡ true → was ≡ now }
 {
     was == now
@@ -25,7 +25,10 @@ fn leaves_each<V: StateView>(view: &V, edits: &Edits, bypasses: &[(u16, Bypass)]
 {
     let changed = Changed { under: view, edits };
     for bypass in bypasses {
-        if !is_same_detour(detour_by(view, bypass), detour_by(&changed, bypass)) {
+        if !is_same_bypass_tunnel(
+            bypass_tunnel_by(view, bypass),
+            bypass_tunnel_by(&changed, bypass),
+        ) {
             return false;
         }
     }

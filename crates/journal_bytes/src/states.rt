@@ -31,7 +31,7 @@ impl Exact for ResvFact {
 impl Exact for Repair {
     fn is_same(&self, other: &Repair) -> bool {
         self.bypass == other.bypass
-            && self.is_later == other.is_later
+            && self.is_nnhop == other.is_nnhop
             && self.resv.is_same(&other.resv)
     }
 }

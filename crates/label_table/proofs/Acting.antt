@@ -22,7 +22,7 @@ use Rattle.lsr_facts.specs.declared.resv_fact.ResvFact.{ResvFact}
 use Rattle.abstract_paths.specs.Paths.{goes_on}
 use Rattle.abstract_paths.specs.Places.{place_of}
 use Rattle.abstract_paths.specs.RowLaws.{option_or-holds}
-use Rattle.abstract_router.specs.Detours.{detours_of, over_at}
+use Rattle.abstract_router.specs.BypassTunnels.{bypass_tunnels_of, over_at}
 use Rattle.abstract_router.specs.Lsps.{Lsp, around_of, lsp_at, lsp_of}
 use Rattle.abstract_router.specs.Soundness.{IsResv}
 use Rattle.abstract_router.specs.States.{State}
@@ -41,8 +41,8 @@ pub acts_onward : (r : Router) (s : State) (key : Key) (path : PathFact) → act
 acts_onward r s key path = ap (λ o. if goes_on path.role then o else Some Pop) (by (find key_cmp key s.resvs) (find key_cmp key s.repairs))
   where
     by : (resv : Option ResvFact) (repair : Option Repair)
-        → option_or (option_map swap_by (option_map timeless_resv resv)) (option_and_then (swap_through (detours_of r s)) (option_map timeless_repair repair))
-        ≡ option_or (option_map swap_by resv) (option_and_then (swap_through (detours_of r s)) repair)
+        → option_or (option_map swap_by (option_map timeless_resv resv)) (option_and_then (swap_through (bypass_tunnels_of r s)) (option_map timeless_repair repair))
+        ≡ option_or (option_map swap_by resv) (option_and_then (swap_through (bypass_tunnels_of r s)) repair)
     by (Some resv) repair = refl
     by None None = refl
     by None (Some repair) = refl
@@ -52,7 +52,7 @@ pub kept_action : (r : Router) (before after : State) (key : Key) → KeepsBypas
     → option_and_then (action_of (around_of r before)) (lsp_at before key) ≡ option_and_then (action_of (around_of r after)) (lsp_at before key)
 kept_action r before after key keeps = elim keeps [
   | inl none ↦ (λ i. option_and_then (action_of (around_of r before)) (known (none i))) ∙ by (find key_cmp key before.facts.paths) ∙ sym (λ i. option_and_then (action_of (around_of r after)) (known (none i)))
-  | inr alike ↦ λ i. option_and_then (action_of (record { place = place_of r before.facts; detours = alike i })) (lsp_at before key)
+  | inr alike ↦ λ i. option_and_then (action_of (record { place = place_of r before.facts; bypass_tunnels = alike i })) (lsp_at before key)
 ]
   where
     known : Option Repair → Option Lsp
@@ -72,11 +72,11 @@ module _ (r : Router) (s : State) (resvs : AllByRecursion (IsResv s.facts.moment
 
   -- what is written by a repair, and by what its bypass runs over
   through_writes : (acts : ResvFact → Over → Action) → ((resv : ResvFact) (over : Over) → IsLabel resv.label → IsLabel over.label → WritesLabels (acts resv over)) → (repair : Option Repair) → IfSome repair (λ repair. IsResv s.facts.moment (key, repair.resv))
-      → IfSome (option_and_then (λ (repair : Repair). option_map (acts repair.resv) (over_at (detours_of r s) repair.bypass)) repair) WritesLabels
+      → IfSome (option_and_then (λ (repair : Repair). option_map (acts repair.resv) (over_at (bypass_tunnels_of r s) repair.bypass)) repair) WritesLabels
   through_writes acts writes None is = tt
-  through_writes acts writes (Some repair) is = by (over_at (detours_of r s) repair.bypass) refl
+  through_writes acts writes (Some repair) is = by (over_at (bypass_tunnels_of r s) repair.bypass) refl
     where
-      by : (o : Option Over) → over_at (detours_of r s) repair.bypass ≡ o → IfSome (option_map (acts repair.resv) o) WritesLabels
+      by : (o : Option Over) → over_at (bypass_tunnels_of r s) repair.bypass ≡ o → IfSome (option_map (acts repair.resv) o) WritesLabels
       by None found = tt
       by (Some over) found = writes repair.resv over is.label (over_is s.facts.moment r s repair.bypass over found resvs).label
 
@@ -91,7 +91,7 @@ module _ (r : Router) (s : State) (resvs : AllByRecursion (IsResv s.facts.moment
     where
       onward : IfSome (onward_at r s key) WritesLabels
       onward =
-          option_or-holds WritesLabels (option_map swap_by (find key_cmp key s.resvs)) (option_and_then (swap_through (detours_of r s)) (find key_cmp key s.repairs))
+          option_or-holds WritesLabels (option_map swap_by (find key_cmp key s.resvs)) (option_and_then (swap_through (bypass_tunnels_of r s)) (find key_cmp key s.repairs))
           (resv_writes swap_by (λ resv label. label) (find key_cmp key s.resvs) resv_is)
           (through_writes (λ resv over. SwapPush resv.label over.label over.link) (λ resv over below above. (below, above)) (find key_cmp key s.repairs) repair_is)
 
@@ -104,8 +104,8 @@ module _ (r : Router) (s : State) (resvs : AllByRecursion (IsResv s.facts.moment
       by (Some path) = subst (λ o. IfSome o WritesLabels) (sym (acts_onward r s key path)) (acts (goes_on path.role))
 
   -- And so it is of the action of a tunnel with this LSP.
-  pub push_writes : IfSome (option_or (option_map push_by (find key_cmp key s.resvs)) (option_and_then (push_through (detours_of r s)) (find key_cmp key s.repairs))) WritesLabels
+  pub push_writes : IfSome (option_or (option_map push_by (find key_cmp key s.resvs)) (option_and_then (push_through (bypass_tunnels_of r s)) (find key_cmp key s.repairs))) WritesLabels
   push_writes =
-      option_or-holds WritesLabels (option_map push_by (find key_cmp key s.resvs)) (option_and_then (push_through (detours_of r s)) (find key_cmp key s.repairs))
+      option_or-holds WritesLabels (option_map push_by (find key_cmp key s.resvs)) (option_and_then (push_through (bypass_tunnels_of r s)) (find key_cmp key s.repairs))
       (resv_writes push_by (λ resv label. (tt, label)) (find key_cmp key s.resvs) resv_is)
       (through_writes (λ resv over. PushHead (Some resv.label) over.label over.link) (λ resv over below above. (below, above)) (find key_cmp key s.repairs) repair_is)

@@ -19,10 +19,10 @@ use Rattle.lsr_facts.specs.declared.router.Router.{Router}
 use Rattle.lsr_facts.specs.declared.tunnel.Tunnel.{Tunnel}
 use Rattle.forwarding_table.specs.Actions.{WritesLabels}
 use Rattle.forwarding_table.specs.declared.action.Action.{Action}
-use Rattle.lsr_facts.specs.declared.repair.Detour.{Detour}
+use Rattle.lsr_facts.specs.declared.repair.BypassTunnel.{BypassTunnel}
 use Rattle.lsr_facts.specs.declared.repair.Repair.{Repair}
 use Rattle.lsr_facts.specs.declared.resv_fact.ResvFact.{ResvFact}
-use Rattle.abstract_router.specs.Detours.{detours_of}
+use Rattle.abstract_router.specs.BypassTunnels.{bypass_tunnels_of}
 use Rattle.abstract_router.specs.Soundness.{IsResv}
 use Rattle.abstract_router.specs.States.{State}
 use Rattle.abstract_router.specs.Tables.{look_tunnel, push_by, push_of, push_through, tunnel_table_of}
@@ -72,13 +72,13 @@ none_of_number becomes number (tunnel ∷ tunnels) none =
     ap (λ b. cond b (Some tunnel.1) (find nat_cmp number tunnels)) apart.0 ∙ none_of_number becomes number tunnels apart.1
 
 -- the action of a tunnel whose current LSP is reserved so, or repaired
-abbrev pushed : List (ℕ × Detour) → Option ResvFact → Option Repair → Option Action
-pushed detours resv repair = option_or (option_map push_by resv) (option_and_then (push_through detours) repair)
+abbrev pushed : List (ℕ × BypassTunnel) → Option ResvFact → Option Repair → Option Action
+pushed bypass_tunnels resv repair = option_or (option_map push_by resv) (option_and_then (push_through bypass_tunnels) repair)
 
 -- where bypasses take no frames of an LSP another way, its tunnel's action is the same whichever way bypasses go
-kept_push : (r : Router) (before after : State) (key : Key) (resv : Option ResvFact) → KeepsBypass r before after key → pushed (detours_of r before) resv (find key_cmp key before.repairs) ≡ pushed (detours_of r after) resv (find key_cmp key before.repairs)
+kept_push : (r : Router) (before after : State) (key : Key) (resv : Option ResvFact) → KeepsBypass r before after key → pushed (bypass_tunnels_of r before) resv (find key_cmp key before.repairs) ≡ pushed (bypass_tunnels_of r after) resv (find key_cmp key before.repairs)
 kept_push r before after key resv keeps = elim keeps [
-  | inl none ↦ (λ i. pushed (detours_of r before) resv (none i)) ∙ sym (λ i. pushed (detours_of r after) resv (none i))
+  | inl none ↦ (λ i. pushed (bypass_tunnels_of r before) resv (none i)) ∙ sym (λ i. pushed (bypass_tunnels_of r after) resv (none i))
   | inr alike ↦ λ i. pushed (alike i) resv (find key_cmp key before.repairs)
 ]
 
@@ -130,7 +130,7 @@ module _ (r : Router) (s : State) (e : Edits) (sorted : T (is_sorted nat_cmp s.f
       let resv = resv_edited key e.resvs s.resvs ∙ ap (λ o. rows.over o (find key_cmp key s.resvs)) (none_of_tunnel becomes key e.resvs no_resv) in
       let repair = repair_edited key e.repairs s.repairs ∙ ap (λ o. rows.over o (find key_cmp key s.repairs)) (none_of_tunnel becomes key e.repairs no_repair) in
       kept_push r s after key (find key_cmp key s.resvs) (are.others key (ap is_some (none_of_tunnel becomes key bypassed no_bypass)))
-      ∙ (λ i. pushed (detours_of r after) (sym resv i) (sym repair i))
+      ∙ (λ i. pushed (bypass_tunnels_of r after) (sym resv i) (sym repair i))
 
   -- So a tunnel of which none is keeps its action.
   same_push : (number : ℕ) → asks_bypass number ≡ false → asks_repair number ≡ false → asks_resv number ≡ false → asks_tunnel number ≡ false → push_at r s number ≡ push_at r after number

@@ -17,7 +17,7 @@ use Rattle.lsr_facts.specs.declared.path_fact.PathFact.{PathFact}
 use Rattle.lsr_facts.specs.declared.router.Router.{Router}
 use Rattle.forwarding_table.specs.declared.action.Action.{Action}
 use Rattle.forwarding_table.specs.declared.action.Action.TheVariants.{Pop}
-use Rattle.abstract_router.specs.Detours.{detours_of}
+use Rattle.abstract_router.specs.BypassTunnels.{bypass_tunnels_of}
 use Rattle.abstract_router.specs.Labels.{is_free}
 use Rattle.abstract_router.specs.LspLaws.{AreAlike, look-alike}
 use Rattle.abstract_router.specs.Lsps.{Around, Lsp, around_of, lsp_of, lsps_of}
@@ -119,14 +119,14 @@ unfolding look table_of lsps_of
 table-no_path r s none label = sym (ap (λ paths. first_of label (entries r s label paths)) none)
 
 -- What bypasses run over stands on the links that are up, on tunnels, on bypasses and on reservations alone.
-pub detours-alike : (r : Router) (s t : State) → s.facts.up ≡ t.facts.up → s.facts.tunnels ≡ t.facts.tunnels → s.facts.bypasses ≡ t.facts.bypasses → s.resvs ≡ t.resvs → detours_of r s ≡ detours_of r t
-unfolding detours_of
-detours-alike r s t up tunnels bypasses resvs =
-    λ i. detours_of r (record s { facts = record s.facts { up = up i; tunnels = tunnels i; bypasses = bypasses i }; resvs = resvs i })
+pub bypass_tunnels-alike : (r : Router) (s t : State) → s.facts.up ≡ t.facts.up → s.facts.tunnels ≡ t.facts.tunnels → s.facts.bypasses ≡ t.facts.bypasses → s.resvs ≡ t.resvs → bypass_tunnels_of r s ≡ bypass_tunnels_of r t
+unfolding bypass_tunnels_of
+bypass_tunnels-alike r s t up tunnels bypasses resvs =
+    λ i. bypass_tunnels_of r (record s { facts = record s.facts { up = up i; tunnels = tunnels i; bypasses = bypasses i }; resvs = resvs i })
 
 -- The label table stands on paths, on reservations, repairs and labels, and on what bypasses run over alone.
-pub table-alike : (r : Router) (s t : State) (rows : List (ℕ × Action)) → detours_of r s ≡ detours_of r t → s.facts.paths ≡ t.facts.paths → AreAlike s t → IsTableOf r s rows → IsTableOf r t rows
-table-alike r s t rows detours paths are is label = is label ∙ look-alike r s t label detours paths are
+pub table-alike : (r : Router) (s t : State) (rows : List (ℕ × Action)) → bypass_tunnels_of r s ≡ bypass_tunnels_of r t → s.facts.paths ≡ t.facts.paths → AreAlike s t → IsTableOf r s rows → IsTableOf r t rows
+table-alike r s t rows bypass_tunnels paths are is label = is label ∙ look-alike r s t label bypass_tunnels paths are
 
 -- No more are given than are asked.
 pub length_cons : {A : Type 0} (o : Option A) (xs : List A) → length (cons_option o xs) ≤ length xs + 1

@@ -13,7 +13,7 @@ use Rattle.lsr_facts.specs.declared.router.Router.{Router}
 use Rattle.lsr_facts.specs.declared.tunnel.Tunnel.{Tunnel}
 use Rattle.forwarding_table.specs.declared.action.Action.{Action}
 use Rattle.abstract_paths.specs.TouchedLaws.{find-made, is_sorted-made}
-use Rattle.abstract_router.specs.Detours.{detours_of}
+use Rattle.abstract_router.specs.BypassTunnels.{bypass_tunnels_of}
 use Rattle.abstract_router.specs.States.{State}
 use Rattle.abstract_router.specs.Tables.{look_tunnel, push_by, push_of, push_through, tunnel_table_of}
 use Rattle.label_table.specs.RowLaws.{length_asked}
@@ -44,7 +44,7 @@ none_pushed : (r : Router) (s : State) → s.resvs ≡ [] → s.repairs ≡ [] �
 none_pushed r s no_resv no_repair [] = refl
 none_pushed r s no_resv no_repair (tunnel ∷ tunnels) =
     λ i. cons_option (option_map {U = ℕ × Action} (λ action. (tunnel.0, action))
-    (option_or (option_map push_by (find key_cmp (current_key r tunnel) (no_resv i))) (option_and_then (push_through (detours_of r s)) (find key_cmp (current_key r tunnel) (no_repair i)))))
+    (option_or (option_map push_by (find key_cmp (current_key r tunnel) (no_resv i))) (option_and_then (push_through (bypass_tunnels_of r s)) (find key_cmp (current_key r tunnel) (no_repair i)))))
     (none_pushed r s no_resv no_repair tunnels i)
 
 pub tunnel_table-none : (r : Router) (s : State) → s.resvs ≡ [] → s.repairs ≡ [] → tunnel_table_of r s ≡ []
@@ -52,12 +52,12 @@ unfolding tunnel_table_of
 tunnel_table-none r s no_resv no_repair = none_pushed r s no_resv no_repair s.facts.tunnels
 
 -- The table stands on tunnels, on reservations and repairs, and on what bypasses run over alone.
-pub tunnel_table-alike : (r : Router) (s t : State) → detours_of r s ≡ detours_of r t → s.facts.tunnels ≡ t.facts.tunnels → s.resvs ≡ t.resvs → s.repairs ≡ t.repairs → tunnel_table_of r s ≡ tunnel_table_of r t
+pub tunnel_table-alike : (r : Router) (s t : State) → bypass_tunnels_of r s ≡ bypass_tunnels_of r t → s.facts.tunnels ≡ t.facts.tunnels → s.resvs ≡ t.resvs → s.repairs ≡ t.repairs → tunnel_table_of r s ≡ tunnel_table_of r t
 unfolding tunnel_table_of
-tunnel_table-alike r s t detours tunnels resvs repairs =
+tunnel_table-alike r s t bypass_tunnels tunnels resvs repairs =
     λ i. filter_map (λ (tunnel : ℕ × Tunnel). option_map {U = ℕ × Action} (λ action. (tunnel.0, action))
-    (option_or (option_map push_by (find key_cmp (current_key r tunnel) (resvs i))) (option_and_then (push_through (detours i)) (find key_cmp (current_key r tunnel) (repairs i))))) (tunnels i)
+    (option_or (option_map push_by (find key_cmp (current_key r tunnel) (resvs i))) (option_and_then (push_through (bypass_tunnels i)) (find key_cmp (current_key r tunnel) (repairs i))))) (tunnels i)
 
-pub look_tunnel-alike : (r : Router) (s t : State) (number : ℕ) → detours_of r s ≡ detours_of r t → s.facts.tunnels ≡ t.facts.tunnels → s.resvs ≡ t.resvs → s.repairs ≡ t.repairs → look_tunnel r s number ≡ look_tunnel r t number
+pub look_tunnel-alike : (r : Router) (s t : State) (number : ℕ) → bypass_tunnels_of r s ≡ bypass_tunnels_of r t → s.facts.tunnels ≡ t.facts.tunnels → s.resvs ≡ t.resvs → s.repairs ≡ t.repairs → look_tunnel r s number ≡ look_tunnel r t number
 unfolding look_tunnel
-look_tunnel-alike r s t number detours tunnels resvs repairs = ap (find nat_cmp number) (tunnel_table-alike r s t detours tunnels resvs repairs)
+look_tunnel-alike r s t number bypass_tunnels tunnels resvs repairs = ap (find nat_cmp number) (tunnel_table-alike r s t bypass_tunnels tunnels resvs repairs)

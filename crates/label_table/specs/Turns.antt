@@ -9,7 +9,7 @@ use Rattle.lsr_facts.specs.Orders.{key_cmp}
 use Rattle.std.specs.declared.cmp.Ordering.{Ordering}
 use Rattle.lsr_facts.specs.declared.key.Key.{Key}
 use Rattle.lsr_facts.specs.declared.router.Router.{Router}
-use Rattle.abstract_router.specs.Detours.{detours_of}
+use Rattle.abstract_router.specs.BypassTunnels.{bypass_tunnels_of}
 use Rattle.abstract_router.specs.States.{State}
 use Rattle.abstract_router.specs.Tables.{swap_by, swap_through}
 use Rattle.label_table.specs.Rows.{action_at}
@@ -31,7 +31,7 @@ put_each f (touched ∷ more) rows = put_each f more (put_row nat_cmp (f touched
 
 -- what is done with a frame of an LSP that goes on: it is reserved, or repaired
 abbrev pub onward_at : Router → State → Key → Option Action
-onward_at r s key = option_or (option_map swap_by (find key_cmp key s.resvs)) (option_and_then (swap_through (detours_of r s)) (find key_cmp key s.repairs))
+onward_at r s key = option_or (option_map swap_by (find key_cmp key s.resvs)) (option_and_then (swap_through (bypass_tunnels_of r s)) (find key_cmp key s.repairs))
 
 -- the row of an LSP: its action, under its label
 abbrev pub row_at : Router → State → Key → Option (ℕ × Action)

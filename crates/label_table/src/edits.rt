@@ -6,7 +6,7 @@ ghost use Rattle.std.specs.Prelude.{◌≡◌, IfOk, OnOk};
 ghost use Rattle.lsr_facts.specs.Orders.{key_cmp};
 ghost use Rattle.abstract_paths.specs.Soundness.{ArePaths};
 ghost use Rattle.abstract_paths.specs.Touched.{is_among};
-ghost use Rattle.abstract_router.specs.Detours.{detours_of};
+ghost use Rattle.abstract_router.specs.BypassTunnels.{bypass_tunnels_of};
 ghost use Rattle.abstract_router.specs.Soundness.{AreLabelled, IsResv};
 ghost use Rattle.abstract_router.specs.Tables.{swap_through};
 ghost use Rattle.abstract_router.specs.Touched.{LeavesOtherLsps};
@@ -26,7 +26,7 @@ use std::alloc::{AllocError, Global};
 /// What is done with a frame of a repaired LSP (RFC 4090, 3.2): the label is replaced by that of the bypass's end, and the
 /// bypass's own label is pushed over it. There is no action where the bypass isn't up.
 fn swap_through<V: StateView>(view: &V, repair: &Repair) -> Option<Action>
-    ensures { result ≡ swap_through (detours_of (V.router view.now) (V.state view.now)) repair.now }
+    ensures { result ≡ swap_through (bypass_tunnels_of (V.router view.now) (V.state view.now)) repair.now }
 {
     let over = over_at(view, repair.bypass)?;
     Some(Action::SwapPush {

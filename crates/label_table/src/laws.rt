@@ -7,7 +7,7 @@ ghost use Rattle.label_stacks.specs.declared.entry.StackEntry.{StackEntry};
 ghost use Rattle.lsr_facts.specs.declared.router.Router.{Router};
 ghost use Rattle.forwarding_table.specs.Forwarding.{forward_of};
 ghost use Rattle.forwarding_table.specs.declared.action.Action.{Action};
-ghost use Rattle.abstract_router.specs.Detours.{detours_of};
+ghost use Rattle.abstract_router.specs.BypassTunnels.{bypass_tunnels_of};
 ghost use Rattle.abstract_router.specs.LspLaws.{AreAlike};
 ghost use Rattle.abstract_router.specs.States.{State};
 ghost use Rattle.abstract_router.specs.Tables.{forwarded};
@@ -20,7 +20,7 @@ pub fn no_path_has_no_action()
 
 /// Where paths, reservations, repairs and labels are the same, and bypasses run over the same, so is the label table.
 pub fn the_table_stands_on_lsps_and_bypasses()
-    ensures { (r : Router) (s t : State) (rows : List (ℕ × Action)) → detours_of r s ≡ detours_of r t →
+    ensures { (r : Router) (s t : State) (rows : List (ℕ × Action)) → bypass_tunnels_of r s ≡ bypass_tunnels_of r t →
         s.facts.paths ≡ t.facts.paths → AreAlike s t → IsTableOf r s rows → IsTableOf r t rows }
 {}
 

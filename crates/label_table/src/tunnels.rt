@@ -4,7 +4,7 @@ ghost use Rattle.std.specs.FinMap.Entries.{is_sorted};
 ghost use Rattle.std.specs.List.{AllByRecursion};
 ghost use Rattle.std.specs.Ordering.{nat_cmp};
 ghost use Rattle.std.specs.Prelude.{◌≡◌, IfOk, OnOk, T};
-ghost use Rattle.abstract_router.specs.Detours.{detours_of};
+ghost use Rattle.abstract_router.specs.BypassTunnels.{bypass_tunnels_of};
 ghost use Rattle.abstract_router.specs.Soundness.{IsResv};
 ghost use Rattle.abstract_router.specs.Tables.{push_through};
 ghost use Rattle.state_views.specs.Edits.{edited};
@@ -24,7 +24,7 @@ use std::alloc::{AllocError, Global};
 /// What is done with the traffic of a tunnel whose current LSP is repaired (RFC 4090, 3.2): it leaves under the label that
 /// the bypass's end takes, with the bypass's own label over it. There is no action where the bypass isn't up.
 fn push_through<V: StateView>(view: &V, repair: &Repair) -> Option<Action>
-    ensures { result ≡ push_through (detours_of (V.router view.now) (V.state view.now)) repair.now }
+    ensures { result ≡ push_through (bypass_tunnels_of (V.router view.now) (V.state view.now)) repair.now }
 {
     let over = over_at(view, repair.bypass)?;
     Some(Action::PushHead {

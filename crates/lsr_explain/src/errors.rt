@@ -63,7 +63,7 @@ pub const ERRORS: &str = "\
   The message has an object of a class that isn't known here and that mustn't be
   ignored. N is 256 times its class, plus its C-Type.
   What to do: turn off at its sender the feature that the object belongs to; class 63 is the
-  DETOUR of one-to-one backup.
+  BYPASS_TUNNEL of one-to-one backup.
   See: RFC 2205, B (code 13) and 3.10; RFC 4090, 4.2
 14/N UnknownCType
   The message has an object of a known class with a C-Type that isn't known here. N is 256

@@ -44,7 +44,7 @@ pub use path_fact::{Origin, PathFact, Role, Via};
 pub use prefixes::masked;
 pub use priorities::{WORST_PRIORITY, holding_of, setup_of};
 pub use refusal::Refusal;
-pub use repair::{Detour, Over, Repair, Selected};
+pub use repair::{BypassTunnel, Over, Repair, Selected};
 pub use reply::Reply;
 pub use resv_fact::{ResvFact, ResvStyle, is_same_style};
 pub use router::{LabelRange, Link, Router};

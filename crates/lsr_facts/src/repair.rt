@@ -14,7 +14,7 @@ pub struct Repair {
     /// The number of the bypass.
     pub bypass: u16,
     /// Whether the bypass ends later than at the next hop: node protection (RFC 4090, 3.2).
-    pub is_later: bool,
+    pub is_nnhop: bool,
     /// The reservation that was lost, on the link that is protected. Its label is the one under which the router at the
     /// bypass's end takes the LSP.
     pub resv: ResvFact,
@@ -26,7 +26,7 @@ impl Repair {
         ensures { result ≡ true → timeless_repair self.now ≡ timeless_repair other.now }
     {
         self.bypass == other.bypass
-            && self.is_later == other.is_later
+            && self.is_nnhop == other.is_nnhop
             && self.resv.is_same_but_expiry(&other.resv)
     }
 }
@@ -35,7 +35,7 @@ impl TryCopy for Repair {
     fn try_copy(&self, alloc: Global) -> Result<Repair, AllocError> {
         Ok(Repair {
             bypass: self.bypass,
-            is_later: self.is_later,
+            is_nnhop: self.is_nnhop,
             resv: self.resv.try_copy(alloc)?,
         })
     }
@@ -52,7 +52,7 @@ pub struct Over {
 
 /// A bypass, as a point of local repair sees it (RFC 4090, 3.2).
 #[derive(Clone, Copy, Debug, PartialEq, Eq)]
-pub struct Detour {
+pub struct BypassTunnel {
     /// The number of the tunnel that it runs through.
     pub tunnel: u16,
     /// The number of the link that it protects.
@@ -69,7 +69,7 @@ pub struct Selected {
     /// The number of the bypass.
     pub bypass: u16,
     /// Whether it ends later than at the next hop.
-    pub is_later: bool,
+    pub is_nnhop: bool,
     /// The label under which the router at its end takes the LSP.
     pub label: u32,
 }

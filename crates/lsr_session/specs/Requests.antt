@@ -20,7 +20,7 @@ use Rattle.lsr_facts.specs.declared.router.Link.{Link}
 use Rattle.lsr_facts.specs.declared.tunnel.Tunnel.{Tunnel}
 use Rattle.lsr_facts.specs.Claims.{reserved_of}
 use Rattle.abstract_paths.specs.Places.{is_up}
-use Rattle.abstract_router.specs.Detours.{detours_of, over_at}
+use Rattle.abstract_router.specs.BypassTunnels.{bypass_tunnels_of, over_at}
 use Rattle.abstract_router.specs.Preempting.{claims_of}
 use Rattle.abstract_router.specs.States.{State}
 use Rattle.abstract_router.specs.Tables.{look_tunnel}
@@ -145,7 +145,7 @@ links_text r = flat_map (link_text r.state) r.router.links
 
 -- the bypass of a number is up
 abbrev pub is_bypass_up : RouterState → ℕ → Bool
-is_bypass_up r number = is_some (over_at (detours_of r.router r.state) number)
+is_bypass_up r number = is_some (over_at (bypass_tunnels_of r.router r.state) number)
 
 -- how many LSPs are repaired over it
 abbrev pub uses_of : RouterState → ℕ → ℕ

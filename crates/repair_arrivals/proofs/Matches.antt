@@ -13,10 +13,10 @@ use Rattle.lsr_facts.specs.Orders.{key_cmp}
 use Rattle.lsr_facts.specs.Routers.{is_same, link_at}
 use Rattle.lsr_facts.specs.declared.key.Key.{Key}
 use Rattle.lsr_facts.specs.declared.router.Router.{Router}
-use Rattle.lsr_facts.specs.declared.repair.Detour.{Detour}
+use Rattle.lsr_facts.specs.declared.repair.BypassTunnel.{BypassTunnel}
 use Rattle.lsr_facts.specs.declared.repair.Repair.{Repair}
 use Rattle.abstract_paths.specs.Merging.{under}
-use Rattle.abstract_router.specs.Detours.{detours_of}
+use Rattle.abstract_router.specs.BypassTunnels.{bypass_tunnels_of}
 use Rattle.abstract_router.specs.Lsps.{around_of}
 use Rattle.abstract_router.specs.Returning.{ends_at, is_known_as, repair_from, repair_known_as, the_one}
 use Rattle.abstract_router.specs.States.{State}
@@ -47,12 +47,12 @@ found_from r s hop key repair sorted is =
     one_is P (filter test s.repairs) repair (all-filter P test s.repairs (all_found key_cmp key_total s.repairs sorted)) is
 
 -- Bypasses are what they are whatever is repaired.
-pub detours_apart : (r : Router) (s : State) (repairs : List (Key × Repair)) → detours_of r (record s { repairs = repairs }) ≡ detours_of r s
-unfolding detours_of
-detours_apart r s repairs = refl
+pub bypass_tunnels_apart : (r : Router) (s : State) (repairs : List (Key × Repair)) → bypass_tunnels_of r (record s { repairs = repairs }) ≡ bypass_tunnels_of r s
+unfolding bypass_tunnels_of
+bypass_tunnels_apart r s repairs = refl
 
 pub around_apart : (r : Router) (s : State) (repairs : List (Key × Repair)) → around_of r (record s { repairs = repairs }) ≡ around_of r s
-unfolding detours_of
+unfolding bypass_tunnels_of
 around_apart r s repairs = refl
 
 -- the one that passes, by what the test looks at
@@ -71,15 +71,15 @@ one-bare f (x ∷ []) = refl
 one-bare f (x ∷ y ∷ xs) = refl
 
 -- what is left of a repair is for a message as the repair is
-abbrev is_for_bare : Router → List (ℕ × Detour) → Ipv4Addr → Key → Key × (ℕ × (Bool × ℕ)) → Bool
-is_for_bare r detours hop key left =
+abbrev is_for_bare : Router → List (ℕ × BypassTunnel) → Ipv4Addr → Key → Key × (ℕ × (Bool × ℕ)) → Bool
+is_for_bare r bypass_tunnels hop key left =
     option_map_or (λ link. is_eq (key_cmp (under link.address left.0) key)) (link_at r left.1.1.1) false
-    && option_map_or (λ detour. is_same detour.ends_at hop) (find nat_cmp left.1.0 detours) false
+    && option_map_or (λ bypass_tunnel. is_same bypass_tunnel.ends_at hop) (find nat_cmp left.1.0 bypass_tunnels) false
 
-from_bare : (r : Router) (s : State) (hop : Ipv4Addr) (key : Key) → option_map bare (repair_from r s hop key) ≡ the_one (filter (is_for_bare r (detours_of r s) hop key) (map bare s.repairs))
+from_bare : (r : Router) (s : State) (hop : Ipv4Addr) (key : Key) → option_map bare (repair_from r s hop key) ≡ the_one (filter (is_for_bare r (bypass_tunnels_of r s) hop key) (map bare s.repairs))
 unfolding repair_from
 from_bare r s hop key =
-    let test = is_for_bare r (detours_of r s) hop key in
+    let test = is_for_bare r (bypass_tunnels_of r s) hop key in
     sym (one-bare bare (filter (λ repair. test (bare repair)) s.repairs)) ∙ sym (ap the_one (filter-bare bare test s.repairs))
 
 -- So the repair that a message is for is the same one where as much is left of all.
@@ -87,5 +87,5 @@ pub same_from : (r : Router) (s : State) (repairs : List (Key × Repair)) (hop :
     → option_map bare (repair_from r (record s { repairs = repairs }) hop key) ≡ option_map bare (repair_from r s hop key)
 same_from r s repairs hop key left =
     from_bare r (record s { repairs = repairs }) hop key
-    ∙ (λ i. the_one (filter (is_for_bare r (detours_apart r s repairs i) hop key) (left i)))
+    ∙ (λ i. the_one (filter (is_for_bare r (bypass_tunnels_apart r s repairs i) hop key) (left i)))
     ∙ sym (from_bare r s hop key)

@@ -41,7 +41,7 @@ filled left = (
   left.0,
   record {
     bypass = left.1.0;
-    is_later = left.1.1.0;
+    is_nnhop = left.1.1.0;
     resv = record { link = left.1.1.1; style = FixedFilter; flowspec = []; label = 0; recorded = None; passing = []; expiry = 0 };
   },
 )
@@ -123,10 +123,10 @@ module _ (s : State) (p now : Progress) (key : Key) (repair : Repair) (fact : Re
   -- As much is left of all where the link is the same.
   pub granted_reached : now.edits ≡ put key_cmp key (Some (record repair { resv = fact })) p.edits → find key_cmp key s.repairs ≡ Some repair → fact.link ≡ repair.resv.link → IsReached s p → IsReached s now
   granted_reached edits found same left =
-      let value = λ (repair : Repair). let left : ℕ × (Bool × ℕ) = (repair.bypass, (repair.is_later, repair.resv.link)) in left in
+      let value = λ (repair : Repair). let left : ℕ × (Bool × ℕ) = (repair.bypass, (repair.is_nnhop, repair.resv.link)) in left in
       let rows = map bare (repairs_at s p) in
       let has : find key_cmp key rows ≡ Some (value (record repair { resv = fact })) =
-      ap (find key_cmp key) left ∙ find-map key_cmp value key s.repairs ∙ ap (option_map value) found ∙ (λ i. Some (repair.bypass, (repair.is_later, sym same i))) in
+      ap (find key_cmp key) left ∙ find-map key_cmp value key s.repairs ∙ ap (option_map value) found ∙ (λ i. Some (repair.bypass, (repair.is_nnhop, sym same i))) in
       let in_order : T (is_sorted key_cmp rows) =
       subst T (sym (is_sorted-both key_cmp rows (repairs_at s p) (keys-values value (repairs_at s p)))) (is_sorted-edited key_cmp key_total p.edits s.repairs sorted) in
       ap (map bare) (repairs_then edits)

@@ -18,7 +18,7 @@ reached s p = record { state = record s { repairs = repairs_at s p }; errors = p
 
 -- what a Resv leaves of a repair: its LSP, its bypass, and the link that is protected
 abbrev pub bare : Key × Repair → Key × (ℕ × (Bool × ℕ))
-bare repair = (repair.0, (repair.1.bypass, (repair.1.is_later, repair.1.resv.link)))
+bare repair = (repair.0, (repair.1.bypass, (repair.1.is_nnhop, repair.1.resv.link)))
 
 -- that much is left of all
 abbrev pub IsReached : State → Progress → Type 0

@@ -74,7 +74,7 @@ fn granted<V: StateView>(
     )?;
     let renewed = Repair {
         bypass: repair.bypass,
-        is_later: repair.is_later,
+        is_nnhop: repair.is_nnhop,
         resv,
     };
     let mut edits = progress.edits;

@@ -1,18 +1,18 @@
 -- What is forwarded doesn't depend on whether the router is cold.
 use Rattle.std.proofs.Common.{◌≡◌, ℕ, Bool, true, false, refl, sym, ◌∙◌}
 use Rattle.lsr_facts.specs.declared.router.Router.{Router}
-use Rattle.abstract_router.specs.Detours.{detours_of}
+use Rattle.abstract_router.specs.BypassTunnels.{bypass_tunnels_of}
 use Rattle.abstract_router.specs.Lsps.{lsps_of}
 use Rattle.abstract_router.specs.States.{State}
 use Rattle.abstract_router.specs.Tables.{TellsChange, look, look_tunnel, table_of, tunnel_table_of}
 use Rattle.router_core.specs.Readies.{with_cold}
 
 look_cold : (r : Router) (s : State) (is_cold : Bool) (label : ℕ) → look r (with_cold is_cold s) label ≡ look r s label
-unfolding look table_of lsps_of detours_of
+unfolding look table_of lsps_of bypass_tunnels_of
 look_cold r s is_cold label = refl
 
 look_tunnel_cold : (r : Router) (s : State) (is_cold : Bool) (number : ℕ) → look_tunnel r (with_cold is_cold s) number ≡ look_tunnel r s number
-unfolding look_tunnel tunnel_table_of detours_of
+unfolding look_tunnel tunnel_table_of bypass_tunnels_of
 look_tunnel_cold r s is_cold number = refl
 
 -- What is told of a change is told of it whether the router is cold after it or not.

@@ -12,7 +12,7 @@ use Rattle.lsr_facts.specs.Routers.{IsRouter}
 use Rattle.lsr_facts.specs.declared.key.Item.{Item}
 use Rattle.lsr_facts.specs.declared.key.Key.{Key}
 use Rattle.lsr_facts.specs.declared.router.Router.{Router}
-use Rattle.router_tables.specs.Below.labels.RowLaws.{detours-alike, table-alike}
+use Rattle.router_tables.specs.Below.labels.RowLaws.{bypass_tunnels-alike, table-alike}
 use Rattle.router_tables.specs.Below.labels.Rows.{AreTableEdits}
 use Rattle.router_tables.specs.Below.labels.TunnelLaws.{look_tunnel-alike, tunnel_table-alike}
 use Rattle.router_tables.specs.Below.labels.TunnelRows.{AreTunnelEdits}
@@ -39,7 +39,7 @@ use Rattle.abstract_router.specs.Soundness.{AreLabelled, IsResv, IsSound}
 use Rattle.abstract_router.specs.States.{State}
 use Rattle.abstract_router.specs.Repairing.{told_repaired}
 use Rattle.abstract_router.specs.Steps.{IsEvent, MayChooseBy, settled, taken_over, with_moments}
-use Rattle.abstract_router.specs.Detours.{detours_of}
+use Rattle.abstract_router.specs.BypassTunnels.{bypass_tunnels_of}
 use Rattle.abstract_router.specs.Lsps.{lsps_of}
 use Rattle.abstract_router.specs.LspLaws.{AreAlike, look-alike}
 use Rattle.abstract_router.specs.Tables.{look, look_tunnel}
@@ -62,7 +62,7 @@ errors_in r s o = o.errors ++ told_repaired r (taken_over r o.after)
 
 -- what is sent doesn't depend on when messages were sent
 sent_alike : (r : Router) (s : State) (o : Outcome) (t : State) → outputs_of r s (errors_in r s o) o.due o.upstream_due t ≡ outputs_of r s (errors_in r s o) o.due o.upstream_due (with_moments r s o t)
-unfolding outputs_of items_of upstream_of lsps_of detours_of
+unfolding outputs_of items_of upstream_of lsps_of bypass_tunnels_of
 sent_alike r s o t = refl
 
 module _ (r : Router) (s : State) (is : IsSound r s) (draft : Draft) (may : IsDrafted r s (edited draft.edits s)) (x : Edits) (chosen : List (Key × ℕ))
@@ -123,16 +123,16 @@ module _ (r : Router) (s : State) (is : IsSound r s) (draft : Draft) (may : IsDr
     alike : AreAlike (edited x s) (changed change s)
     alike = record { resvs = sym resvs; repairs = refl; labels = refl }
 
-    detours : detours_of r (edited x s) ≡ detours_of r (changed change s)
-    detours = detours-alike r (edited x s) (changed change s) refl refl refl (sym resvs)
+    bypass_tunnels : bypass_tunnels_of r (edited x s) ≡ bypass_tunnels_of r (changed change s)
+    bypass_tunnels = bypass_tunnels-alike r (edited x s) (changed change s) refl refl refl (sym resvs)
 
     -- labels have the same actions after both
     looks : (label : ℕ) → look r (edited x s) label ≡ look r (changed change s) label
-    looks label = look-alike r (edited x s) (changed change s) label detours refl alike
+    looks label = look-alike r (edited x s) (changed change s) label bypass_tunnels refl alike
 
     -- and so have tunnels
     looks_tunnel : (number : ℕ) → look_tunnel r (edited x s) number ≡ look_tunnel r (changed change s) number
-    looks_tunnel number = look_tunnel-alike r (edited x s) (changed change s) number detours refl (sym resvs) refl
+    looks_tunnel number = look_tunnel-alike r (edited x s) (changed change s) number bypass_tunnels refl (sym resvs) refl
 
     change_is : AreEdits bandwidth → rows.edited key_cmp (claim_edits bandwidth) (claims_of s.facts.paths s.resvs) ≡ claims_of (edited x s).facts.paths (edited x s).resvs → AreTableEdits r s (edited x s) table → AreTunnelEdits r s (edited x s) tunnel_table → IsChange r s change
     change_is edits claims are are_tunnels = record {
@@ -140,14 +140,14 @@ module _ (r : Router) (s : State) (is : IsSound r s) (draft : Draft) (may : IsDr
       edits = edits;
       claims = claims ∙ ap (λ held. claims_of (edited x s).facts.paths held) (sym resvs);
       table = record {
-        table = λ was of_before. table-alike r (edited x s) (changed change s) (rows.edited nat_cmp table was) detours refl alike (are.table was of_before);
+        table = λ was of_before. table-alike r (edited x s) (changed change s) (rows.edited nat_cmp table was) bypass_tunnels refl alike (are.table was of_before);
         room = are.room;
         labels = are.labels;
         changes = subst (λ (f : ℕ → Option Action). All (λ edit. look r s edit.0 ≢ f edit.0) table) (λ i label. looks label i) are.changes;
         none = λ same. are.none (λ label. same label ∙ sym (looks label));
       };
       tunnel_table = record {
-        table = are_tunnels.table ∙ tunnel_table-alike r (edited x s) (changed change s) detours refl (sym resvs) refl;
+        table = are_tunnels.table ∙ tunnel_table-alike r (edited x s) (changed change s) bypass_tunnels refl (sym resvs) refl;
         labels = are_tunnels.labels;
         changes = subst (λ (f : ℕ → Option Action). All (λ edit. look_tunnel r s edit.0 ≢ f edit.0) tunnel_table) (λ i number. looks_tunnel number i) are_tunnels.changes;
         none = λ same. are_tunnels.none (λ number. same number ∙ sym (looks_tunnel number));

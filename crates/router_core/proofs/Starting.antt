@@ -6,7 +6,7 @@ use Rattle.abstract_paths.specs.declared.events.Event.TheVariants as events
 use Rattle.abstract_router.specs.Soundness.{IsSound}
 use Rattle.abstract_router.specs.States.{State}
 use Rattle.abstract_router.specs.Steps.{Step}
-use Rattle.abstract_router.specs.Detours.{detours_of}
+use Rattle.abstract_router.specs.BypassTunnels.{bypass_tunnels_of}
 use Rattle.abstract_router.specs.Lsps.{lsps_of}
 use Rattle.abstract_router.specs.Upstreams.{upstream_of}
 use Rattle.abstract_router.specs.Wanted.{items_of}
@@ -15,7 +15,7 @@ use Rattle.router_tables.specs.States.{emptied}
 
 -- what a router knows that has no path is sound, also while it is cold
 pub sound_stopped : (r : Router) (s : State) → s.facts.paths ≡ [] → IsSound r s → IsSound r (record s { facts = record s.facts { cold = true } })
-unfolding items_of upstream_of lsps_of detours_of
+unfolding items_of upstream_of lsps_of bypass_tunnels_of
 sound_stopped r s none is = record {
   paths = record { moment = is.paths.moment; links = is.paths.links; routes = is.paths.routes; tunnels = is.paths.tunnels; bypasses = is.paths.bypasses; paths = is.paths.paths; heads = is.paths.heads; cold = λ cold. none };
   held = record { in_order = is.held.in_order; each = is.held.each; one_style = is.held.one_style; within = is.held.within };

@@ -7,13 +7,13 @@ use Rattle.forwarding_table.specs.declared.forwarding.Forwarding.{Forwarding}
 use Rattle.lsr_facts.specs.declared.facts.Facts.{Facts}
 use Rattle.lsr_facts.specs.declared.refusal.Refusal.{Refusal}
 use Rattle.lsr_facts.specs.declared.router.Router.{Router}
-use Rattle.abstract_router.specs.Detours.{detours_of}
+use Rattle.abstract_router.specs.BypassTunnels.{bypass_tunnels_of}
 use Rattle.abstract_router.specs.States.{State}
 use Rattle.abstract_router.specs.LspLaws.{AreAlike, look-alike}
 use Rattle.abstract_router.specs.Tables.{forwarded}
 use Rattle.datagrams.specs.Datagrams.{IsDatagram}
 use Rattle.datagrams.specs.declared.datagram.Datagram.{Datagram}
-use Rattle.router_core.specs.Below.labels.RowLaws.{detours-alike}
+use Rattle.router_core.specs.Below.labels.RowLaws.{bypass_tunnels-alike}
 
 -- a router knows this, and its tables say it as if it ran
 pub record IsAsRunning (s t : State) : Type 0 where
@@ -21,13 +21,13 @@ pub record IsAsRunning (s t : State) : Type 0 where
   pub lsps : AreAlike s t
 
 -- bypasses run over the same
-pub detours_running : (r : Router) (s t : State) → IsAsRunning s t → detours_of r s ≡ detours_of r t
-detours_running r s t runs =
-    detours-alike r s t (ap (λ (f : Facts). f.up) runs.facts) (ap (λ (f : Facts). f.tunnels) runs.facts) (ap (λ (f : Facts). f.bypasses) runs.facts) runs.lsps.resvs
+pub bypass_tunnels_running : (r : Router) (s t : State) → IsAsRunning s t → bypass_tunnels_of r s ≡ bypass_tunnels_of r t
+bypass_tunnels_running r s t runs =
+    bypass_tunnels-alike r s t (ap (λ (f : Facts). f.up) runs.facts) (ap (λ (f : Facts). f.tunnels) runs.facts) (ap (λ (f : Facts). f.bypasses) runs.facts) runs.lsps.resvs
 
 -- What a datagram is for a router that runs, it is for the same router while that is cold.
 pub datagram_alike : (q r : Router) (s t : State) (link : ℕ) (bytes : List ℕ) (answer : Result Datagram Refusal) → q ≡ r → IsAsRunning s t
     → IsDatagram q (forwarded q s) link bytes answer → IsDatagram r (forwarded r t) link bytes answer
 datagram_alike q r s t link bytes answer router runs is =
-    let forwards : forwarded q s ≡ forwarded q t = λ i stack. forward_of (λ label. look-alike q s t label (detours_running q s t runs) (ap (λ (f : Facts). f.paths) runs.facts) runs.lsps i) stack in
+    let forwards : forwarded q s ≡ forwarded q t = λ i stack. forward_of (λ label. look-alike q s t label (bypass_tunnels_running q s t runs) (ap (λ (f : Facts). f.paths) runs.facts) runs.lsps i) stack in
     subst (λ (p : Router). IsDatagram p (forwarded p t) link bytes answer) router (subst (λ (f : List StackEntry → Forwarding). IsDatagram q f link bytes answer) forwards is)

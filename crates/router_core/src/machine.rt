@@ -3,7 +3,7 @@
 ghost use Rattle.std.specs.Prelude.{◌≡◌, IfErr, IfOk, OnErr, false, true};
 ghost use Rattle.lsr_facts.specs.Routers.{IsRouter};
 ghost use Rattle.lsr_facts.specs.Claims.{reserved_of};
-ghost use Rattle.abstract_router.specs.Detours.{detours_of, over_at};
+ghost use Rattle.abstract_router.specs.BypassTunnels.{bypass_tunnels_of, over_at};
 ghost use Rattle.abstract_router.specs.Preempting.{claims_of};
 ghost use Rattle.abstract_router.specs.Soundness.{IsSound};
 ghost use Rattle.abstract_router.specs.Steps.{Run, Step, opening};
@@ -396,7 +396,7 @@ impl Machine {
 
     /// What the bypass of this number runs over, or `None` where there is none or it isn't up (RFC 4090, 3.2).
     pub fn over_at(&self, number: u16) -> Option<Over>
-        ensures { result ≡ over_at (detours_of self.now.router self.now.state) number }
+        ensures { result ≡ over_at (bypass_tunnels_of self.now.router self.now.state) number }
     {
         self.tables().over_at(number)
     }

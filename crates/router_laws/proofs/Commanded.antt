@@ -53,7 +53,7 @@ use Rattle.abstract_paths.specs.Places.{is_up, place_of}
 use Rattle.abstract_paths.specs.StampLaws.{none-is}
 use Rattle.router_soundness.proofs.Standing.{repair_on_bypass}
 use Rattle.abstract_router.specs.Arrivals.{command_comes, commanded_by, outcome, takes_used_bypass}
-use Rattle.abstract_router.specs.Detours.{detours_of, over_at}
+use Rattle.abstract_router.specs.BypassTunnels.{bypass_tunnels_of, over_at}
 use Rattle.abstract_router.specs.Outcomes.{Outcome, of_paths, refused}
 use Rattle.abstract_router.specs.Repairing.{repair_stands, repaired, repairs_left}
 use Rattle.abstract_router.specs.Soundness.{IsSound}
@@ -61,7 +61,7 @@ use Rattle.abstract_router.specs.States.{State, is_repaired, is_reserved, with_f
 use Rattle.abstract_router.specs.Steps.{AreSettled, Step, given_up, is_ready, known_after, labelled, left_standing, resvs_left, stands, with_moments}
 use Rattle.abstract_router.specs.Tables.{look_tunnel, push_by, push_of, push_through}
 use Rattle.router_laws.specs.Words.{where_up}
-use Rattle.router_laws.proofs.Detouring.{RunsIn, found-any, over_at-same, runs-up}
+use Rattle.router_laws.proofs.BypassTunnels.{RunsIn, found-any, over_at-same, runs-up}
 use Rattle.router_laws.proofs.GoingOver.{new_id, tunnels_in_order}
 use Rattle.router_laws.proofs.Led.{led}
 use Rattle.router_laws.proofs.NoneRepaired.{over-up, repaired-same}
@@ -338,7 +338,7 @@ module _ (r : Router) (before after : State) (number : ℕ) where
 
   -- what is pushed by what an LSP has afterwards
   abbrev pushed_by : Option ResvFact → Option Repair → Option Action
-  pushed_by resv repair = option_or (option_map push_by resv) (option_and_then (push_through (detours_of r after)) repair)
+  pushed_by resv repair = option_or (option_map push_by resv) (option_and_then (push_through (bypass_tunnels_of r after)) repair)
 
   abbrev IsSamePushed : Type 0
   IsSamePushed = (known : Option Tunnel) → find nat_cmp number before.facts.tunnels ≡ known → pushed after known ≡ pushed before known
@@ -476,7 +476,7 @@ module _ (r : Router) (before after : State) (made : Made) (c : Command) (is : I
           )
 
       -- A bypass that an LSP runs over runs over what it ran over.
-      over_then : (key : Key) (repair : Repair) → find key_cmp key before.repairs ≡ Some repair → over_at (detours_of r after) repair.bypass ≡ over_at (detours_of r before) repair.bypass
+      over_then : (key : Key) (repair : Repair) → find key_cmp key before.repairs ≡ Some repair → over_at (bypass_tunnels_of r after) repair.bypass ≡ over_at (bypass_tunnels_of r before) repair.bypass
       over_then key repair found =
           let up = repair_on_bypass r before key repair is found in
           let sorted = is.paths.bypasses.in_order in
@@ -537,7 +537,7 @@ module _ (r : Router) (before after : State) (made : Made) (c : Command) (is : I
           ∙ pushes_by r before after number c none other same_pushes (begun_unheld none unused)
           ∙ sym (look_tunnel-is r before number is.paths.tunnels.in_order)
         where
-          through : (key : Key) (repair : Option Repair) → find key_cmp key before.repairs ≡ repair → option_and_then (push_through (detours_of r after)) repair ≡ option_and_then (push_through (detours_of r before)) repair
+          through : (key : Key) (repair : Option Repair) → find key_cmp key before.repairs ≡ repair → option_and_then (push_through (bypass_tunnels_of r after)) repair ≡ option_and_then (push_through (bypass_tunnels_of r before)) repair
           through key None found = refl
           through key (Some repair) found = ap (option_map (λ (over : Over). PushHead (Some repair.resv.label) over.label over.link)) (over_then none unused key repair found)
 
@@ -546,5 +546,5 @@ module _ (r : Router) (before after : State) (made : Made) (c : Command) (is : I
           same_pushes (Some old) was =
               let key = current_key r (number, old) in
               let leaves = command_leaves number old was other in
-              (λ i. option_or (option_map push_by (leaves.1 i)) (option_and_then (push_through (detours_of r after)) (leaves.2 i)))
+              (λ i. option_or (option_map push_by (leaves.1 i)) (option_and_then (push_through (bypass_tunnels_of r after)) (leaves.2 i)))
               ∙ ap (option_or (option_map push_by (find key_cmp key before.resvs))) (through key (find key_cmp key before.repairs) refl)

@@ -32,7 +32,7 @@ use Rattle.abstract_paths.specs.Places.{is_up}
 use Rattle.abstract_paths.specs.Soundness.{IsStanding}
 use Rattle.abstract_paths.specs.Tears.{leaves_by}
 use Rattle.abstract_router.specs.Arrivals.{outcome}
-use Rattle.abstract_router.specs.Detours.{detours_of, over_at}
+use Rattle.abstract_router.specs.BypassTunnels.{bypass_tunnels_of, over_at}
 use Rattle.abstract_router.specs.Outcomes.{Outcome}
 use Rattle.abstract_router.specs.Repairing.{repair_stands, repaired, repairs_left}
 use Rattle.abstract_router.specs.Soundness.{IsSound}
@@ -240,7 +240,7 @@ module _ (r : Router) (before after : State) (made : Made) (is : IsSound r befor
       unfolding repaired repairs_left
       repair_gone ready =
           let s = resvs_left (repaired r (taken_over r mid)) in
-          let is_over = λ (repair : Repair). is_some (over_at (detours_of r s) repair.bypass) in
+          let is_over = λ (repair : Repair). is_some (over_at (bypass_tunnels_of r s) repair.bypass) in
           ap (λ (s : State). find key_cmp (current_key r (number, old)) s.repairs) came
           ∙ found_none (repair_stands r s) (current_key r (number, old)) s.repairs (λ row own.
           ap (λ k. is_over row.1 && option_map_or (leaves_by row.1.resv.link) (find key_cmp k s.facts.paths) false) (sym own)
@@ -324,5 +324,5 @@ module _ (r : Router) (before after : State) (made : Made) (is : IsSound r befor
 
     -- and where it is repaired, under that of its bypass's end, under that of the bypass
     pub stays_repaired : IsRouter r → (repair : Repair) → new.current.id ≡ old.current.id → find key_cmp (current_key r (number, old)) after.repairs ≡ Some repair
-        → (over : Over) × (over_at (detours_of r after) repair.bypass ≡ Some over) × (look_tunnel r after number ≡ Some (PushHead (Some repair.resv.label) over.label over.link))
+        → (over : Over) × (over_at (bypass_tunnels_of r after) repair.bypass ≡ Some over) × (look_tunnel r after number ≡ Some (PushHead (Some repair.resv.label) over.label over.link))
     stays_repaired router repair own repairs = entry_repaired r after (sound_step r before made after router is x) number new repair found (ap (λ k. find key_cmp k after.repairs) (stays_current own).1 ∙ repairs)

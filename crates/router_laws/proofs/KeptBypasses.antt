@@ -21,7 +21,7 @@ use Rattle.abstract_paths.specs.declared.ways.Arrive.{Arrive}
 use Rattle.abstract_paths.specs.Changes.{with_tunnel}
 use Rattle.abstract_paths.specs.Heads.{noted, with_noted}
 use Rattle.abstract_router.specs.Arrivals.{arrival}
-use Rattle.abstract_router.specs.Detours.{detours_of, over_at}
+use Rattle.abstract_router.specs.BypassTunnels.{bypass_tunnels_of, over_at}
 use Rattle.abstract_router.specs.Outcomes.{Outcome}
 use Rattle.abstract_router.specs.Repairing.{repaired, repairs_left}
 use Rattle.abstract_router.specs.Soundness.{IsSound}
@@ -29,7 +29,7 @@ use Rattle.abstract_router.specs.States.{State}
 use Rattle.abstract_router.specs.Steps.{Step, given_up, is_ready, settled, switched_where, taken_over, with_moments}
 use Rattle.router_laws.specs.TouchedBy.{touched_by, touched_by_way}
 use Rattle.router_laws.proofs.Arriving.{arrival_leaves}
-use Rattle.router_laws.proofs.Detouring.{RunsIn, over_at-same}
+use Rattle.router_laws.proofs.BypassTunnels.{RunsIn, over_at-same}
 use Rattle.router_laws.proofs.GoingOver.{found_switched, ready_given_up}
 use Rattle.router_laws.proofs.Led.{led}
 use Rattle.router_laws.proofs.Touching.{left-message, neither}
@@ -104,7 +104,7 @@ module _ (r : Router) (before after : State) (made : Made) (arrived : Arrive) (i
       by false = (kept.bypasses, tunnels_over)
 
   -- Its tunnel's current LSP has the reservation that it had, so it runs over what it ran over.
-  pub runs_still : over_at (detours_of r after) number ≡ over_at (detours_of r before) number
+  pub runs_still : over_at (bypass_tunnels_of r after) number ≡ over_at (bypass_tunnels_of r before) number
   runs_still =
       let left = left-message r before after made arrived is x event in
       let sorted = is.paths.bypasses.in_order in

@@ -1,6 +1,6 @@
 pub mod Arriving
+pub mod BypassTunnels
 pub mod Commanded
-pub mod Detouring
 pub mod GivenUp
 pub mod GoingOver
 pub mod KeptBypasses

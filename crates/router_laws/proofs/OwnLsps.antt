@@ -47,7 +47,7 @@ use Rattle.abstract_paths.specs.Soundness.{IsCountAs, IsHeadOf, IsPath, IsStandi
 use Rattle.abstract_paths.specs.Stamps.{stamps}
 use Rattle.abstract_paths.specs.Tears.{err_of_path, leaves_by, path_err_arrival, path_err_passed_on}
 use Rattle.abstract_router.specs.Arrivals.{arrival, is_done, labelled_path_arrival, message_arrival}
-use Rattle.abstract_router.specs.Detours.{detours_of, over_at}
+use Rattle.abstract_router.specs.BypassTunnels.{bypass_tunnels_of, over_at}
 use Rattle.abstract_router.specs.Errors.{no_label}
 use Rattle.abstract_router.specs.Labels.{has_free_label}
 use Rattle.abstract_router.specs.Lsps.{lsps_of}
@@ -61,7 +61,7 @@ use Rattle.abstract_router.specs.Steps as steps
 use Rattle.abstract_router.specs.Upstreams.{upstream_of, upstream_rows}
 use Rattle.abstract_router.specs.Wanted.{item_rows, items_of}
 use Rattle.router_laws.specs.Words.{comes}
-use Rattle.router_laws.proofs.Detouring.{detours-put}
+use Rattle.router_laws.proofs.BypassTunnels.{bypass_tunnels-put}
 use Rattle.router_laws.proofs.Led.{answered, led, sends}
 use Rattle.router_laws.proofs.Still.{known-same, refused-still, sent-none, still_step}
 use Rattle.router_laws.proofs.TunnelEvents.{noted_rests}
@@ -102,18 +102,18 @@ own_path_refused r before after made link p there up head x is =
 
 -- An event that changes tunnels and no more, and reserves nothing, sends nothing.
 module _ (r : Router) (s : State) (is : IsSound r s) (tunnels : List (ℕ × Tunnel)) (standing : IsStanding r (record s.facts { tunnels = tunnels })) (rests : AreSettled r (with_facts (record s.facts { tunnels = tunnels }) s))
-    (same_detours : detours_of r (with_facts (record s.facts { tunnels = tunnels }) s) ≡ detours_of r s) where
+    (same_bypass_tunnels : bypass_tunnels_of r (with_facts (record s.facts { tunnels = tunnels }) s) ≡ bypass_tunnels_of r s) where
   abbrev changed : State
   changed = with_facts (record s.facts { tunnels = tunnels }) s
 
   -- the same is wanted, since bypasses run over what they ran over
   items_same : items_of r changed ≡ items_of r s
   unfolding items_of lsps_of
-  items_same = ap (λ detours. item_rows (record { place = place_of r s.facts; detours = detours }) (lsps_of s)) same_detours
+  items_same = ap (λ bypass_tunnels. item_rows (record { place = place_of r s.facts; bypass_tunnels = bypass_tunnels }) (lsps_of s)) same_bypass_tunnels
 
   upstream_same : upstream_of r changed ≡ upstream_of r s
   unfolding upstream_of lsps_of
-  upstream_same = ap (λ detours. flat_map (upstream_rows (record { place = place_of r s.facts; detours = detours })) (lsps_of s)) same_detours
+  upstream_same = ap (λ bypass_tunnels. flat_map (upstream_rows (record { place = place_of r s.facts; bypass_tunnels = bypass_tunnels })) (lsps_of s)) same_bypass_tunnels
 
   sound_changed : IsSound r changed
   sound_changed = record {
@@ -121,7 +121,7 @@ module _ (r : Router) (s : State) (is : IsSound r s) (tunnels : List (ℕ × Tun
     held = record { in_order = is.held.in_order; each = is.held.each; one_style = is.held.one_style; within = is.held.within };
     standing = is.standing;
     repaired = record { in_order = is.repaired.in_order; each = is.repaired.each; apart = is.repaired.apart };
-    repairs_standing = subst (λ detours. AllByRecursion (λ repair. (is_some (over_at detours repair.1.bypass) && option_map_or (leaves_by repair.1.resv.link) (find key_cmp repair.0 s.facts.paths) false) ≡ true) s.repairs) (sym same_detours) is.repairs_standing;
+    repairs_standing = subst (λ bypass_tunnels. AllByRecursion (λ repair. (is_some (over_at bypass_tunnels repair.1.bypass) && option_map_or (leaves_by repair.1.resv.link) (find key_cmp repair.0 s.facts.paths) false) ≡ true) s.repairs) (sym same_bypass_tunnels) is.repairs_standing;
     labels = record { of_lsps = is.labels.of_lsps; from_first = is.labels.from_first; to_last = is.labels.to_last; apart = is.labels.apart };
     sent = is.sent ∙ ap keys_of (sym items_same);
     sent_upstream = is.sent_upstream ∙ ap keys_of (sym upstream_same);
@@ -199,11 +199,11 @@ module _ (r : Router) (s : State) (e : PathErr) (fact : PathFact) (is : IsSound 
   noting_same = ap (λ facts. with_facts facts s) (with_noted-same e.error number s.facts)
 
   -- each bypass runs over what it ran over
-  detours_noting : detours_of r (with_facts (record s.facts { tunnels = noting.facts.tunnels }) s) ≡ detours_of r s
-  detours_noting =
+  bypass_tunnels_noting : bypass_tunnels_of r (with_facts (record s.facts { tunnels = noting.facts.tunnels }) s) ≡ bypass_tunnels_of r s
+  bypass_tunnels_noting =
       let t = tunnel_there.0 in
-      ap (λ o. detours_of r (with_facts (record s.facts { tunnels = (option_map_or (λ u. with_tunnel number (noted e.error u) s.facts) o s.facts).tunnels }) s)) tunnel_there.1
-      ∙ detours-put r s number t (noted e.error t) tunnel_there.1 (record { current = refl; endpoint = refl })
+      ap (λ o. bypass_tunnels_of r (with_facts (record s.facts { tunnels = (option_map_or (λ u. with_tunnel number (noted e.error u) s.facts) o s.facts).tunnels }) s)) tunnel_there.1
+      ∙ bypass_tunnels-put r s number t (noted e.error t) tunnel_there.1 (record { current = refl; endpoint = refl })
 
   noting_still : (chosen : List (Key × ℕ)) → (known_after r s chosen (replied replies.Done [] noting) ≡ noting) × (sent_in r s (replied replies.Done [] noting) noting ≡ [])
   noting_still chosen =
@@ -211,7 +211,7 @@ module _ (r : Router) (s : State) (e : PathErr) (fact : PathFact) (is : IsSound 
       let standing = subst (IsStanding r) (with_noted-same e.error number s.facts) (with_noted-stands r s.facts e.error number is.paths) in
       let waits = subst (AreSettled r) noting_same (noted_rests r s rests e.error number) in
       subst (λ (t : State). (known_after r s chosen (replied replies.Done [] t) ≡ t) × (sent_in r s (replied replies.Done [] t) t ≡ [])) (sym noting_same)
-      (known_changed r s is tunnels standing waits detours_noting chosen, sends_changed r s is tunnels standing waits detours_noting)
+      (known_changed r s is tunnels standing waits bypass_tunnels_noting chosen, sends_changed r s is tunnels standing waits bypass_tunnels_noting)
 
   noting_is : (link : ℕ) → leaves_by link fact ≡ true → of_paths s (path_err_arrival r s.facts link e) ≡ replied replies.Done [] noting
   unfolding path_err_arrival

@@ -19,7 +19,7 @@ use Rattle.abstract_paths.specs.StampLaws.{none-is}
 use Rattle.abstract_paths.specs.TouchedLaws.{find-made}
 use Rattle.router_soundness.proofs.Entries.{reserved_or_repaired}
 use Rattle.router_soundness.proofs.Standing.{repair_on_bypass}
-use Rattle.abstract_router.specs.Detours.{detours_of, over_at}
+use Rattle.abstract_router.specs.BypassTunnels.{bypass_tunnels_of, over_at}
 use Rattle.abstract_router.specs.Soundness.{IsSound}
 use Rattle.abstract_router.specs.States.{State, is_reserved}
 use Rattle.abstract_router.specs.Tables.{look_tunnel, push_by, push_of, push_through, tunnel_table_of}
@@ -42,27 +42,27 @@ module _ (r : Router) (s : State) (number : ℕ) where
     look_tunnel-known = look_tunnel-is sorted ∙ ap (option_and_then (λ t. push_of r s (number, t))) found
 
     -- by the repair of its current LSP, where that isn't reserved
-    unreserved : find key_cmp key s.resvs ≡ None → look_tunnel r s number ≡ option_and_then (push_through (detours_of r s)) (find key_cmp key s.repairs)
-    unreserved none = look_tunnel-known ∙ ap (λ o. option_or (option_map push_by o) (option_and_then (push_through (detours_of r s)) (find key_cmp key s.repairs))) none
+    unreserved : find key_cmp key s.resvs ≡ None → look_tunnel r s number ≡ option_and_then (push_through (bypass_tunnels_of r s)) (find key_cmp key s.repairs)
+    unreserved none = look_tunnel-known ∙ ap (λ o. option_or (option_map push_by o) (option_and_then (push_through (bypass_tunnels_of r s)) (find key_cmp key s.repairs))) none
 
     -- Where it is reserved.
     pub entry_is : (resv : ResvFact) → find key_cmp key s.resvs ≡ Some resv → look_tunnel r s number ≡ Some (PushHead None resv.label resv.link)
-    entry_is resv reserved = look_tunnel-known ∙ ap (λ o. option_or (option_map push_by o) (option_and_then (push_through (detours_of r s)) (find key_cmp key s.repairs))) reserved
+    entry_is resv reserved = look_tunnel-known ∙ ap (λ o. option_or (option_map push_by o) (option_and_then (push_through (bypass_tunnels_of r s)) (find key_cmp key s.repairs))) reserved
 
     -- Where it is repaired, over a bypass that is up.
-    pub entry_over : (repair : Repair) (over : Over) → find key_cmp key s.resvs ≡ None → find key_cmp key s.repairs ≡ Some repair → over_at (detours_of r s) repair.bypass ≡ Some over → look_tunnel r s number ≡ Some (PushHead (Some repair.resv.label) over.label over.link)
+    pub entry_over : (repair : Repair) (over : Over) → find key_cmp key s.resvs ≡ None → find key_cmp key s.repairs ≡ Some repair → over_at (bypass_tunnels_of r s) repair.bypass ≡ Some over → look_tunnel r s number ≡ Some (PushHead (Some repair.resv.label) over.label over.link)
     entry_over repair over none found_repair up =
         unreserved none
-        ∙ ap (option_and_then (push_through (detours_of r s))) found_repair
+        ∙ ap (option_and_then (push_through (bypass_tunnels_of r s))) found_repair
         ∙ ap (option_map (λ (o : Over). PushHead (Some repair.resv.label) o.label o.link)) up
 
     -- Where it is neither.
     pub entry_none : find key_cmp key s.resvs ≡ None → find key_cmp key s.repairs ≡ None → look_tunnel r s number ≡ None
-    entry_none none unrepaired = unreserved none ∙ ap (option_and_then (push_through (detours_of r s))) unrepaired
+    entry_none none unrepaired = unreserved none ∙ ap (option_and_then (push_through (bypass_tunnels_of r s))) unrepaired
 
 -- In a sound state a repaired LSP isn't reserved, and its bypass is up.
 pub entry_repaired : (r : Router) (s : State) → IsSound r s → (number : ℕ) (tunnel : Tunnel) (repair : Repair) → find nat_cmp number s.facts.tunnels ≡ Some tunnel → find key_cmp (current_key r (number, tunnel)) s.repairs ≡ Some repair
-    → (over : Over) × (over_at (detours_of r s) repair.bypass ≡ Some over) × (look_tunnel r s number ≡ Some (PushHead (Some repair.resv.label) over.label over.link))
+    → (over : Over) × (over_at (bypass_tunnels_of r s) repair.bypass ≡ Some over) × (look_tunnel r s number ≡ Some (PushHead (Some repair.resv.label) over.label over.link))
 entry_repaired r s is number tunnel repair found repairs =
     let key = current_key r (number, tunnel) in
     let on = repair_on_bypass r s key repair is repairs in

@@ -26,7 +26,7 @@ use Rattle.abstract_paths.specs.Places.{is_up}
 use Rattle.abstract_paths.specs.Tears.{leaves_by}
 use Rattle.abstract_paths.proofs.Alongside.{signalled-same, signalled-stay}
 use Rattle.abstract_paths.specs.Heads.{signalled}
-use Rattle.abstract_router.specs.Detours.{detours_of, over_at}
+use Rattle.abstract_router.specs.BypassTunnels.{bypass_tunnels_of, over_at}
 use Rattle.abstract_router.specs.Repairing.{repair_stands, repaired, repairs_left}
 use Rattle.abstract_router.specs.Reserving.{Failed, Granted, PassedOver, Progress, Verdict, carried_on}
 use Rattle.abstract_router.specs.Soundness.{IsSound}
@@ -76,16 +76,16 @@ module _ (r : Router) (before : State) (n : ℕ) (key : Key) (path : PathFact) (
       ∙ subst (λ o. IfSome o (λ v. stands before.facts (key, v) ≡ true)) found (find-all_row key_cmp key_exact (λ v. stands before.facts v ≡ true) key before.resvs is.standing))
 
   -- So is a repair, where its bypass is up.
-  repair_left : (repair : Repair) (over : Over) → find key_cmp key before.repairs ≡ Some repair → lives_past n repair.resv ≡ true → over_at (detours_of r (left_standing r (ticked r before n).after)) repair.bypass ≡ Some over
+  repair_left : (repair : Repair) (over : Over) → find key_cmp key before.repairs ≡ Some repair → lives_past n repair.resv ≡ true → over_at (bypass_tunnels_of r (left_standing r (ticked r before n).after)) repair.bypass ≡ Some over
       → find key_cmp key (left_standing r (ticked r before n).after).repairs ≡ Some repair
-  unfolding ticked expire_repairs repairs_left detours_of
+  unfolding ticked expire_repairs repairs_left bypass_tunnels_of
   repair_left repair over found refreshed up =
       let s = resvs_left (ticked r before n).after in
       let stood = subst (λ o. IfSome o (λ v. repair_stands r before (key, v) ≡ true)) found (find-all_row key_cmp key_exact (λ v. repair_stands r before v ≡ true) key before.repairs is.repairs_standing) in
       find-kept (repair_stands r s) key repair (filter (λ v. lives_past n v.1.resv) before.repairs) (is_sorted-filter key_cmp (λ v. lives_past n v.1.resv) before.repairs is.repaired.in_order)
       (find-kept (λ v. lives_past n v.1.resv) key repair before.repairs is.repaired.in_order found refreshed)
       ((λ i. is_some (up i) && leaves_still repair.resv.link i)
-      ∙ (and_parts (is_some (over_at (detours_of r before) repair.bypass)) (option_map_or (leaves_by repair.resv.link) (find key_cmp key before.facts.paths) false) stood).1)
+      ∙ (and_parts (is_some (over_at (bypass_tunnels_of r before) repair.bypass)) (option_map_or (leaves_by repair.resv.link) (find key_cmp key before.facts.paths) false) stood).1)
 
 -- what is known after a moment, but for labels and for when messages were sent
 after_moment : (r : Router) (before after : State) (made : Made) (n : ℕ) → IsSound r before → AreSettled r before → Step r before made after → made.event ≡ events.Tick n → made.reply ≡ replies.Done
@@ -103,11 +103,11 @@ refreshed_stays r before after made n key resv path is rests step event done fou
 
 -- Nor does it take such a repair, where the bypass is up after it.
 pub refreshed_repair_stays : (r : Router) (before after : State) (made : Made) (n : ℕ) (key : Key) (repair : Repair) (path : PathFact) (over : Over) → IsSound r before → AreSettled r before → Step r before made after → made.event ≡ events.Tick n → made.reply ≡ replies.Done
-    → find key_cmp key before.repairs ≡ Some repair → lives_past n repair.resv ≡ true → find key_cmp key before.facts.paths ≡ Some path → lifetimes.lives_on n (key, path) ≡ true → over_at (detours_of r after) repair.bypass ≡ Some over → find key_cmp key after.repairs ≡ Some repair
-unfolding detours_of
+    → find key_cmp key before.repairs ≡ Some repair → lives_past n repair.resv ≡ true → find key_cmp key before.facts.paths ≡ Some path → lifetimes.lives_on n (key, path) ≡ true → over_at (bypass_tunnels_of r after) repair.bypass ≡ Some over → find key_cmp key after.repairs ≡ Some repair
+unfolding bypass_tunnels_of
 refreshed_repair_stays r before after made n key repair path over is rests step event done found refreshed known alive up =
     let came = after_moment r before after made n is rests step event done in
-    ap (λ (s : State). find key_cmp key s.repairs) came ∙ repair_left r before n key path is known alive repair over found refreshed (ap (λ (s : State). over_at (detours_of r s) repair.bypass) (sym came) ∙ up)
+    ap (λ (s : State). find key_cmp key s.repairs) came ∙ repair_left r before n key path is known alive repair over found refreshed (ap (λ (s : State). over_at (bypass_tunnels_of r s) repair.bypass) (sym came) ∙ up)
 
 -- A descriptor that isn't granted leaves the state.
 pub refused_carries_nothing : (r : Router) (link : ℕ) (v : Resv) (d : FlowDescriptor) (fact : ResvFact) (progress : Progress) (verdict : Verdict) → verdict ≢ Granted → (carried_on r link v d fact progress verdict).state ≡ progress.state

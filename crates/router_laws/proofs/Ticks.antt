@@ -52,7 +52,7 @@ use Rattle.abstract_paths.proofs.Alongside.{signalled-all, signalled-other, sign
 use Rattle.abstract_paths.proofs.Heads.{head_known}
 use Rattle.abstract_paths.proofs.PathTable.{path_known}
 use Rattle.abstract_router.specs.Arrivals.{for_reservations, moment_comes}
-use Rattle.abstract_router.specs.Detours.{detours_of}
+use Rattle.abstract_router.specs.BypassTunnels.{bypass_tunnels_of}
 use Rattle.abstract_router.specs.Lsps.{around_of, lsps_of}
 use Rattle.abstract_router.specs.Outcomes.{Outcome, of_paths}
 use Rattle.abstract_router.specs.Outputs.{item_stamps, outputs_of, upstream_stamps}
@@ -363,7 +363,7 @@ module _ (r : Router) (before after : State) (made : Made) (n at : ℕ) (sound :
 
   -- A Path that is due is sent.
   pub due_path : (item : Item) (output : Output) → find item_cmp item (items_of r after) ≡ Some output → find item_cmp item before.facts.sent ≡ Some at → at + r.refresh_ms ≤ n → Contains made.outputs output × (find item_cmp item after.facts.sent ≡ Some n)
-  unfolding outputs_of item_stamps items_of lsps_of detours_of ticked unstamped taken_over repaired repairs_left
+  unfolding outputs_of item_stamps items_of lsps_of bypass_tunnels_of ticked unstamped taken_over repaired repairs_left
   due_path item output wanted sent waited =
       let came = after_tick r before after made n x is is_done in
       let in_order = subst T (sym (is_sorted-both item_cmp before.facts.sent (items_of r before) sound.sent)) (is_sorted-items r before sound.paths.paths.in_order) in
@@ -385,7 +385,7 @@ module _ (r : Router) (before after : State) (made : Made) (n at : ℕ) (sound :
 
   -- So is a Resv.
   pub due_resv : (upstream : Upstream) (output : Output) → find upstream_cmp upstream (upstream_of r after) ≡ Some output → find upstream_cmp upstream before.sent_upstream ≡ Some at → at + r.refresh_ms ≤ n → Contains made.outputs output × (find upstream_cmp upstream after.sent_upstream ≡ Some n)
-  unfolding outputs_of upstream_stamps upstream_of lsps_of detours_of ticked unstamped taken_over repaired repairs_left
+  unfolding outputs_of upstream_stamps upstream_of lsps_of bypass_tunnels_of ticked unstamped taken_over repaired repairs_left
   due_resv upstream output wanted sent waited =
       let came = after_tick r before after made n x is is_done in
       let in_order = subst T (sym (is_sorted-both upstream_cmp before.sent_upstream (upstream_of r before) sound.sent_upstream)) (is_sorted-upstream_sound r before before.facts.moment sound.paths.paths) in

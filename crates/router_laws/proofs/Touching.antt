@@ -57,7 +57,7 @@ use Rattle.abstract_paths.specs.StampLaws.{none-is}
 use Rattle.abstract_paths.specs.Tears.{err_of_path, leaves_by, path_err_arrival, path_tear_arrival}
 use Rattle.abstract_paths.specs.TouchedLaws.{find-made}
 use Rattle.abstract_router.specs.Arrivals.{arrival_by, arrival, is_done, labelled_path_arrival, message_arrival, reading_arrival, routed_arrival, stack_arrival, unknown_routed_arrival, unknown_stack_arrival}
-use Rattle.abstract_router.specs.Detours.{detours_of, over_at}
+use Rattle.abstract_router.specs.BypassTunnels.{bypass_tunnels_of, over_at}
 use Rattle.abstract_router.specs.Errors.{unknown_style}
 use Rattle.abstract_router.specs.Labels.{has_free_label, labels_after}
 use Rattle.abstract_router.specs.Outcomes.{Outcome, of_paths, refused}
@@ -459,7 +459,7 @@ module _ (r : Router) (touched : Key → Bool) (s : State) (is : IsSound r s) wh
 
     -- they are repaired as they were, where the bypass is up
     repair-stays : find key_cmp key (left_standing r after).repairs ≡ option_and_then (where_up r (left_standing r after)) (find key_cmp key s.repairs)
-    unfolding repairs_left detours_of
+    unfolding repairs_left bypass_tunnels_of
     repair-stays =
         let left = resvs_left after in
         find-filter key_cmp key_total (repair_stands r left) key (λ k v tied. ap (λ q. repair_stands r left (q, v)) (sym (key_exact key k tied))) after.repairs keeps.repairs_in_order
@@ -473,8 +473,8 @@ module _ (r : Router) (touched : Key → Bool) (s : State) (is : IsSound r s) wh
         stood : (o : Option Repair) → IfSome o (λ v. repair_stands r s (key, v) ≡ true) → option_and_then (λ v. then_some (repair_stands r (resvs_left after) (key, v)) v) o ≡ option_and_then (where_up r (resvs_left after)) o
         stood None h = refl
         stood (Some v) h =
-            let on = and_parts (is_some (over_at (detours_of r s) v.bypass)) (option_map_or (leaves_by v.resv.link) (find key_cmp key s.facts.paths) false) h in
-            by_bypass (is_some (over_at (detours_of r (resvs_left after)) v.bypass)) (option_map_or (leaves_by v.resv.link) (find key_cmp key after.facts.paths) false) v
+            let on = and_parts (is_some (over_at (bypass_tunnels_of r s) v.bypass)) (option_map_or (leaves_by v.resv.link) (find key_cmp key s.facts.paths) false) h in
+            by_bypass (is_some (over_at (bypass_tunnels_of r (resvs_left after)) v.bypass)) (option_map_or (leaves_by v.resv.link) (find key_cmp key after.facts.paths) false) v
             (ap (λ o. option_map_or (leaves_by v.resv.link) o false) (keeps.paths key apart) ∙ on.1)
 
     -- the paths that a label is for
@@ -533,11 +533,11 @@ module _ (r : Router) (touched : Key → Bool) (s : State) (is : IsSound r s) wh
     where
       all_up : (key : Key) (o : Option Repair) → IfSome o (λ v. repair_stands r s (key, v) ≡ true) → option_and_then (where_up r s) o ≡ o
       all_up key None h = refl
-      all_up key (Some v) h = ap (λ b. then_some b v) (and_parts (is_some (over_at (detours_of r s) v.bypass)) (option_map_or (leaves_by v.resv.link) (find key_cmp key s.facts.paths) false) h).0
+      all_up key (Some v) h = ap (λ b. then_some b v) (and_parts (is_some (over_at (bypass_tunnels_of r s) v.bypass)) (option_map_or (leaves_by v.resv.link) (find key_cmp key s.facts.paths) false) h).0
 
   -- So a step does.
   pub step-keeps : (o : Outcome) (chosen : List (Key × ℕ)) → (o.is_silent ≡ true → o.after ≡ s) → AreTouched touched (given_up r o.after) → Keeps touched s o.after → IsLeft r touched s (known_after r s chosen o)
-  unfolding repairs_left detours_of
+  unfolding repairs_left bypass_tunnels_of
   step-keeps o chosen same among keeps = by o.is_silent same
     where
       over : Keeps touched s (taken_over r o.after)

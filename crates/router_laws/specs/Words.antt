@@ -11,7 +11,7 @@ use Rattle.lsr_facts.specs.declared.repair.Repair.{Repair}
 pub use Rattle.abstract_paths.specs.Arrivals.{comes}
 use Rattle.abstract_paths.specs.declared.events.Event.{Event}
 use Rattle.abstract_paths.specs.declared.events.Event.TheVariants as events
-use Rattle.abstract_router.specs.Detours.{detours_of, over_at}
+use Rattle.abstract_router.specs.BypassTunnels.{bypass_tunnels_of, over_at}
 use Rattle.abstract_router.specs.States.{State}
 
 -- a link comes up, or it goes down
@@ -25,4 +25,4 @@ IsUnexpired moment path = AllByRecursion (λ (origin : Ipv4Addr × Origin). mome
 
 -- a repair, where its bypass is up
 abbrev pub where_up : Router → State → Repair → Option Repair
-where_up r s repair = then_some (is_some (over_at (detours_of r s) repair.bypass)) repair
+where_up r s repair = then_some (is_some (over_at (bypass_tunnels_of r s) repair.bypass)) repair

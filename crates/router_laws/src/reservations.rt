@@ -20,7 +20,7 @@ ghost use Rattle.lsr_facts.specs.declared.resv_fact.ResvFact.{ResvFact};
 ghost use Rattle.lsr_facts.specs.declared.resv_fact.ResvStyle.{ResvStyle};
 ghost use Rattle.router_laws.specs.TouchedBy.{touched_by};
 ghost use Rattle.router_laws.specs.Words.{where_up};
-ghost use Rattle.abstract_router.specs.Detours.{detours_of, over_at};
+ghost use Rattle.abstract_router.specs.BypassTunnels.{bypass_tunnels_of, over_at};
 ghost use Rattle.abstract_router.specs.Reserving.{Granted, Progress, Verdict, carried_on, key_in, resv_by};
 ghost use Rattle.lsr_facts.specs.declared.key.Key.{Key};
 ghost use Rattle.lsr_facts.specs.declared.reply.Reply.TheVariants as replies;
@@ -50,7 +50,7 @@ pub fn refreshed_reservations_stay()
         Step r before made after → made.event ≡ events.Tick n → made.reply ≡ replies.Done →
         find key_cmp key before.repairs ≡ Some repair → lives_past n repair.resv ≡ true →
         find key_cmp key before.facts.paths ≡ Some path → lives_on n (key, path) ≡ true →
-        over_at (detours_of r after) repair.bypass ≡ Some over →
+        over_at (bypass_tunnels_of r after) repair.bypass ≡ Some over →
         find key_cmp key after.repairs ≡ Some repair }
 {}
 
@@ -86,7 +86,7 @@ pub fn a_message_touches_its_own_lsps()
         find nat_cmp number before.facts.bypasses ≡ Some bypass →
         find nat_cmp bypass.tunnel before.facts.tunnels ≡ Some tunnel →
         is_one_of (touched_by r before arrived) (current_key r (bypass.tunnel, tunnel)) ≡ false →
-        over_at (detours_of r after) number ≡ over_at (detours_of r before) number }
+        over_at (bypass_tunnels_of r after) number ≡ over_at (bypass_tunnels_of r before) number }
 {}
 
 /// A Resv that asks for just what is reserved changes nothing, and nothing is sent for it: so one that comes once more

@@ -31,7 +31,7 @@ ghost use Rattle.abstract_paths.specs.Outcomes.{lsp};
 ghost use Rattle.abstract_paths.specs.Paths.{key_of};
 ghost use Rattle.abstract_paths.specs.Places.{is_up};
 ghost use Rattle.abstract_paths.specs.Tears.{leaves_by};
-ghost use Rattle.abstract_router.specs.Detours.{detours_of, over_at};
+ghost use Rattle.abstract_router.specs.BypassTunnels.{bypass_tunnels_of, over_at};
 ghost use Rattle.abstract_router.specs.Soundness.{IsSound};
 ghost use Rattle.abstract_router.specs.States.{State, with_facts};
 ghost use Rattle.abstract_router.specs.Steps.{AreSettled, Run, Step, opening};
@@ -66,7 +66,7 @@ pub fn tunnels_keep_their_entry()
     ensures repaired { (r : Router) (s : State) (number : ℕ) (tunnel : Tunnel) (repair : Repair) →
         IsSound r s → find nat_cmp number s.facts.tunnels ≡ Some tunnel →
         find key_cmp (current_key r (number, tunnel)) s.repairs ≡ Some repair →
-        (over : Over) × (over_at (detours_of r s) repair.bypass ≡ Some over)
+        (over : Over) × (over_at (bypass_tunnels_of r s) repair.bypass ≡ Some over)
         × (look_tunnel r s number ≡ Some (PushHead (Some repair.resv.label) over.label over.link)) }
     ensures neither { (r : Router) (s : State) (number : ℕ) (tunnel : Tunnel) →
         T (is_sorted nat_cmp s.facts.tunnels) → find nat_cmp number s.facts.tunnels ≡ Some tunnel →
@@ -106,7 +106,7 @@ pub fn tunnels_keep_their_entry()
         IsRouter r → IsSound r before → AreSettled r before → Step r before made after →
         find nat_cmp number before.facts.tunnels ≡ Some old → find nat_cmp number after.facts.tunnels ≡ Some new →
         new.current.id ≡ old.current.id → find key_cmp (current_key r (number, old)) after.repairs ≡ Some repair →
-        (over : Over) × (over_at (detours_of r after) repair.bypass ≡ Some over)
+        (over : Over) × (over_at (bypass_tunnels_of r after) repair.bypass ≡ Some over)
         × (look_tunnel r after number ≡ Some (PushHead (Some repair.resv.label) over.label over.link)) }
     ensures change { (r : Router) (before after : State) (made : Made) (command : Command)
         (number : ℕ) (tunnel : Tunnel) →

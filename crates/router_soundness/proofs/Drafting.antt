@@ -47,7 +47,7 @@ use Rattle.router_soundness.proofs.Settling.{Leaves}
 use Rattle.router_soundness.specs.Drafted.{IsDrafted}
 use Rattle.abstract_router.specs.Arrivals.{command_comes, commanded_by, for_reservations, lost, moment_comes, outcome, takes_used_bypass}
 use Rattle.abstract_router.specs.Choosing.{HasLabel}
-use Rattle.abstract_router.specs.Detours.{detours_of}
+use Rattle.abstract_router.specs.BypassTunnels.{bypass_tunnels_of}
 use Rattle.abstract_router.specs.Preempting.{claims_of}
 use Rattle.abstract_router.specs.Upstreams.{upstream_of}
 use Rattle.lsr_facts.specs.Claims.{rate_of_all, reserved_of}
@@ -174,7 +174,7 @@ lost-sound r s is = record {
 
 -- A start leaves all else as it was.
 started-sound : (r : Router) (s : State) → IsSound r s → IsSound r (of_paths s (started s.facts)).after
-unfolding items_of upstream_of lsps_of detours_of
+unfolding items_of upstream_of lsps_of bypass_tunnels_of
 started-sound r s is = record {
   paths = sound_started r s.facts is.paths;
   held = record { in_order = is.held.in_order; each = is.held.each; one_style = is.held.one_style; within = is.held.within };

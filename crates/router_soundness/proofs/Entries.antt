@@ -26,7 +26,7 @@ use Rattle.abstract_paths.specs.Paths.{goes_on}
 use Rattle.abstract_paths.specs.Places.{is_up}
 use Rattle.abstract_paths.specs.Tears.{leaves_by}
 use Rattle.abstract_paths.specs.TouchedLaws.{find-made}
-use Rattle.abstract_router.specs.Detours.{detours_of, over_at}
+use Rattle.abstract_router.specs.BypassTunnels.{bypass_tunnels_of, over_at}
 use Rattle.abstract_router.specs.Lsps.{Lsp, around_of, lsp_of, lsps_of}
 use Rattle.abstract_router.specs.Soundness.{IsSound}
 use Rattle.abstract_router.specs.States.{State, is_repaired, is_reserved}
@@ -44,22 +44,22 @@ module _ (r : Router) (s : State) (is : IsSound r s) where
   -- the action of a path that it has
   of_path : (key : Key) (path : PathFact) (action : Action) → action_of (around_of r s) (lsp_of s key path) ≡ Some action → IsActionOf r s key path action
   of_path key path action =
-      elim (goes_on path.role) as (λ b. goes_on path.role ≡ b → (if b then option_or (option_map swap_by (option_map timeless_resv (find key_cmp key s.resvs))) (option_and_then (swap_through (detours_of r s)) (option_map timeless_repair (find key_cmp key s.repairs))) else Some Pop) ≡ Some action → IsActionOf r s key path action) [
+      elim (goes_on path.role) as (λ b. goes_on path.role ≡ b → (if b then option_or (option_map swap_by (option_map timeless_resv (find key_cmp key s.resvs))) (option_and_then (swap_through (bypass_tunnels_of r s)) (option_map timeless_repair (find key_cmp key s.repairs))) else Some Pop) ≡ Some action → IsActionOf r s key path action) [
         | true ↦ λ goes. by_resv (find key_cmp key s.resvs) refl
         | false ↦ λ ends. λ e. inl (ends, let h = e in cc)
       ] refl
     where
-      by_over : (repair : Repair) → find key_cmp key s.repairs ≡ Some repair → (o : Option Over) → over_at (detours_of r s) repair.bypass ≡ o
+      by_over : (repair : Repair) → find key_cmp key s.repairs ≡ Some repair → (o : Option Over) → over_at (bypass_tunnels_of r s) repair.bypass ≡ o
           → option_map (λ over. SwapPush repair.resv.label over.label over.link) o ≡ Some action → IsActionOf r s key path action
       by_over repair found None down e = absurd (let h = e in cc)
       by_over repair found (Some over) up e = inr (inr (record { repair = repair; repaired = found; over = over; bypass = up; up = over_at-up r s repair.bypass over up }, let h = e in cc))
 
-      by_repair : (o : Option Repair) → find key_cmp key s.repairs ≡ o → option_and_then (swap_through (detours_of r s)) (option_map timeless_repair o) ≡ Some action → IsActionOf r s key path action
+      by_repair : (o : Option Repair) → find key_cmp key s.repairs ≡ o → option_and_then (swap_through (bypass_tunnels_of r s)) (option_map timeless_repair o) ≡ Some action → IsActionOf r s key path action
       by_repair None found e = absurd (let h = e in cc)
-      by_repair (Some repair) found e = by_over repair found (over_at (detours_of r s) repair.bypass) refl e
+      by_repair (Some repair) found e = by_over repair found (over_at (bypass_tunnels_of r s) repair.bypass) refl e
 
       by_resv : (o : Option ResvFact) → find key_cmp key s.resvs ≡ o
-          → option_or (option_map swap_by (option_map timeless_resv o)) (option_and_then (swap_through (detours_of r s)) (option_map timeless_repair (find key_cmp key s.repairs))) ≡ Some action → IsActionOf r s key path action
+          → option_or (option_map swap_by (option_map timeless_resv o)) (option_and_then (swap_through (bypass_tunnels_of r s)) (option_map timeless_repair (find key_cmp key s.repairs))) ≡ Some action → IsActionOf r s key path action
       by_resv None found e = by_repair (find key_cmp key s.repairs) refl e
       by_resv (Some resv) found e = inr (inl (record { resv = resv; reserved = found; up = over_up key resv found }, let h = e in cc))
 
@@ -96,19 +96,19 @@ module _ (r : Router) (s : State) (is : IsSound r s) where
       ] refl
 
   -- what is done with the traffic of a tunnel whose current LSP this is
-  of_head : (key : Key) (action : Action) → option_or (option_map push_by (find key_cmp key s.resvs)) (option_and_then (push_through (detours_of r s)) (find key_cmp key s.repairs)) ≡ Some action → IsPushOf r s key action
+  of_head : (key : Key) (action : Action) → option_or (option_map push_by (find key_cmp key s.resvs)) (option_and_then (push_through (bypass_tunnels_of r s)) (find key_cmp key s.repairs)) ≡ Some action → IsPushOf r s key action
   of_head key action = by_resv (find key_cmp key s.resvs) refl
     where
-      by_over : (repair : Repair) → find key_cmp key s.repairs ≡ Some repair → (o : Option Over) → over_at (detours_of r s) repair.bypass ≡ o
+      by_over : (repair : Repair) → find key_cmp key s.repairs ≡ Some repair → (o : Option Over) → over_at (bypass_tunnels_of r s) repair.bypass ≡ o
           → option_map (λ over. PushHead (Some repair.resv.label) over.label over.link) o ≡ Some action → IsPushOf r s key action
       by_over repair found None down e = absurd (let h = e in cc)
       by_over repair found (Some over) up e = inr (record { repair = repair; repaired = found; over = over; bypass = up; up = over_at-up r s repair.bypass over up }, let h = e in cc)
 
-      by_repair : (o : Option Repair) → find key_cmp key s.repairs ≡ o → option_and_then (push_through (detours_of r s)) o ≡ Some action → IsPushOf r s key action
+      by_repair : (o : Option Repair) → find key_cmp key s.repairs ≡ o → option_and_then (push_through (bypass_tunnels_of r s)) o ≡ Some action → IsPushOf r s key action
       by_repair None found e = absurd (let h = e in cc)
-      by_repair (Some repair) found e = by_over repair found (over_at (detours_of r s) repair.bypass) refl e
+      by_repair (Some repair) found e = by_over repair found (over_at (bypass_tunnels_of r s) repair.bypass) refl e
 
-      by_resv : (o : Option ResvFact) → find key_cmp key s.resvs ≡ o → option_or (option_map push_by o) (option_and_then (push_through (detours_of r s)) (find key_cmp key s.repairs)) ≡ Some action → IsPushOf r s key action
+      by_resv : (o : Option ResvFact) → find key_cmp key s.resvs ≡ o → option_or (option_map push_by o) (option_and_then (push_through (bypass_tunnels_of r s)) (find key_cmp key s.repairs)) ≡ Some action → IsPushOf r s key action
       by_resv None found e = by_repair (find key_cmp key s.repairs) refl e
       by_resv (Some resv) found e = inl (record { resv = resv; reserved = found; up = over_up key resv found }, let h = e in cc)
 

@@ -17,13 +17,13 @@ use Rattle.lsr_facts.specs.declared.path_fact.PathFact.{PathFact}
 use Rattle.lsr_facts.specs.declared.router.Router.{Router}
 use Rattle.lsr_facts.specs.declared.tunnel.Tunnel.{Tunnel}
 use Rattle.forwarding_table.specs.Labels.{is_label}
-use Rattle.lsr_facts.specs.declared.repair.Detour.{Detour}
+use Rattle.lsr_facts.specs.declared.repair.BypassTunnel.{BypassTunnel}
 use Rattle.lsr_facts.specs.declared.repair.Over.{Over}
 use Rattle.lsr_facts.specs.declared.repair.Selected.{Selected}
 use Rattle.lsr_facts.specs.declared.resv_fact.ResvFact.{ResvFact}
 use Rattle.abstract_paths.specs.Places.{is_up}
 use Rattle.abstract_paths.specs.RowLaws.{find-holds, option_map-holds, option_or-holds}
-use Rattle.abstract_router.specs.Detours.{detour_by, detour_of, detours_of, over_at, over_by}
+use Rattle.abstract_router.specs.BypassTunnels.{bypass_tunnel_by, bypass_tunnel_of, bypass_tunnels_of, over_at, over_by}
 use Rattle.abstract_router.specs.Lsps.{Around}
 use Rattle.abstract_router.specs.Protecting.{candidates_of, ends_at_peer, first_label, is_preferred, is_protected, label_after, leads_around, names_router, selected, selected_by}
 use Rattle.abstract_router.specs.States.{State}
@@ -38,24 +38,24 @@ module _ (r : Router) (s : State) where
   over_up (Some resv) = cond_both (is_up s.facts.up resv.link) _ _ (λ (o : Option Over). IfSome o (λ over. is_up s.facts.up over.link ≡ true)) (λ up. up) (λ down. tt)
 
   -- and so is what a bypass runs over
-  detour_up : (bypass : ℕ × Bypass) → IfSome (option_map {U = ℕ × Detour} (λ (detour : Detour). (bypass.0, detour)) (detour_by r s bypass)) (λ row. IfSome row.1.over (λ over. is_up s.facts.up over.link ≡ true))
-  detour_up bypass = by (find nat_cmp bypass.1.tunnel s.facts.tunnels)
+  bypass_tunnel_up : (bypass : ℕ × Bypass) → IfSome (option_map {U = ℕ × BypassTunnel} (λ (bypass_tunnel : BypassTunnel). (bypass.0, bypass_tunnel)) (bypass_tunnel_by r s bypass)) (λ row. IfSome row.1.over (λ over. is_up s.facts.up over.link ≡ true))
+  bypass_tunnel_up bypass = by (find nat_cmp bypass.1.tunnel s.facts.tunnels)
     where
-      by : (o : Option Tunnel) → IfSome (option_map {U = ℕ × Detour} (λ (detour : Detour). (bypass.0, detour)) (option_map (detour_of r s bypass.1) o)) (λ row. IfSome row.1.over (λ over. is_up s.facts.up over.link ≡ true))
+      by : (o : Option Tunnel) → IfSome (option_map {U = ℕ × BypassTunnel} (λ (bypass_tunnel : BypassTunnel). (bypass.0, bypass_tunnel)) (option_map (bypass_tunnel_of r s bypass.1) o)) (λ row. IfSome row.1.over (λ over. is_up s.facts.up over.link ≡ true))
       by None = tt
       by (Some tunnel) = over_up (find key_cmp (current_key r (bypass.1.tunnel, tunnel)) s.resvs)
 
   -- What the bypass of a number runs over, if it is up, is a link that is up.
-  pub over_at-up : (number : ℕ) (over : Over) → over_at (detours_of r s) number ≡ Some over → is_up s.facts.up over.link ≡ true
-  unfolding detours_of
+  pub over_at-up : (number : ℕ) (over : Over) → over_at (bypass_tunnels_of r s) number ≡ Some over → is_up s.facts.up over.link ≡ true
+  unfolding bypass_tunnels_of
   over_at-up number over =
-      by (find nat_cmp number (detours_of r s))
-      (find-all nat_cmp (λ detour. IfSome detour.over (λ over. is_up s.facts.up over.link ≡ true)) number (detours_of r s)
-      (all-filter_map (λ (row : ℕ × Detour). IfSome row.1.over (λ over. is_up s.facts.up over.link ≡ true)) (λ bypass. option_map {U = ℕ × Detour} (λ (detour : Detour). (bypass.0, detour)) (detour_by r s bypass)) detour_up s.facts.bypasses))
+      by (find nat_cmp number (bypass_tunnels_of r s))
+      (find-all nat_cmp (λ bypass_tunnel. IfSome bypass_tunnel.over (λ over. is_up s.facts.up over.link ≡ true)) number (bypass_tunnels_of r s)
+      (all-filter_map (λ (row : ℕ × BypassTunnel). IfSome row.1.over (λ over. is_up s.facts.up over.link ≡ true)) (λ bypass. option_map {U = ℕ × BypassTunnel} (λ (bypass_tunnel : BypassTunnel). (bypass.0, bypass_tunnel)) (bypass_tunnel_by r s bypass)) bypass_tunnel_up s.facts.bypasses))
     where
-      by : (o : Option Detour) → IfSome o (λ detour. IfSome detour.over (λ over. is_up s.facts.up over.link ≡ true)) → option_and_then (λ (detour : Detour). detour.over) o ≡ Some over → is_up s.facts.up over.link ≡ true
+      by : (o : Option BypassTunnel) → IfSome o (λ bypass_tunnel. IfSome bypass_tunnel.over (λ over. is_up s.facts.up over.link ≡ true)) → option_and_then (λ (bypass_tunnel : BypassTunnel). bypass_tunnel.over) o ≡ Some over → is_up s.facts.up over.link ≡ true
       by None holds at = absurd (let e = at in cc)
-      by (Some detour) holds at = subst (λ o. IfSome o (λ over. is_up s.facts.up over.link ≡ true)) at holds
+      by (Some bypass_tunnel) holds at = subst (λ o. IfSome o (λ over. is_up s.facts.up over.link ≡ true)) at holds
 
 -- ---- the label that its end takes
 
@@ -81,20 +81,20 @@ HasLabel choice = is_label choice.label ≡ true
 
 module _ (resv : ResvFact) (is : is_label resv.label ≡ true) where
   -- a bypass that an LSP may be repaired over
-  by_detour : (r : Router) (detour : ℕ × Detour) → IfSome (selected_by r resv detour) HasLabel
-  by_detour r detour =
-      cond_both (not (leads_around resv detour.1)) _ _ (λ (o : Option Selected). IfSome o HasLabel) (λ other. tt)
+  by_bypass_tunnel : (r : Router) (bypass_tunnel : ℕ × BypassTunnel) → IfSome (selected_by r resv bypass_tunnel) HasLabel
+  by_bypass_tunnel r bypass_tunnel =
+      cond_both (not (leads_around resv bypass_tunnel.1)) _ _ (λ (o : Option Selected). IfSome o HasLabel) (λ other. tt)
       (λ around.
-      cond_both (ends_at_peer r resv detour.1) _ _ (λ (o : Option Selected). IfSome o HasLabel) (λ next. is)
+      cond_both (ends_at_peer r resv bypass_tunnel.1) _ _ (λ (o : Option Selected). IfSome o HasLabel) (λ next. is)
       (λ later.
-      option_map-holds HasLabel (λ label. record { bypass = detour.0; is_later = true; label = label }) (label_after detour.1.ends_at (unwrap_or resv.recorded []))
-      (label_after-is detour.1.ends_at (unwrap_or resv.recorded []))))
+      option_map-holds HasLabel (λ label. record { bypass = bypass_tunnel.0; is_nnhop = true; label = label }) (label_after bypass_tunnel.1.ends_at (unwrap_or resv.recorded []))
+      (label_after-is bypass_tunnel.1.ends_at (unwrap_or resv.recorded []))))
 
   -- The bypass that is selected: the label that its end takes can be written.
   pub selected-is : (a : Around) (key : Key) (path : PathFact) → IfSome (selected a key path resv) HasLabel
   unfolding selected candidates_of
   selected-is a key path =
-      let all = all-filter_map HasLabel (selected_by a.place.router resv) (by_detour a.place.router) a.detours in
+      let all = all-filter_map HasLabel (selected_by a.place.router resv) (by_bypass_tunnel a.place.router) a.bypass_tunnels in
       cond_both (is_protected a key path) _ _ (λ (o : Option Selected). IfSome o HasLabel)
       (λ protected.
       option_or-holds HasLabel (find_first (is_preferred path) (candidates_of a resv)) (find_first (λ choice. true) (candidates_of a resv))

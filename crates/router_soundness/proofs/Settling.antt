@@ -13,7 +13,7 @@ use Rattle.router_soundness.proofs.Holding.{held_where, held_with_facts}
 use Rattle.router_soundness.proofs.Labelling.{labelled_after}
 use Rattle.router_soundness.proofs.Repairing.{repaired_left, repaired_with_facts}
 use Rattle.router_soundness.proofs.TakingOver.{labelled_taken, standing_taken}
-use Rattle.abstract_router.specs.Detours.{detours_of}
+use Rattle.abstract_router.specs.BypassTunnels.{bypass_tunnels_of}
 use Rattle.abstract_router.specs.Repairing.{repair_stands, repaired, repairs_left}
 use Rattle.abstract_router.specs.Upstreams.{upstream_of}
 use Rattle.abstract_router.specs.Labels.{IsLabelling}
@@ -38,11 +38,11 @@ Leaves r before o = LeavesBy r before o.is_silent o.after
 
 -- exactly the Paths and the Resvs that are wanted have a moment
 stamped_items : (r : Router) (before : State) (o : Outcome) (s : State) → keys_of (item_stamps r before o.due s) ≡ keys_of (items_of r (with_moments r before o s))
-unfolding item_stamps items_of lsps_of detours_of
+unfolding item_stamps items_of lsps_of bypass_tunnels_of
 stamped_items r before o s = keys-stamps item_cmp o.due (items_of r before) before.facts.sent s.facts.moment (items_of r s)
 
 stamped_upstream : (r : Router) (before : State) (o : Outcome) (s : State) → keys_of (upstream_stamps r before o.upstream_due s) ≡ keys_of (upstream_of r (with_moments r before o s))
-unfolding upstream_stamps upstream_of lsps_of detours_of
+unfolding upstream_stamps upstream_of lsps_of bypass_tunnels_of
 stamped_upstream r before o s = keys-stamps upstream_cmp o.upstream_due (upstream_of r before) before.sent_upstream s.facts.moment (upstream_of r s)
 
 -- The labels that may be chosen are the same once tunnels have gone over to their new LSPs: those have none.
@@ -52,7 +52,7 @@ labelling_taken r labels s chosen is may = record { of_new = may.of_new ∙ ap (
 -- The state is sound once all that follows has been done.
 pub sound_settled : (r : Router) (before : State) (o : Outcome) (chosen : List (Key × ℕ)) → AreLabelled r before → IsDrafted r before o.after → IsLabelling r before.labels o.after.facts.paths chosen
     → IsSound r (with_moments r before o (settled r chosen o.after))
-unfolding taken_over repaired repairs_left detours_of
+unfolding taken_over repaired repairs_left bypass_tunnels_of
 sound_settled r before o chosen were drafted may =
     let s = taken_over r o.after in
     let paths = standing_taken r o.after drafted.paths in

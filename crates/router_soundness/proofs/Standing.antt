@@ -15,7 +15,7 @@ use Rattle.lsr_facts.specs.declared.repair.Repair.{Repair}
 use Rattle.abstract_paths.specs.Places.{is_up}
 use Rattle.abstract_paths.specs.Tears.{leaves_by}
 use Rattle.router_soundness.proofs.Selecting.{over_at-up}
-use Rattle.abstract_router.specs.Detours.{detours_of, over_at}
+use Rattle.abstract_router.specs.BypassTunnels.{bypass_tunnels_of, over_at}
 use Rattle.abstract_router.specs.Repairing.{repair_stands}
 use Rattle.abstract_router.specs.Soundness.{IsSound}
 use Rattle.abstract_router.specs.States.{State}
@@ -25,10 +25,10 @@ module _ (r : Router) (s : State) (key : Key) (repair : Repair) where
   abbrev pub StandsOnBypass : Type 0
   StandsOnBypass =
       (path : PathFact) × (over : Over) × (find key_cmp key s.facts.paths ≡ Some path) × (leaves_by repair.resv.link path ≡ true)
-      × (over_at (detours_of r s) repair.bypass ≡ Some over) × (is_up s.facts.up over.link ≡ true)
+      × (over_at (bypass_tunnels_of r s) repair.bypass ≡ Some over) × (is_up s.facts.up over.link ≡ true)
 
   -- so it is where it passes the test
-  by_tests : (path : Option PathFact) (over : Option Over) → find key_cmp key s.facts.paths ≡ path → over_at (detours_of r s) repair.bypass ≡ over
+  by_tests : (path : Option PathFact) (over : Option Over) → find key_cmp key s.facts.paths ≡ path → over_at (bypass_tunnels_of r s) repair.bypass ≡ over
       → is_some over ≡ true → option_map_or (leaves_by repair.resv.link) path false ≡ true → StandsOnBypass
   by_tests None over known at some leaves = absurd (let e = leaves in cc)
   by_tests (Some path) None known at some leaves = absurd (let e = some in cc)
@@ -37,5 +37,5 @@ module _ (r : Router) (s : State) (key : Key) (repair : Repair) where
   pub repair_on_bypass : IsSound r s → find key_cmp key s.repairs ≡ Some repair → StandsOnBypass
   repair_on_bypass is found =
       let stands : repair_stands r s (key, repair) ≡ true = subst (λ o. IfSome o (λ v. repair_stands r s (key, v) ≡ true)) found (find-all_row key_cmp key_exact (λ v. repair_stands r s v ≡ true) key s.repairs is.repairs_standing) in
-      let parts = and_parts (is_some (over_at (detours_of r s) repair.bypass)) (option_map_or (leaves_by repair.resv.link) (find key_cmp key s.facts.paths) false) stands in
-      by_tests (find key_cmp key s.facts.paths) (over_at (detours_of r s) repair.bypass) refl refl parts.0 parts.1
+      let parts = and_parts (is_some (over_at (bypass_tunnels_of r s) repair.bypass)) (option_map_or (leaves_by repair.resv.link) (find key_cmp key s.facts.paths) false) stands in
+      by_tests (find key_cmp key s.facts.paths) (over_at (bypass_tunnels_of r s) repair.bypass) refl refl parts.0 parts.1

@@ -20,7 +20,7 @@ ghost use Rattle.abstract_paths.specs.Places.{is_up};
 ghost use Rattle.abstract_paths.specs.Relays.{exceeds_hop_limit};
 ghost use Rattle.abstract_paths.specs.Tears.{leaves_by};
 ghost use Rattle.abstract_router.specs.Arrivals.{outcome};
-ghost use Rattle.abstract_router.specs.Detours.{detours_of, over_at};
+ghost use Rattle.abstract_router.specs.BypassTunnels.{bypass_tunnels_of, over_at};
 ghost use Rattle.abstract_router.specs.Soundness.{IsSound};
 ghost use Rattle.abstract_router.specs.States.{State, is_repaired, is_reserved};
 ghost use Rattle.abstract_router.specs.Steps.{IsEvent, MayChoose, Step};
@@ -97,5 +97,5 @@ pub fn repairs_stand_on_bypasses_that_are_up()
         IsSound r s → find key_cmp key s.repairs ≡ Some repair →
         (path : PathFact) × (over : Over) × (find key_cmp key s.facts.paths ≡ Some path)
         × (leaves_by repair.resv.link path ≡ true)
-        × (over_at (detours_of r s) repair.bypass ≡ Some over) × (is_up s.facts.up over.link ≡ true) }
+        × (over_at (bypass_tunnels_of r s) repair.bypass ≡ Some over) × (is_up s.facts.up over.link ≡ true) }
 {}

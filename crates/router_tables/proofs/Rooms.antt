@@ -20,7 +20,7 @@ use Rattle.abstract_paths.specs.TouchedLaws.{find-made, is_sorted-made}
 use Rattle.abstract_paths.specs.Paths.{goes_on}
 use Rattle.abstract_paths.specs.Places.{is_up}
 use Rattle.abstract_paths.specs.Tears.{leaves_by}
-use Rattle.abstract_router.specs.Detours.{detours_of, over_at}
+use Rattle.abstract_router.specs.BypassTunnels.{bypass_tunnels_of, over_at}
 use Rattle.abstract_router.specs.Lsps.{Around, Lsp, around_of, lsp_of, lsps_of}
 use Rattle.abstract_router.specs.Repairing.{repair_stands}
 use Rattle.abstract_router.specs.Wanted.{backup_row, downstream_row, items_of}
@@ -107,7 +107,7 @@ module _ (r : Router) (s : State) (is : IsSound r s) where
   pub few_repairs : length s.repairs ≤ 1024
   few_repairs =
       let standing = λ (key : Key). find-all_row key_cmp key_exact (λ repair. repair_stands r s repair ≡ true) key s.repairs is.repairs_standing in
-      let known = λ (key : Key). all_known (λ (repair : Repair). leaves_by repair.resv.link) (λ repair. is_some (over_at (detours_of r s) repair.bypass)) (find key_cmp key s.facts.paths) (find key_cmp key s.repairs) (standing key) in
+      let known = λ (key : Key). all_known (λ (repair : Repair). leaves_by repair.resv.link) (λ repair. is_some (over_at (bypass_tunnels_of r s) repair.bypass)) (find key_cmp key s.facts.paths) (find key_cmp key s.repairs) (standing key) in
       omega (arith, few_rows s.facts.paths is.paths.paths.in_order s.repairs is.repaired.in_order known, few_paths)
 
   pub few_labels : length s.labels ≤ 1024

@@ -11,7 +11,7 @@ use Rattle.lsr_facts.specs.declared.router.Router.{Router}
 use Rattle.lsr_facts.specs.declared.tunnel.Tunnel.{Tunnel}
 use Rattle.lsr_facts.specs.declared.upstream.Upstream.{Upstream}
 use Rattle.abstract_paths.specs.declared.events.Event.{Event}
-use Rattle.abstract_router.specs.Detours.{detours_of}
+use Rattle.abstract_router.specs.BypassTunnels.{bypass_tunnels_of}
 use Rattle.abstract_router.specs.Lsps.{lsps_of}
 use Rattle.abstract_router.specs.Soundness.{IsSound}
 use Rattle.abstract_router.specs.States.{State}
@@ -44,7 +44,7 @@ no_pushes r facts labels sent [] = refl
 no_pushes r facts labels sent (tunnel ∷ tunnels) = no_pushes r facts labels sent tunnels
 
 bare_look : (r : Router) (facts : Facts) (labels : List (Key × ℕ)) (sent : List (Upstream × ℕ)) (label : ℕ) → look r (bare facts labels sent) label ≡ planes.look [] label
-unfolding look table_of lsps_of detours_of planes.look
+unfolding look table_of lsps_of bypass_tunnels_of planes.look
 bare_look r facts labels sent label = refl
 
 bare_tunnel : (r : Router) (facts : Facts) (labels : List (Key × ℕ)) (sent : List (Upstream × ℕ)) (number : ℕ) → look_tunnel r (bare facts labels sent) number ≡ planes.look_tunnel [] number

@@ -18,7 +18,7 @@ use Rattle.lsr_facts.specs.declared.key.Key.{Key}
 use Rattle.lsr_facts.specs.declared.router.Router.{Router}
 use Rattle.abstract_paths.specs.Places.{is_up}
 use Rattle.abstract_paths.specs.Tears.{leaves_by}
-use Rattle.abstract_router.specs.Detours.{over_at}
+use Rattle.abstract_router.specs.BypassTunnels.{over_at}
 use Rattle.abstract_router.specs.Lsps.{around_of}
 use Rattle.abstract_router.specs.Repairing.{repair_stands, repairs_left}
 use Rattle.abstract_router.specs.States.{State, is_one_of}
@@ -171,7 +171,7 @@ pub lapsed_of_edits : (r : Router) (s : State) (e : Edits) (keys : List Key) →
 lapsed_of_edits r s e keys stood same =
     failing_of_edits (repair_stands r (edited e s)) e.repairs s.repairs e.paths keys (λ q none.
     some-weaker (λ repair. repair_stands r s (q, repair) ≡ true) (λ repair. repair_stands r (edited e s) (q, repair) ≡ true) (λ repair so.
-    (λ i. is_some (over_at (sym same i).detours repair.bypass) && option_map_or (leaves_by repair.resv.link) (same_path s e q none i) false) ∙ so)
+    (λ i. is_some (over_at (sym same i).bypass_tunnels repair.bypass) && option_map_or (leaves_by repair.resv.link) (same_path s e q none i) false) ∙ so)
     (find key_cmp q s.repairs) (find-all_row key_cmp key_exact (λ repair. repair_stands r s repair ≡ true) q s.repairs stood))
 
 -- Labels stay as they are.

@@ -5,7 +5,7 @@ use Rattle.std.specs.declared.net.ipv4_addr.Ipv4Addr.{Ipv4Addr}
 use Rattle.std.proofs.Common.{ap, get_or, refl, sym, ◌∙◌}
 use Rattle.rsvp_contents.proofs.Sizes.{drop_one}
 use Rattle.rsvp_bodies.specs.declared.step.Step.{Step}
-use Rattle.abstract_paths.specs.Detouring.{steps_after}
+use Rattle.abstract_paths.specs.BackupRoutes.{steps_after}
 use Rattle.abstract_paths.specs.Places.{contains}
 use Rattle.abstract_paths.specs.Routing.{nodes_of}
 

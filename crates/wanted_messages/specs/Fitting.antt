@@ -7,7 +7,7 @@ use Rattle.lsr_facts.specs.declared.key.Key.{Key}
 use Rattle.lsr_facts.specs.declared.path_fact.PathFact.{PathFact}
 use Rattle.lsr_facts.specs.declared.router.Link.{Link}
 use Rattle.lsr_facts.specs.declared.router.Router.{Router}
-use Rattle.lsr_facts.specs.declared.repair.Detour.{Detour}
+use Rattle.lsr_facts.specs.declared.repair.BypassTunnel.{BypassTunnel}
 use Rattle.lsr_facts.specs.declared.repair.Repair.{Repair}
 use Rattle.abstract_paths.specs.Onward.{path_onward}
 use Rattle.abstract_router.specs.Through.{backup_path}
@@ -19,9 +19,9 @@ CanGoOn r key fact =
     (link : Link) → IsTrue (fits_path (path_onward r key fact link)) × HasRoom (contents.Path (path_onward r key fact link))
 
 -- and so does the Path that goes through a bypass
-abbrev pub CanGoThrough : Router → Key → PathFact → Repair → Detour → Type 0
-CanGoThrough r key fact repair detour =
-    (link : Link) → IsTrue (fits_path (backup_path r key fact repair detour link)) × HasRoom (contents.Path (backup_path r key fact repair detour link))
+abbrev pub CanGoThrough : Router → Key → PathFact → Repair → BypassTunnel → Type 0
+CanGoThrough r key fact repair bypass_tunnel =
+    (link : Link) → IsTrue (fits_path (backup_path r key fact repair bypass_tunnel link)) × HasRoom (contents.Path (backup_path r key fact repair bypass_tunnel link))
 
 -- What is said of an LSP fits a Resv, type 2: the FLOWSPEC is a whole token bucket, and what is passed on is short.
 pub record IsFitting (a : Reserved) : Type 0 where

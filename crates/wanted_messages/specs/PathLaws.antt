@@ -21,16 +21,16 @@ use Rattle.lsr_facts.specs.declared.key.Key.{Key}
 use Rattle.lsr_facts.specs.declared.path_fact.PathFact.{PathFact}
 use Rattle.lsr_facts.specs.declared.router.Link.{Link}
 use Rattle.lsr_facts.specs.declared.router.Router.{Router}
-use Rattle.lsr_facts.specs.declared.repair.Detour.{Detour}
+use Rattle.lsr_facts.specs.declared.repair.BypassTunnel.{BypassTunnel}
 use Rattle.lsr_facts.specs.declared.repair.Over.{Over}
 use Rattle.lsr_facts.specs.declared.repair.Repair.{Repair}
 use Rattle.forwarding_table.specs.Labels.{is_label}
-use Rattle.abstract_paths.proofs.Detouring.{route_after-short}
-use Rattle.abstract_paths.specs.Detouring.{route_after}
+use Rattle.abstract_paths.proofs.BackupRoutes.{route_after-short}
+use Rattle.abstract_paths.specs.BackupRoutes.{route_after}
 use Rattle.abstract_paths.specs.MessageLaws.{onward_fits, onward_has_room}
 use Rattle.abstract_paths.specs.Paths.{grown}
 use Rattle.abstract_paths.specs.Soundness.{ArePaths, IsPath, IsWithinLimits, begins_with_ipv4}
-use Rattle.abstract_router.specs.Detours.{detours_of}
+use Rattle.abstract_router.specs.BypassTunnels.{bypass_tunnels_of}
 use Rattle.abstract_router.specs.Soundness.{IsResv}
 use Rattle.abstract_router.specs.States.{State}
 use Rattle.abstract_router.specs.Through.{backup_path}
@@ -55,10 +55,10 @@ pub route_fits : (p : Path) → IsTrue (fits_path p) → IsTrue (option_map_or i
 route_fits p fits = (and_parts (option_map_or is_short_route p.route true) _ fits).0
 
 -- what is left of a route is within the limits from a bypass's end on
-rest_fits : (endpoint far : Ipv4Addr) (is_later : Bool) (rest : Option (List Step)) → IsAddress endpoint → IsAddress far → IsTrue (option_map_or is_short_route rest true) → IsTrue (option_map_or begins_with_ipv4 rest true)
-    → IsTrue (option_map_or is_short_route (option_map (route_after endpoint far is_later) rest) true)
-rest_fits endpoint far is_later None endpoint_four far_four short begins = refl
-rest_fits endpoint far is_later (Some steps) endpoint_four far_four short begins = route_after-short endpoint far is_later steps endpoint_four far_four short begins
+rest_fits : (endpoint far : Ipv4Addr) (is_nnhop : Bool) (rest : Option (List Step)) → IsAddress endpoint → IsAddress far → IsTrue (option_map_or is_short_route rest true) → IsTrue (option_map_or begins_with_ipv4 rest true)
+    → IsTrue (option_map_or is_short_route (option_map (route_after endpoint far is_nnhop) rest) true)
+rest_fits endpoint far is_nnhop None endpoint_four far_four short begins = refl
+rest_fits endpoint far is_nnhop (Some steps) endpoint_four far_four short begins = route_after-short endpoint far is_nnhop steps endpoint_four far_four short begins
 
 -- with no FAST_REROUTE of its own a Path has none too many
 none_more : (own : Option FastReroute) (passing : List Raw) → IsTrue (has_one_fast_reroute own passing) → IsTrue (has_one_fast_reroute None passing)
@@ -68,27 +68,27 @@ none_more own passing one =
     le-leb (0 + passed) 1 (omega (arith, few))
 
 -- The parts of the Path fit that goes through a bypass, where the path is within the limits.
-backup_fits : (r : Router) (key : Key) (fact : PathFact) (repair : Repair) (detour : Detour) (link : Link) → IsAddress key.session.endpoint → IsAddress detour.ends_at → IsWithinLimits fact
-    → IsTrue (fits_path (backup_path r key fact repair detour link))
-backup_fits r key fact repair detour link endpoint far is =
+backup_fits : (r : Router) (key : Key) (fact : PathFact) (repair : Repair) (bypass_tunnel : BypassTunnel) (link : Link) → IsAddress key.session.endpoint → IsAddress bypass_tunnel.ends_at → IsWithinLimits fact
+    → IsTrue (fits_path (backup_path r key fact repair bypass_tunnel link))
+backup_fits r key fact repair bypass_tunnel link endpoint far is =
     let onward = and_parts (option_map_or is_short_route fact.rest true) _ (onward_fits r key fact link is) in
     let recorded = and_parts (option_map_or is_short_record (option_and_then (grown r) fact.recorded) true) _ onward.1 in
-    and_from (option_map_or is_short_route (option_map (route_after key.session.endpoint detour.ends_at repair.is_later) fact.rest) true) _
-    (rest_fits key.session.endpoint detour.ends_at repair.is_later fact.rest endpoint far is.rest is.begins)
+    and_from (option_map_or is_short_route (option_map (route_after key.session.endpoint bypass_tunnel.ends_at repair.is_nnhop) fact.rest) true) _
+    (rest_fits key.session.endpoint bypass_tunnel.ends_at repair.is_nnhop fact.rest endpoint far is.rest is.begins)
     (and_from (option_map_or is_short_record (option_and_then (grown r) fact.recorded) true) _ recorded.0
     (and_from (is_short_passing fact.passing) _ is.passing
     (and_from (are_passed_on fact.passing) _ is.passed_on
     (and_from (has_adspec_last fact.passing) _ is.adspec_last (none_more fact.fast_reroute fact.passing is.one_fast_reroute)))))
 
 -- So a path of a router goes through a bypass as messages. All addresses have four octets.
-pub goes_through : (r : Router) (moment : ℕ) (key : Key) (fact : PathFact) (repair : Repair) (detour : Detour) → IsAddress key.session.endpoint → IsAddress detour.ends_at → IsPath r moment (key, fact) → CanGoThrough r key fact repair detour
-goes_through r moment key fact repair detour endpoint far is =
-    λ link. (backup_fits r key fact repair detour link endpoint far is.limits, omega (arith, is.whole_tspec))
+pub goes_through : (r : Router) (moment : ℕ) (key : Key) (fact : PathFact) (repair : Repair) (bypass_tunnel : BypassTunnel) → IsAddress key.session.endpoint → IsAddress bypass_tunnel.ends_at → IsPath r moment (key, fact) → CanGoThrough r key fact repair bypass_tunnel
+goes_through r moment key fact repair bypass_tunnel endpoint far is =
+    λ link. (backup_fits r key fact repair bypass_tunnel link endpoint far is.limits, omega (arith, is.whole_tspec))
 
 -- What a bypass runs over has a label, where each reservation is as it should be.
-pub has_label : (r : Router) (s : State) (moment number : ℕ) (detour : Detour) → find nat_cmp number (detours_of r s) ≡ Some detour → AllByRecursion (IsResv moment) s.resvs → IfSome detour.over (λ over. is_label over.label ≡ true)
-has_label r s moment number detour found resvs = by detour.over refl
+pub has_label : (r : Router) (s : State) (moment number : ℕ) (bypass_tunnel : BypassTunnel) → find nat_cmp number (bypass_tunnels_of r s) ≡ Some bypass_tunnel → AllByRecursion (IsResv moment) s.resvs → IfSome bypass_tunnel.over (λ over. is_label over.label ≡ true)
+has_label r s moment number bypass_tunnel found resvs = by bypass_tunnel.over refl
   where
-    by : (o : Option Over) → detour.over ≡ o → IfSome o (λ over. is_label over.label ≡ true)
+    by : (o : Option Over) → bypass_tunnel.over ≡ o → IfSome o (λ over. is_label over.label ≡ true)
     by None is = tt
-    by (Some over) is = (over_is moment r s number over (ap (option_and_then (λ (d : Detour). d.over)) found ∙ is) resvs).label
+    by (Some over) is = (over_is moment r s number over (ap (option_and_then (λ (d : BypassTunnel). d.over)) found ∙ is) resvs).label

@@ -5,7 +5,7 @@ ghost use Rattle.std.specs.Option.{option_map, option_map_or};
 ghost use Rattle.std.specs.Prelude.{◌≡◌, IfOk, IfSome, IsTrue, true};
 ghost use Rattle.forwarding_table.specs.Labels.{is_label};
 ghost use Rattle.rsvp_contents.specs.Limits.{is_short_route};
-ghost use Rattle.abstract_paths.specs.Detouring.{route_after};
+ghost use Rattle.abstract_paths.specs.BackupRoutes.{route_after};
 ghost use Rattle.abstract_paths.specs.Soundness.{IsPath};
 ghost use Rattle.abstract_router.specs.Lsps.{around_of, lsp_of};
 ghost use Rattle.abstract_router.specs.Soundness.{IsResv};
@@ -17,8 +17,8 @@ use crate::addresses::has_four_octets;
 use crate::downstream::Wanted;
 use crate::routes::route_after;
 use abstract_paths::Output;
-use facility_backup::detour_at;
-use lsr_facts::{Detour, Item, Key, Link, Node, PathFact, Repair};
+use facility_backup::bypass_tunnel_at;
+use lsr_facts::{BypassTunnel, Item, Key, Link, Node, PathFact, Repair};
 use message_rules::{head_through, hop_through, labelled_by, link_at, path_onward};
 use rsvp_bodies::Route;
 use rsvp_contents::{Content, Message, Path};
@@ -31,18 +31,24 @@ fn route_through(
     key: &Key,
     rest: &Option<Route>,
     repair: &Repair,
-    detour: &Detour,
+    bypass_tunnel: &BypassTunnel,
 ) -> Result<Option<Route>, AllocError>
     requires { IsTrue (option_map_or is_short_route
-        (option_map (route_after key.now.session.endpoint detour.now.ends_at repair.now.is_later) rest.now) true) }
+        (option_map (route_after key.now.session.endpoint bypass_tunnel.now.ends_at repair.now.is_nnhop) rest.now) true) }
     ensures { IfOk result (λ route. route
-        ≡ option_map (route_after key.now.session.endpoint detour.now.ends_at repair.now.is_later) rest.now) }
+        ≡ option_map (route_after key.now.session.endpoint bypass_tunnel.now.ends_at repair.now.is_nnhop) rest.now) }
 {
     match rest {
         Some(rest) => {
             let endpoint = key.session.endpoint;
             let steps = rest.as_slice();
-            let route = route_after(alloc, endpoint, detour.ends_at, repair.is_later, steps)?;
+            let route = route_after(
+                alloc,
+                endpoint,
+                bypass_tunnel.ends_at,
+                repair.is_nnhop,
+                steps,
+            )?;
             Ok(Some(route))
         }
         None => Ok(None),
@@ -57,18 +63,18 @@ fn backup_path(
     key: &Key,
     path: &PathFact,
     repair: &Repair,
-    detour: &Detour,
+    bypass_tunnel: &BypassTunnel,
     link: &Link,
 ) -> Result<Path, AllocError>
     requires { IsTrue (option_map_or is_short_route
-        (option_map (route_after key.now.session.endpoint detour.now.ends_at repair.now.is_later) path.now.rest) true) }
+        (option_map (route_after key.now.session.endpoint bypass_tunnel.now.ends_at repair.now.is_nnhop) path.now.rest) true) }
     ensures { IfOk result (λ backup. backup
-        ≡ backup_path node.now.router.now key.now path.now repair.now detour.now link.now) }
+        ≡ backup_path node.now.router.now key.now path.now repair.now bypass_tunnel.now link.now) }
 {
     let onward = path_onward(alloc, node, key, path, link)?;
     Ok(Path {
         hop: hop_through(node.router, repair),
-        route: route_through(alloc, key, &path.rest, repair, detour)?,
+        route: route_through(alloc, key, &path.rest, repair, bypass_tunnel)?,
         fast_reroute: None,
         sender: head_through(key.sender, link),
         ..onward
@@ -82,21 +88,21 @@ fn backup_over<V: StateView>(
     key: &Key,
     path: &PathFact,
     repair: &Repair,
-    detour: &Detour,
+    bypass_tunnel: &BypassTunnel,
 ) -> Result<Option<Output>, AllocError>
-    requires message { CanGoThrough (V.router view.now) key.now path.now repair.now detour.now }
-    requires label { IfSome detour.now.over (λ over. is_label over.label ≡ true) }
+    requires message { CanGoThrough (V.router view.now) key.now path.now repair.now bypass_tunnel.now }
+    requires label { IfSome bypass_tunnel.now.over (λ over. is_label over.label ≡ true) }
     ensures output { IfOk result (λ output. output
-        ≡ backup_over (V.router view.now) key.now path.now repair.now detour.now) }
+        ≡ backup_over (V.router view.now) key.now path.now repair.now bypass_tunnel.now) }
 {
     let node = node_of(view);
     let Some(link) = link_at(node.router, repair.resv.link) else {
         return Ok(None);
     };
-    let Some(over) = detour.over else {
+    let Some(over) = bypass_tunnel.over else {
         return Ok(None);
     };
-    let backup = backup_path(alloc, &node, key, path, repair, detour, link)?;
+    let backup = backup_path(alloc, &node, key, path, repair, bypass_tunnel, link)?;
     let content = Box::new(alloc, Content::Path(backup))?;
     let message = Message::checked(content).unwrap();
     Ok(Some(labelled_by(over, message)))
@@ -116,12 +122,12 @@ fn backup_of<V: StateView>(
     ensures output { IfOk result (λ output. output
         ≡ backup_of (around_of (V.router view.now) (V.state view.now)) key.now path.now repair.now) }
 {
-    let Some(detour) = detour_at(view, repair.bypass) else {
+    let Some(bypass_tunnel) = bypass_tunnel_at(view, repair.bypass) else {
         return Ok(None);
     };
     has_four_octets(key.session.endpoint);
-    has_four_octets(detour.ends_at);
-    backup_over(alloc, view, key, path, repair, &detour)
+    has_four_octets(bypass_tunnel.ends_at);
+    backup_over(alloc, view, key, path, repair, &bypass_tunnel)
 }
 
 /// What an LSP wants through a bypass, whose path this is: its Path, where it is repaired and the bypass is up. The path is

@@ -3,7 +3,7 @@
 ghost use Rattle.std.specs.Option.{option_copied, option_map_or};
 ghost use Rattle.std.specs.Prelude.{◌≡◌, IfOk, IsTrue, drop, false};
 ghost use Rattle.rsvp_contents.specs.Limits.{is_short_route};
-ghost use Rattle.abstract_paths.specs.Detouring.{route_after, steps_after};
+ghost use Rattle.abstract_paths.specs.BackupRoutes.{route_after, steps_after};
 ghost use Rattle.abstract_paths.specs.Places.{contains};
 ghost use Rattle.abstract_paths.specs.Routing.{nodes_of};
 
@@ -52,13 +52,13 @@ pub(crate) fn route_after(
     alloc: Global,
     endpoint: Ipv4Addr,
     far: Ipv4Addr,
-    is_later: bool,
+    is_nnhop: bool,
     steps: &[Step],
 ) -> Result<Route, AllocError>
-    requires { IsTrue (is_short_route (route_after endpoint far is_later steps.now)) }
-    ensures { IfOk result (λ route. route ≡ route_after endpoint far is_later steps.now) }
+    requires { IsTrue (is_short_route (route_after endpoint far is_nnhop steps.now)) }
+    ensures { IfOk result (λ route. route ≡ route_after endpoint far is_nnhop steps.now) }
 {
-    if !is_later {
+    if !is_nnhop {
         return copy_behind(alloc, step_to(far), steps_after_first(steps));
     }
     if let Some(others) = steps_after(far, steps) {

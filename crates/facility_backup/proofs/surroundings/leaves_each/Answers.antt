@@ -8,4 +8,4 @@ loop-bypass-preserved g c =
     let r = g.V.StateView.router c.args.view.now in
     let s = g.V.StateView.state c.args.view.now in
     leaves_more r s (edited c.args.edits.now s) c.args.bypasses.now c.loop-bypass.bypass-index _ _ _ c.loop-bypass-test.true
-    c.detour_by.ensures (c.is_same_detour.ensures c.if-not-is_same_detour.false) c.detour_by-in-loop-bypass.ensures c.loop-bypass.invariant
+    c.bypass_tunnel_by.ensures (c.is_same_bypass_tunnel.ensures c.if-not-is_same_bypass_tunnel.false) c.bypass_tunnel_by-in-loop-bypass.ensures c.loop-bypass.invariant

@@ -7,10 +7,10 @@ pub backup_over-requires-clause-message : goal.backup_over-requires-clause-messa
 backup_over-requires-clause-message g c =
     let r = g.V.StateView.router c.args.view.now in
     let s = g.V.StateView.state c.args.view.now in
-    goes_through r s.facts.moment c.args.key.now c.args.path.now c.args.repair.now c.in-Some.detour c.has_four_octets.ensures c.has_four_octets-2.ensures c.requires.path
+    goes_through r s.facts.moment c.args.key.now c.args.path.now c.args.repair.now c.in-Some.bypass_tunnel c.has_four_octets.ensures c.has_four_octets-2.ensures c.requires.path
 
 pub backup_over-requires-clause-label : goal.backup_over-requires-clause-label
 backup_over-requires-clause-label g c =
     let r = g.V.StateView.router c.args.view.now in
     let s = g.V.StateView.state c.args.view.now in
-    has_label r s s.facts.moment c.args.repair.now.bypass c.in-Some.detour (sym c.in-Some.ensures) c.requires.resvs
+    has_label r s s.facts.moment c.args.repair.now.bypass c.in-Some.bypass_tunnel (sym c.in-Some.ensures) c.requires.resvs

@@ -10,13 +10,13 @@ use Rattle.wanted_messages.proofs.backups.backup_over.Goals as goal
 pub backup_path-requires : goal.backup_path-requires
 backup_path-requires g c =
     let link = c.in-Some.link.now in
-    route_fits (backup_path (g.V.StateView.router c.args.view.now) c.args.key.now c.args.path.now c.args.repair.now c.args.detour.now link) (c.requires.message link).0
+    route_fits (backup_path (g.V.StateView.router c.args.view.now) c.args.key.now c.args.path.now c.args.repair.now c.args.bypass_tunnel.now link) (c.requires.message link).0
 
 pub unwrap-message-requires : goal.unwrap-message-requires
 unwrap-message-requires g c =
     let link = c.in-Some.link.now in
     let fits = c.requires.message link in
-    let is = c.in_ok-backup.ensures ∙ ap (λ place. backup_path place.router c.args.key.now c.args.path.now c.args.repair.now c.args.detour.now link) c.node_of-node.ensures in
+    let is = c.in_ok-backup.ensures ∙ ap (λ place. backup_path place.router c.args.key.now c.args.path.now c.args.repair.now c.args.bypass_tunnel.now link) c.node_of-node.ensures in
     (rw c.in_ok-content.ensures.ok at c.checked.ensures.room)
     (subst (λ (p : Path). IsTrue (fits_path p)) (sym is) fits.0)
     (subst (λ (p : Path). HasRoom (contents.Path p)) (sym is) fits.1)

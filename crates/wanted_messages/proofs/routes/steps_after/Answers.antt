@@ -5,7 +5,7 @@ use Rattle.std.specs.Option.{option_copied, option_or}
 use Rattle.std.proofs.Math.ListN.{drop_of_length-le}
 use Rattle.std.proofs.lemmas.Slice.{between_to_end}
 use Rattle.rsvp_bodies.specs.declared.step.Step.{Step}
-use Rattle.abstract_paths.specs.Detouring.{steps_after}
+use Rattle.abstract_paths.specs.BackupRoutes.{steps_after}
 use Rattle.wanted_messages.proofs.Following.{leads_to, next_step, none_yet}
 use Rattle.wanted_messages.proofs.routes.steps_after.Goals as goal
 use Rattle.wanted_messages.proofs.routes.steps_after.Goals.{then-leads_to, else-leads_to}

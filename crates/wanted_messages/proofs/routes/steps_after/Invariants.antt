@@ -1,6 +1,6 @@
 use Rattle.std.proofs.Common.{◌≡◌, drop}
 use Rattle.std.specs.Option.{option_copied, option_or}
-use Rattle.abstract_paths.specs.Detouring.{steps_after}
+use Rattle.abstract_paths.specs.BackupRoutes.{steps_after}
 use Rattle.wanted_messages.proofs.routes.steps_after.Given as goal
 
 -- so many steps are passed: what is found so far stands where none of the others leads to the address

@@ -7,12 +7,12 @@ use Rattle.lsr_facts.specs.declared.router.Router.{Router}
 use Rattle.abstract_router.specs.States.{State}
 use Rattle.router_core.specs.Below.labels.RowLaws.{table-alike}
 use Rattle.router_core.specs.Below.labels.Rows.{IsTableOf}
-use Rattle.router_core.proofs.WhileCold.{IsAsRunning, detours_running}
+use Rattle.router_core.proofs.WhileCold.{IsAsRunning, bypass_tunnels_running}
 use Rattle.router_core.proofs.machine.Machine.actions.Goals as goal
 
 copied : {E : Type 0} (q r : Router) (s t : State) (copy : Result (List (ℕ × Action)) E) → q ≡ r → IsAsRunning s t → IfOk copy (IsTableOf q s) → IfOk copy (IsTableOf r t)
 copied q r s t (Ok rows) router runs is =
-    subst (λ (p : Router). IsTableOf p t rows) router (table-alike q s t rows (detours_running q s t runs) (ap (λ (f : Facts). f.paths) runs.facts) runs.lsps is)
+    subst (λ (p : Router). IsTableOf p t rows) router (table-alike q s t rows (bypass_tunnels_running q s t runs) (ap (λ (f : Facts). f.paths) runs.facts) runs.lsps is)
 copied q r s t (Err error) router runs is = tt
 
 pub returns : goal.returns

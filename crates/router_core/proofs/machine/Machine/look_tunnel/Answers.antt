@@ -4,7 +4,7 @@ use Rattle.lsr_facts.specs.declared.facts.Facts.{Facts}
 use Rattle.lsr_facts.specs.declared.router.Router.{Router}
 use Rattle.abstract_router.specs.Tables.{look_tunnel}
 use Rattle.router_core.specs.Below.labels.TunnelLaws.{look_tunnel-alike}
-use Rattle.router_core.proofs.WhileCold.{detours_running}
+use Rattle.router_core.proofs.WhileCold.{bypass_tunnels_running}
 use Rattle.router_core.proofs.machine.Machine.look_tunnel.Goals as goal
 
 pub returns : goal.returns
@@ -16,5 +16,5 @@ returns c =
     c.look_tunnel.ensures
     ∙ ap (λ (r : Router). look_tunnel r tables.state c.args.number) knows.router
     ∙ look_tunnel-alike r tables.state state c.args.number
-    (detours_running r tables.state state (record { facts = knows.facts; lsps = record { resvs = knows.resvs; repairs = knows.repairs; labels = knows.labels } }))
+    (bypass_tunnels_running r tables.state state (record { facts = knows.facts; lsps = record { resvs = knows.resvs; repairs = knows.repairs; labels = knows.labels } }))
     (ap (λ (f : Facts). f.tunnels) knows.facts) knows.resvs knows.repairs

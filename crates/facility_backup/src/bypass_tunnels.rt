@@ -3,9 +3,9 @@
 ghost use Rattle.std.specs.FinMap.Entries.{find};
 ghost use Rattle.std.specs.Ordering.{nat_cmp};
 ghost use Rattle.std.specs.Prelude.{◌≡◌};
-ghost use Rattle.abstract_router.specs.Detours.{detour_by, detours_of, over_at, over_of};
+ghost use Rattle.abstract_router.specs.BypassTunnels.{bypass_tunnel_by, bypass_tunnels_of, over_at, over_of};
 
-use lsr_facts::{Bypass, Detour, Over, Tunnel};
+use lsr_facts::{Bypass, BypassTunnel, Over, Tunnel};
 use message_rules::{current_key, is_up};
 use state_views::StateView;
 
@@ -25,12 +25,12 @@ fn over_of<V: StateView>(view: &V, number: u16, tunnel: &Tunnel) -> Option<Over>
 }
 
 /// A bypass, by the tunnel that it names; `None` where there is no such tunnel. Takes no memory.
-pub fn detour_by<V: StateView>(view: &V, bypass: &(u16, Bypass)) -> Option<Detour>
-    ensures { result ≡ detour_by (V.router view.now) (V.state view.now) bypass.now }
+pub fn bypass_tunnel_by<V: StateView>(view: &V, bypass: &(u16, Bypass)) -> Option<BypassTunnel>
+    ensures { result ≡ bypass_tunnel_by (V.router view.now) (V.state view.now) bypass.now }
 {
     let number = bypass.1.tunnel;
     let tunnel = view.tunnel(number)?;
-    Some(Detour {
+    Some(BypassTunnel {
         tunnel: number,
         protects: bypass.1.link,
         ends_at: tunnel.endpoint,
@@ -39,21 +39,21 @@ pub fn detour_by<V: StateView>(view: &V, bypass: &(u16, Bypass)) -> Option<Detou
 }
 
 /// The bypass of a number. Takes no memory.
-pub fn detour_at<V: StateView>(view: &V, number: u16) -> Option<Detour>
-    ensures { result ≡ find nat_cmp number (detours_of (V.router view.now) (V.state view.now)) }
+pub fn bypass_tunnel_at<V: StateView>(view: &V, number: u16) -> Option<BypassTunnel>
+    ensures { result ≡ find nat_cmp number (bypass_tunnels_of (V.router view.now) (V.state view.now)) }
 {
     let bypasses = view.bypasses();
     // That no two bypasses have one number.
     let _ = bypasses.as_slice();
     match bypasses.get(&number) {
-        Some(bypass) => detour_by(view, &(number, *bypass)),
+        Some(bypass) => bypass_tunnel_by(view, &(number, *bypass)),
         None => None,
     }
 }
 
 /// What the bypass of a number runs over. It is up where that is something. Takes no memory.
 pub fn over_at<V: StateView>(view: &V, number: u16) -> Option<Over>
-    ensures { result ≡ over_at (detours_of (V.router view.now) (V.state view.now)) number }
+    ensures { result ≡ over_at (bypass_tunnels_of (V.router view.now) (V.state view.now)) number }
 {
-    detour_at(view, number)?.over
+    bypass_tunnel_at(view, number)?.over
 }

@@ -17,10 +17,10 @@ use Rattle.lsr_facts.specs.declared.bypass.Bypass.{Bypass}
 use Rattle.lsr_facts.specs.declared.facts.Facts.{Facts}
 use Rattle.lsr_facts.specs.declared.router.Router.{Router}
 use Rattle.lsr_facts.specs.declared.tunnel.Tunnel.{Tunnel}
-use Rattle.lsr_facts.specs.declared.repair.Detour.{Detour}
+use Rattle.lsr_facts.specs.declared.repair.BypassTunnel.{BypassTunnel}
 use Rattle.abstract_paths.specs.Changes.{with_tunnel}
 use Rattle.abstract_paths.specs.TouchedLaws.{find-made}
-use Rattle.abstract_router.specs.Detours.{detour_by, detour_of, detours_of, over_at, over_by, over_of}
+use Rattle.abstract_router.specs.BypassTunnels.{bypass_tunnel_by, bypass_tunnel_of, bypass_tunnels_of, over_at, over_by, over_of}
 use Rattle.abstract_router.specs.States.{State, with_facts}
 use Rattle.router_laws.proofs.TunnelEvents.{IsSameTunnel}
 
@@ -46,27 +46,27 @@ pub record RunsIn (s : Facts) (number : ℕ) : Type 0 where
 
 module _ (r : Router) (s : State) (number : ℕ) (sorted : T (is_sorted nat_cmp s.facts.bypasses)) where
   -- the bypass of a number, by its tunnel
-  find-detours : find nat_cmp number (detours_of r s) ≡ option_and_then (λ bypass. detour_by r s (number, bypass)) (find nat_cmp number s.facts.bypasses)
-  unfolding detours_of
-  find-detours = find-made nat_cmp nat_cmp_total exact_unsigned (detour_by r s) number s.facts.bypasses sorted
+  find-bypass_tunnels : find nat_cmp number (bypass_tunnels_of r s) ≡ option_and_then (λ bypass. bypass_tunnel_by r s (number, bypass)) (find nat_cmp number s.facts.bypasses)
+  unfolding bypass_tunnels_of
+  find-bypass_tunnels = find-made nat_cmp nat_cmp_total exact_unsigned (bypass_tunnel_by r s) number s.facts.bypasses sorted
 
   -- What it runs over.
-  pub over_at-is : (is : RunsIn s.facts number) → over_at (detours_of r s) number ≡ over_of r s (is.bypass.tunnel, is.tunnel)
+  pub over_at-is : (is : RunsIn s.facts number) → over_at (bypass_tunnels_of r s) number ≡ over_of r s (is.bypass.tunnel, is.tunnel)
   over_at-is is =
-      ap (option_and_then (λ (detour : Detour). detour.over)) (find-detours ∙ ap (option_and_then (λ bypass. detour_by r s (number, bypass))) is.known)
-      ∙ ap (λ o. option_and_then (λ (detour : Detour). detour.over) (option_map (detour_of r s is.bypass) o)) is.runs
+      ap (option_and_then (λ (bypass_tunnel : BypassTunnel). bypass_tunnel.over)) (find-bypass_tunnels ∙ ap (option_and_then (λ bypass. bypass_tunnel_by r s (number, bypass))) is.known)
+      ∙ ap (λ o. option_and_then (λ (bypass_tunnel : BypassTunnel). bypass_tunnel.over) (option_map (bypass_tunnel_of r s is.bypass) o)) is.runs
 
   -- A bypass that is up is known, and so is its tunnel.
-  pub runs-up : is_some (over_at (detours_of r s) number) ≡ true → RunsIn s.facts number
-  runs-up up = by (find nat_cmp number s.facts.bypasses) refl (ap (λ o. is_some (option_and_then (λ (detour : Detour). detour.over) o)) (sym find-detours) ∙ up)
+  pub runs-up : is_some (over_at (bypass_tunnels_of r s) number) ≡ true → RunsIn s.facts number
+  runs-up up = by (find nat_cmp number s.facts.bypasses) refl (ap (λ o. is_some (option_and_then (λ (bypass_tunnel : BypassTunnel). bypass_tunnel.over) o)) (sym find-bypass_tunnels) ∙ up)
     where
       by_tunnel : (bypass : Bypass) → find nat_cmp number s.facts.bypasses ≡ Some bypass → (tunnel : Option Tunnel) → find nat_cmp bypass.tunnel s.facts.tunnels ≡ tunnel
-          → is_some (option_and_then (λ (detour : Detour). detour.over) (option_map (detour_of r s bypass) tunnel)) ≡ true → RunsIn s.facts number
+          → is_some (option_and_then (λ (bypass_tunnel : BypassTunnel). bypass_tunnel.over) (option_map (bypass_tunnel_of r s bypass) tunnel)) ≡ true → RunsIn s.facts number
       by_tunnel bypass known None runs some = absurd (let e = some in cc)
       by_tunnel bypass known (Some tunnel) runs some = record { bypass = bypass; tunnel = tunnel; known = known; runs = runs }
 
       by : (bypass : Option Bypass) → find nat_cmp number s.facts.bypasses ≡ bypass
-          → is_some (option_and_then (λ (detour : Detour). detour.over) (option_and_then (λ bypass. detour_by r s (number, bypass)) bypass)) ≡ true → RunsIn s.facts number
+          → is_some (option_and_then (λ (bypass_tunnel : BypassTunnel). bypass_tunnel.over) (option_and_then (λ bypass. bypass_tunnel_by r s (number, bypass)) bypass)) ≡ true → RunsIn s.facts number
       by None known some = absurd (let e = some in cc)
       by (Some bypass) known some = by_tunnel bypass known (find nat_cmp bypass.tunnel s.facts.tunnels) refl some
 
@@ -76,24 +76,24 @@ module _ (r : Router) (s : State) (number : ℕ) (old new : Tunnel) (found : fin
   after = with_facts (with_tunnel number new s.facts) s
 
   -- a bypass by the end and the current LSP of its tunnel
-  abbrev detour : Bypass → Ipv4Addr → ℕ → Detour
-  detour bypass endpoint id = record { tunnel = bypass.tunnel; protects = bypass.link; ends_at = endpoint; over = option_and_then (over_by s.facts.up) (find key_cmp (head_key r bypass.tunnel endpoint id) s.resvs) }
+  abbrev bypass_tunnel : Bypass → Ipv4Addr → ℕ → BypassTunnel
+  bypass_tunnel bypass endpoint id = record { tunnel = bypass.tunnel; protects = bypass.link; ends_at = endpoint; over = option_and_then (over_by s.facts.up) (find key_cmp (head_key r bypass.tunnel endpoint id) s.resvs) }
 
-  agree : (bypass : ℕ × Bypass) → detour_by r after bypass ≡ detour_by r s bypass
-  agree bypass = elim (cases_eq bypass.1.tunnel number) as (λ c. detour_by r after bypass ≡ detour_by r s bypass) [
+  agree : (bypass : ℕ × Bypass) → bypass_tunnel_by r after bypass ≡ bypass_tunnel_by r s bypass
+  agree bypass = elim (cases_eq bypass.1.tunnel number) as (λ c. bypass_tunnel_by r after bypass ≡ bypass_tunnel_by r s bypass) [
     | inl own ↦
-        ap (λ n. option_map (detour_of r after bypass.1) (find nat_cmp n (put nat_cmp number new s.facts.tunnels))) own
-        ∙ ap (option_map (detour_of r after bypass.1)) (find-put_same nat_cmp nat_cmp_total number new s.facts.tunnels)
-        ∙ (λ i. Some (detour bypass.1 (same.endpoint i) (same.current i).id))
-        ∙ ap (option_map (detour_of r s bypass.1)) (sym found)
-        ∙ ap (λ n. option_map (detour_of r s bypass.1) (find nat_cmp n s.facts.tunnels)) (sym own)
-    | inr other ↦ ap (option_map (detour_of r after bypass.1)) (find-put_apart nat_cmp nat_cmp_total exact_unsigned bypass.1.tunnel number new s.facts.tunnels other)
+        ap (λ n. option_map (bypass_tunnel_of r after bypass.1) (find nat_cmp n (put nat_cmp number new s.facts.tunnels))) own
+        ∙ ap (option_map (bypass_tunnel_of r after bypass.1)) (find-put_same nat_cmp nat_cmp_total number new s.facts.tunnels)
+        ∙ (λ i. Some (bypass_tunnel bypass.1 (same.endpoint i) (same.current i).id))
+        ∙ ap (option_map (bypass_tunnel_of r s bypass.1)) (sym found)
+        ∙ ap (λ n. option_map (bypass_tunnel_of r s bypass.1) (find nat_cmp n s.facts.tunnels)) (sym own)
+    | inr other ↦ ap (option_map (bypass_tunnel_of r after bypass.1)) (find-put_apart nat_cmp nat_cmp_total exact_unsigned bypass.1.tunnel number new s.facts.tunnels other)
   ]
 
   -- Bypasses run over what they ran over.
-  pub detours-put : detours_of r after ≡ detours_of r s
-  unfolding detours_of
-  detours-put = λ i. filter_map (λ (bypass : ℕ × Bypass). option_map {U = ℕ × Detour} (λ detour. (bypass.0, detour)) (agree bypass i)) s.facts.bypasses
+  pub bypass_tunnels-put : bypass_tunnels_of r after ≡ bypass_tunnels_of r s
+  unfolding bypass_tunnels_of
+  bypass_tunnels-put = λ i. filter_map (λ (bypass : ℕ × Bypass). option_map {U = ℕ × BypassTunnel} (λ bypass_tunnel. (bypass.0, bypass_tunnel)) (agree bypass i)) s.facts.bypasses
 
 -- Its tunnel carries its traffic by the same LSP as before, which has the reservation that it had.
 pub record RunsOn (r : Router) (before after : State) (number : ℕ) (was : RunsIn before.facts number) : Type 0 where
@@ -105,7 +105,7 @@ pub record RunsOn (r : Router) (before after : State) (number : ℕ) (was : Runs
   pub up : after.facts.up ≡ before.facts.up
 
 -- Then the bypass runs over what it ran over.
-pub over_at-same : (r : Router) (before after : State) (number : ℕ) → T (is_sorted nat_cmp before.facts.bypasses) → T (is_sorted nat_cmp after.facts.bypasses) → (was : RunsIn before.facts number) → RunsOn r before after number was → over_at (detours_of r after) number ≡ over_at (detours_of r before) number
+pub over_at-same : (r : Router) (before after : State) (number : ℕ) → T (is_sorted nat_cmp before.facts.bypasses) → T (is_sorted nat_cmp after.facts.bypasses) → (was : RunsIn before.facts number) → RunsOn r before after number was → over_at (bypass_tunnels_of r after) number ≡ over_at (bypass_tunnels_of r before) number
 over_at-same r before after number sorted sorted_after was on =
     over_at-is r after number sorted_after (record { bypass = was.bypass; tunnel = on.tunnel; known = on.known; runs = on.runs })
     ∙ (λ i. option_and_then (over_by (on.up i)) (find key_cmp (head_key r was.bypass.tunnel (on.same.endpoint i) (on.same.current i).id) after.resvs))

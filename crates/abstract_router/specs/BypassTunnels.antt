@@ -8,7 +8,7 @@ use Rattle.lsr_facts.specs.Tunnels.{current_key}
 use Rattle.lsr_facts.specs.declared.bypass.Bypass.{Bypass}
 use Rattle.lsr_facts.specs.declared.router.Router.{Router}
 use Rattle.lsr_facts.specs.declared.tunnel.Tunnel.{Tunnel}
-use Rattle.lsr_facts.specs.declared.repair.Detour.{Detour}
+use Rattle.lsr_facts.specs.declared.repair.BypassTunnel.{BypassTunnel}
 use Rattle.lsr_facts.specs.declared.repair.Over.{Over}
 use Rattle.lsr_facts.specs.declared.resv_fact.ResvFact.{ResvFact}
 use Rattle.abstract_paths.specs.Places.{is_up}
@@ -23,17 +23,17 @@ abbrev pub over_of : Router → State → ℕ × Tunnel → Option Over
 over_of r s tunnel = option_and_then (over_by s.facts.up) (find key_cmp (current_key r tunnel) s.resvs)
 
 -- a bypass that runs in this tunnel
-abbrev pub detour_of : Router → State → Bypass → Tunnel → Detour
-detour_of r s bypass tunnel = record { tunnel = bypass.tunnel; protects = bypass.link; ends_at = tunnel.endpoint; over = over_of r s (bypass.tunnel, tunnel) }
+abbrev pub bypass_tunnel_of : Router → State → Bypass → Tunnel → BypassTunnel
+bypass_tunnel_of r s bypass tunnel = record { tunnel = bypass.tunnel; protects = bypass.link; ends_at = tunnel.endpoint; over = over_of r s (bypass.tunnel, tunnel) }
 
 -- a bypass, by the tunnel that it names
-abbrev pub detour_by : Router → State → ℕ × Bypass → Option Detour
-detour_by r s bypass = option_map (detour_of r s bypass.1) (find nat_cmp bypass.1.tunnel s.facts.tunnels)
+abbrev pub bypass_tunnel_by : Router → State → ℕ × Bypass → Option BypassTunnel
+bypass_tunnel_by r s bypass = option_map (bypass_tunnel_of r s bypass.1) (find nat_cmp bypass.1.tunnel s.facts.tunnels)
 
 -- all bypasses, in the order of their numbers
-unfoldable pub detours_of : Router → State → List (ℕ × Detour)
-detours_of r s = filter_map (λ bypass. option_map (λ detour. (bypass.0, detour)) (detour_by r s bypass)) s.facts.bypasses
+unfoldable pub bypass_tunnels_of : Router → State → List (ℕ × BypassTunnel)
+bypass_tunnels_of r s = filter_map (λ bypass. option_map (λ bypass_tunnel. (bypass.0, bypass_tunnel)) (bypass_tunnel_by r s bypass)) s.facts.bypasses
 
 -- What the bypass of a number runs over. A bypass is up where that is something.
-abbrev pub over_at : List (ℕ × Detour) → ℕ → Option Over
-over_at detours number = option_and_then (λ detour. detour.over) (find nat_cmp number detours)
+abbrev pub over_at : List (ℕ × BypassTunnel) → ℕ → Option Over
+over_at bypass_tunnels number = option_and_then (λ bypass_tunnel. bypass_tunnel.over) (find nat_cmp number bypass_tunnels)

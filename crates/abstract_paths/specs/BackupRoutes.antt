@@ -17,6 +17,6 @@ steps_after a (step ∷ steps) =
 -- next hop: the first step was that hop's, and falls away. One that ends later: what follows the last step that leads to its
 -- end; where none does, the LSP goes loosely towards its endpoint.
 abbrev pub route_after : Ipv4Addr → Ipv4Addr → Bool → List Step → List Step
-route_after endpoint far is_later steps =
+route_after endpoint far is_nnhop steps =
     step_to far
-    ∷ (if is_later then unwrap_or (steps_after far steps) (Ipv4 true (record { address = endpoint; length = 32 }) ∷ []) else drop 1 steps)
+    ∷ (if is_nnhop then unwrap_or (steps_after far steps) (Ipv4 true (record { address = endpoint; length = 32 }) ∷ []) else drop 1 steps)

@@ -12,7 +12,7 @@ use Rattle.rsvp_bodies.specs.declared.step.Step.{Step}
 use Rattle.rsvp_bodies.specs.declared.step.Step.TheVariants.{Ipv4, Other}
 use Rattle.rsvp_bodies.specs.Steps.{step_bytes}
 use Rattle.abstract_paths.proofs.NextHops.{HasRoomBefore, room-behind, room-drop, room-step}
-use Rattle.abstract_paths.specs.Detouring.{route_after, steps_after}
+use Rattle.abstract_paths.specs.BackupRoutes.{route_after, steps_after}
 use Rattle.abstract_paths.specs.Places.{contains}
 use Rattle.abstract_paths.specs.Routing.{nodes_of}
 use Rattle.abstract_paths.specs.RowLaws.{option_or-holds}
@@ -46,11 +46,11 @@ unwrap_or-holds P None other g h = h
 unwrap_or-holds P (Some x) other g h = g
 
 -- The route from a bypass's far end on is within the limits.
-pub route_after-short : (endpoint far : Ipv4Addr) (is_later : Bool) (steps : List Step) → IsAddress endpoint → IsAddress far → IsTrue (is_short_route steps) → IsTrue (begins_with_ipv4 steps) → IsTrue (is_short_route (route_after endpoint far is_later steps))
-route_after-short endpoint far is_later steps endpoint_four far_four short begins =
+pub route_after-short : (endpoint far : Ipv4Addr) (is_nnhop : Bool) (steps : List Step) → IsAddress endpoint → IsAddress far → IsTrue (is_short_route steps) → IsTrue (begins_with_ipv4 steps) → IsTrue (is_short_route (route_after endpoint far is_nnhop steps))
+route_after-short endpoint far is_nnhop steps endpoint_four far_four short begins =
     let towards : List Step = Ipv4 true (record { address = endpoint; length = 32 }) ∷ [] in
     let room = room-after_first steps short begins in
-    room-step far (if is_later then unwrap_or (steps_after far steps) towards else drop 1 steps) far_four
-    (cond_both is_later (unwrap_or (steps_after far steps) towards) (drop 1 steps) HasRoomBefore
+    room-step far (if is_nnhop then unwrap_or (steps_after far steps) towards else drop 1 steps) far_four
+    (cond_both is_nnhop (unwrap_or (steps_after far steps) towards) (drop 1 steps) HasRoomBefore
     (λ later. unwrap_or-holds HasRoomBefore (steps_after far steps) towards (room-steps_after far steps room) (room-loosely endpoint endpoint_four))
     (λ next. room))
