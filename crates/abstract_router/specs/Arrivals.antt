@@ -146,7 +146,7 @@ command_comes r s c =
 abbrev pub lost : State → Outcome
 lost s =
     let o = of_paths s (restarted s.facts) in
-    record o { after = record o.after { resvs = []; repairs = []; labels = []; sent_upstream = [] } }
+    record o { after = record o.after { resvs = []; repairs = []; labels = []; assignments = []; resting = []; sent_upstream = [] } }
 
 -- What an event does of itself.
 abbrev pub outcome : Router → State → Event → Outcome

@@ -40,7 +40,7 @@ use Rattle.abstract_router.specs.States.{State, is_reserved, with_facts, with_re
 
 -- a router as it is opened: no path, no reservation, no repair, no label
 abbrev pub opening : Router → List (Prefix × ℕ) → List (ℕ × Tunnel) → List (ℕ × Bypass) → State
-opening r routes tunnels bypasses = record { facts = opening_facts r routes tunnels bypasses; resvs = []; repairs = []; labels = []; sent_upstream = [] }
+opening r routes tunnels bypasses = record { facts = opening_facts r routes tunnels bypasses; resvs = []; repairs = []; labels = []; assignments = []; resting = []; sent_upstream = [] }
 
 -- the LSP that is to take the place of the tunnel's current one is reserved
 abbrev pub is_ready : Router → State → ℕ × Tunnel → Bool

@@ -2,6 +2,7 @@
 //! they take, tunnels and bypasses, links, labels and time; and what it answers.
 #![tactic(auto)]
 
+mod assignment;
 pub mod bandwidth_laws;
 mod bypass;
 pub mod changes;
@@ -30,6 +31,7 @@ mod state;
 mod tunnel;
 mod upstream;
 
+pub use assignment::Assignment;
 pub use bypass::Bypass;
 pub use choice::Choice;
 pub use claim::{Claim, Request};
