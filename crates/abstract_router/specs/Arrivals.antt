@@ -31,7 +31,7 @@ use Rattle.lsr_facts.specs.Lifetimes.{due_items}
 use Rattle.abstract_paths.specs.Restarts.{restarted, started}
 use Rattle.abstract_paths.specs.Tears.{path_err_arrival, path_tear_arrival}
 use Rattle.abstract_paths.specs.Time.{tick}
-use Rattle.abstract_router.specs.Errors.{no_label}
+use Rattle.lsr_facts.specs.Errors.{no_label}
 use Rattle.abstract_router.specs.Labels.{has_free_label}
 use Rattle.abstract_router.specs.Outcomes.{Outcome, of_paths, refused}
 use Rattle.abstract_router.specs.Reserving.{resv_arrival, unknown_resv}

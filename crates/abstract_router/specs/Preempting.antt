@@ -17,7 +17,7 @@ use Rattle.lsr_facts.specs.declared.claim.Request.{Request}
 use Rattle.lsr_facts.specs.declared.resv_fact.ResvFact.{ResvFact}
 use Rattle.abstract_paths.specs.declared.events.Output.{Output}
 use Rattle.lsr_facts.specs.Reservations.{style_word}
-use Rattle.abstract_router.specs.Errors.{preempted}
+use Rattle.lsr_facts.specs.Errors.{preempted}
 use Rattle.abstract_router.specs.Outcomes.{reservation_error, told_downstream}
 use Rattle.abstract_router.specs.States.{State}
 

@@ -25,7 +25,7 @@ use Rattle.abstract_paths.specs.declared.events.Output.{Output}
 use Rattle.abstract_paths.specs.Outcomes.{lsp}
 use Rattle.abstract_paths.specs.Paths.{has_loop, lifetime, unknown_object}
 use Rattle.abstract_paths.specs.Tears.{leaves_by}
-use Rattle.abstract_router.specs.Errors.{no_bandwidth, no_path, no_sender, style_conflict, unknown_style, unsupported_service, bad_flowspec, unacceptable_label}
+use Rattle.lsr_facts.specs.Errors.{no_bandwidth, no_path, no_sender, style_conflict, unknown_style, unsupported_service, bad_flowspec, unacceptable_label}
 use Rattle.abstract_router.specs.Outcomes.{Outcome, replied, reservation_error, refused, told_downstream}
 use Rattle.abstract_router.specs.Preempting.{all_told_preempted, fits, giving_way}
 use Rattle.forwarding_table.specs.Labels.{is_label}

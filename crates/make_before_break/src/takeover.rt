@@ -10,8 +10,7 @@ ghost use Rattle.state_views.specs.Edits.{edited};
 ghost use Rattle.make_before_break.specs.Switching.{ready_at, with_all_switched, with_switched};
 
 use lsr_facts::changes::switch;
-use lsr_facts::{Router, Tunnel};
-use message_rules::{current_key, pending_key};
+use lsr_facts::{Router, Tunnel, current_key, pending_key};
 use sorted_rows::{Table, TryCopy};
 use state_views::{Changed, Edits, StateView, WholeState, node_of};
 use std::alloc::{AllocError, Global};

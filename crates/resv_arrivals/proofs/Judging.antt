@@ -24,7 +24,7 @@ use Rattle.lsr_facts.specs.Priorities.{holding_of, setup_of}
 use Rattle.lsr_facts.specs.declared.claim.Request.{Request}
 use Rattle.lsr_facts.specs.declared.resv_fact.ResvFact.{ResvFact}
 use Rattle.lsr_facts.specs.declared.resv_fact.ResvStyle.{ResvStyle}
-use Rattle.abstract_router.specs.Errors.{no_bandwidth, no_path, no_sender, style_conflict, unacceptable_label}
+use Rattle.lsr_facts.specs.Errors.{no_bandwidth, no_path, no_sender, style_conflict, unacceptable_label}
 use Rattle.abstract_router.specs.Preempting.{claims_of, fits, giving_way, limit_of, request_of}
 use Rattle.abstract_paths.specs.Paths.{has_loop}
 use Rattle.abstract_paths.specs.Tears.{leaves_by}

@@ -15,8 +15,8 @@ use crate::asked::Asked;
 use crate::claims::{fits, is_claimed, style_in_conflict};
 use crate::judgement::{Judgement, judge};
 use crate::progress::Progress;
-use lsr_facts::{PathFact, Request, RsvpError};
-use message_rules::{NO_BANDWIDTH, NO_PATH, NO_SENDER, leaves_by, request_of, style_conflict};
+use lsr_facts::{PathFact, Request, RsvpError, style_conflict};
+use message_rules::{leaves_by, request_of};
 use state_views::WholeState;
 
 /// What becomes of a flow descriptor.
@@ -56,7 +56,7 @@ fn verdict_in_room<V: WholeState>(
         return Verdict::Renewed;
     }
     if !fits(view, progress, &request) {
-        return Verdict::Failed(NO_BANDWIDTH);
+        return Verdict::Failed(RsvpError::NO_BANDWIDTH);
     }
     Verdict::Granted(request)
 }
@@ -150,7 +150,7 @@ pub fn verdict_of<V: WholeState>(view: &V, progress: &Progress, asked: &Asked) -
     // A path of its own is one of the session: so the others are asked for only where it has none.
     match view.path(&asked.key) {
         Some(path) => verdict_by_path(view, progress, asked, path),
-        None if view.knows_session(&asked.key.session) => Verdict::Failed(NO_SENDER),
-        None => Verdict::Failed(NO_PATH),
+        None if view.knows_session(&asked.key.session) => Verdict::Failed(RsvpError::NO_SENDER),
+        None => Verdict::Failed(RsvpError::NO_PATH),
     }
 }

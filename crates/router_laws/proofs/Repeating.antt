@@ -40,7 +40,7 @@ use Rattle.abstract_router.specs.ClaimsLaws.{claims-put}
 use Rattle.router_soundness.proofs.Claiming.{setup_most}
 use Rattle.router_soundness.proofs.Entries.{reserved_or_repaired}
 use Rattle.abstract_router.specs.Arrivals.{arrival}
-use Rattle.abstract_router.specs.Errors.{no_bandwidth, no_path, no_sender, style_conflict, unacceptable_label, unknown_style}
+use Rattle.lsr_facts.specs.Errors.{no_bandwidth, no_path, no_sender, style_conflict, unacceptable_label, unknown_style}
 use Rattle.abstract_router.specs.Outcomes.{refused, replied}
 use Rattle.abstract_router.specs.Preempting.{all_told_preempted, attr_at, claims_of, fits, giving_way, limit_of, request_of}
 use Rattle.abstract_router.specs.Reserving.{Failed, Granted, PassedOver, Progress, Verdict, all_descriptors, carried_on, conflicts, is_same_style, key_in, next_descriptor, resv_arrival, resv_by, resv_failed, resv_replied, verdict_by_rate, verdict_of, verdict_on_path}

@@ -27,7 +27,7 @@ use Rattle.abstract_paths.specs.Tears.{leaves_by}
 use Rattle.abstract_router.specs.ClaimsLaws.{claims-put, claims-where, sorted-claims}
 use Rattle.router_soundness.proofs.Claiming.{holding_below_setup, setup_most}
 use Rattle.router_soundness.proofs.Labelling.{eqb-same}
-use Rattle.abstract_router.specs.Errors.{no_sender, style_conflict}
+use Rattle.lsr_facts.specs.Errors.{no_sender, style_conflict}
 use Rattle.router_soundness.proofs.Holding.{found-all, held_where}
 use Rattle.abstract_router.specs.Preempting.{attr_at, claims_of, fits, giving_way, limit_of, request_of}
 use Rattle.abstract_router.specs.Reserving.{Verdict, Failed, Granted, conflicts, is_same_style, verdict_by_rate, verdict_by_style, verdict_of, verdict_on_path}

@@ -29,7 +29,7 @@ use Rattle.router_soundness.proofs.Repairing.{repaired_resvs_where, repaired_wit
 use Rattle.router_soundness.proofs.Settling.{Leaves}
 use Rattle.router_soundness.specs.Drafted.{IsDrafted}
 use Rattle.abstract_router.specs.Choosing.{HasLabel}
-use Rattle.abstract_router.specs.Errors.{unknown_style}
+use Rattle.lsr_facts.specs.Errors.{unknown_style}
 use Rattle.abstract_router.specs.Outcomes.{refused}
 use Rattle.abstract_router.specs.Preempting.{giving_way, fits}
 use Rattle.abstract_router.specs.Reserving.{Progress, Verdict, Failed, PassedOver, Granted, all_descriptors, carried_on, key_in, next_descriptor, resv_arrival, resv_by, resv_failed, resv_replied, verdict_of}

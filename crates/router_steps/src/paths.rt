@@ -10,10 +10,9 @@ ghost use Rattle.abstract_router.specs.Labels.{has_free_label};
 ghost use Rattle.abstract_router.specs.Arrivals.{is_done, labelled_path_arrival};
 ghost use Rattle.state_views.specs.Drafts.{IsDraft};
 
-use lsr_facts::Reply;
+use lsr_facts::{Reply, RsvpError};
 use message_rules::lsp;
 use path_steps::{failed, path_arrival};
-use resv_arrivals::NO_LABEL;
 use rsvp_contents::Path;
 use state_views::{Draft, WholeState};
 use std::alloc::{AllocError, Global};
@@ -58,7 +57,7 @@ pub(crate) fn labelled_path_arrival<V: WholeState>(
 {
     let draft = path_arrival(alloc, view, link, path)?;
     if lacks_label(view, &draft, path) {
-        return failed(alloc, view, link, path, NO_LABEL);
+        return failed(alloc, view, link, path, RsvpError::NO_LABEL);
     }
     Ok(draft)
 }

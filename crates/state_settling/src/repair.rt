@@ -9,7 +9,7 @@ ghost use Rattle.lsr_facts.specs.declared.key.Key.{Key};
 ghost use Rattle.abstract_paths.specs.MessageLaws.{LeavesRoom};
 ghost use Rattle.abstract_paths.specs.Outcomes.{found_here, told_upstream};
 ghost use Rattle.abstract_paths.specs.Places.{place_at};
-ghost use Rattle.abstract_router.specs.Errors.{locally_repaired};
+ghost use Rattle.lsr_facts.specs.Errors.{locally_repaired};
 ghost use Rattle.abstract_router.specs.Protecting.{repair_with};
 ghost use Rattle.abstract_router.specs.Repairing.{new_repairs, put_repair, repair_of, repaired, told_of, told_repaired};
 ghost use Rattle.abstract_router.specs.Steps.{stands};
@@ -18,8 +18,8 @@ ghost use Rattle.state_views.specs.Joining.{joined_rows};
 ghost use Rattle.state_settling.specs.Repairs.{repair_at};
 
 use facility_backup::{Held, repair, select};
-use lsr_facts::{Key, Node, PathFact, Repair, ResvFact, Selected};
-use message_rules::{LOCALLY_REPAIRED, found_here, is_up, leaves_by, told_upstream};
+use lsr_facts::{Key, Node, PathFact, Repair, ResvFact, RsvpError, Selected};
+use message_rules::{found_here, is_up, leaves_by, told_upstream};
 use sorted_rows::{Table, TryCopy};
 use state_views::{Changed, Edits, Outputs, StateView, WholeState, joined_rows, node_of};
 use std::alloc::{AllocError, Global};
@@ -162,7 +162,7 @@ fn told_on(alloc: Global, node: &Node, key: &Key, path: &PathFact) -> Result<Out
         ≡ told_upstream (place_at node.now) key.now path.now (Some path.now.tspec)
         (found_here node.now.router.now locally_repaired)) }
 {
-    let error = found_here(node.router, LOCALLY_REPAIRED);
+    let error = found_here(node.router, RsvpError::LOCALLY_REPAIRED);
     told_upstream(alloc, node, key, path, &Some(path.tspec.clone()?), error)
 }
 

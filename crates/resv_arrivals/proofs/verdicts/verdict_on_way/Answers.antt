@@ -2,7 +2,7 @@ use Rattle.std.proofs.Common.{Option, sym, subst, ap, ◌∙◌}
 use Rattle.std.specs.Option.{option_map_or}
 use Rattle.rsvp_bodies.specs.Traffic.{flowspec_rate}
 use Rattle.lsr_facts.specs.declared.resv_fact.ResvStyle.{ResvStyle}
-use Rattle.abstract_router.specs.Errors.{style_conflict}
+use Rattle.lsr_facts.specs.Errors.{style_conflict}
 use Rattle.abstract_router.specs.Preempting.{fits}
 use Rattle.abstract_router.specs.Reserving.{Failed, verdict_by_rate}
 use Rattle.resv_arrivals.proofs.Judging.{on_path_is}

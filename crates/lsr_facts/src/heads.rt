@@ -3,7 +3,9 @@
 ghost use Rattle.std.specs.Prelude.{◌≡◌};
 ghost use Rattle.lsr_facts.specs.Tunnels.{current_key, head_key, pending_key};
 
-use lsr_facts::{Key, Router, Tunnel};
+use crate::key::Key;
+use crate::router::Router;
+use crate::tunnel::Tunnel;
 use rsvp_objects::{Session, Template};
 use std::net::Ipv4Addr;
 
