@@ -20,8 +20,8 @@ ghost use Rattle.abstract_router.specs.Reserving.{conflicts};
 ghost use Rattle.abstract_router.specs.States.{State};
 
 use lsr_facts::{
-    Assignment, Bypass, Claim, Item, Key, Node, PathFact, Repair, Request, ResvFact, ResvStyle, Tunnel,
-    Upstream,
+    Assignment, Bypass, Claim, Item, Key, Node, PathFact, Repair, Request, ResvFact, ResvStyle,
+    Tunnel, Upstream,
 };
 use rsvp_objects::Session;
 use sorted_rows::Table;
