@@ -46,7 +46,7 @@ fn holding_at<V: StateView>(view: &V, key: &Key) -> u8
 }
 
 /// And after edits of paths.
-#[tactic(auto, using(state_views::specs::EditLaws::path_edited))]
+#[tactic(auto, using(state_views::specs::EditLaws::row_edited))]
 fn holding_after<V: StateView>(view: &V, paths: &PathEdits, key: &Key) -> u8
     ensures { result ≡ holding_at (edited key_cmp paths.now (V.state view.now).facts.paths) key.now }
 {

@@ -20,8 +20,8 @@ ghost use Rattle.abstract_router.specs.Reserving.{conflicts};
 ghost use Rattle.abstract_router.specs.States.{State};
 
 use lsr_facts::{
-    Bypass, Claim, Item, Key, Node, PathFact, Repair, Request, ResvFact, ResvStyle, Tunnel,
-    Upstream,
+    Assignment, Bypass, Claim, Item, Key, Node, PathFact, Repair, Request, ResvFact, ResvStyle,
+    Tunnel, Upstream,
 };
 use rsvp_objects::Session;
 use sorted_rows::Table;
@@ -70,6 +70,10 @@ pub trait StateView {
     /// The label that an LSP has, if it has one.
     fn label(&self, key: &Key) -> Option<u32>
         ensures label { result ≡ find key_cmp key.now (state self.now).labels };
+
+    /// What an LSP is promised of a bypass's bandwidth, if it is promised any.
+    fn assignment(&self, key: &Key) -> Option<Assignment>
+        ensures assignment { result ≡ find key_cmp key.now (state self.now).assignments };
 }
 
 /// What is asked of all that is known together: by place, by moment, by session, by what reservations claim.
