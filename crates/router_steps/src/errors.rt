@@ -288,7 +288,8 @@ pub(crate) fn resv_err_arrival<V: WholeState>(
     passed_on(alloc, view, Some(link), error)
 }
 
-/// And one that came through a stack of labels.
+/// What a ResvErr does that came through a stack of labels. The only error is out of memory, and it comes for none that
+/// is refused.
 #[tactic(auto, unfolding(abstract_router::specs::Tearing::stack_err_arrival, crate::specs::Onward::passed_on))]
 pub(crate) fn stack_err_arrival<V: WholeState>(
     alloc: Global,

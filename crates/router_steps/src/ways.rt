@@ -40,7 +40,7 @@ pub(crate) fn stack_arrival<V: WholeState>(
     }
 }
 
-/// And with an object that its type doesn't know.
+/// What a message does that came through a stack, and has an object that its type doesn't know (RFC 2205, 3.10).
 pub(crate) fn unknown_stack_arrival<V: WholeState>(
     alloc: Global,
     view: &V,
@@ -85,7 +85,7 @@ pub(crate) fn routed_arrival<V: WholeState>(
     }
 }
 
-/// And with an object that its type doesn't know.
+/// What a message does that came in a Routed frame, and has an object that its type doesn't know (RFC 2205, 3.10).
 pub(crate) fn unknown_routed_arrival<V: WholeState>(
     alloc: Global,
     view: &V,

@@ -106,7 +106,7 @@ pub trait WholeState: StateView {
     fn sent_at(&self, item: &Item) -> Option<u64>
         ensures sent { result ≡ find item_cmp item.now (Self.state self.now).facts.sent };
 
-    /// And so of a Resv.
+    /// When a Resv was sent last that is kept alive at a neighbour, in milliseconds; `None` for any other.
     fn sent_upstream_at(&self, item: &Upstream) -> Option<u64>
         ensures sent { result ≡ find upstream_cmp item.now (Self.state self.now).sent_upstream };
 
@@ -115,7 +115,7 @@ pub trait WholeState: StateView {
         ensures due { IfOk result (λ items. items.items
             ≡ due_items (Self.router self.now).refresh_ms (Self.state self.now).facts.sent moment) };
 
-    /// And the Resvs.
+    /// The Resvs that are due at a moment, in milliseconds (RFC 2205, 3.7). The only error is out of memory.
     fn due_upstream(&self, alloc: Global, moment: u64) -> Result<Vec<Upstream>, AllocError>
         ensures due { IfOk result (λ items. items.items
             ≡ due_items (Self.router self.now).refresh_ms (Self.state self.now).sent_upstream moment) };

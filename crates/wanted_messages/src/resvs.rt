@@ -93,7 +93,7 @@ fn resv_to(
     })
 }
 
-/// And the message that it is. What is said of the LSP fits a Resv. The only error is out of memory.
+/// The Resv to a previous hop, as a message. What is said of the LSP fits a Resv. The only error is out of memory.
 fn message_to(
     alloc: Global,
     router: &Router,
