@@ -7,7 +7,7 @@ ghost use Rattle.abstract_router.specs.Arrivals.{routed_arrival, stack_arrival, 
 ghost use Rattle.abstract_router.specs.Soundness.{IsSound};
 ghost use Rattle.state_views.specs.Drafts.{IsDraft};
 
-use crate::errors::stack_err_arrival;
+use crate::resv_err::stack_err_arrival;
 use lsr_facts::Refusal;
 use path_steps::{stack_path_arrival, stack_tear_arrival, unknown_stack_path_arrival};
 use repair_arrivals::{returned_err, returned_resv, returned_tear, returned_unknown};
