@@ -13,7 +13,7 @@ ghost use Rattle.state_views.specs.Drafts.{IsDraft};
 ghost use Rattle.repair_arrivals.specs.Progresses.{reached};
 
 use crate::matching::repair_from;
-use crate::progress::Progress;
+use crate::progress::RepairProgress;
 use crate::renewing::next_returned;
 use crate::telling::told_back;
 use abstract_paths::Outputs;
@@ -30,7 +30,7 @@ fn all_returned<V: WholeState>(
     view: &V,
     style: ResvStyle,
     resv: &Resv,
-) -> Result<Progress, AllocError>
+) -> Result<RepairProgress, AllocError>
     requires moment { (V.state view.now).facts.moment ≤ 2 ^ 62 }
     requires held { AreHeld (V.router view.now) (V.state view.now) }
     requires in_order { T (is_sorted key_cmp (V.state view.now).repairs) }
@@ -41,7 +41,7 @@ fn all_returned<V: WholeState>(
         (V.state view.now) style resv.now) ≡ true) }
 {
     resv_leaves_room(resv);
-    let mut progress = Progress::new(alloc);
+    let mut progress = RepairProgress::new(alloc);
     for descriptor in resv.descriptors.as_slice() {
         progress = next_returned(alloc, view, progress, style, resv, descriptor)?;
     }
@@ -49,7 +49,7 @@ fn all_returned<V: WholeState>(
 }
 
 /// The reply to a Resv whose flow descriptors led to this.
-fn replied<V: StateView>(alloc: Global, view: &V, progress: Progress) -> Draft
+fn replied<V: StateView>(alloc: Global, view: &V, progress: RepairProgress) -> Draft
     ensures { IsDraft result (resv_replied (V.state view.now)
         (reached (V.state view.now) progress) progress.first)
         (V.router view.now) (V.state view.now) }

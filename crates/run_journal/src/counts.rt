@@ -12,13 +12,13 @@ use std::marker::Model;
 
 /// How many entries there were since the router was opened, how many of them changed what is forwarded, and each port's mark.
 #[derive(Debug, Drop)]
-pub struct Tally {
+pub struct JournalCounts {
     number: u64,
     published: u64,
     marks: Vec<Mark>,
 }
 
-impl Model for Tally {
+impl Model for JournalCounts {
     ghost use Rattle.run_journal.specs.Marks.{Counts};
 
     ghost Value = { Counts };
@@ -33,10 +33,10 @@ fn index_of(port: u16) -> usize
     port.saturating_sub(1) as usize
 }
 
-impl Tally {
+impl JournalCounts {
     /// The numbers as a router with so many ports is opened. The only error is out of memory.
-    pub(crate) fn new(alloc: Global, ports: u16) -> Result<Tally, AllocError>
-        ensures { IfOk result (λ tally. tally ≡ first_counts ports) }
+    pub(crate) fn new(alloc: Global, ports: u16) -> Result<JournalCounts, AllocError>
+        ensures { IfOk result (λ counts. counts ≡ first_counts ports) }
     {
         let mut marks = Vec::with_capacity(alloc, ports as usize)?;
         for port in 0..ports {
@@ -47,7 +47,7 @@ impl Tally {
                 published: 0,
             })?;
         }
-        Ok(Tally {
+        Ok(JournalCounts {
             number: 0,
             published: 0,
             marks,
@@ -133,9 +133,9 @@ impl Tally {
     }
 }
 
-impl TryCopy for Tally {
-    fn try_copy(&self, alloc: Global) -> Result<Tally, AllocError> {
-        Ok(Tally {
+impl TryCopy for JournalCounts {
+    fn try_copy(&self, alloc: Global) -> Result<JournalCounts, AllocError> {
+        Ok(JournalCounts {
             number: self.number,
             published: self.published,
             marks: Vec::from_slice(alloc, self.marks.as_slice())?,

@@ -1,6 +1,6 @@
 use Rattle.std.proofs.Common.{◌≡◌}
 use Rattle.run_journal.specs.Marks.{first_marks}
-use Rattle.run_journal.proofs.tally.Tally.new.Given as goal
+use Rattle.run_journal.proofs.counts.JournalCounts.new.Given as goal
 
 -- the marks so far
 abbrev pub invariant-loop-port : goal.invariant-loop-port
