@@ -10,7 +10,7 @@ ghost use Rattle.lsr_facts.specs.Orders.{item_cmp, key_cmp};
 ghost use Rattle.lsr_facts.specs.declared.router.Router.{Router};
 ghost use Rattle.lsr_facts.specs.Admission.{fits, victims_of};
 ghost use Rattle.lsr_facts.specs.Claims.{is_same_session};
-ghost use Rattle.lsr_facts.specs.Reservations.{lives_past};
+ghost use Rattle.lsr_facts.specs.Reservations.{resv_lives_past};
 ghost use Rattle.lsr_facts.specs.Upstreams.{upstream_cmp};
 ghost use Rattle.sorted_rows.specs.Rows.{keys_of};
 ghost use Rattle.abstract_paths.specs.Places.{place_at, place_of};
@@ -129,12 +129,12 @@ pub trait WholeState: StateView {
     /// The LSPs whose reservations expire at a moment, in milliseconds. The only error is out of memory.
     fn expiring_resvs(&self, alloc: Global, moment: u64) -> Result<Vec<Key>, AllocError>
         ensures expiring { IfOk result (λ keys. keys.items
-            ≡ keys_of (filter (λ resv. not (lives_past moment resv.1)) (Self.state self.now).resvs)) };
+            ≡ keys_of (filter (λ resv. not (resv_lives_past moment resv.1)) (Self.state self.now).resvs)) };
 
     /// The LSPs whose repairs expire at a moment, in milliseconds. The only error is out of memory.
     fn expiring_repairs(&self, alloc: Global, moment: u64) -> Result<Vec<Key>, AllocError>
         ensures expiring { IfOk result (λ keys. keys.items
-            ≡ keys_of (filter (λ repair. not (lives_past moment repair.1.resv)) (Self.state self.now).repairs)) };
+            ≡ keys_of (filter (λ repair. not (resv_lives_past moment repair.1.resv)) (Self.state self.now).repairs)) };
 
     /// Whether a path of the session is known.
     fn knows_session(&self, session: &Session) -> bool
