@@ -23,12 +23,14 @@ fn put_received(payload: &ReceivedPayload, out: &mut Vec<u8>) -> Result<(), Allo
 {
     match payload {
         ReceivedPayload::Bytes(data) => {
+            let bytes = data.as_slice();
             out.push(PAYLOAD_BYTES)?;
-            out.extend_from_slice(data.as_slice())
+            out.extend_from_slice(bytes)
         }
         ReceivedPayload::Message(data) => {
+            let bytes = data.as_slice();
             out.push(PAYLOAD_MESSAGE)?;
-            out.extend_from_slice(data.as_slice())
+            out.extend_from_slice(bytes)
         }
     }
 }
