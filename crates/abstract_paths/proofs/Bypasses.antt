@@ -14,7 +14,7 @@ use Rattle.lsr_facts.specs.Bypasses.{AreBypasses, IsBypass, is_for_bypass}
 use Rattle.lsr_facts.specs.declared.bypass.Bypass.{Bypass}
 use Rattle.lsr_facts.specs.declared.router.Router.{Router}
 use Rattle.lsr_facts.specs.declared.tunnel.Tunnel.{Tunnel}
-use Rattle.abstract_paths.proofs.Tunnels.{room_for_one}
+use Rattle.abstract_paths.proofs.TunnelTable.{room_for_one}
 use Rattle.abstract_paths.specs.Restarts.{all_cancelled}
 use Rattle.abstract_paths.specs.RowLaws.{keys-map, length-filter_most}
 

@@ -43,7 +43,7 @@ use Rattle.abstract_paths.proofs.NextHops.{Leads}
 use Rattle.abstract_paths.proofs.PathTable.{paths_where}
 use Rattle.abstract_paths.proofs.Primitives.{sound_with_bypasses, sound_with_heads}
 use Rattle.abstract_paths.proofs.Signalling.{HopGoesOn, head-leads, head_put-stands, not_own, route-goes_on}
-use Rattle.abstract_paths.proofs.Tunnels.{begun_stands, cancelled_stands, tunnel_known, tunnels_put_known, tunnels_put_room, tunnels_where}
+use Rattle.abstract_paths.proofs.TunnelTable.{begun_stands, cancelled_stands, tunnel_known, tunnels_put_known, tunnels_put_room, tunnels_where}
 use Rattle.abstract_paths.specs.Commands.{bypass_by, command, commanded, has_rate, is_bad_request, is_bad_tunnel, masked_prefix, refusal_of, tests_of, tunnel_by, with_cancelled, with_change, with_dropped}
 use Rattle.abstract_paths.specs.Changes.{with_tunnel}
 use Rattle.abstract_paths.specs.Heads.{head_hop, is_full, with_head, with_head_by}

@@ -14,7 +14,7 @@ use Rattle.abstract_paths.proofs.Heads.{head_known, heads_noted, heads_same}
 use Rattle.abstract_paths.proofs.PathTable.{IsTaken, way_of-leads, path_sound, path_left_sound, path_known, put_few, role_of-elsewhere}
 use Rattle.abstract_paths.proofs.Primitives.{sound_with_path, sound_where, sound_expire, sound_with_link}
 use Rattle.abstract_paths.proofs.Signalling.{signalled-stands}
-use Rattle.abstract_paths.proofs.Tunnels.{noted_stands, tunnel_known, tunnels_put_known}
+use Rattle.abstract_paths.proofs.TunnelTable.{noted_stands, tunnel_known, tunnels_put_known}
 use Rattle.abstract_paths.specs.Changes.{with_path, with_tunnel}
 use Rattle.abstract_paths.specs.Heads.{noted, with_noted}
 use Rattle.abstract_paths.specs.Links.{link_change}

@@ -12,4 +12,4 @@ pub mod PathTable
 pub mod Primitives
 pub mod Refusals
 pub mod Signalling
-pub mod Tunnels
+pub mod TunnelTable

@@ -27,7 +27,7 @@ use Rattle.abstract_paths.proofs.Apart.{none_apart}
 use Rattle.abstract_paths.proofs.Bypasses.{bypasses_cancelled}
 use Rattle.abstract_paths.proofs.Heads.{heads_expire, heads_put, heads_where}
 use Rattle.abstract_paths.proofs.PathTable.{paths_expire, paths_put, paths_where}
-use Rattle.abstract_paths.proofs.Tunnels.{all_cancelled_stand}
+use Rattle.abstract_paths.proofs.TunnelTable.{all_cancelled_stand}
 
 -- A router is opened so.
 pub opening_stands : (r : Router) (routes : List (Prefix × ℕ)) (tunnels : List (ℕ × Tunnel)) (bypasses : List (ℕ × Bypass)) → AreRoutes r routes → AreTunnels r tunnels → AreBypasses r tunnels bypasses → IsStanding r (opening_facts r routes tunnels bypasses)

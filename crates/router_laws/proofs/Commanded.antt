@@ -44,7 +44,7 @@ use Rattle.abstract_paths.specs.declared.events.Event.TheVariants as events
 use Rattle.abstract_paths.specs.declared.events.Made.{Made}
 use Rattle.abstract_paths.proofs.Alongside.{with_head-same}
 use Rattle.abstract_paths.proofs.Heads.{same_keys}
-use Rattle.abstract_paths.proofs.Tunnels.{tunnel_known}
+use Rattle.abstract_paths.proofs.TunnelTable.{tunnel_known}
 use Rattle.abstract_paths.specs.Changes.{with_tunnel, without_paths}
 use Rattle.abstract_paths.specs.Commands.{begun_by, bypass_by, command, commanded, is_tunnel_such, is_unknown, refusal_of, runs_over, tunnel_by, with_cancelled, with_change, with_dropped}
 use Rattle.abstract_paths.specs.Heads.{head_hop, head_path, with_head, with_head_by}

@@ -27,7 +27,7 @@ use Rattle.lsr_facts.specs.declared.resv_fact.ResvFact.{ResvFact}
 use Rattle.forwarding_table.specs.declared.action.Action.TheVariants.{PushHead}
 use Rattle.abstract_paths.specs.declared.events.Made.{Made}
 use Rattle.abstract_paths.proofs.Heads.{is_one_of-first, is_one_of-later, same_keys}
-use Rattle.abstract_paths.proofs.Tunnels.{tunnel_known}
+use Rattle.abstract_paths.proofs.TunnelTable.{tunnel_known}
 use Rattle.abstract_paths.specs.Places.{is_up}
 use Rattle.abstract_paths.specs.Soundness.{IsStanding}
 use Rattle.abstract_paths.specs.Tears.{leaves_by}
