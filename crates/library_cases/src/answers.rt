@@ -3,8 +3,8 @@ use crate::outcomes::Form;
 use crate::pieces::Pieces;
 use anyhow::{Context, Error, Result, anyhow, bail};
 use rsvp_messages::{
-    Dropped, Frame, Message, Payload, Reading, checksum, has_good_checksum, read_frame,
-    read_message, write_frame, write_message,
+    Dropped, Frame, Message, Payload, Reading, ReceivedFrame, ReceivedPayload, checksum,
+    frame_bytes, has_good_checksum, read_frame, read_message, write_message,
 };
 use rsvp_objects::{Object, RateWord, read_object, write_object};
 use std::alloc::{AllocError, Global};
@@ -67,55 +67,63 @@ fn message(alloc: Global, bytes: &[u8], is_shown: bool) -> Result<CaseAnswer> {
 }
 
 /// How the frame was read.
-fn read_as(alloc: Global, frame: &Frame) -> Result<String, AllocError> {
+fn read_as(alloc: Global, frame: &ReceivedFrame) -> Result<String, AllocError> {
     match frame {
-        Frame::Hop(reading) => kind_of(alloc, reading),
-        Frame::Labelled(stack, _) => format!(in alloc; "labelled {:?}", stack.as_slice()),
-        Frame::Routed { to, limit, .. } => format!(in alloc; "routed {to} {limit}"),
-        Frame::Relayed { to, limit, .. } => format!(in alloc; "routed {to} {limit}"),
+        ReceivedFrame::Hop(reading) => kind_of(alloc, reading),
+        ReceivedFrame::Labelled(stack, _) => format!(in alloc; "labelled {:?}", stack.as_slice()),
+        ReceivedFrame::Routed { to, limit, .. } => format!(in alloc; "routed {to} {limit}"),
     }
 }
 
-/// How the frame was read, and how it is written where that can be.
-fn framed(alloc: Global, frame: &Frame) -> Result<CaseAnswer, AllocError> {
-    let said = read_as(alloc, frame)?;
-    if let Frame::Hop(Reading::Unknown(..)) = frame {
-        return Ok((said, None));
+/// The frame as it goes on, where it has no message that was read in part.
+fn passed_on(frame: ReceivedFrame) -> Option<Frame> {
+    match frame {
+        ReceivedFrame::Hop(Reading::Whole(message)) => Some(Frame::Hop(message)),
+        ReceivedFrame::Hop(Reading::Unknown(..)) => None,
+        ReceivedFrame::Labelled(stack, payload) => {
+            Some(Frame::Labelled(stack, Payload::Received(payload)))
+        }
+        ReceivedFrame::Routed { to, limit, message } => Some(Frame::Relayed { to, limit, message }),
     }
-    let mut written = Vec::new(alloc);
-    write_frame(frame, &mut written)?;
-    Ok((said, Some(written)))
-}
-
-/// How the frame is read, and how it is written.
-fn frame(alloc: Global, bytes: &[u8]) -> Result<CaseAnswer> {
-    let answer = match read_frame(alloc, bytes) {
-        Ok(frame) => framed(alloc, &frame),
-        Err(fault) => return Err(refusal(fault)),
-    };
-    Ok(answer?)
 }
 
 /// The payload with the message in it read.
-fn made_payload(alloc: Global, payload: Payload) -> Result<Payload> {
+fn made_payload(alloc: Global, payload: ReceivedPayload) -> Result<Payload> {
     match payload {
-        Payload::Unread(data) => Ok(Payload::Message(whole(alloc, data.as_slice())?)),
-        payload => Ok(payload),
+        ReceivedPayload::Message(data) => Ok(Payload::Message(whole(alloc, data.as_slice())?)),
+        payload => Ok(Payload::Received(payload)),
     }
 }
 
 /// The frame with the message in it read, as the router has it that makes the message.
-fn made(alloc: Global, frame: Frame) -> Result<Frame> {
+fn made(alloc: Global, frame: ReceivedFrame) -> Result<Option<Frame>> {
     match frame {
-        Frame::Labelled(stack, payload) => {
-            Ok(Frame::Labelled(stack, made_payload(alloc, payload)?))
+        ReceivedFrame::Labelled(stack, payload) => {
+            let payload = made_payload(alloc, payload)?;
+            Ok(Some(Frame::Labelled(stack, payload)))
         }
-        Frame::Relayed { to, limit, message } => {
+        ReceivedFrame::Routed { to, limit, message } => {
             let message = whole(alloc, message.as_slice())?;
-            Ok(Frame::Routed { to, limit, message })
+            Ok(Some(Frame::Routed { to, limit, message }))
         }
-        frame => Ok(frame),
+        frame => Ok(passed_on(frame)),
     }
+}
+
+/// How the frame is read, and how it is written where that can be: as it is passed on, or by the router that makes the
+/// message in it.
+fn frame(alloc: Global, bytes: &[u8], is_made: bool) -> Result<CaseAnswer> {
+    let frame = read_frame(alloc, bytes).map_err(refusal)?;
+    let said = read_as(alloc, &frame)?;
+    let goes = if is_made {
+        made(alloc, frame)?
+    } else {
+        passed_on(frame)
+    };
+    let Some(frame) = goes else {
+        return Ok((said, None));
+    };
+    Ok((said, Some(frame_bytes(alloc, &frame)?)))
 }
 
 /// The message that the bytes are, if each of its objects is known.
@@ -124,13 +132,6 @@ fn whole(alloc: Global, bytes: &[u8]) -> Result<Message> {
         Reading::Whole(message) => Ok(message),
         Reading::Unknown(_, class, ctype) => bail!("unknown {class}/{ctype}"),
     }
-}
-
-/// How the frame is read, and how it is written by the router that makes the message in it.
-fn made_frame(alloc: Global, bytes: &[u8]) -> Result<CaseAnswer> {
-    let frame = read_frame(alloc, bytes).map_err(refusal)?;
-    let answer = framed(alloc, &made(alloc, frame)?);
-    Ok(answer?)
 }
 
 /// How many bytes the object has, its Class-Num, its C-Type and what it says, and how it is written.
@@ -228,8 +229,8 @@ fn answer_to(alloc: Global, verb: &str, bytes: &[u8]) -> Result<CaseAnswer> {
     match verb {
         "message" | "objects" => message(alloc, bytes, false),
         "show" => message(alloc, bytes, true),
-        "frame" => frame(alloc, bytes),
-        "make" => made_frame(alloc, bytes),
+        "frame" => frame(alloc, bytes, false),
+        "make" => frame(alloc, bytes, true),
         "object" => object(alloc, bytes),
         _ => Ok((said(alloc, verb, bytes)?, None)),
     }
