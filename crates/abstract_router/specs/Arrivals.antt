@@ -1,5 +1,5 @@
 -- What events do: messages that come, moments, links, commands, a restart and a start.
-use Rattle.std.specs.Prelude.{ℕ, ◌==◌, ◌&&◌, not, Bool, true, false, if◌then◌else◌, [], is_none, option_to_list}
+use Rattle.std.specs.Prelude.{ℕ, ◌==◌, ◌&&◌, not, Bool, true, false, if◌then◌else◌, is_none, option_to_list}
 use Rattle.std.specs.FinMap.Entries.{find}
 use Rattle.std.specs.List.{list_any}
 use Rattle.rsvp_contents.specs.declared.message.Reading.TheVariants as readings
@@ -36,7 +36,7 @@ use Rattle.abstract_router.specs.Labels.{has_free_label}
 use Rattle.abstract_router.specs.Outcomes.{Outcome, of_paths, refused}
 use Rattle.abstract_router.specs.Reserving.{resv_arrival, unknown_resv}
 use Rattle.abstract_router.specs.Returning.{returned_err, returned_resv, returned_tear, returned_unknown}
-use Rattle.abstract_router.specs.States.{State, without_held}
+use Rattle.abstract_router.specs.States.{State, bare, without_held}
 use Rattle.abstract_router.specs.Tearing.{resv_err_arrival, resv_tear_arrival, stack_err_arrival}
 
 -- the reply is that it was done
@@ -145,8 +145,8 @@ command_comes r s c =
 -- A restart: what messages set up is lost, reservations, repairs and labels too.
 abbrev pub lost : State → Outcome
 lost s =
-    let o = of_paths s (restarted s.facts) in
-    record o { after = record o.after { resvs = []; repairs = []; labels = []; assignments = []; resting = []; sent_upstream = [] } }
+    let o = restarted s.facts in
+    record (of_paths s o) { after = bare o.after }
 
 -- What an event does of itself.
 abbrev pub outcome : Router → State → Event → Outcome

@@ -1,6 +1,6 @@
 -- Whatever an event does of itself leaves the state such that what follows makes it sound: each by its few primitives.
 use Rattle.std.specs.Prelude.{◌≡◌, ℕ, ◌^◌, Bool, true, false, not, nat_lt, List, [], ◌∷◌, filter, Option, Some, None, is_none, option_to_list, if◌then◌else◌}
-use Rattle.std.specs.List.{AllByRecursion, IsDistinct}
+use Rattle.std.specs.List.{AllByRecursion}
 use Rattle.std.specs.Option.{option_map_or}
 use Rattle.std.proofs.Common.{refl, ap, sym, subst, inl, arith}
 use Rattle.std.proofs.lemmas.Bool.{cond_both, ltb-true}
@@ -33,24 +33,20 @@ use Rattle.abstract_paths.specs.Outcomes as paths
 use Rattle.abstract_paths.specs.Outcomes.{lsp}
 use Rattle.abstract_paths.specs.Places.{is_up, place_of}
 use Rattle.abstract_paths.proofs.Primitives.{sound_restarted, sound_started}
-use Rattle.abstract_paths.specs.Restarts.{started}
+use Rattle.abstract_paths.specs.Restarts.{restarted, started}
 use Rattle.abstract_paths.specs.Soundness.{IsStanding}
-use Rattle.abstract_router.specs.Lsps.{lsps_of}
-use Rattle.abstract_router.specs.Wanted.{items_of}
 use Rattle.abstract_paths.specs.Relays.{relay, relayed_by}
 use Rattle.abstract_paths.specs.Routing.{route_to}
 use Rattle.abstract_router.specs.Steps.{IsCommand, IsEvent}
 use Rattle.abstract_paths.specs.Time.{tick}
 use Rattle.router_soundness.proofs.Holding.{held_where, held_with_facts, held_with_repairs}
 use Rattle.router_soundness.proofs.Repairing.{repaired_resvs_where, repaired_where, repaired_with_facts}
+use Rattle.router_soundness.proofs.Beside.{sound_cold}
 use Rattle.router_soundness.proofs.Settling.{Leaves}
+use Rattle.router_soundness.proofs.Bare.{sound_bare}
 use Rattle.router_soundness.specs.Drafted.{IsDrafted}
 use Rattle.abstract_router.specs.Arrivals.{command_comes, commanded_by, for_reservations, lost, moment_comes, outcome, takes_used_bypass}
 use Rattle.abstract_router.specs.Choosing.{HasLabel}
-use Rattle.abstract_router.specs.BypassTunnels.{bypass_tunnels_of}
-use Rattle.abstract_router.specs.Preempting.{claims_of}
-use Rattle.abstract_router.specs.Upstreams.{upstream_of}
-use Rattle.lsr_facts.specs.Claims.{rate_of_all, reserved_of}
 use Rattle.abstract_router.specs.Outcomes.{Outcome, of_paths, refused}
 use Rattle.abstract_router.specs.Soundness.{IsResv, IsSound}
 use Rattle.abstract_router.specs.States.{State, is_one_of, with_facts, with_repairs_where, with_resvs_where, without_held, without_resvs}
@@ -115,6 +111,8 @@ tick-leaves r s n is =
           (repaired_where resvs (λ repair. resv_lives_past n repair.1.resv) (repaired_resvs_where s (λ resv. resv_lives_past n resv.1) is.held.in_order is.repaired))
           (subst (λ (m : ℕ). AllByRecursion (λ repair. IsResv m (repair.0, repair.1.resv)) (filter (λ (repair : Key × Repair). resv_lives_past n repair.1.resv) s.repairs)) moment (living_repairs r s n is));
       labels = refl;
+      assignments = refl;
+      resting = refl;
       choice = inl (signalled-all r (HasLabel s.labels) (head_has s.labels) living
           (all-map (HasLabel s.labels) (lifetimes.with_living n) (filter (lifetimes.lives_on n) s.facts.paths) (all-filter (HasLabel s.labels) (lifetimes.lives_on n) s.facts.paths (labelled r s is))));
     }))
@@ -151,6 +149,8 @@ command-leaves r s c is = by (refusal_of r s.facts c)
           held = held_with_repairs r (without_resvs keys after) (filter (λ repair. not (is_one_of keys repair.0)) s.repairs) (held_where r after (λ resv. not (is_one_of keys resv.0)) held);
           repaired = repaired_where (without_resvs keys after) (λ repair. not (is_one_of keys repair.0)) (repaired_resvs_where after (λ resv. not (is_one_of keys resv.0)) is.held.in_order repaired);
           labels = refl;
+          assignments = refl;
+          resting = refl;
           choice = inl (commanded-all r (HasLabel s.labels) (head_has s.labels) s.facts c (labelled r s is));
         }
 
@@ -160,31 +160,11 @@ command-leaves r s c is = by (refusal_of r s.facts c)
 
 -- What is lost by a restart leaves nothing but links, static routes and the moment.
 lost-sound : (r : Router) (s : State) → IsSound r s → IsSound r (lost s).after
-unfolding claims_of reserved_of rate_of_all items_of upstream_of lsps_of IsDistinct
-lost-sound r s is = record {
-  paths = sound_restarted r s.facts is.paths;
-  held = record { in_order = tt; each = tt; one_style = λ a b x y at_a at_b. absurd (let e = at_a in cc); within = λ link priority most. omega arith };
-  standing = tt;
-  repaired = record { in_order = tt; each = tt; apart = tt };
-  repairs_standing = tt;
-  labels = record { of_lsps = refl; from_first = tt; to_last = tt; apart = tt };
-  sent = refl;
-  sent_upstream = refl;
-}
+lost-sound r s is = sound_bare r (restarted s.facts).after (sound_restarted r s.facts is.paths)
 
 -- A start leaves all else as it was.
 started-sound : (r : Router) (s : State) → IsSound r s → IsSound r (of_paths s (started s.facts)).after
-unfolding items_of upstream_of lsps_of bypass_tunnels_of
-started-sound r s is = record {
-  paths = sound_started r s.facts is.paths;
-  held = record { in_order = is.held.in_order; each = is.held.each; one_style = is.held.one_style; within = is.held.within };
-  standing = is.standing;
-  repaired = record { in_order = is.repaired.in_order; each = is.repaired.each; apart = is.repaired.apart };
-  repairs_standing = is.repairs_standing;
-  labels = record { of_lsps = is.labels.of_lsps; from_first = is.labels.from_first; to_last = is.labels.to_last; apart = is.labels.apart };
-  sent = is.sent;
-  sent_upstream = is.sent_upstream;
-}
+started-sound r s is = sound_cold r s false (sound_started r s.facts is.paths) is
 
 -- Whatever an event does of itself leaves the state so that what follows makes it sound.
 pub outcome-leaves : (r : Router) (s : State) (event : Event) → IsRouter r → IsSound r s → IsEvent event → (s.facts.cold ≡ true → event ≡ events.Start) → Leaves r s (outcome r s event)

@@ -43,6 +43,8 @@ pub record IsCarried (r : Router) (s : State) (after : State) : Type 0 where
   pub repaired : AreRepaired after
   pub facts : after.facts ≡ s.facts
   pub labels : after.labels ≡ s.labels
+  pub assignments : after.assignments ≡ s.assignments
+  pub resting : after.resting ≡ s.resting
 
 -- what a Resv carries that is a message fits
 pub record Fits (v : Resv) : Type 0 where
@@ -79,7 +81,7 @@ asked_is s link style v d key has_room fit short may = record {
 
 -- so it is before any descriptor
 pub carried_none : (r : Router) (s : State) → IsSound r s → IsCarried r s s
-carried_none r s is = record { held = is.held; repaired = is.repaired; facts = refl; labels = refl }
+carried_none r s is = record { held = is.held; repaired = is.repaired; facts = refl; labels = refl; assignments = refl; resting = refl }
 
 module _ (r : Router) (s : State) (link : ℕ) (style : ResvStyle) (v : Resv) (fit : Fits v) where
   -- one descriptor more
@@ -97,6 +99,8 @@ module _ (r : Router) (s : State) (link : ℕ) (style : ResvStyle) (v : Resv) (f
         repaired = repaired_with_resv (without_resvs gone progress.state) (key_in v d) fact may.unrepaired (repaired_resvs_where progress.state (λ resv. not (is_one_of gone resv.0)) is.held.in_order is.repaired);
         facts = is.facts;
         labels = is.labels;
+        assignments = is.assignments;
+        resting = is.resting;
       }
 
   all_carried : (ds : List FlowDescriptor) (progress : Progress) → IsTrue (have_short_records ds) → IsCarried r s progress.state → IsCarried r s (fold (next_descriptor r link style v) progress ds).state
@@ -112,6 +116,8 @@ drafted r s after is carried = record {
   held = carried.held;
   repaired = carried.repaired;
   labels = carried.labels;
+  assignments = carried.assignments;
+  resting = carried.resting;
   choice = inl (subst (λ facts. AllByRecursion (HasLabel s.labels) facts.paths) (sym carried.facts) (labelled r s is));
 }
 
@@ -140,6 +146,8 @@ resv_tear-leaves r s link t is =
       held = held_where r s (λ resv. not (is_resv_torn_by link t resv)) is.held;
       repaired = repaired_resvs_where s (λ resv. not (is_resv_torn_by link t resv)) is.held.in_order is.repaired;
       labels = refl;
+      assignments = refl;
+      resting = refl;
       choice = inl (labelled r s is);
     })
     (λ none. is)
