@@ -13,7 +13,7 @@ use Rattle.lsr_facts.specs.declared.refusal.Refusal.TheVariants.{InUse, LinkDown
 use Rattle.lsr_facts.specs.declared.reply.Reply.TheVariants as replies
 use Rattle.lsr_facts.specs.declared.reply.Reply.{Reply}
 use Rattle.lsr_facts.specs.declared.router.Router.{Router}
-use Rattle.lsr_facts.specs.Reservations.{expire, expire_repairs}
+use Rattle.lsr_facts.specs.Reservations.{expire_repairs, expire_resvs}
 use Rattle.abstract_paths.specs.declared.commands.Command.{Command}
 use Rattle.abstract_paths.specs.declared.commands.Command.TheVariants.{DropBypass}
 use Rattle.abstract_paths.specs.declared.ways.ArrivalWay.{ArrivalWay}
@@ -31,7 +31,7 @@ use Rattle.lsr_facts.specs.Lifetimes.{due_items}
 use Rattle.abstract_paths.specs.Restarts.{restarted, started}
 use Rattle.abstract_paths.specs.Tears.{path_err_arrival, path_tear_arrival}
 use Rattle.abstract_paths.specs.Time.{tick}
-use Rattle.abstract_router.specs.Errors.{no_label}
+use Rattle.lsr_facts.specs.Errors.{no_label}
 use Rattle.abstract_router.specs.Labels.{has_free_label}
 use Rattle.abstract_router.specs.Outcomes.{Outcome, of_paths, refused}
 use Rattle.abstract_router.specs.Reserving.{resv_arrival, unknown_resv}
@@ -119,7 +119,7 @@ arrival r s a =
 abbrev pub for_reservations : Router → State → ℕ → Outcome → Outcome
 for_reservations r s n o =
     if o.is_silent then o
-    else record o { after = record o.after { resvs = expire n s.resvs; repairs = expire_repairs n s.repairs }; upstream_due = due_items r.refresh_ms s.sent_upstream n }
+    else record o { after = record o.after { resvs = expire_resvs n s.resvs; repairs = expire_repairs n s.repairs }; upstream_due = due_items r.refresh_ms s.sent_upstream n }
 
 -- A moment comes.
 unfoldable pub moment_comes : Router → State → ℕ → Outcome

@@ -46,7 +46,7 @@ use Rattle.abstract_paths.specs.Stamps.{stamps}
 use Rattle.abstract_paths.specs.Tears.{err_of_path, leaves_by, path_err_arrival, path_err_passed_on}
 use Rattle.abstract_router.specs.Arrivals.{arrival, is_done, labelled_path_arrival, message_arrival}
 use Rattle.abstract_router.specs.BypassTunnels.{bypass_tunnels_of}
-use Rattle.abstract_router.specs.Errors.{no_label}
+use Rattle.lsr_facts.specs.Errors.{no_label}
 use Rattle.abstract_router.specs.Labels.{has_free_label}
 use Rattle.abstract_router.specs.Outcomes.{of_paths, refused, replied}
 use Rattle.abstract_router.specs.Outputs.{item_stamps, outputs_of, upstream_stamps}

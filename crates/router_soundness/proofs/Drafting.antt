@@ -15,7 +15,7 @@ use Rattle.lsr_facts.specs.declared.refusal.Refusal.TheVariants.{InUse, NoMatch}
 use Rattle.lsr_facts.specs.declared.router.Router.{Router}
 use Rattle.lsr_facts.specs.declared.tunnel.Tunnel.{Tunnel}
 use Rattle.lsr_facts.specs.declared.tunnel.TunnelLsp.{TunnelLsp}
-use Rattle.lsr_facts.specs.Reservations.{expire, expire_repairs, lives_past}
+use Rattle.lsr_facts.specs.Reservations.{expire_repairs, expire_resvs, resv_lives_past}
 use Rattle.lsr_facts.specs.declared.repair.Repair.{Repair}
 use Rattle.lsr_facts.specs.declared.resv_fact.ResvFact.{ResvFact}
 use Rattle.abstract_paths.specs.declared.commands.Command.{Command}
@@ -74,41 +74,41 @@ runs_for true event other wakes = absurd (other (wakes refl))
 runs_for false event other wakes = refl
 
 -- a reservation is as it should be at a later moment that it outlives
-still_resv : (m n : ℕ) (resv : Key × ResvFact) → IsResv m resv → lives_past n resv.1 ≡ true → IsResv n resv
+still_resv : (m n : ℕ) (resv : Key × ResvFact) → IsResv m resv → resv_lives_past n resv.1 ≡ true → IsResv n resv
 still_resv m n resv was lives = record { has_rate = was.has_rate; label = was.label; live = omega (arith, ltb-true n resv.1.expiry lives); recorded = was.recorded; passing = was.passing; passed_on = was.passed_on; adspec_last = was.adspec_last }
 
 module _ (r : Router) (s : State) (n : ℕ) (is : IsSound r s) where
   -- the reservations that outlive a moment
-  living_resvs : AllByRecursion (IsResv n) (filter (λ (resv : Key × ResvFact). lives_past n resv.1) s.resvs)
+  living_resvs : AllByRecursion (IsResv n) (filter (λ (resv : Key × ResvFact). resv_lives_past n resv.1) s.resvs)
   living_resvs =
-      all-both (IsResv s.facts.moment) (λ resv. lives_past n resv.1 ≡ true) (IsResv n) (still_resv s.facts.moment n) (filter (λ resv. lives_past n resv.1) s.resvs)
-      (all-filter (IsResv s.facts.moment) (λ resv. lives_past n resv.1) s.resvs is.held.each) (all-filter_passes (λ resv. lives_past n resv.1 ≡ true) (λ resv. lives_past n resv.1) (λ resv passes. passes) s.resvs)
+      all-both (IsResv s.facts.moment) (λ resv. resv_lives_past n resv.1 ≡ true) (IsResv n) (still_resv s.facts.moment n) (filter (λ resv. resv_lives_past n resv.1) s.resvs)
+      (all-filter (IsResv s.facts.moment) (λ resv. resv_lives_past n resv.1) s.resvs is.held.each) (all-filter_passes (λ resv. resv_lives_past n resv.1 ≡ true) (λ resv. resv_lives_past n resv.1) (λ resv passes. passes) s.resvs)
 
   -- and the repairs that do
-  living_repairs : AllByRecursion (λ repair. IsResv n (repair.0, repair.1.resv)) (filter (λ (repair : Key × Repair). lives_past n repair.1.resv) s.repairs)
+  living_repairs : AllByRecursion (λ repair. IsResv n (repair.0, repair.1.resv)) (filter (λ (repair : Key × Repair). resv_lives_past n repair.1.resv) s.repairs)
   living_repairs =
-      all-both (λ (repair : Key × Repair). IsResv s.facts.moment (repair.0, repair.1.resv)) (λ repair. lives_past n repair.1.resv ≡ true) (λ repair. IsResv n (repair.0, repair.1.resv))
-      (λ repair was lives. still_resv s.facts.moment n (repair.0, repair.1.resv) was lives) (filter (λ (repair : Key × Repair). lives_past n repair.1.resv) s.repairs)
-      (all-filter (λ (repair : Key × Repair). IsResv s.facts.moment (repair.0, repair.1.resv)) (λ repair. lives_past n repair.1.resv) s.repairs is.repaired.each)
-      (all-filter_passes (λ (repair : Key × Repair). lives_past n repair.1.resv ≡ true) (λ repair. lives_past n repair.1.resv) (λ repair passes. passes) s.repairs)
+      all-both (λ (repair : Key × Repair). IsResv s.facts.moment (repair.0, repair.1.resv)) (λ repair. resv_lives_past n repair.1.resv ≡ true) (λ repair. IsResv n (repair.0, repair.1.resv))
+      (λ repair was lives. still_resv s.facts.moment n (repair.0, repair.1.resv) was lives) (filter (λ (repair : Key × Repair). resv_lives_past n repair.1.resv) s.repairs)
+      (all-filter (λ (repair : Key × Repair). IsResv s.facts.moment (repair.0, repair.1.resv)) (λ repair. resv_lives_past n repair.1.resv) s.repairs is.repaired.each)
+      (all-filter_passes (λ (repair : Key × Repair). resv_lives_past n repair.1.resv ≡ true) (λ repair. resv_lives_past n repair.1.resv) (λ repair passes. passes) s.repairs)
 
 -- a moment that comes
 tick-leaves : (r : Router) (s : State) (n : ℕ) → IsSound r s → LeavesStanding r (tick r s.facts n) → Leaves r s (moment_comes r s n)
-unfolding moment_comes tick expire expire_repairs lifetimes.expire
+unfolding moment_comes tick expire_resvs expire_repairs lifetimes.expire
 tick-leaves r s n is =
     cond_both (nat_lt (2 ^ 62) n) _ _ (λ o. LeavesStanding r o → Leaves r s (for_reservations r s n (of_paths s o))) (λ above. λ leaves. is)
     (λ most. cond_both (nat_lt n s.facts.moment) _ _ (λ o. LeavesStanding r o → Leaves r s (for_reservations r s n (of_paths s o))) (λ below. λ leaves. is)
     (λ later. λ leaves.
     let living = record s.facts { moment = n; paths = lifetimes.expire n s.facts.paths } in
     let moment = sym (ap (λ (x : Facts). x.moment) (signalled-same r living)) in
-    let resvs = with_resvs_where (λ resv. lives_past n resv.1) s in
+    let resvs = with_resvs_where (λ resv. resv_lives_past n resv.1) s in
     record {
       paths = leaves;
-      held = held_with_repairs r (with_facts (signalled r living) resvs) (filter (λ repair. lives_past n repair.1.resv) s.repairs)
-          (held_with_facts r resvs (signalled r living) (held_where r s (λ resv. lives_past n resv.1) is.held) (subst (λ (m : ℕ). AllByRecursion (IsResv m) resvs.resvs) moment (living_resvs r s n is)));
-      repaired = repaired_with_facts (with_repairs_where (λ repair. lives_past n repair.1.resv) resvs) (signalled r living)
-          (repaired_where resvs (λ repair. lives_past n repair.1.resv) (repaired_resvs_where s (λ resv. lives_past n resv.1) is.held.in_order is.repaired))
-          (subst (λ (m : ℕ). AllByRecursion (λ repair. IsResv m (repair.0, repair.1.resv)) (filter (λ (repair : Key × Repair). lives_past n repair.1.resv) s.repairs)) moment (living_repairs r s n is));
+      held = held_with_repairs r (with_facts (signalled r living) resvs) (filter (λ repair. resv_lives_past n repair.1.resv) s.repairs)
+          (held_with_facts r resvs (signalled r living) (held_where r s (λ resv. resv_lives_past n resv.1) is.held) (subst (λ (m : ℕ). AllByRecursion (IsResv m) resvs.resvs) moment (living_resvs r s n is)));
+      repaired = repaired_with_facts (with_repairs_where (λ repair. resv_lives_past n repair.1.resv) resvs) (signalled r living)
+          (repaired_where resvs (λ repair. resv_lives_past n repair.1.resv) (repaired_resvs_where s (λ resv. resv_lives_past n resv.1) is.held.in_order is.repaired))
+          (subst (λ (m : ℕ). AllByRecursion (λ repair. IsResv m (repair.0, repair.1.resv)) (filter (λ (repair : Key × Repair). resv_lives_past n repair.1.resv) s.repairs)) moment (living_repairs r s n is));
       labels = refl;
       assignments = refl;
       resting = refl;

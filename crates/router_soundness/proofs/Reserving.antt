@@ -29,9 +29,9 @@ use Rattle.router_soundness.proofs.Repairing.{repaired_resvs_where, repaired_wit
 use Rattle.router_soundness.proofs.Settling.{Leaves}
 use Rattle.router_soundness.specs.Drafted.{IsDrafted}
 use Rattle.abstract_router.specs.Choosing.{HasLabel}
-use Rattle.abstract_router.specs.Errors.{unknown_style}
+use Rattle.lsr_facts.specs.Errors.{unknown_style}
 use Rattle.abstract_router.specs.Outcomes.{refused}
-use Rattle.abstract_router.specs.Preempting.{giving_way, fits}
+use Rattle.abstract_router.specs.Preempting.{giving_way, fits_link}
 use Rattle.abstract_router.specs.Reserving.{Progress, Verdict, Failed, PassedOver, Granted, all_descriptors, carried_on, key_in, next_descriptor, resv_arrival, resv_by, resv_failed, resv_replied, verdict_of}
 use Rattle.abstract_router.specs.Soundness.{AreHeld, AreRepaired, IsResv, IsSound}
 use Rattle.abstract_router.specs.States.{State, is_one_of, without_resvs}
@@ -95,7 +95,7 @@ module _ (r : Router) (s : State) (link : ℕ) (style : ResvStyle) (v : Resv) (f
       let may = granted_means r progress.state (key_in v d) fact by in
       let gone = giving_way r progress.state (key_in v d) fact in
       record {
-        held = held_granted r progress.state (key_in v d) fact is.held may (asked_is progress.state link style v d (key_in v d) (fits r progress.state (key_in v d) fact) fit short may.accepted);
+        held = held_granted r progress.state (key_in v d) fact is.held may (asked_is progress.state link style v d (key_in v d) (fits_link r progress.state (key_in v d) fact) fit short may.accepted);
         repaired = repaired_with_resv (without_resvs gone progress.state) (key_in v d) fact may.unrepaired (repaired_resvs_where progress.state (λ resv. not (is_one_of gone resv.0)) is.held.in_order is.repaired);
         facts = is.facts;
         labels = is.labels;
