@@ -128,7 +128,7 @@ tunnel_by t = record {
 
 -- a bypass as it is asked for
 abbrev pub bypass_by : NewBypass → Bypass
-bypass_by b = record { tunnel = b.tunnel; link = b.link }
+bypass_by b = record { tunnel = b.tunnel; link = b.link; capacity = 0 }
 
 -- The tunnel of a number begins, and its LSP is signalled.
 abbrev pub with_begun : Router → ℕ → Tunnel → Facts → Facts

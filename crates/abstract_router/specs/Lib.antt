@@ -3,7 +3,6 @@ pub mod Choosing
 pub mod ChoosingLaws
 pub mod ClaimsLaws
 pub mod BypassTunnels
-pub mod Errors
 pub mod LabelLaws
 pub mod Labels
 pub mod LspLaws
@@ -16,6 +15,7 @@ pub mod Repairing
 pub mod Reserving
 pub mod Returning
 pub mod Soundness
+pub mod Standing
 pub mod States
 pub mod Steps
 pub mod Tables

@@ -16,5 +16,6 @@ pub fn is_same_router(router: &Router, other: &Router) -> bool
     router.id.is_same(&other.id)
         && router.refresh_ms == other.refresh_ms
         && router.labels == other.labels
+        && router.label_rest_ms == other.label_rest_ms
         && router.links.is_same(&other.links)
 }

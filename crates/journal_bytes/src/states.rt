@@ -1,7 +1,7 @@
 ghost use Rattle.std.specs.Prelude.{◌≡◌, ◌↔◌, IsTrue};
 
 use crate::exact::Exact;
-use lsr_facts::{Facts, Repair, ResvFact, State};
+use lsr_facts::{Assignment, Facts, Repair, ResvFact, State};
 
 impl Exact for Facts {
     fn is_same(&self, other: &Facts) -> bool {
@@ -36,6 +36,12 @@ impl Exact for Repair {
     }
 }
 
+impl Exact for Assignment {
+    fn is_same(&self, other: &Assignment) -> bool {
+        self == other
+    }
+}
+
 /// Whether two routers know the same. Takes no memory.
 pub fn is_same_state(state: &State, other: &State) -> bool
     ensures { IsTrue result ↔ (state.now ≡ other.now) }
@@ -44,5 +50,7 @@ pub fn is_same_state(state: &State, other: &State) -> bool
         && state.resvs.is_same(&other.resvs)
         && state.repairs.is_same(&other.repairs)
         && state.labels.is_same(&other.labels)
+        && state.assignments.is_same(&other.assignments)
+        && state.resting.is_same(&other.resting)
         && state.sent_upstream.is_same(&other.sent_upstream)
 }

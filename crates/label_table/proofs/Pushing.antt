@@ -26,7 +26,7 @@ use Rattle.abstract_router.specs.BypassTunnels.{bypass_tunnels_of}
 use Rattle.abstract_router.specs.Soundness.{IsResv}
 use Rattle.abstract_router.specs.States.{State}
 use Rattle.abstract_router.specs.Tables.{look_tunnel, push_by, push_of, push_through, tunnel_table_of}
-use Rattle.state_views.specs.EditLaws.{neither, repair_edited, resv_edited, tunnel_edited}
+use Rattle.state_views.specs.EditLaws.{neither, row_edited, tunnel_edited}
 use Rattle.state_views.specs.Edits.{edited}
 use Rattle.state_views.specs.declared.edits.Edits.{Edits}
 use Rattle.label_table.proofs.Acting.{push_writes}
@@ -127,8 +127,8 @@ module _ (r : Router) (s : State) (e : Edits) (sorted : T (is_sorted nat_cmp s.f
   same_held : (number : ℕ) → asks_bypass number ≡ false → asks_repair number ≡ false → asks_resv number ≡ false → (tunnel : Tunnel) → push_of r s (number, tunnel) ≡ push_of r after (number, tunnel)
   same_held number no_bypass no_repair no_resv tunnel =
       let key = current_key r (number, tunnel) in
-      let resv = resv_edited key e.resvs s.resvs ∙ ap (λ o. rows.over o (find key_cmp key s.resvs)) (none_of_tunnel becomes key e.resvs no_resv) in
-      let repair = repair_edited key e.repairs s.repairs ∙ ap (λ o. rows.over o (find key_cmp key s.repairs)) (none_of_tunnel becomes key e.repairs no_repair) in
+      let resv = row_edited key e.resvs s.resvs ∙ ap (λ o. rows.over o (find key_cmp key s.resvs)) (none_of_tunnel becomes key e.resvs no_resv) in
+      let repair = row_edited key e.repairs s.repairs ∙ ap (λ o. rows.over o (find key_cmp key s.repairs)) (none_of_tunnel becomes key e.repairs no_repair) in
       kept_push r s after key (find key_cmp key s.resvs) (are.others key (ap is_some (none_of_tunnel becomes key bypassed no_bypass)))
       ∙ (λ i. pushed (bypass_tunnels_of r after) (sym resv i) (sym repair i))
 

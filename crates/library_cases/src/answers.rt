@@ -10,7 +10,7 @@ use rsvp_objects::{Object, RateWord, read_object, write_object};
 use std::alloc::{AllocError, Global};
 
 /// What is said of the input, and the bytes that are written of what was read.
-pub type Answer = (String, Option<Vec<u8>>);
+pub type CaseAnswer = (String, Option<Vec<u8>>);
 
 /// What is said of a dropped message or frame.
 fn refusal(fault: Dropped) -> Error {
@@ -48,7 +48,7 @@ fn told(
 }
 
 /// How the message was read, with what it says where that is asked for, and how it is written.
-fn spoken(alloc: Global, reading: &Reading, is_shown: bool) -> Result<Answer, AllocError> {
+fn spoken(alloc: Global, reading: &Reading, is_shown: bool) -> Result<CaseAnswer, AllocError> {
     let message = message_in(reading);
     let mut written = Vec::new(alloc);
     write_message(message, &mut written)?;
@@ -58,7 +58,7 @@ fn spoken(alloc: Global, reading: &Reading, is_shown: bool) -> Result<Answer, Al
 }
 
 /// How the message is read, with what it says where that is asked for, and how it is written.
-fn message(alloc: Global, bytes: &[u8], is_shown: bool) -> Result<Answer> {
+fn message(alloc: Global, bytes: &[u8], is_shown: bool) -> Result<CaseAnswer> {
     let answer = match read_message(alloc, bytes) {
         Ok(reading) => spoken(alloc, &reading, is_shown),
         Err(fault) => return Err(refusal(fault)),
@@ -112,7 +112,7 @@ fn made(alloc: Global, frame: ReceivedFrame) -> Result<Option<Frame>> {
 
 /// How the frame is read, and how it is written where that can be: as it is passed on, or by the router that makes the
 /// message in it.
-fn frame(alloc: Global, bytes: &[u8], is_made: bool) -> Result<Answer> {
+fn frame(alloc: Global, bytes: &[u8], is_made: bool) -> Result<CaseAnswer> {
     let frame = read_frame(alloc, bytes).map_err(refusal)?;
     let said = read_as(alloc, &frame)?;
     let goes = if is_made {
@@ -135,7 +135,7 @@ fn whole(alloc: Global, bytes: &[u8]) -> Result<Message> {
 }
 
 /// How many bytes the object has, its Class-Num, its C-Type and what it says, and how it is written.
-fn described(alloc: Global, object: &Object, len: usize) -> Result<Answer, AllocError> {
+fn described(alloc: Global, object: &Object, len: usize) -> Result<CaseAnswer, AllocError> {
     let (class, ctype) = (object.class(), object.ctype());
     let mut written = Vec::new(alloc);
     write_object(object, &mut written)?;
@@ -144,7 +144,7 @@ fn described(alloc: Global, object: &Object, len: usize) -> Result<Answer, Alloc
 }
 
 /// How many bytes the first object has, its Class-Num, its C-Type and what it says, and how it is written.
-fn object(alloc: Global, bytes: &[u8]) -> Result<Answer> {
+fn object(alloc: Global, bytes: &[u8]) -> Result<CaseAnswer> {
     let answer = match read_object(alloc, bytes) {
         Ok((object, len)) => described(alloc, &object, len),
         Err(fault) => bail!("refused {fault:?}"),
@@ -225,7 +225,7 @@ fn said(alloc: Global, verb: &str, bytes: &[u8]) -> Result<String> {
 }
 
 /// What the verb says of the bytes, and what it writes of what it read.
-fn answer_to(alloc: Global, verb: &str, bytes: &[u8]) -> Result<Answer> {
+fn answer_to(alloc: Global, verb: &str, bytes: &[u8]) -> Result<CaseAnswer> {
     match verb {
         "message" | "objects" => message(alloc, bytes, false),
         "show" => message(alloc, bytes, true),
@@ -250,7 +250,7 @@ fn counted(alloc: Global, pieces: &Pieces, verb: &str, text: &str) -> Result<Str
 }
 
 /// What the verb answers to the text after it. What is refused is an error, whose text says why.
-pub fn answer(alloc: Global, pieces: &Pieces, verb: &str, text: &str) -> Result<Answer> {
+pub fn answer(alloc: Global, pieces: &Pieces, verb: &str, text: &str) -> Result<CaseAnswer> {
     if verb == "mutate" || verb == "repeat" {
         return Ok((counted(alloc, pieces, verb, text)?, None));
     }

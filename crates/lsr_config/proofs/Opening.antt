@@ -228,7 +228,7 @@ new_fits r row first endpoint elsewhere short whole =
     record {
       endpoint = endpoint;
       elsewhere = elsewhere;
-      current = record { route = short; whole_tspec = whole; given = omega (arith, current, last) };
+      current = record { route = short; whole_tspec = whole; numbered = omega (arith, current); given = omega (arith, current, last) };
       pending = subst (IsPendingAs r row.1) (sym none) tt;
     }
 
@@ -351,6 +351,7 @@ module _ (d : Data) (c : Setup) (kept : AllByRecursion Holds (rules_of d)) (says
 -- A document whose parts were judged one after the other: its rules are kept, it says the configuration of these parts, and a router can be opened with that.
 pub parts_open : (d : Data) (c : Setup) (links : List (ℕ × Link)) (routes : List (Prefix × ℕ)) (tunnels : List (ℕ × Tunnel)) (bypasses : List (ℕ × Bypass))
     → AllByRecursion Holds (router_rules d) × (HasAddress key.Router d c.router.id × HasOr key.RefreshMs d (c.router.refresh_ms ≡ 30000) (λ v. SaysWhole 1 4294967295 v c.router.refresh_ms) × Has key.Labels d (λ v. SaysLabels v c.router.labels))
+    → c.router.label_rest_ms ≡ 0
     → AllByRecursion Holds (table_rules key.Link (link_rules d) d) × SaysEach SaysLink (records key.Link d) links
     → AllByRecursion Holds (table_rules key.Route (route_rules (records key.Link d)) d) × SaysEach SaysRoute (records key.Route d) routes
     → AllByRecursion Holds (table_rules key.Tunnel (tunnel_rules d) d) × SaysEach SaysTunnel (records key.Tunnel d) tunnels
@@ -359,13 +360,14 @@ pub parts_open : (d : Data) (c : Setup) (links : List (ℕ × Link)) (routes : L
     → c.router.links ≡ in_order nat_cmp links → c.routes ≡ in_order prefix_cmp routes → c.tunnels ≡ in_order nat_cmp tunnels → c.bypasses ≡ in_order nat_cmp bypasses
     → (AllByRecursion Holds (rules_of d) × Says d c) × IsConfig c
 unfolding rules_of
-parts_open d c links routes tunnels bypasses top each_link each_route each_tunnel each_bypass known link_order route_order tunnel_order bypass_order =
+parts_open d c links routes tunnels bypasses top label_rest each_link each_route each_tunnel each_bypass known link_order route_order tunnel_order bypass_order =
     let kept : AllByRecursion Holds (rules_of d) =
     turn_kept _ _ top.0 (turn_kept _ _ each_link.0 (turn_kept _ _ each_route.0 (turn_kept _ _ each_tunnel.0 (turn_kept _ _ each_bypass.0 (turn_kept _ _ known turn_end))))) in
     let says : Says d c = record {
       id = top.1.0;
       refresh_ms = top.1.1;
       labels = top.1.2;
+      label_rest = label_rest;
       links = (links, each_link.1, link_order);
       routes = (routes, each_route.1, route_order);
       tunnels = (tunnels, each_tunnel.1, tunnel_order);

@@ -214,6 +214,7 @@ pub record SaysBypass (d : Data) (row : ℕ × Bypass) : Type 0 where
   pub number : HasNumber 0 key.Number d row.0
   pub tunnel : HasNumber 0 key.Tunnel d row.1.tunnel
   pub link : HasNumber 1 key.Link d row.1.link
+  pub capacity : row.1.capacity ≡ 0
 
 -- rows, each put in its place in the order of the keys
 unfoldable pub in_order : {K V : Type 0} → (K → K → Ordering) → List (K × V) → List (K × V)
@@ -228,6 +229,7 @@ pub record Says (document : Data) (c : Setup) : Type 0 where
   pub id : HasAddress key.Router document c.router.id
   pub refresh_ms : HasOr key.RefreshMs document (c.router.refresh_ms ≡ 30000) (λ v. SaysWhole 1 4294967295 v c.router.refresh_ms)
   pub labels : Has key.Labels document (λ v. SaysLabels v c.router.labels)
+  pub label_rest : c.router.label_rest_ms ≡ 0
   pub links : SaysTable nat_cmp SaysLink (records key.Link document) c.router.links
   pub routes : SaysTable prefix_cmp SaysRoute (records key.Route document) c.routes
   pub tunnels : SaysTable nat_cmp SaysTunnel (records key.Tunnel document) c.tunnels

@@ -56,6 +56,7 @@ pub(crate) fn read_document(alloc: Global, document: &Value) -> Result<Config, C
             id: top.id,
             refresh_ms: top.refresh_ms,
             labels: top.labels,
+            label_rest_ms: 0,
             links: link_table,
         },
         routes: route_table,

@@ -2,7 +2,7 @@
 use Rattle.std.specs.Prelude.{ℕ}
 use Rattle.rsvp_contents.specs.Dropping as dropping
 use Rattle.lsr_facts.specs.declared.refusal.Refusal.{Refusal}
-use Rattle.lsr_facts.specs.declared.refusal.Refusal.TheVariants.{Unread, NoMatch, NoMerge, LinkDown, HopLimit, NoLabel, UnknownTunnel, TunnelExists, BadRoute, ChangePending, UnknownLink, BypassExists, BypassOnItsLink, Full, InUse, Late, BadMoment, NoMemory, JournalFull, IsCold, WrongPort, NoFrame, NoRouter}
+use Rattle.lsr_facts.specs.declared.refusal.Refusal.TheVariants.{Unread, NoMatch, NoMerge, LinkDown, HopLimit, NoLabel, UnknownTunnel, TunnelExists, BadRoute, ChangePending, UnknownLink, BypassExists, BypassOnItsLink, Full, InUse, Late, BadMoment, BadCapacity, NoMemory, JournalFull, IsCold, WrongPort, NoFrame, NoRouter}
 
 abbrev pub number_of : Refusal → ℕ
 number_of (Unread dropped) = dropping.number_of dropped
@@ -22,6 +22,7 @@ number_of Full = 27
 number_of InUse = 28
 number_of Late = 29
 number_of BadMoment = 30
+number_of BadCapacity = 31
 number_of NoMemory = 40
 number_of JournalFull = 41
 number_of IsCold = 42

@@ -9,6 +9,7 @@ use Rattle.rsvp_contents.specs.Below.objects.Ranges.{IsAddress}
 use Rattle.rsvp_contents.specs.Below.bodies.declared.step.Step.{Step}
 use Rattle.rsvp_contents.specs.Below.bodies.declared.step.Step.TheVariants.{Ipv4}
 use Rattle.rsvp_contents.specs.Limits.{is_short_route}
+use Rattle.lsr_facts.specs.Limits.{max_tunnels}
 use Rattle.lsr_facts.specs.Orders.{is_one_of}
 use Rattle.lsr_facts.specs.Routers.{is_same, own_addresses}
 use Rattle.lsr_facts.specs.declared.key.Key.{Key}
@@ -44,10 +45,11 @@ is_head r tunnels key =
 abbrev pub route_from : Router → List Step → List Step
 route_from r route = Ipv4 false (record { address = r.id; length = 32 }) ∷ route
 
--- What a tunnel's LSP is asked to be fits a message, and its ID was given.
+-- What a tunnel's LSP is asked to be fits a message, and its ID was given: the first is 1.
 pub record IsTunnelLsp (r : Router) (last : ℕ) (lsp : TunnelLsp) : Type 0 where
   pub route : IsTrue (is_short_route (route_from r lsp.route))
   pub whole_tspec : length lsp.tspec ≡ 32
+  pub numbered : 1 ≤ lsp.id
   pub given : lsp.id ≤ last
 
 -- The LSP that is to take the place of the tunnel's current one is another.
@@ -65,5 +67,5 @@ pub record IsTunnel (r : Router) (tunnel : ℕ × Tunnel) : Type 0 where
 -- the tunnels that begin at a router: each has a number of its own, and there are at most 256
 pub record AreTunnels (r : Router) (tunnels : List (ℕ × Tunnel)) : Type 0 where
   pub in_order : T (rows.is_sorted nat_cmp tunnels)
-  pub few : length tunnels ≤ 256
+  pub few : length tunnels ≤ max_tunnels
   pub each : AllByRecursion (IsTunnel r) tunnels

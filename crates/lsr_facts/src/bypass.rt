@@ -9,6 +9,8 @@ pub struct Bypass {
     pub tunnel: u16,
     /// The number of the link that it protects.
     pub link: u16,
+    /// The bandwidth that it has for repairs, in bytes per second; 0 where none is said (RFC 4090, 4.3).
+    pub capacity: u64,
 }
 
 impl TryCopy for Bypass {

@@ -2,6 +2,7 @@
 //! they take, tunnels and bypasses, links, labels and time; and what it answers.
 #![tactic(auto)]
 
+mod assignment;
 pub mod bandwidth_laws;
 mod bypass;
 pub mod changes;
@@ -9,6 +10,7 @@ mod choice;
 mod claim;
 mod errors;
 mod facts;
+mod heads;
 mod key;
 mod key_numbers;
 pub mod laws;
@@ -30,11 +32,13 @@ mod state;
 mod tunnel;
 mod upstream;
 
+pub use assignment::Assignment;
 pub use bypass::Bypass;
 pub use choice::Choice;
 pub use claim::{Claim, Request};
-pub use errors::{RsvpError, UNKNOWN_CLASS, UNKNOWN_CTYPE};
+pub use errors::{RsvpError, UNKNOWN_CLASS, UNKNOWN_CTYPE, style_conflict};
 pub use facts::Facts;
+pub use heads::{current_key, head_key, pending_key};
 pub use key::{Item, Key};
 pub use key_numbers::Numbered;
 pub use lifetimes::{begins_here, expires, has_waited, keep_living, lives_on};

@@ -58,6 +58,9 @@ pub enum Refusal {
     /// 30: the moment is above 2^62.
     #[error("bad moment: a moment is at most 2^62 milliseconds")]
     BadMoment,
+    /// 31: the bypass's tunnel doesn't carry so much.
+    #[error("bad capacity: the bypass's tunnel doesn't carry so much; ask for less, or let the tunnel carry more first")]
+    BadCapacity,
     /// 40: no memory.
     #[error("no memory: there was none for what this needs; nothing changed, so try it again")]
     NoMemory,
@@ -81,7 +84,7 @@ pub enum Refusal {
 impl Refusal {
     ghost use Rattle.lsr_facts.specs.Refusals.{number_of};
 
-    /// The refusal's number: 1 to 14 for what came over a link, 20 to 30 for commands, links and moments, 40
+    /// The refusal's number: 1 to 14 for what came over a link, 20 to 31 for commands, links and moments, 40
     /// to 43 for the engine, 50 and 51 for a world of routers.
     pub fn number(self) -> u8
         ensures { result ≡ number_of self }
@@ -104,6 +107,7 @@ impl Refusal {
             Refusal::InUse => 28,
             Refusal::Late => 29,
             Refusal::BadMoment => 30,
+            Refusal::BadCapacity => 31,
             Refusal::NoMemory => 40,
             Refusal::JournalFull => 41,
             Refusal::IsCold => 42,

@@ -36,6 +36,8 @@ pub struct Router {
     pub refresh_ms: u32,
     /// The labels that it gives out.
     pub labels: LabelRange,
+    /// How long a label rests once it is free, before it is given out again, in milliseconds: 0 where it doesn't.
+    pub label_rest_ms: u32,
     /// Its links, by number.
     pub links: Table<u16, Link>,
 }
@@ -53,6 +55,7 @@ impl Drop for Router {
             id: _id,
             refresh_ms: _refresh_ms,
             labels: _labels,
+            label_rest_ms: _label_rest_ms,
             links: _links,
         } = self;
     }
@@ -64,6 +67,7 @@ impl TryCopy for Router {
             id: self.id,
             refresh_ms: self.refresh_ms,
             labels: self.labels,
+            label_rest_ms: self.label_rest_ms,
             links: self.links.try_copy(alloc)?,
         })
     }

@@ -1,5 +1,6 @@
 //! All that a router knows, as a value.
 
+use crate::assignment::Assignment;
 use crate::repair::Repair;
 use crate::resv_fact::ResvFact;
 use crate::upstream::Upstream;
@@ -18,6 +19,10 @@ pub struct State {
     pub repairs: Table<Key, Repair>,
     /// The label of each LSP that doesn't begin here.
     pub labels: Table<Key, u32>,
+    /// What LSPs are promised of the bandwidth of bypasses, by LSP.
+    pub assignments: Table<Key, Assignment>,
+    /// The labels that rest since they were freed: of each the moment until which, in milliseconds.
+    pub resting: Table<u32, u64>,
     /// Of each Resv that is kept alive at a neighbour the moment when it was sent last, in milliseconds.
     pub sent_upstream: Table<Upstream, u64>,
 }
@@ -30,6 +35,8 @@ impl Drop for State {
             resvs: _resvs,
             repairs: _repairs,
             labels: _labels,
+            assignments: _assignments,
+            resting: _resting,
             sent_upstream: _sent_upstream,
         } = self;
     }
@@ -42,6 +49,8 @@ impl TryCopy for State {
             resvs: self.resvs.try_copy(alloc)?,
             repairs: self.repairs.try_copy(alloc)?,
             labels: self.labels.try_copy(alloc)?,
+            assignments: self.assignments.try_copy(alloc)?,
+            resting: self.resting.try_copy(alloc)?,
             sent_upstream: self.sent_upstream.try_copy(alloc)?,
         })
     }

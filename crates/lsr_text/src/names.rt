@@ -48,6 +48,7 @@ pub fn refusal_name(refusal: Refusal) -> &'static str
         Refusal::InUse => "InUse",
         Refusal::Late => "Late",
         Refusal::BadMoment => "BadMoment",
+        Refusal::BadCapacity => "BadCapacity",
         Refusal::NoMemory => "NoMemory",
         Refusal::JournalFull => "JournalFull",
         Refusal::IsCold => "IsCold",

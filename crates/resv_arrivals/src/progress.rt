@@ -44,7 +44,7 @@ impl Progress {
 }
 
 /// What is known of an LSP's reservation after edits.
-#[tactic(auto, using(state_views::specs::EditLaws::resv_edited))]
+#[tactic(auto, using(state_views::specs::EditLaws::row_edited))]
 pub fn resv_now<'a, V: StateView>(
     view: &'a V,
     edits: &'a Table<Key, Option<ResvFact>>,

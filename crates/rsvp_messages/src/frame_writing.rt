@@ -95,7 +95,7 @@ pub fn write_frame(frame: &Frame, out: &mut Vec<u8>) -> Result<(), AllocError>
     // What is written is read as the same frame: the message of a Hop frame whole, one that others may pass on unread.
     ensures again { OnOk result (SpellsFrame (frame_bytes frame.now) (unread frame.now)) }
 
-    // And that message is read as the same, where it is to go.
+    // The message in it is read as the same, where it is to go.
     ensures carried { OnOk result (CarriesAgain frame.now) }
     ensures err { OnErr result (out.new.items ≡ out.old.items) }
 {

@@ -15,7 +15,7 @@ use Rattle.abstract_paths.specs.StampLaws.{none-is, ties}
 use Rattle.abstract_paths.specs.Touched.{is_among}
 use Rattle.abstract_router.specs.Lsps.{Lsp, lsp_at}
 use Rattle.abstract_router.specs.States.{State}
-use Rattle.state_views.specs.EditLaws.{neither, path_edited, same_unedited}
+use Rattle.state_views.specs.EditLaws.{neither, row_edited, same_unedited}
 use Rattle.state_views.specs.Edits.{edited, is_edited}
 use Rattle.state_views.specs.declared.edits.Edits.{Edits}
 use Rattle.state_sends.specs.Touching.{AreAllLsps, IsSaidAgain, is_lsp_of, said_by_resvs}
@@ -127,7 +127,7 @@ pub known_after : (s : State) (e : Edits) (known all : List (Key × Unit {0})) �
     → AreAllLsps s all × AreAllLsps (edited e s) all
 known_after s e known all before after = (
   λ key away. none-is (find key_cmp key s.facts.paths) (gone key away).1,
-  λ key away. path_edited key e.paths s.facts.paths ∙ (λ i. over (none-is (find key_cmp key e.paths) (gone key away).0 i) (none-is (find key_cmp key s.facts.paths) (gone key away).1 i)),
+  λ key away. row_edited key e.paths s.facts.paths ∙ (λ i. over (none-is (find key_cmp key e.paths) (gone key away).0 i) (none-is (find key_cmp key s.facts.paths) (gone key away).1 i)),
 )
   where
     gone : (key : Key) → is_among key_cmp all key ≡ false → (is_among key_cmp e.paths key ≡ false) × (is_among key_cmp s.facts.paths key ≡ false)

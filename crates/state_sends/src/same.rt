@@ -51,7 +51,7 @@ fn is_same_repair(was: Option<&Repair>, is: Option<&Repair>) -> bool
 }
 
 /// Whether edits leave an LSP's path as it is, but for when it expires.
-#[tactic(auto, using(state_views::specs::EditLaws::path_edited))]
+#[tactic(auto, using(state_views::specs::EditLaws::row_edited))]
 fn leaves_path<V: StateView>(view: &V, edits: &Edits, key: &Key) -> bool
     ensures { result ≡ true → option_map timeless_path (find key_cmp key.now (V.state view.now).facts.paths)
         ≡ option_map timeless_path (find key_cmp key.now (edited edits.now (V.state view.now)).facts.paths) }
@@ -63,7 +63,7 @@ fn leaves_path<V: StateView>(view: &V, edits: &Edits, key: &Key) -> bool
 }
 
 /// Whether edits leave an LSP's reservation as it is, but for when it expires.
-#[tactic(auto, using(state_views::specs::EditLaws::resv_edited))]
+#[tactic(auto, using(state_views::specs::EditLaws::row_edited))]
 fn leaves_resv<V: StateView>(view: &V, edits: &Edits, key: &Key) -> bool
     ensures { result ≡ true → option_map timeless_resv (find key_cmp key.now (V.state view.now).resvs)
         ≡ option_map timeless_resv (find key_cmp key.now (edited edits.now (V.state view.now)).resvs) }
@@ -75,7 +75,7 @@ fn leaves_resv<V: StateView>(view: &V, edits: &Edits, key: &Key) -> bool
 }
 
 /// Whether edits leave an LSP's repair as it is, but for when it expires.
-#[tactic(auto, using(state_views::specs::EditLaws::repair_edited))]
+#[tactic(auto, using(state_views::specs::EditLaws::row_edited))]
 fn leaves_repair<V: StateView>(view: &V, edits: &Edits, key: &Key) -> bool
     ensures { result ≡ true → option_map timeless_repair (find key_cmp key.now (V.state view.now).repairs)
         ≡ option_map timeless_repair (find key_cmp key.now (edited edits.now (V.state view.now)).repairs) }
@@ -87,7 +87,7 @@ fn leaves_repair<V: StateView>(view: &V, edits: &Edits, key: &Key) -> bool
 }
 
 /// Whether edits leave an LSP's label as it is.
-#[tactic(auto, using(state_views::specs::EditLaws::label_edited))]
+#[tactic(auto, using(state_views::specs::EditLaws::row_edited))]
 fn leaves_label<V: StateView>(view: &V, edits: &Edits, key: &Key) -> bool
     ensures { result ≡ true → find key_cmp key.now (V.state view.now).labels
         ≡ find key_cmp key.now (edited edits.now (V.state view.now)).labels }

@@ -27,20 +27,13 @@ use Rattle.abstract_router.specs.States.{State, is_one_of}
 use Rattle.state_views.specs.Edits.{edited, is_edited, without_rows}
 use Rattle.state_views.specs.declared.edits.Edits.{Edits}
 
+-- what is found after edits of tunnels
 pub tunnel_edited : (number : ℕ) (edits : List (ℕ × Option Tunnel)) (tunnels : List (ℕ × Tunnel)) → find nat_cmp number (rows.edited nat_cmp edits tunnels) ≡ rows.over (find nat_cmp number edits) (find nat_cmp number tunnels)
 tunnel_edited number edits tunnels = find-edited nat_cmp nat_cmp_total number edits tunnels
 
-pub path_edited : (key : Key) (edits : List (Key × Option PathFact)) (paths : List (Key × PathFact)) → find key_cmp key (rows.edited key_cmp edits paths) ≡ rows.over (find key_cmp key edits) (find key_cmp key paths)
-path_edited key edits paths = find-edited key_cmp key_total key edits paths
-
-pub resv_edited : (key : Key) (edits : List (Key × Option ResvFact)) (resvs : List (Key × ResvFact)) → find key_cmp key (rows.edited key_cmp edits resvs) ≡ rows.over (find key_cmp key edits) (find key_cmp key resvs)
-resv_edited key edits resvs = find-edited key_cmp key_total key edits resvs
-
-pub repair_edited : (key : Key) (edits : List (Key × Option Repair)) (repairs : List (Key × Repair)) → find key_cmp key (rows.edited key_cmp edits repairs) ≡ rows.over (find key_cmp key edits) (find key_cmp key repairs)
-repair_edited key edits repairs = find-edited key_cmp key_total key edits repairs
-
-pub label_edited : (key : Key) (edits : List (Key × Option ℕ)) (labels : List (Key × ℕ)) → find key_cmp key (rows.edited key_cmp edits labels) ≡ rows.over (find key_cmp key edits) (find key_cmp key labels)
-label_edited key edits labels = find-edited key_cmp key_total key edits labels
+-- and of what LSPs have
+pub row_edited : {X : Type 0} (key : Key) (edits : List (Key × Option X)) (before : List (Key × X)) → find key_cmp key (rows.edited key_cmp edits before) ≡ rows.over (find key_cmp key edits) (find key_cmp key before)
+row_edited key edits before = find-edited key_cmp key_total key edits before
 
 -- Labels are in the order of the LSPs, as paths are.
 pub labels_in_order : (labels : List (Key × ℕ)) (paths : List (Key × PathFact)) → T (is_sorted key_cmp paths) → keys_of labels ≡ labelled_keys paths → T (is_sorted key_cmp labels)
@@ -99,7 +92,7 @@ same_lsp s t key label resv repair path =
 -- what is found where there is no edit
 as_before : {X : Type 0} (key : Key) (edits : List (Key × Option X)) (before : List (Key × X)) → is_among key_cmp edits key ≡ false → find key_cmp key before ≡ find key_cmp key (rows.edited key_cmp edits before)
 as_before key edits before none =
-    sym (find-edited key_cmp key_total key edits before ∙ ap (λ edit. rows.over edit (find key_cmp key before)) (none-is (find key_cmp key edits) none))
+    sym (row_edited key edits before ∙ ap (λ edit. rows.over edit (find key_cmp key before)) (none-is (find key_cmp key edits) none))
 
 -- So it is where the LSP has no edit.
 pub same_unedited : (s : State) (e : Edits) (key : Key) → is_edited e key ≡ false → lsp_at s key ≡ lsp_at (edited e s) key

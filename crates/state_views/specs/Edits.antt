@@ -8,11 +8,12 @@ use Rattle.lsr_facts.specs.Orders.{key_cmp}
 use Rattle.lsr_facts.specs.declared.key.Key.{Key}
 use Rattle.abstract_paths.specs.Touched.{is_among}
 use Rattle.abstract_router.specs.States.{State}
+use Rattle.state_views.specs.declared.edits.EditParts.{EditParts}
 use Rattle.state_views.specs.declared.edits.Edits.{Edits}
 
 -- nothing changes
 abbrev pub unedited : Edits
-unedited = record { moment = None; up = None; routes = None; tunnels = []; bypasses = None; paths = []; resvs = []; repairs = []; labels = [] }
+unedited = record { moment = None; up = None; routes = None; tunnels = []; bypasses = None; paths = []; resvs = []; repairs = []; labels = []; assignments = [] }
 
 -- what is known after edits; the moments at which messages were sent are no part of them
 abbrev pub edited : Edits → State → State
@@ -28,6 +29,22 @@ edited e s = record s {
   resvs = rows.edited key_cmp e.resvs s.resvs;
   repairs = rows.edited key_cmp e.repairs s.repairs;
   labels = rows.edited key_cmp e.labels s.labels;
+  assignments = rows.edited key_cmp e.assignments s.assignments;
+}
+
+-- edits taken apart
+abbrev pub parts_of : Edits → EditParts
+parts_of e = record {
+  moment = e.moment;
+  up = e.up;
+  routes = e.routes;
+  tunnels = e.tunnels;
+  bypasses = e.bypasses;
+  paths = e.paths;
+  resvs = e.resvs;
+  repairs = e.repairs;
+  labels = e.labels;
+  assignments = e.assignments;
 }
 
 -- edits of what LSPs have, and then these LSPs have none

@@ -7,11 +7,11 @@ ghost use Rattle.std.specs.Prelude.{◌≡◌, IfOk};
 ghost use Rattle.sorted_rows.specs.Edits as rows;
 ghost use Rattle.lsr_facts.specs.Orders.{key_cmp};
 ghost use Rattle.abstract_router.specs.States.{State};
-ghost use Rattle.state_views.specs.Edits.{edited, unedited, without_rows};
+ghost use Rattle.state_views.specs.Edits.{edited, parts_of, unedited, without_rows};
 ghost use Rattle.state_views.specs.Joining.{joined_rows};
 
 use crate::views::StateView;
-use lsr_facts::{Bypass, Key, Node, PathFact, Repair, ResvFact, Tunnel};
+use lsr_facts::{Assignment, Bypass, Key, Node, PathFact, Repair, ResvFact, Tunnel};
 use rsvp_bodies::Prefix;
 use sorted_rows::Table;
 use std::alloc::{AllocError, Global};
@@ -37,6 +37,33 @@ pub struct Edits {
     pub repairs: Table<Key, Option<Repair>>,
     /// Of LSPs the label that each has from now on: `None` where it is free again.
     pub labels: Table<Key, Option<u32>>,
+    /// Of LSPs what each is promised of a bypass's bandwidth from now on: `None` where a promise goes.
+    pub assignments: Table<Key, Option<Assignment>>,
+}
+
+/// The parts of edits, each to be moved on: edits themselves are dropped by one call, so nobody else takes them apart.
+#[derive(Debug, Drop)]
+pub struct EditParts {
+    /// As [`Edits::moment`].
+    pub moment: Option<u64>,
+    /// As [`Edits::up`].
+    pub up: Option<Table<u16, bool>>,
+    /// As [`Edits::routes`].
+    pub routes: Option<Table<Prefix, u16>>,
+    /// As [`Edits::tunnels`].
+    pub tunnels: Table<u16, Option<Tunnel>>,
+    /// As [`Edits::bypasses`].
+    pub bypasses: Option<Table<u16, Bypass>>,
+    /// As [`Edits::paths`].
+    pub paths: Table<Key, Option<PathFact>>,
+    /// As [`Edits::resvs`].
+    pub resvs: Table<Key, Option<ResvFact>>,
+    /// As [`Edits::repairs`].
+    pub repairs: Table<Key, Option<Repair>>,
+    /// As [`Edits::labels`].
+    pub labels: Table<Key, Option<u32>>,
+    /// As [`Edits::assignments`].
+    pub assignments: Table<Key, Option<Assignment>>,
 }
 
 /// Written out, so that they are dropped by one call, whatever they hold.
@@ -52,6 +79,7 @@ impl Drop for Edits {
             resvs: _resvs,
             repairs: _repairs,
             labels: _labels,
+            assignments: _assignments,
         } = self;
     }
 }
@@ -71,6 +99,37 @@ impl Edits {
             resvs: Table::new(alloc),
             repairs: Table::new(alloc),
             labels: Table::new(alloc),
+            assignments: Table::new(alloc),
+        }
+    }
+
+    /// The parts. Takes no memory.
+    pub fn into_parts(self) -> EditParts
+        ensures { result ≡ parts_of self }
+    {
+        let Edits {
+            moment,
+            up,
+            routes,
+            tunnels,
+            bypasses,
+            paths,
+            resvs,
+            repairs,
+            labels,
+            assignments,
+        } = self;
+        EditParts {
+            moment,
+            up,
+            routes,
+            tunnels,
+            bypasses,
+            paths,
+            resvs,
+            repairs,
+            labels,
+            assignments,
         }
     }
 
@@ -107,6 +166,13 @@ impl Edits {
         ensures { option_copied result ≡ find key_cmp key.now self.now.labels }
     {
         self.labels.get(key)
+    }
+
+    /// The edit of what an LSP is promised, if there is one.
+    pub fn assignment(&self, key: &Key) -> Option<&Option<Assignment>>
+        ensures { option_copied result ≡ find key_cmp key.now self.now.assignments }
+    {
+        self.assignments.get(key)
     }
 }
 
@@ -199,7 +265,7 @@ impl<'a, V: StateView> StateView for Changed<'a, V> {
         }
     }
 
-    #[tactic(auto, using(crate::specs::EditLaws::path_edited))]
+    #[tactic(auto, using(crate::specs::EditLaws::row_edited))]
     fn path(&self, key: &Key) -> Option<&PathFact> {
         match self.edits.path(key) {
             Some(edit) => edit.as_ref(),
@@ -207,7 +273,7 @@ impl<'a, V: StateView> StateView for Changed<'a, V> {
         }
     }
 
-    #[tactic(auto, using(crate::specs::EditLaws::resv_edited))]
+    #[tactic(auto, using(crate::specs::EditLaws::row_edited))]
     fn resv(&self, key: &Key) -> Option<&ResvFact> {
         match self.edits.resv(key) {
             Some(edit) => edit.as_ref(),
@@ -215,7 +281,7 @@ impl<'a, V: StateView> StateView for Changed<'a, V> {
         }
     }
 
-    #[tactic(auto, using(crate::specs::EditLaws::repair_edited))]
+    #[tactic(auto, using(crate::specs::EditLaws::row_edited))]
     fn repair(&self, key: &Key) -> Option<&Repair> {
         match self.edits.repair(key) {
             Some(edit) => edit.as_ref(),
@@ -223,11 +289,19 @@ impl<'a, V: StateView> StateView for Changed<'a, V> {
         }
     }
 
-    #[tactic(auto, using(crate::specs::EditLaws::label_edited))]
+    #[tactic(auto, using(crate::specs::EditLaws::row_edited))]
     fn label(&self, key: &Key) -> Option<u32> {
         match self.edits.label(key) {
             Some(edit) => *edit,
             None => self.under.label(key),
+        }
+    }
+
+    #[tactic(auto, using(crate::specs::EditLaws::row_edited))]
+    fn assignment(&self, key: &Key) -> Option<Assignment> {
+        match self.edits.assignment(key) {
+            Some(edit) => *edit,
+            None => self.under.assignment(key),
         }
     }
 }

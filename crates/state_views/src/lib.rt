@@ -1,5 +1,5 @@
 //! What decisions ask of what a router knows, whoever keeps it; and what a decision answers: a reply, errors, and edits of
-//! paths, reservations, repairs and labels.
+//! paths, reservations, repairs, labels and assignments.
 #![tactic(auto)]
 
 mod draft;
@@ -8,5 +8,5 @@ mod views;
 
 pub use abstract_paths::{Output, Outputs};
 pub use draft::{Draft, refused};
-pub use edits::{Changed, Edits, joined_rows, without_rows};
+pub use edits::{Changed, EditParts, Edits, joined_rows, without_rows};
 pub use views::{StateView, WholeState, node_of};

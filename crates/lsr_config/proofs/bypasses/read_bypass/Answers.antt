@@ -87,5 +87,5 @@ returns c = λ document earlier links tunnels says. (
       (turn_kept _ _ (c.in_ok-check_link.ensures (view c.args.table.now) (records key.Link document) c.in_ok-link.ensures.1 links).0
       (turn_kept _ _ (c.in_ok-check_count.ensures earlier (says_length SaysBypass earlier c.args.before.now says)).0
       turn_end))))))),
-  record { number = c.in_ok-number.ensures.1; tunnel = c.in_ok-tunnel.ensures.1; link = c.in_ok-link.ensures.1 },
+  record { number = c.in_ok-number.ensures.1; tunnel = c.in_ok-tunnel.ensures.1; link = c.in_ok-link.ensures.1; capacity = refl },
 )
