@@ -1,4 +1,5 @@
 pub mod Asking
+pub mod Carrying
 pub mod Choosing
 pub mod Matching
 pub mod OverLaws

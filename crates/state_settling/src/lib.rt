@@ -10,4 +10,4 @@ mod settling;
 mod standing;
 
 pub use claims::bandwidth_edits;
-pub use settling::{Settled, settle};
+pub use settling::{Settled, settle, settle_by};
