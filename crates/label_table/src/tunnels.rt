@@ -70,7 +70,8 @@ fn put_push<V: StateView>(
     )
 }
 
-/// And so have the tunnels of all these numbers.
+/// The tunnel of each of these numbers has the action that edits lead to, where that is another. The only error is out
+/// of memory.
 fn put_pushes<V: StateView, E>(
     changes: &mut Table<u16, Option<Action>>,
     view: &V,
@@ -86,7 +87,8 @@ fn put_pushes<V: StateView, E>(
     Ok(())
 }
 
-/// And so have those that these LSPs name.
+/// Each tunnel that one of these LSPs names has the action that edits lead to, where that is another. The only error is
+/// out of memory.
 fn put_pushes_of<V: StateView, E>(
     changes: &mut Table<u16, Option<Action>>,
     view: &V,

@@ -90,7 +90,8 @@ fn switch_one(
     edits.tunnels.set(number, Some(tunnel))
 }
 
-/// And so of all these. Takes no memory where there is none; the only error is out of memory.
+/// Edits, and then each of these tunnels goes over to its new LSP, and the path of the one that carried its traffic
+/// goes. Takes no memory where there is no tunnel; the only error is out of memory.
 fn switch_all(
     router: &Router,
     edits: &mut Edits,

@@ -5,7 +5,7 @@ ghost use Rattle.std.specs.Prelude.{◌≡◌, Ok, Some, false, true};
 ghost use Rattle.lsr_facts.specs.Orders.{key_cmp};
 ghost use Rattle.rsvp_bodies.specs.Traffic.{flowspec_rate};
 ghost use Rattle.abstract_paths.specs.Tears.{leaves_by};
-ghost use Rattle.abstract_router.specs.Preempting.{fits};
+ghost use Rattle.abstract_router.specs.Preempting.{fits_link};
 ghost use Rattle.abstract_router.specs.Reserving as reserving;
 ghost use Rattle.abstract_router.specs.Reserving.{verdict_by_rate, verdict_of, verdict_on_path};
 ghost use Rattle.abstract_router.specs.States.{is_repaired};
@@ -49,7 +49,7 @@ fn verdict_in_room<V: WholeState>(
     ensures { let s = (reached (V.state view.now) progress.now).state in
         let fact = fact_at (V.state view.now).facts.moment asked.now in
         IsVerdict (V.router view.now) (V.state view.now) progress.now asked.now result
-        (verdict_by_rate (V.router view.now) fact (fits (V.router view.now) s asked.now.key fact) (flowspec_rate fact.flowspec)) }
+        (verdict_by_rate (V.router view.now) fact (fits_link (V.router view.now) s asked.now.key fact) (flowspec_rate fact.flowspec)) }
 {
     let request = request_of(asked.key, asked.link, asked.style, rate, path.attr.as_ref());
     if progress.claims.is_none() && is_claimed(view, progress, &request) {
@@ -73,7 +73,7 @@ fn verdict_by_rate<V: WholeState>(
     ensures { let s = (reached (V.state view.now) progress.now).state in
         let fact = fact_at (V.state view.now).facts.moment asked.now in
         IsVerdict (V.router view.now) (V.state view.now) progress.now asked.now result
-        (verdict_by_rate (V.router view.now) fact (fits (V.router view.now) s asked.now.key fact) (flowspec_rate fact.flowspec)) }
+        (verdict_by_rate (V.router view.now) fact (fits_link (V.router view.now) s asked.now.key fact) (flowspec_rate fact.flowspec)) }
 {
     match judge(view, asked) {
         Judgement::Failed(error) => Verdict::Failed(error),

@@ -23,7 +23,7 @@ use Rattle.lsr_facts.specs.declared.refusal.Refusal.{Refusal}
 use Rattle.lsr_facts.specs.declared.refusal.Refusal.TheVariants.{InUse, LinkDown, NoMatch, UnknownLink}
 use Rattle.lsr_facts.specs.declared.reply.Reply.TheVariants as replies
 use Rattle.lsr_facts.specs.declared.router.Router.{Router}
-use Rattle.lsr_facts.specs.Reservations.{expire, expire_repairs, style_of}
+use Rattle.lsr_facts.specs.Reservations.{expire_repairs, expire_resvs, style_of}
 use Rattle.lsr_facts.specs.declared.resv_fact.ResvStyle.{ResvStyle}
 use Rattle.abstract_paths.specs.declared.commands.Command.{Command}
 use Rattle.abstract_paths.specs.declared.ways.ArrivalWay.{ArrivalWay}
@@ -185,7 +185,7 @@ module _ (r : Router) (s : State) where
       ] refl
     where
       comes : Outcome
-      comes = record o { after = record o.after { resvs = expire n s.resvs; repairs = expire_repairs n s.repairs }; upstream_due = due_items r.refresh_ms s.sent_upstream n }
+      comes = record o { after = record o.after { resvs = expire_resvs n s.resvs; repairs = expire_repairs n s.repairs }; upstream_due = due_items r.refresh_ms s.sent_upstream n }
 
   tick-refuses : (n : ℕ) → RefusesSilently s (moment_comes r s n)
   unfolding moment_comes

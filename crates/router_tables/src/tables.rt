@@ -126,7 +126,7 @@ fn link_tables(alloc: Global, router: &Router) -> Result<LinkTables, AllocError>
 struct KeptTables {
     /// When each Path was sent last that is kept alive.
     timers: RefreshTimers<Item, MAX_LSPS>,
-    /// And each Resv.
+    /// When each Resv was sent last that is kept alive.
     upstream: RefreshTimers<Upstream, MAX_UPSTREAM>,
     /// The labels.
     labels: LabelBindings,

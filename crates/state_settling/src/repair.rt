@@ -137,7 +137,8 @@ fn known_repairs<V: WholeState>(
     }
 }
 
-/// And in the order of their keys. The only error is out of memory.
+/// All repairs that there are to be after edits, in the order of their keys. It asks that all reservations that there
+/// were before stood. The only error is out of memory.
 fn new_repairs<V: WholeState>(
     alloc: Global,
     view: &V,
@@ -181,7 +182,7 @@ fn told_of<A: StateView>(
     }
 }
 
-/// And those that all of these tell, in their order.
+/// The errors that these repairs tell, in the order of the repairs. The only error is out of memory.
 fn told_of_all<A: StateView>(
     alloc: Global,
     after: &A,
