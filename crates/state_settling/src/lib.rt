@@ -4,7 +4,6 @@
 
 mod claims;
 mod labels;
-mod lapsing;
 mod repair;
 mod settling;
 mod standing;

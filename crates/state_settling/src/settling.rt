@@ -10,9 +10,8 @@ ghost use Rattle.abstract_router.specs.Steps.{settled, taken_over};
 ghost use Rattle.state_views.specs.Edits.{edited};
 
 use crate::labels::{chosen_labels, give_labels};
-use crate::lapsing::take_lapsed;
 use crate::repair::repair_all;
-use crate::standing::take_fallen;
+use crate::standing::{take_repairs, take_resvs};
 use lsr_facts::Key;
 use make_before_break::take_over;
 use sorted_rows::Table;
@@ -53,8 +52,8 @@ pub fn settle_by<V: WholeState>(
     let mut edits = edits;
     take_over(alloc, view, &mut edits)?;
     let told = repair_all(alloc, view, &mut edits)?;
-    take_fallen(alloc, view, &mut edits)?;
-    take_lapsed(alloc, view, &mut edits)?;
+    take_resvs(alloc, view, &mut edits)?;
+    take_repairs(alloc, view, &mut edits)?;
     give_labels(alloc, view, &chosen, &mut edits)?;
     Ok(Settled {
         edits,

@@ -26,7 +26,7 @@ give_labels-requires-clause-labels g c =
     let r = g.V.StateView.router c.args.view.now in
     let s = g.V.StateView.state c.args.view.now in
     let before = edited c.args.edits s in
-    ap (λ (after : State). after.labels) (c.in_ok-take_lapsed.ensures ∙ ap (repairs_left r) (c.in_ok-take_fallen.ensures ∙ ap resvs_left (c.in_ok-told.ensures.after ∙ ap (repaired r) c.in_ok-take_over.ensures)))
+    ap (λ (after : State). after.labels) (c.in_ok-take_repairs.ensures ∙ ap (repairs_left r) (c.in_ok-take_resvs.ensures ∙ ap resvs_left (c.in_ok-told.ensures.after ∙ ap (repaired r) c.in_ok-take_over.ensures)))
     ∙ labels-repairs_left r (resvs_left (repaired r (taken_over r before)))
     ∙ labels-repaired r (taken_over r before)
     ∙ labels-taken_over r before
