@@ -103,7 +103,7 @@ invariant_of-self-2 g c =
     let kept = kept_push (was g c) c.args.entry (after_ready c.args.ready c.self.inside.machine.state) (c.self.inside.plane.published ++ c.announce.new.plane.pending) c.self.invariant.0
     (subst (λ (j : Journal). length j.entries < 4096) (sym c.self.view_is) c.requires.room)
     (subst (λ (j : Journal). j.counts.number < 2 ^ 62) (sym c.self.view_is) c.requires.low)
-    (subst (λ (j : Journal). c.args.entry.port - 1 < length j.counts.marks) (sym c.self.view_is) c.requires.port)
+    (subst (λ (j : Journal). c.args.entry.entry.port - 1 < length j.counts.marks) (sym c.self.view_is) c.requires.port)
     (subst (Recorded c.self.inside.machine.router c.self.inside.machine.state c.args.entry) state (recorded g c)) sound
     (omega (arith, (leads g c).1, c.self.invariant.0.shown)) (leads g c).0 in
     let parts = announced_parts c.args.entry.changes_table c.args.ready c.self.inside.plane c.announce.new.plane c.in_ok-announce.ensures c.self.invariant.2.settled in (
