@@ -19,10 +19,13 @@ made-event event readies.Start = refl
 made-event event (readies.Restart changes) = refl
 
 pub recorded_made : (s t : RouterState) (event : Event) (ready : Ready) (e : CountedEntry) → IsReady s event ready → IsEntryFor e.entry.port event ready e
-    → t ≡ record s { state = after_ready ready s.state } → Step s.router s.state (made_of event ready) t.state → Recorded s.router s.state e t.state
-recorded_made s t event ready e is its after step = record {
-  made = made_of event ready;
-  step = step;
-  entry = its.entry;
-  told = subst (λ (x : State). TellsChange e.changes_table s.router s.state x) (sym (ap (λ (x : RouterState). x.state) after)) (its.told s is);
-}
+    → t ≡ record s { state = after_ready ready s.state } → Step s.router s.state (made_of event ready) t.state → (is : Recorded s.router s.state e t.state) × (is.made.event ≡ event)
+recorded_made s t event ready e is its after step = (
+  record {
+    made = made_of event ready;
+    step = step;
+    entry = its.entry;
+    told = subst (λ (x : State). TellsChange e.changes_table s.router s.state x) (sym (ap (λ (x : RouterState). x.state) after)) (its.told s is);
+  },
+  made-event event ready,
+)

@@ -125,9 +125,11 @@ pub record IsPlaneOf (r : Router) (p : Changes) : Type 0 where
   pub last : p.last_label ≡ r.labels.last
   pub settled : p.pending ≡ []
 
--- An entry is put to the others: it records a step, the numbers go on by it, and readers are shown what it changes.
-pub record IsEntered (old : Journal) (entry : CountedEntry) (new : Journal) : Type 0 where
+-- An entry of an event is put to the others: it records a step of this event itself, and not of one with the same bytes; the numbers go
+-- on by it, and readers are shown what it changes.
+pub record IsEntered (old : Journal) (event : Event) (entry : CountedEntry) (new : Journal) : Type 0 where
   pub recorded : Recorded old.router old.state entry new.state
+  pub event_is : recorded.made.event ≡ event
   pub entries : new.entries ≡ old.entries ++ entry ∷ []
   pub counts : new.counts ≡ counted old.counts entry
   pub shown : IsShownMore entry.changes_table old.shown new.shown
@@ -141,7 +143,7 @@ pub record IsApplied (old : Journal) (port : ℕ) (event : Event) (receipt : Rec
   pub port_is : entry.entry.port ≡ port
   pub event_is : entry.entry.event ≡ event_bytes event
   pub receipt_is : receipt ≡ receipt_of old.counts entry
-  pub entered : IsEntered old entry new
+  pub entered : IsEntered old event entry new
 
 -- What an event at a port is answered: it is applied where nothing refuses it before it is looked at; else it is refused, and
 -- nothing changed.

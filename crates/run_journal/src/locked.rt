@@ -237,7 +237,7 @@ impl<R: Wait + Drop> Locked<R> {
         requires port { entry.entry.port - 1 < length self.old.counts.marks }
         requires room { length self.old.entries < 4096 }
         requires low { self.old.counts.number < 2 ^ 62 }
-        ensures entered { OnOk result (IsEntered self.old entry self.new) }
+        ensures entered { OnOk result (IsEntered self.old event.now entry self.new) }
         ensures kept { OnErr result (self.new ≡ self.old) }
     {
         self.soundness();

@@ -28,7 +28,7 @@ was g c = record {
   shown = c.self.inside.plane.published;
 }
 
-recorded : (g : Over) (c : goal.After-push_reserved g) → Recorded c.self.inside.machine.router c.self.inside.machine.state c.args.entry c.make.new.self.state
+recorded : (g : Over) (c : goal.After-push_reserved g) → (is : Recorded c.self.inside.machine.router c.self.inside.machine.state c.args.entry c.make.new.self.state) × (is.made.event ≡ c.args.event.now)
 unfolding was
 recorded g c =
     let ready : IsReady (router_in (was g c)) c.args.event.now c.args.ready = subst (λ (j : Journal). IsReady (router_in j) c.args.event.now c.args.ready) (sym c.self.view_is) c.requires.ready in
@@ -81,10 +81,11 @@ now_is g c = λ i. record {
   shown = shown_is g c i;
 }
 
-entered : (g : Over) (c : goal.After-push_reserved g) → IsEntered (was g c) c.args.entry (now g c)
+entered : (g : Over) (c : goal.After-push_reserved g) → IsEntered (was g c) c.args.event.now c.args.entry (now g c)
 unfolding was now
 entered g c = record {
-  recorded = recorded g c;
+  recorded = (recorded g c).0;
+  event_is = (recorded g c).1;
   entries = ap (λ (j : Journal). j.entries) (now_is g c);
   counts = ap (λ (j : Journal). j.counts) (now_is g c);
   shown = subst (IsShownMore c.args.entry.changes_table c.self.inside.plane.published) (sym (shown_is g c)) (leads g c).2;
@@ -104,7 +105,7 @@ invariant_of-self-2 g c =
     (subst (λ (j : Journal). length j.entries < 4096) (sym c.self.view_is) c.requires.room)
     (subst (λ (j : Journal). j.counts.number < 2 ^ 62) (sym c.self.view_is) c.requires.low)
     (subst (λ (j : Journal). c.args.entry.entry.port - 1 < length j.counts.marks) (sym c.self.view_is) c.requires.port)
-    (subst (Recorded c.self.inside.machine.router c.self.inside.machine.state c.args.entry) state (recorded g c)) sound
+    (subst (Recorded c.self.inside.machine.router c.self.inside.machine.state c.args.entry) state (recorded g c).0) sound
     (omega (arith, (leads g c).1, c.self.invariant.0.shown)) (leads g c).0 in
     let parts = announced_parts c.args.entry.changes_table c.args.ready c.self.inside.plane c.announce.new.plane c.in_ok-announce.ensures c.self.invariant.2.settled in (
       subst IsKept (sym (now_is g c)) kept,
@@ -186,4 +187,4 @@ invariant_of-self g c =
 
 pub returns : goal.returns
 unfolding was now
-returns g c = record { entered = subst (λ (j : Journal). IsEntered j c.args.entry (now g c)) c.self.view_is (entered g c); kept = tt }
+returns g c = record { entered = subst (λ (j : Journal). IsEntered j c.args.event.now c.args.entry (now g c)) c.self.view_is (entered g c); kept = tt }
