@@ -39,6 +39,19 @@ pub record Journal : Type 0 where
   pub counts : Counts
   pub shown : List TableChange
 
+-- What is under the lock by its parts: the router and what it knows, what it knew and what the numbers were at the base, the entries
+-- since, what the numbers are now, and the plane.
+abbrev pub journal_of : RouterState → State → Counts → List CountedEntry → Counts → Changes → Journal
+journal_of s base from entries counts plane = record {
+  router = s.router;
+  base = base;
+  from = from;
+  entries = entries;
+  state = s.state;
+  counts = counts;
+  shown = plane.published;
+}
+
 -- the router, and what it knows now
 abbrev pub router_in : Journal → RouterState
 router_in j = record { router = j.router; state = j.state }

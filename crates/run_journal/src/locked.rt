@@ -54,29 +54,14 @@ impl<R: Wait + Drop> Drop for Locked<R> {
 
 impl<R: Wait + Drop> Model for Locked<R> {
     ghost use Rattle.std.specs.Prelude.{◌≤◌, vec_capacity};
-    ghost use Rattle.run_journal.specs.Journals.{IsKept, IsPlaneOf, Journal};
+    ghost use Rattle.run_journal.specs.Journals.{IsKept, IsPlaneOf, Journal, journal_of};
 
     ghost Value = { Journal };
 
-    ghost view = { λ l. record {
-      router = l.machine.router;
-      base = l.base;
-      from = l.from;
-      entries = l.entries.items;
-      state = l.machine.state;
-      counts = l.counts;
-      shown = l.plane.published;
-    } };
+    ghost view = { λ l. journal_of l.machine l.base l.from l.entries.items l.counts l.plane };
 
-    ghost invariant = { λ l. IsKept (record {
-      router = l.machine.router;
-      base = l.base;
-      from = l.from;
-      entries = l.entries.items;
-      state = l.machine.state;
-      counts = l.counts;
-      shown = l.plane.published;
-    }) × (4096 ≤ vec_capacity l.entries) × IsPlaneOf l.machine.router l.plane };
+    ghost invariant = { λ l.
+        IsKept (journal_of l.machine l.base l.from l.entries.items l.counts l.plane) × (4096 ≤ vec_capacity l.entries) × IsPlaneOf l.machine.router l.plane };
 }
 
 /// The entry of a step that is made ready. The only error is out of memory.
