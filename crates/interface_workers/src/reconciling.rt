@@ -8,7 +8,7 @@ ghost use Rattle.interface_workers.specs.Mismatches.{IsFirstDifference, IsFirstG
 ghost use Rattle.interface_workers.specs.Reconciled.{AreJoined, AreOneRun, IsReconciled, called_for};
 ghost use Rattle.interface_workers.specs.Walks.{GoesOn, HasPorts, IsAt, IsNext, IsTold, IsWithin, called_in, mine, passed, place_at};
 
-use journal_bytes::{WrittenFrame, is_same_router, is_same_state};
+use journal_bytes::{are_same_items, is_same_router, is_same_state};
 use run_journal::{CountedEntry, JournalCounts, Mark, Receipt, Segment};
 use thiserror::Error;
 
@@ -124,28 +124,6 @@ impl Walk {
     }
 }
 
-/// Whether it is the same frame on the same link.
-fn is_same_frame(frame: &WrittenFrame, other: &WrittenFrame) -> bool
-    ensures { IsTrue result ↔ (frame.now ≡ other.now) }
-{
-    frame.link == other.link && frame.bytes == other.bytes
-}
-
-/// Whether these are the same frames.
-fn are_same_frames(frames: &[WrittenFrame], others: &[WrittenFrame]) -> bool
-    ensures { IsTrue result ↔ (frames.now ≡ others.now) }
-{
-    if frames.len() != others.len() {
-        return false;
-    }
-    for i in 0..frames.len() {
-        if !is_same_frame(&frames[i], &others[i]) {
-            return false;
-        }
-    }
-    true
-}
-
 /// Whether the receipt is what the port is told of the entry that comes next.
 fn is_told(receipt: &Receipt, walk: Walk, entry: &CountedEntry) -> bool
     requires few { IsWithin walk }
@@ -155,7 +133,7 @@ fn is_told(receipt: &Receipt, walk: Walk, entry: &CountedEntry) -> bool
     walk.is_next(receipt.mark(), entry)
         && receipt.event() == entry.entry.event.as_slice()
         && receipt.reply() == entry.entry.reply
-        && are_same_frames(receipt.outputs().as_slice(), entry.entry.outputs.as_slice())
+        && are_same_items(receipt.outputs().as_slice(), entry.entry.outputs.as_slice())
 }
 
 /// The first receipt of a port, and those after it.

@@ -4,6 +4,7 @@ ghost use Rattle.std.specs.Prelude.{◌≡◌, IfOk, map};
 ghost use Rattle.journal_bytes.specs.Entries.{written_frame};
 
 use crate::entry::{Frames, Listed, WrittenFrame};
+use crate::exact::Exact;
 use abstract_paths::Output;
 use rsvp_bodies::Kept;
 use rsvp_messages::frame_bytes;
@@ -28,4 +29,10 @@ pub fn written_frames(alloc: Global, outputs: &[Output]) -> Result<Frames, Alloc
         frames.push(written_frame(alloc, output)?)?;
     }
     Ok(Listed::from_vec(frames))
+}
+
+impl Exact for WrittenFrame {
+    fn is_same(&self, other: &WrittenFrame) -> bool {
+        self.link == other.link && self.bytes == other.bytes
+    }
 }

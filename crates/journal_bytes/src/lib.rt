@@ -21,7 +21,9 @@ mod tunnels;
 mod writing;
 
 pub use entry::{AnyRule, Bytes, ChosenLabels, Entry, Frames, Listed, WrittenFrame};
+pub use exact::Exact;
 pub use frames::written_frames;
 pub use routers::is_same_router;
+pub use rows::are_same_items;
 pub use states::is_same_state;
 pub use writing::{write_event, written_event};
