@@ -23,6 +23,21 @@ fn claim_at(paths: &Table<Key, PathFact>, resv: &(Key, ResvFact)) -> (Key, Claim
     (resv.0, claim)
 }
 
+/// What these reservations claim. The only error is out of memory.
+#[tactic(auto, unfolding(abstract_router::specs::Preempting::claims_of))]
+fn claims_of_rows(
+    alloc: Global,
+    paths: &Table<Key, PathFact>,
+    resvs: &[(Key, ResvFact)],
+) -> Result<Vec<(Key, Claim)>, AllocError>
+    ensures { IfOk result (λ claims. claims.items ≡ claims_of paths.now resvs.now) }
+{
+    resvs
+        .iter()
+        .map(|resv| claim_at(paths, resv))
+        .collect(alloc)
+}
+
 /// What reservations claim, each at the priority at which its LSP's path has it kept. The only error is out of memory.
 pub(crate) fn claims_of(
     alloc: Global,
@@ -31,10 +46,5 @@ pub(crate) fn claims_of(
 ) -> Result<Table<Key, Claim>, AllocError>
     ensures { IfOk result (λ claims. claims ≡ claims_of paths.now resvs.now) }
 {
-    let claims = resvs
-        .as_slice()
-        .iter()
-        .map(|resv| claim_at(paths, resv))
-        .collect(alloc)?;
-    Ok(Table::from_rows(claims))
+    Ok(Table::from_rows(claims_of_rows(alloc, paths, resvs.as_slice())?))
 }

@@ -12,17 +12,17 @@ use std::alloc::AllocError;
 /// Makes edits of rows. The only error is out of memory; then some of them are made.
 #[tactic(auto, using(crate::specs::Editing::edited_last))]
 pub fn edit_rows<K: Ord + Drop, V: Drop>(
-    rows: &mut Table<K, V>,
+    table: &mut Table<K, V>,
     edits: Table<K, Option<V>>,
 ) -> Result<(), AllocError>
-    ensures { OnOk result (rows.new ≡ rows.edited K.cmp edits rows.old) }
+    ensures { OnOk result (table.new ≡ rows.edited K.cmp edits table.old) }
 {
     // From the end on: of two edits of one key the first counts.
     let mut edits = edits.into_rows();
     while let Some((key, now)) = edits.pop() {
         match now {
-            Some(value) => rows.set(key, value)?,
-            None => rows.remove(&key),
+            Some(value) => table.set(key, value)?,
+            None => table.remove(&key),
         }
     }
     Ok(())

@@ -80,7 +80,9 @@ impl<'a> SoundView<'a> {
     /// The state is sound. It does nothing when it runs.
     pub fn soundness(&self)
         ensures sound { IsSound self.now.router self.now.state }
-    {}
+    {
+        let _ = &self.known;
+    }
 
     /// What reservations claim, in the order of the keys.
     fn claim_rows(&self) -> &[(Key, Claim)]
@@ -220,6 +222,7 @@ impl WholeState for SoundView<'_> {
             .any(|path| is_same_session(session, &path.0.session))
     }
 
+    #[tactic(auto, using(message_rules::specs::Conflicts::conflicting_style))]
     fn conflicting_style(&self, link: u16, style: ResvStyle, key: &Key) -> Option<ResvStyle> {
         conflicting_style(link, style, key, self.claim_rows())
     }
