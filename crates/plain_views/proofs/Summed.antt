@@ -6,7 +6,7 @@ use Rattle.std.specs.Option.{option_map_or}
 use Rattle.std.specs.Ordering.{eq_by_cmp, is_eq}
 use Rattle.std.specs.Result.{result_unwrap_or}
 use Rattle.std.specs.declared.cmp.Ordering.TheVariants.{Less}
-use Rattle.std.proofs.Common.{refl, sym, ap, subst, ◌∙◌, arith}
+use Rattle.std.proofs.Common.{refl, ap, subst, ◌∙◌, arith}
 use Rattle.rsvp_bodies.specs.Traffic.{flowspec_rate}
 use Rattle.rsvp_bodies.specs.declared.traffic_fault.TrafficFault.{TrafficFault}
 use Rattle.sorted_rows.specs.ListLaws.{all-both, all-weaker}

@@ -1,5 +1,4 @@
-use Rattle.std.proofs.Common.{◌≡◌, ◌+◌, ◌-◌, ◌≤◌, ℕ, cond, not, true, false, Option, Some, refl, sym, ap, ◌∙◌, arith}
-use Rattle.std.specs.List.{find, range_with_len}
+use Rattle.std.proofs.Common.{◌≤◌, not, sym, ap, ◌∙◌}
 use Rattle.label_space.specs.FreeLabels.{is_free}
 use Rattle.plain_views.proofs.Freed.{found_free, found_held, found_last}
 use Rattle.plain_views.proofs.labels.first_free.Goals as goal

@@ -1,5 +1,5 @@
 -- What is found from here on is what is found of all.
-use Rattle.std.proofs.Common.{◌≡◌, ◌+◌, ◌-◌, ℕ}
+use Rattle.std.proofs.Common.{◌≡◌, ◌+◌, ◌-◌}
 use Rattle.std.specs.List.{find, range_with_len}
 use Rattle.label_space.specs.FreeLabels.{is_free, labels_in}
 use Rattle.plain_views.proofs.labels.first_free.Given as goal
