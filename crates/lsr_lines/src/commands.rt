@@ -1,6 +1,5 @@
 //! Lines that command a router: about the tunnels that begin here, about bypasses, and about static routes.
-ghost use Rattle.std.specs.Prelude.{◌≡◌, ◌≢◌, ◌==◌, ◌<◌, ◌∷◌, List, [], IfOk, OnErr, codes, length};
-ghost use Rattle.std.specs.Bool.{MatchBool};
+ghost use Rattle.std.specs.Prelude.{◌≡◌, ◌≢◌, ◌==◌, ◌<◌, ◌++◌, ◌∷◌, List, [], IfOk, OnErr, codes, length};
 ghost use Rattle.std.specs.List.{list_any};
 ghost use Rattle.std.specs.Net.Grammar.{IsIpv4Text};
 ghost use Rattle.std.specs.Option.{MatchOption};
@@ -17,7 +16,7 @@ ghost use Rattle.lsr_lines.specs.declared.commands.TunnelRequest.{TunnelRequest}
 use crate::numbers::{read_link, read_up_to};
 use crate::words::{next_two, next_word, only_word};
 use rsvp_bodies::attr_numbers::MAX_NAME_LEN;
-use rsvp_bodies::{Attr, Name, Prefix, RateWord, Route, read_prefix, read_rate, read_step};
+use rsvp_bodies::{Attr, Name, Prefix, RateWord, Route, Step, read_prefix, read_rate, read_step};
 use std::alloc::{AllocError, Global};
 use std::net::Ipv4Addr;
 
@@ -216,42 +215,36 @@ fn read_attr(alloc: Global, words: &AttrWords) -> Result<Option<Attr>, AllocErro
     }))
 }
 
-/// Whether the words are the steps of a route.
-fn is_route(words: Option<&str>) -> bool
-    ensures { MatchBool result
-        ((steps : List Step) × SaysRoute (words_left words.entry) steps)
-        ((steps : List Step) → ¬ SaysRoute (words_left words.entry) steps) }
+/// The steps so far and one more, where there was memory for all of them.
+fn with_step(steps: Result<Vec<Step>, AllocError>, step: Step) -> Result<Vec<Step>, AllocError>
+    ensures { (read : List Step) → IfOk steps (λ kept. kept.items ≡ read) → IfOk result (λ kept. kept.items ≡ read ++ step ∷ []) }
+{
+    let mut steps = steps?;
+    steps.push(step)?;
+    Ok(steps)
+}
+
+/// The route whose steps the words are, where there is memory for it; none where they are the steps of none.
+fn read_route(alloc: Global, words: Option<&str>) -> Option<Result<Route, AllocError>>
+    ensures { MatchOption result
+        ((steps : List Step) → ¬ SaysRoute (words_left words.entry) steps)
+        (λ route. IfOk route (SaysRoute (words_left words.entry)) × ((steps : List Step) × SaysRoute (words_left words.entry) steps)) }
 {
     let mut left = words;
     let mut count = 0;
+    let mut steps = Ok(Vec::new(alloc));
     while let Some((word, rest)) = next_word(left) {
         if count == MAX_STEPS {
-            return false;
+            return None;
         }
-        let Some(_step) = read_step(word) else {
-            return false;
-        };
+        steps = with_step(steps, read_step(word)?);
         count += 1;
         left = rest;
     }
-    true
-}
-
-/// The route whose steps the words are. The only error is out of memory.
-fn read_route(alloc: Global, words: Option<&str>) -> Result<Route, AllocError>
-    requires { (steps : List Step) × SaysRoute (words_left words) steps }
-    ensures { IfOk result (SaysRoute (words_left words.entry)) }
-{
-    let mut left = words;
-    let mut steps = Vec::new(alloc);
-    while let Some((word, rest)) = next_word(left) {
-        let Some(step) = read_step(word) else {
-            unreachable!()
-        };
-        steps.push(step)?;
-        left = rest;
+    match steps {
+        Ok(steps) => Some(Ok(Route::from_vec(steps))),
+        Err(error) => Some(Err(error)),
     }
-    Ok(Route::from_vec(steps))
 }
 
 /// The number, the endpoint and the rate of a tunnel that its words say.
@@ -277,9 +270,9 @@ fn read_tunnel(alloc: Global, left: Option<&str>) -> Result<Option<TunnelRequest
     let Some((number, endpoint, rate)) = read_ends(&words) else {
         return Ok(None);
     };
-    if !is_route(words.steps) {
+    let Some(route) = read_route(alloc, words.steps) else {
         return Ok(None);
-    }
+    };
     let Some(attr) = read_attr(alloc, &words.attr)? else {
         return Ok(None);
     };
@@ -288,7 +281,7 @@ fn read_tunnel(alloc: Global, left: Option<&str>) -> Result<Option<TunnelRequest
         endpoint,
         rate,
         attr,
-        route: read_route(alloc, words.steps)?,
+        route: route?,
     }))
 }
 
@@ -309,13 +302,13 @@ fn change_said(
     let Some(rate) = read_rate(rate) else {
         return Ok(None);
     };
-    if !is_route(steps) {
+    let Some(route) = read_route(alloc, steps) else {
         return Ok(None);
-    }
+    };
     Ok(Some(ChangeRequest {
         number,
         rate,
-        route: read_route(alloc, steps)?,
+        route: route?,
     }))
 }
 

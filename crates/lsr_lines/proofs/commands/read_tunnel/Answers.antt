@@ -13,7 +13,7 @@ returns-in_default-read_ends-clause-tunnel c = λ t says.
 pub returns-in_err-attr-clause-memory : goal.returns-in_err-attr-clause-memory
 returns-in_err-attr-clause-memory c =
     let ends = c.in-Some-read_ends in
-    let route = rw c.if-not-is_route.false at c.is_route.ensures in
+    let route = c.in-Some-read_route.ensures.1 in
     let attr = c.in_err-attr.ensures.memory in
     let t : TunnelRequest = record { number = ends.number; endpoint = ends.endpoint; rate = ends.rate; attr = attr.0; route = route.0 } in
     for_error c.from_residual.result (
@@ -21,12 +21,12 @@ returns-in_err-attr-clause-memory c =
       subst (λ words. SaysTunnel words t) (sym c.in-Some.ensures) (ends.ensures.0, ends.ensures.1, ends.ensures.2, attr.1, route.1),
     )
 
-pub returns-in_err-read_route-clause-memory : goal.returns-in_err-read_route-clause-memory
-returns-in_err-read_route-clause-memory c =
+pub returns-in_err-route-clause-memory : goal.returns-in_err-route-clause-memory
+returns-in_err-route-clause-memory c =
     let ends = c.in-Some-read_ends in
-    let route = rw c.if-not-is_route.false at c.is_route.ensures in
+    let route = c.in-Some-read_route.ensures.1 in
     let t : TunnelRequest = record { number = ends.number; endpoint = ends.endpoint; rate = ends.rate; attr = c.in-Some-2.attr; route = route.0 } in
-    for_error c.from_residual-in_err-read_route.result (
+    for_error c.from_residual-in_err-route.result (
       t,
       subst (λ words. SaysTunnel words t) (sym c.in-Some.ensures) (ends.ensures.0, ends.ensures.1, ends.ensures.2, rw c.in-Some-2.is at c.in_ok-attr.ensures.attr, route.1),
     )
