@@ -4,6 +4,7 @@
 
 mod cores;
 mod gate;
+mod handled;
 mod readers;
 mod reading;
 mod reconciling;
@@ -12,6 +13,7 @@ mod worker;
 
 pub use cores::{Core, Opened, Port, open};
 pub use gate::{Gate, OpenGate};
+pub use handled::{DatagramCounts, Handled};
 pub use journal_bytes::{is_same_router, is_same_state};
 pub use lookup_plane::{Closed, OpenFault};
 pub use readers::CoreReader;
