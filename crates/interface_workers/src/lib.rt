@@ -19,6 +19,6 @@ pub use lookup_plane::{Closed, OpenFault};
 pub use readers::CoreReader;
 pub use reading::read_by;
 pub use reconciling::{Mismatch, OneRun, reconcile, whole_journals_are_runs};
-pub use run_journal::{Entry, Mark, Receipt, Segment};
+pub use run_journal::{CountedEntry, Entry, Mark, Receipt, Segment};
 pub use wire::{Wire, WireFault};
 pub use worker::{Work, serve_event, serve_link};
