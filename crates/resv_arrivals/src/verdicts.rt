@@ -28,9 +28,10 @@ ghost use Rattle.resv_arrivals.specs.Progresses.{IsReached, IsVerdict, fact_at, 
 use crate::asked::Asked;
 use crate::claims::{fits, is_claimed, style_in_conflict};
 use crate::progress::Progress;
+use crate::requests::request_of;
 use forwarding_table::is_label;
 use lsr_facts::{PathFact, Request, RsvpError, style_conflict};
-use message_rules::{has_been_here, leaves_by, request_of, traffic_error};
+use message_rules::{has_been_here, leaves_by, traffic_error};
 use rsvp_contents::FlowDescriptor;
 use state_views::{StateView, WholeState};
 
