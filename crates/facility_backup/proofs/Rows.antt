@@ -7,7 +7,7 @@ use Rattle.std.specs.Net.Addr.{ipv4_octets}
 use Rattle.std.specs.Ordering.{eq_by_cmp, nat_cmp}
 use Rattle.std.specs.declared.cmp.Ordering.{Ordering}
 use Rattle.std.specs.declared.cmp.Ordering.TheVariants.{Equal}
-use Rattle.std.proofs.Common.{refl, sym, ap, subst, ◌∙◌, get_or, take, arith}
+use Rattle.std.proofs.Common.{refl, sym, ap, subst, ◌∙◌, get_or, take}
 use Rattle.std.proofs.lemmas.Bool.{and_parts, eq-eqb, eqb-true}
 use Rattle.std.proofs.lemmas.Cmp.{nat_list_eq_equiv}
 use Rattle.std.proofs.lemmas.List.{take_more}
