@@ -128,7 +128,7 @@ fn taken<V: StateView>(
 /// Whether the path is new, and there is no room for another.
 fn is_full<V: WholeState>(view: &V, known: Option<&PathFact>) -> bool
     ensures { result ≡ (is_none (option_copied known.entry)
-        && nat_le 1024 (length (V.state view.now).facts.paths)) }
+        && nat_le max_lsps (length (V.state view.now).facts.paths)) }
 {
     match known {
         Some(_) => false,
