@@ -6,6 +6,7 @@ use Rattle.std.proofs.lemmas.Bool.{cond_both}
 use Rattle.rsvp_contents.specs.declared.messages.Path.{Path}
 use Rattle.rsvp_bodies.specs.TokenBuckets.{token_rate}
 use Rattle.lsr_facts.specs.Errors.{bad_tspec, routing_loop, unsupported_l3pid}
+use Rattle.lsr_facts.specs.Limits.{max_lsps}
 use Rattle.lsr_facts.specs.Orders.{key_cmp}
 use Rattle.lsr_facts.specs.Tunnels.{is_head}
 use Rattle.lsr_facts.specs.declared.choice.Choice.{Choice}
