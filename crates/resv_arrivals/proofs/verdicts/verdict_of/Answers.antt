@@ -12,5 +12,5 @@ returns-in-Some g c =
     let p = c.args.progress.now in
     let asked = c.args.asked.now in
     subst (IsVerdict r s p asked c.verdict_on_path.result)
-    (sym (own_path_is r (reached s p).state asked.key (fact_at s.facts.moment asked) c.in-Some.path.now (sym c.path.ensures ∙ ap option_copied c.in-Some.is)))
+    (sym (own_path_is r (reached s p).state asked.key (fact_at s.facts.moment asked) c.in-Some.path.now (sym c.path.ensures.path ∙ ap option_copied c.in-Some.is)))
     c.verdict_on_path.ensures
