@@ -1,7 +1,8 @@
 //! A worker: it takes frames from a link's wire, feeds the core what they say, and sends what the core answers.
 
-ghost use Rattle.std.specs.Prelude.{◌≡◌, ◌+◌, ◌-◌, ◌^◌, ◌<◌, ◌≤◌, IfOk, length, vec_capacity};
+ghost use Rattle.std.specs.Prelude.{◌≡◌, ◌≢◌, ◌+◌, ◌-◌, ◌^◌, ◌<◌, ◌≤◌, IfOk, length, vec_capacity};
 ghost use Rattle.interface_workers.specs.Chains.{HasReceiptFor, HasRoom, IsChain, IsFed, WorkGoesOn};
+ghost use Rattle.interface_workers.specs.declared.handled.Handled.TheVariants.{Fed};
 ghost use Rattle.lookup_plane.specs.Changes.{StartsWith};
 
 use crate::cores::{Core, Port};
@@ -58,7 +59,9 @@ fn send_all<W: Wire>(wire: &mut W, frames: &Frames) {
 
 /// Carries a frame that is passed on by its labels, where there is memory for its bytes; else it is lost. A payload that has
 /// arrived goes no further.
-fn pass_on<W: Wire>(alloc: Global, wire: &mut W, passed: &Passed) -> Handled {
+fn pass_on<W: Wire>(alloc: Global, wire: &mut W, passed: &Passed) -> Handled
+    ensures { result ≢ Fed }
+{
     let Passed::Sent { link, frame } = passed else {
         return Handled::Delivered;
     };
@@ -176,9 +179,10 @@ impl<'a, L: Ledger, R: Wait + Drop, T: Wait, G: Gate> Station<'a, L, R, T, G> {
         ensures later { StartsWith result.1.seen reader.seen }
         ensures learnt { result.1.at_least ≡ reader.at_least }
     {
-        match read_by(self.alloc, self.core.router(), reader, link, bytes) {
-            (Some(answer), reader) => (Taken::Came(answer), reader),
-            (None, reader) => (Taken::NotLetIn, reader),
+        let (answer, reader) = read_by(self.alloc, self.core.router(), reader, link, bytes);
+        match answer {
+            Some(answer) => (Taken::Came(answer), reader),
+            None => (Taken::NotLetIn, reader),
         }
     }
 

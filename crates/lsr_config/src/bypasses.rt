@@ -1,17 +1,15 @@
 // The bypasses of a document.
-ghost use Rattle.std.specs.Prelude.{List, [], ◌∷◌};
+ghost use Rattle.std.specs.Prelude.{List};
 ghost use Rattle.toml.specs.Data.{Data};
 ghost use Rattle.toml.specs.View.{view};
-ghost use Rattle.lsr_config.specs.Rules.{HasNumber, known_number};
 ghost use Rattle.lsr_config.specs.Values.{SaysEach};
 ghost use Rattle.lsr_config.specs.Documents.{table_rules, records, bypass_rules, SaysBypass, SaysLink, SaysTunnel};
 ghost use Rattle.lsr_config.specs.Reading.{Judges};
 
 use crate::fault::ConfigFault;
 use crate::key::Key;
-use crate::links::{FIRST_LINK, check_number, has_number};
+use crate::links::{FIRST_LINK, check_named, check_number};
 use crate::reading::{check_count, number_at, records_of};
-use crate::routes::check_link;
 use crate::tunnels::FIRST_TUNNEL;
 use lsr_facts::limits::MAX_BYPASSES;
 use lsr_facts::{Bypass, Link, Tunnel};
@@ -59,28 +57,14 @@ fn read_bypass(
     let number = number_at(table, Key::Number, FIRST_BYPASS)?;
     check_number(number, before)?;
     let tunnel = number_at(table, Key::Tunnel, FIRST_TUNNEL)?;
-    check_tunnel(tunnel, tunnels)?;
+    check_named(tunnel, Key::Tunnel, tunnels)?;
     let link = number_at(table, Key::Link, FIRST_LINK)?;
-    check_link(link, links)?;
+    check_named(link, Key::Link, links)?;
     check_count(Key::Bypass, MAX_BYPASSES, before.len())?;
-    Ok((
-        number,
-        Bypass {
-            tunnel,
-            link,
-            capacity: 0,
-        },
-    ))
-}
-
-/// Refuses the number of a tunnel that isn't there.
-fn check_tunnel(number: u16, tunnels: &[(u16, Tunnel)]) -> Result<(), ConfigFault>
-    ensures { (d : Data) (tunnel_records : List Data) → HasNumber 0 Key.Tunnel d number →
-        SaysEach SaysTunnel tunnel_records tunnels.now →
-        Judges (known_number 0 Key.Tunnel tunnel_records d ∷ []) (λ _. Unit {0}) result }
-{
-    if has_number(number, tunnels) {
-        return Ok(());
-    }
-    Err(ConfigFault::UnknownName(Key::Tunnel))
+    let bypass = Bypass {
+        tunnel,
+        link,
+        capacity: 0,
+    };
+    Ok((number, bypass))
 }

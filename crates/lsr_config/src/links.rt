@@ -4,7 +4,7 @@ ghost use Rattle.std.specs.Net.Addr.{ipv4_octets};
 ghost use Rattle.std.specs.Prelude.{◌≡◌, ◌==◌, ◌↔◌, ℕ, List, [], ◌∷◌, IsTrue, bytes_eq};
 ghost use Rattle.toml.specs.Data.{Data};
 ghost use Rattle.toml.specs.View.{view};
-ghost use Rattle.lsr_config.specs.Rules.{HasAddress, HasNumber, IsFree, new_number, new_address};
+ghost use Rattle.lsr_config.specs.Rules.{HasAddress, HasNumber, IsFree, known_number, new_number, new_address};
 ghost use Rattle.lsr_config.specs.Documents.{table_rules, records, link_rules, SaysLink};
 ghost use Rattle.lsr_config.specs.Values.{SaysEach};
 ghost use Rattle.lsr_config.specs.Reading.{Judges};
@@ -21,7 +21,7 @@ use std::net::Ipv4Addr;
 use toml::Value;
 
 /// The least number of a link.
-pub(crate) const FIRST_LINK: u64 = 1;
+pub const FIRST_LINK: u64 = 1;
 
 /// The least limit of a link, in bytes per second.
 const NO_BANDWIDTH: u64 = 0;
@@ -95,6 +95,18 @@ pub(crate) fn check_number<V>(number: u16, before: &[(u16, V)]) -> Result<(), Co
         return Err(ConfigFault::Repeated(Key::Number));
     }
     Ok(())
+}
+
+/// Refuses a number, which a record gives the key, that none of the rows has.
+pub(crate) fn check_named<V>(number: u16, key: Key, rows: &[(u16, V)]) -> Result<(), ConfigFault>
+    ensures { (first : ℕ) (d : Data) (others : List Data) → HasNumber first key d number →
+        SaysEach (λ other row. HasNumber first Key.Number other row.0) others rows.now →
+        Judges (known_number first key others d ∷ []) (λ _. Unit {0}) result }
+{
+    if has_number(number, rows) {
+        return Ok(());
+    }
+    Err(ConfigFault::UnknownName(key))
 }
 
 /// Whether one of the links has this address.

@@ -3,7 +3,7 @@ ghost use Rattle.std.specs.Prelude.{◌≡◌, ◌≤◌, List, length, Some, No
 ghost use Rattle.toml.specs.Data.{Data, get};
 ghost use Rattle.toml.specs.View.{view};
 ghost use Rattle.lsr_config.specs.Keys.{key_name};
-ghost use Rattle.lsr_config.specs.Values.{SaysWhole, SaysFlag, SaysLabels, SaysSteps, SaysRate, SaysName};
+ghost use Rattle.lsr_config.specs.Values.{SaysWhole, SaysFlag, SaysLabels, SaysSocket, SaysSteps, SaysRate, SaysName};
 ghost use Rattle.lsr_config.specs.Rules.{an_address, a_socket, a_whole, a_flag, some_labels, a_prefix, some_tables, some_steps, a_rate, a_name, Has, HasAddress, HasNumber, HasPrefix, few};
 ghost use Rattle.lsr_config.specs.Documents.{needed, optional, records, HasOr};
 ghost use Rattle.lsr_config.specs.Reading.{Judges};
@@ -18,7 +18,7 @@ use crate::values::{
 use lsr_facts::LabelRange;
 use rsvp_bodies::{Name, Prefix, RateWord, Route};
 use std::alloc::Global;
-use std::net::Ipv4Addr;
+use std::net::{Ipv4Addr, SocketAddr};
 use toml::Value;
 
 /// The greatest number of a link, of a tunnel or of a bypass.
@@ -61,6 +61,15 @@ pub(crate) fn address_at(table: &Value, key: Key) -> Result<Ipv4Addr, ConfigFaul
     said(address_in(value), key)
 }
 
+/// The socket address that the table gives a key.
+pub fn socket_at(table: &Value, key: Key) -> Result<SocketAddr, ConfigFault>
+    ensures { Judges (needed a_socket key (view table.now))
+        (λ address. Has key (view table.now) (λ v. SaysSocket v address)) result }
+{
+    let value = needed(table, key)?;
+    said(socket_in(value), key)
+}
+
 /// The whole number, from `least` to `most`, that the table gives a key.
 pub(crate) fn whole_at(table: &Value, key: Key, least: u64, most: u64) -> Result<u64, ConfigFault>
     ensures judged { Judges (needed (a_whole least most) key (view table.now))
@@ -72,7 +81,7 @@ pub(crate) fn whole_at(table: &Value, key: Key, least: u64, most: u64) -> Result
 }
 
 /// The number of 16 bits, from the first, that the table gives a key.
-pub(crate) fn number_at(table: &Value, key: Key, first: u64) -> Result<u16, ConfigFault>
+pub fn number_at(table: &Value, key: Key, first: u64) -> Result<u16, ConfigFault>
     ensures { Judges (needed (a_whole first 65535) key (view table.now)) (HasNumber first key (view table.now)) result }
 {
     let number = whole_at(table, key, first, LAST_NUMBER)?;
@@ -187,7 +196,7 @@ pub(crate) fn records_of(document: &Value, key: Key) -> Result<&[Value], ConfigF
 }
 
 /// What stands under a key of the document in place of records, none where no array does.
-pub(crate) fn records_at<'a>(document: &'a Value, key: Key) -> &'a [Value]
+pub fn records_at<'a>(document: &'a Value, key: Key) -> &'a [Value]
     ensures { map view result.now ≡ records key (view document.now) }
 {
     match value_at(document, key) {

@@ -4,14 +4,14 @@ ghost use Rattle.std.specs.Net.Addr.{ipv4_octets};
 ghost use Rattle.std.specs.Prelude.{◌≡◌, ◌==◌, ◌&&◌, List, [], ◌∷◌, bytes_eq};
 ghost use Rattle.toml.specs.Data.{Data};
 ghost use Rattle.toml.specs.View.{view};
-ghost use Rattle.lsr_config.specs.Rules.{HasNumber, HasPrefix, new_prefix, known_number};
+ghost use Rattle.lsr_config.specs.Rules.{HasPrefix, new_prefix};
 ghost use Rattle.lsr_config.specs.Documents.{table_rules, records, route_rules, SaysLink, SaysRoute};
 ghost use Rattle.lsr_config.specs.Values.{SaysEach};
 ghost use Rattle.lsr_config.specs.Reading.{Judges};
 
 use crate::fault::ConfigFault;
 use crate::key::Key;
-use crate::links::{FIRST_LINK, has_number};
+use crate::links::{FIRST_LINK, check_named};
 use crate::reading::{check_count, number_at, prefix_at, records_of};
 use lsr_facts::Link;
 use lsr_facts::limits::MAX_ROUTES;
@@ -53,7 +53,7 @@ fn read_route(
     let prefix = prefix_at(table, Key::Prefix)?;
     check_prefix(prefix, before)?;
     let link = number_at(table, Key::Link, FIRST_LINK)?;
-    check_link(link, links)?;
+    check_named(link, Key::Link, links)?;
     check_count(Key::Route, MAX_ROUTES, before.len())?;
     Ok((prefix, link))
 }
@@ -75,16 +75,4 @@ fn check_prefix(prefix: Prefix, before: &[(Prefix, u16)]) -> Result<(), ConfigFa
         return Err(ConfigFault::Repeated(Key::Prefix));
     }
     Ok(())
-}
-
-/// Refuses the number of a link that isn't there.
-pub(crate) fn check_link(number: u16, links: &[(u16, Link)]) -> Result<(), ConfigFault>
-    ensures { (d : Data) (link_records : List Data) → HasNumber 1 Key.Link d number →
-        SaysEach SaysLink link_records links.now →
-        Judges (known_number 1 Key.Link link_records d ∷ []) (λ _. Unit {0}) result }
-{
-    if has_number(number, links) {
-        return Ok(());
-    }
-    Err(ConfigFault::UnknownName(Key::Link))
 }

@@ -45,10 +45,7 @@ fn steps_of(alloc: Global, values: &[Value]) -> Result<Option<Route>, AllocError
 fn step_in(value: &Value) -> Option<Step>
     ensures { Finds (SaysStep (view value.now)) result }
 {
-    match value.as_str() {
-        Some(text) => step_of(text),
-        None => None,
-    }
+    step_of(value.as_str()?)
 }
 
 /// The step that the text writes, where it leads to a prefix of at most 32 bits.
@@ -76,10 +73,7 @@ fn is_in_address(step: &Step) -> bool
 pub(crate) fn rate_in(value: &Value) -> Option<RateWord>
     ensures { Finds (SaysRate (view value.now)) result }
 {
-    match value.as_str() {
-        Some(text) => rate_of(text),
-        None => None,
-    }
+    rate_of(value.as_str()?)
 }
 
 /// The rate that the text writes, where it is a number of bytes per second.

@@ -25,20 +25,14 @@ pub(crate) const WHOLE_ADDRESS: u8 = 32;
 pub(crate) fn address_in(value: &Value) -> Option<Ipv4Addr>
     ensures { Finds (SaysAddress (view value.now)) result }
 {
-    match value.as_str() {
-        Some(text) => text.parse().ok(),
-        None => None,
-    }
+    value.as_str()?.parse().ok()
 }
 
 /// The socket address that the value writes.
 pub(crate) fn socket_in(value: &Value) -> Option<SocketAddr>
     ensures { Finds (SaysSocket (view value.now)) result }
 {
-    match value.as_str() {
-        Some(text) => text.parse().ok(),
-        None => None,
-    }
+    value.as_str()?.parse().ok()
 }
 
 /// The whole number that the value is, from `least` to `most`.
@@ -47,10 +41,7 @@ pub(crate) fn whole_in(value: &Value, least: u64, most: u64) -> Option<u64>
     ensures bound { IfSome result (λ n. n ≤ most) }
 {
     let number = natural_in(value)?;
-    if number < least {
-        return None;
-    }
-    if number > most {
+    if number < least || number > most {
         return None;
     }
     Some(number)
@@ -60,17 +51,7 @@ pub(crate) fn whole_in(value: &Value, least: u64, most: u64) -> Option<u64>
 fn natural_in(value: &Value) -> Option<u64>
     ensures { Finds (λ n. view value.now ≡ integer (pos n)) result }
 {
-    match value.as_integer() {
-        Some(number) => natural_of(number),
-        None => None,
-    }
-}
-
-/// The number, where it isn't below 0.
-fn natural_of(number: i64) -> Option<u64>
-    ensures { Finds (λ n. number ≡ pos n) result }
-{
-    u64::try_from(number).ok()
+    u64::try_from(value.as_integer()?).ok()
 }
 
 /// The truth value that the value is.
@@ -84,10 +65,7 @@ pub(crate) fn flag_in(value: &Value) -> Option<bool>
 pub(crate) fn labels_in(value: &Value) -> Option<LabelRange>
     ensures { Finds (SaysLabels (view value.now)) result }
 {
-    match value.as_array() {
-        Some(array) => range_of(array.as_slice()),
-        None => None,
-    }
+    range_of(value.as_array()?.as_slice())
 }
 
 /// The labels of which these are the first and the last.
@@ -99,10 +77,7 @@ fn range_of(ends: &[Value]) -> Option<LabelRange>
     };
     let first = whole_in(first, FIRST_LABEL, LAST_LABEL)? as u32;
     let last = whole_in(last, FIRST_LABEL, LAST_LABEL)? as u32;
-    if first > last {
-        return None;
-    }
-    if last - first >= MAX_LABELS {
+    if first > last || last - first >= MAX_LABELS {
         return None;
     }
     Some(LabelRange { first, last })
@@ -112,10 +87,7 @@ fn range_of(ends: &[Value]) -> Option<LabelRange>
 pub(crate) fn prefix_in(value: &Value) -> Option<Prefix>
     ensures { Finds (SaysPrefix (view value.now)) result }
 {
-    match value.as_str() {
-        Some(text) => prefix_of(text),
-        None => None,
-    }
+    prefix_of(value.as_str()?)
 }
 
 /// The prefix that the text writes.
@@ -148,10 +120,7 @@ pub(crate) fn tables_in(value: &Value) -> Option<&[Value]>
         ((tables : List Data) → ¬ SaysTables (view value.now) tables)
         (λ tables. SaysTables (view value.now) (map view tables.now)) }
 {
-    match value.as_array() {
-        Some(array) => only_tables(array.as_slice()),
-        None => None,
-    }
+    only_tables(value.as_array()?.as_slice())
 }
 
 /// The values, where they are all tables.

@@ -3,6 +3,8 @@ use Rattle.std.proofs.Common.{◌≡◌, ◌≢◌, ◌<◌, ◌≤◌, ◌*◌,
 use Rattle.std.proofs.lemmas.Bool.{true≢false}
 use Rattle.std.specs.List.{flat_map, onto_first}
 use Rattle.std.specs.Char.{digit_value}
+use Rattle.std.specs.Net.Grammar.{IsIpv4Text}
+use Rattle.std.specs.declared.net.ipv4_addr.Ipv4Addr.{Ipv4Addr}
 use Rattle.std.specs.Str.Parse.{IsNumeral, digits_value, without_leading_plus}
 use Rattle.std.proofs.lemmas.Int.Digits.{digits_value-lt}
 use Rattle.std.proofs.lemmas.List.Splits.{slice_split-cons_no, length-slice_split}
@@ -11,10 +13,14 @@ use Rattle.rsvp_bodies.specs.Steps.{step_bytes}
 use Rattle.rsvp_bodies.specs.declared.prefix.Prefix.{Prefix}
 use Rattle.rsvp_bodies.specs.declared.step.Step.{Step}
 use Rattle.rsvp_bodies.specs.declared.step.Step.TheVariants.{Ipv4, Other}
+use Rattle.rsvp_bodies.specs.declared.attr.Attr.{Attr}
+use Rattle.rsvp_bodies.specs.RateWords.{IsRateText, tspec_with}
 use Rattle.rsvp_bodies.specs.RouteWords.{IsStepText}
-use Rattle.lsr_lines.specs.Commands.{is_space, words_of, words_left, IsFlagsText, AreSteps, SaysCommand, SaysStatic}
-use Rattle.lsr_lines.specs.declared.commands.CommandRequest.{CommandRequest}
-use Rattle.lsr_lines.specs.declared.commands.CommandRequest.TheVariants as commands
+use Rattle.abstract_paths.specs.declared.tunnels.NewTunnel.{NewTunnel}
+use Rattle.lsr_lines.specs.Commands.{is_space, words_of, words_left, IsFlagsText, AreSteps, SaysAttr, SaysCommand, SaysRoute, SaysStatic, SaysTunnel}
+use Rattle.lsr_lines.specs.Numbers.{NamesUpTo}
+use Rattle.abstract_paths.specs.declared.commands.Command.{Command}
+use Rattle.abstract_paths.specs.declared.commands.Command.TheVariants as commands
 
 -- a byte that is no space goes onto the first word
 word_more : (b : ℕ) (rest : List ℕ) → b ≢ 32 → words_of (b ∷ rest) ≡ onto_first b (words_of rest)
@@ -101,6 +107,15 @@ bytes_of_steps (word ∷ words) (Ipv4 loose prefix ∷ steps) h =
     omega (arith, octets, length-append (prefix.address.octets ++ (prefix.length ∷ 0 ∷ [])) (flat_map step_bytes steps), length-append prefix.address.octets (prefix.length ∷ 0 ∷ []), bytes_of_steps words steps h.1)
 bytes_of_steps (word ∷ words) (Other bytes ∷ steps) h = absurd h.0
 
+-- words that write its parts say a tunnel
+pub tunnel_said : (number endpoint rate setup hold flags name : List ℕ) (steps : List (List ℕ)) (n : ℕ) (e : Ipv4Addr) (r : ℕ)
+    → NamesUpTo 65535 number n → IsIpv4Text endpoint e → IsRateText rate r → ((attr : Attr) × SaysAttr setup hold flags name attr) → ((route : List Step) × SaysRoute steps route)
+    → (t : NewTunnel) × SaysTunnel (number ∷ endpoint ∷ rate ∷ setup ∷ hold ∷ flags ∷ name ∷ steps) t
+tunnel_said number endpoint rate setup hold flags name steps n e r names at asks attr route = (
+  record { number = n; endpoint = e; route = route.0; tspec = tspec_with r; whole = refl; attr = attr.0; fast_reroute = None },
+  (names, at, (r, asks, refl), attr.1, route.1, refl),
+)
+
 -- a text has a word
 pub words_some : (text : List ℕ) → 1 ≤ length (words_of text)
 words_some text = omega (arith, length-slice_split is_space text)
@@ -110,7 +125,7 @@ more_words None e = absurd (true≢false e)
 more_words (Some text) e = words_some text.now
 
 -- a line that begins with `route` is about nothing else
-pub no_static : (word : List ℕ) (others : List (List ℕ)) → word ≡ codes "route" → ((route : Prefix × ℕ) → ¬ SaysStatic others route.0 route.1) → (command : CommandRequest) → ¬ SaysCommand (word ∷ others) command
+pub no_static : (word : List ℕ) (others : List (List ℕ)) → word ≡ codes "route" → ((route : Prefix × ℕ) → ¬ SaysStatic others route.0 route.1) → (command : Command) → ¬ SaysCommand (word ∷ others) command
 no_static word others e none (commands.AddTunnel t) h = grind arith
 no_static word others e none (commands.ChangeTunnel c) h = grind arith
 no_static word others e none (commands.CancelChange number) h = grind arith

@@ -7,14 +7,14 @@ use Rattle.rsvp_bodies.specs.declared.prefix.Prefix.{Prefix}
 use Rattle.rsvp_bodies.specs.declared.step.Step.{Step}
 use Rattle.rsvp_bodies.specs.Names.{IsName}
 use Rattle.rsvp_bodies.specs.declared.attr.Attr.{Attr}
-use Rattle.rsvp_bodies.specs.RateWords.{IsRateText}
+use Rattle.rsvp_bodies.specs.RateWords.{IsRateText, tspec_with}
 use Rattle.rsvp_bodies.specs.RouteWords.{IsPrefixText, IsStepText}
+use Rattle.abstract_paths.specs.declared.commands.Command.{Command}
+use Rattle.abstract_paths.specs.declared.commands.Command.TheVariants as commands
+use Rattle.abstract_paths.specs.declared.tunnels.NewBypass.{NewBypass}
+use Rattle.abstract_paths.specs.declared.tunnels.NewTunnel.{NewTunnel}
+use Rattle.abstract_paths.specs.declared.tunnels.TunnelChange.{TunnelChange}
 use Rattle.lsr_lines.specs.Numbers.{NamesLink, NamesUpTo}
-use Rattle.lsr_lines.specs.declared.commands.BypassRequest.{BypassRequest}
-use Rattle.lsr_lines.specs.declared.commands.ChangeRequest.{ChangeRequest}
-use Rattle.lsr_lines.specs.declared.commands.CommandRequest.{CommandRequest}
-use Rattle.lsr_lines.specs.declared.commands.CommandRequest.TheVariants as commands
-use Rattle.lsr_lines.specs.declared.commands.TunnelRequest.{TunnelRequest}
 use denote.Ref.{Bor}
 
 -- a space
@@ -62,16 +62,20 @@ AreSteps words steps = ⊥
 abbrev pub SaysRoute : List (List ℕ) → List Step → Type 0
 SaysRoute words steps = AreSteps words steps × (length steps ≤ 8191)
 
--- `N ENDPOINT RATE SETUP HOLD FLAGS NAME [ROUTE..]`
-abbrev pub SaysTunnel : List (List ℕ) → TunnelRequest → Type 0
+-- `RATE`: the traffic is that of the rate
+abbrev pub SaysTraffic : List ℕ → List ℕ → Type 0
+SaysTraffic text tspec = (rate : ℕ) × IsRateText text rate × (tspec ≡ tspec_with rate)
+
+-- `N ENDPOINT RATE SETUP HOLD FLAGS NAME [ROUTE..]`, without a FAST_REROUTE
+abbrev pub SaysTunnel : List (List ℕ) → NewTunnel → Type 0
 SaysTunnel (number ∷ endpoint ∷ rate ∷ setup ∷ hold ∷ flags ∷ name ∷ steps) t =
-    NamesUpTo 65535 number t.number × IsIpv4Text endpoint t.endpoint × IsRateText rate t.rate
-    × SaysAttr setup hold flags name t.attr × SaysRoute steps t.route
+    NamesUpTo 65535 number t.number × IsIpv4Text endpoint t.endpoint × SaysTraffic rate t.tspec
+    × SaysAttr setup hold flags name t.attr × SaysRoute steps t.route × (t.fast_reroute ≡ None)
 SaysTunnel words t = ⊥
 
 -- `N RATE [ROUTE..]`
-abbrev pub SaysChange : List (List ℕ) → ChangeRequest → Type 0
-SaysChange (number ∷ rate ∷ steps) c = NamesUpTo 65535 number c.number × IsRateText rate c.rate × SaysRoute steps c.route
+abbrev pub SaysChange : List (List ℕ) → TunnelChange → Type 0
+SaysChange (number ∷ rate ∷ steps) c = NamesUpTo 65535 number c.number × SaysTraffic rate c.tspec × SaysRoute steps c.route
 SaysChange words c = ⊥
 
 -- `N`
@@ -80,7 +84,7 @@ SaysNumber (number ∷ []) n = NamesUpTo 65535 number n
 SaysNumber words n = ⊥
 
 -- `N TUNNEL LINK`
-abbrev pub SaysBypass : List (List ℕ) → BypassRequest → Type 0
+abbrev pub SaysBypass : List (List ℕ) → NewBypass → Type 0
 SaysBypass (number ∷ tunnel ∷ link ∷ []) b = NamesUpTo 65535 number b.number × NamesUpTo 65535 tunnel b.tunnel × NamesLink link b.link
 SaysBypass words b = ⊥
 
@@ -96,7 +100,7 @@ SaysStatic words prefix link = ⊥
 
 -- What words command a router: `tunnel N ENDPOINT RATE SETUP HOLD FLAGS NAME [ROUTE..]`, `change N RATE [ROUTE..]`,
 -- `cancel N`, `drop N`, `bypass N TUNNEL LINK`, `unbypass N`, `route PREFIX LINK` or `unroute PREFIX`.
-abbrev pub SaysCommand : List (List ℕ) → CommandRequest → Type 0
+abbrev pub SaysCommand : List (List ℕ) → Command → Type 0
 SaysCommand words (commands.AddTunnel t) = BeginsWith (codes "tunnel") (λ others. SaysTunnel others t) words
 SaysCommand words (commands.ChangeTunnel c) = BeginsWith (codes "change") (λ others. SaysChange others c) words
 SaysCommand words (commands.CancelChange number) = BeginsWith (codes "cancel") (λ others. SaysNumber others number) words
@@ -109,5 +113,5 @@ SaysCommand words (commands.DropRoute prefix) = BeginsWith (codes "unroute") (λ
 -- a line that asks for a tunnel, or for a tunnel to be changed
 abbrev pub BringsTunnel : List ℕ → Type 0
 BringsTunnel line =
-    ((t : TunnelRequest) × SaysCommand (words_of line) (commands.AddTunnel t))
-    ⊎ ((c : ChangeRequest) × SaysCommand (words_of line) (commands.ChangeTunnel c))
+    ((t : NewTunnel) × SaysCommand (words_of line) (commands.AddTunnel t))
+    ⊎ ((c : TunnelChange) × SaysCommand (words_of line) (commands.ChangeTunnel c))

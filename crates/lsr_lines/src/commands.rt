@@ -1,84 +1,26 @@
 //! Lines that command a router: about the tunnels that begin here, about bypasses, and about static routes.
-ghost use Rattle.std.specs.Prelude.{◌≡◌, ◌≢◌, ◌==◌, ◌<◌, ◌∷◌, List, [], IfOk, OnErr, codes, length};
-ghost use Rattle.std.specs.Bool.{MatchBool};
+ghost use Rattle.std.specs.Prelude.{◌≡◌, ◌≢◌, ◌==◌, ◌<◌, ◌++◌, ◌∷◌, List, [], IfOk, OnErr, codes, length};
 ghost use Rattle.std.specs.List.{list_any};
 ghost use Rattle.std.specs.Net.Grammar.{IsIpv4Text};
 ghost use Rattle.std.specs.Option.{MatchOption};
+ghost use Rattle.abstract_paths.specs.declared.tunnels.NewTunnel.{NewTunnel};
+ghost use Rattle.abstract_paths.specs.declared.tunnels.TunnelChange.{TunnelChange};
 ghost use Rattle.rsvp_bodies.specs.declared.step.Step.{Step};
 ghost use Rattle.rsvp_bodies.specs.declared.attr.Attr.{Attr};
 ghost use Rattle.rsvp_bodies.specs.Finding.{Finds};
 ghost use Rattle.rsvp_bodies.specs.RateWords.{IsRateText};
 ghost use Rattle.lsr_lines.specs.Commands.{BringsTunnel, IsFlagsText, SaysAttr, SaysBypass, SaysChange, SaysCommand, SaysNumber, SaysPrefix, SaysRoute, SaysStatic, SaysTunnel, words_left, words_of};
 ghost use Rattle.lsr_lines.specs.Numbers.{NamesUpTo};
-ghost use Rattle.lsr_lines.specs.declared.commands.ChangeRequest.{ChangeRequest};
-ghost use Rattle.lsr_lines.specs.declared.commands.CommandRequest.{CommandRequest};
-ghost use Rattle.lsr_lines.specs.declared.commands.TunnelRequest.{TunnelRequest};
 
 use crate::numbers::{read_link, read_up_to};
 use crate::words::{next_two, next_word, only_word};
+use abstract_paths::{Command, NewBypass, NewTunnel, TunnelChange};
 use rsvp_bodies::attr_numbers::MAX_NAME_LEN;
-use rsvp_bodies::{Attr, Name, Prefix, RateWord, Route, read_prefix, read_rate, read_step};
+use rsvp_bodies::{
+    Attr, Name, Prefix, RateWord, Route, Step, read_prefix, read_rate, read_step, tspec_of,
+};
 use std::alloc::{AllocError, Global};
 use std::net::Ipv4Addr;
-
-/// A tunnel that is to begin here, as `tunnel N ENDPOINT RATE SETUP HOLD FLAGS NAME [ROUTE..]` asks for it.
-#[derive(Drop)]
-pub struct TunnelRequest {
-    /// Its number.
-    pub number: u16,
-    /// Where it is to end.
-    pub endpoint: Ipv4Addr,
-    /// The rate of the traffic that it is to carry. Any 32 bits.
-    pub rate: RateWord,
-    /// Priorities, flags and name, without affinities. A priority above 7 is kept as it came.
-    pub attr: Attr,
-    /// The route that it is to take from here, without this router's own step.
-    pub route: Route,
-}
-
-/// What a tunnel that begins here is to become, as `change N RATE [ROUTE..]` asks for it.
-#[derive(Drop)]
-pub struct ChangeRequest {
-    /// The tunnel's number.
-    pub number: u16,
-    /// The rate of the traffic that it is to carry. Any 32 bits.
-    pub rate: RateWord,
-    /// The route that it is to take from here, without this router's own step.
-    pub route: Route,
-}
-
-/// A bypass that is to protect a link, as `bypass N TUNNEL LINK` asks for it.
-#[derive(Clone, Copy)]
-pub struct BypassRequest {
-    /// Its number.
-    pub number: u16,
-    /// The number of the tunnel that it is to run in.
-    pub tunnel: u16,
-    /// The number of the link that it is to protect, at least 1.
-    pub link: u16,
-}
-
-/// What a line commands a router.
-#[derive(Drop)]
-pub enum CommandRequest {
-    /// `tunnel N ENDPOINT RATE SETUP HOLD FLAGS NAME [ROUTE..]`: a tunnel is to begin here.
-    AddTunnel(TunnelRequest),
-    /// `change N RATE [ROUTE..]`: a tunnel is to take another route, or to carry other traffic.
-    ChangeTunnel(ChangeRequest),
-    /// `cancel N`: the change of the tunnel of this number is to be given up.
-    CancelChange(u16),
-    /// `drop N`: the tunnel of this number is to go.
-    DropTunnel(u16),
-    /// `bypass N TUNNEL LINK`: a bypass is to protect a link.
-    AddBypass(BypassRequest),
-    /// `unbypass N`: the bypass of this number is to go.
-    DropBypass(u16),
-    /// `route PREFIX LINK`: what goes to these addresses is to leave by the link of this number, at least 1. The prefix is
-    /// as it was written, also a length above 32.
-    AddRoute(Prefix, u16),
-    /// `unroute PREFIX`: the static route to these addresses is to go.
-    DropRoute(Prefix),
-}
 
 // The first words of lines.
 const TUNNEL: &str = "tunnel";
@@ -216,42 +158,36 @@ fn read_attr(alloc: Global, words: &AttrWords) -> Result<Option<Attr>, AllocErro
     }))
 }
 
-/// Whether the words are the steps of a route.
-fn is_route(words: Option<&str>) -> bool
-    ensures { MatchBool result
-        ((steps : List Step) × SaysRoute (words_left words.entry) steps)
-        ((steps : List Step) → ¬ SaysRoute (words_left words.entry) steps) }
+/// The steps so far and one more, where there was memory for all of them.
+fn with_step(steps: Result<Vec<Step>, AllocError>, step: Step) -> Result<Vec<Step>, AllocError>
+    ensures { (read : List Step) → IfOk steps (λ kept. kept.items ≡ read) → IfOk result (λ kept. kept.items ≡ read ++ step ∷ []) }
+{
+    let mut steps = steps?;
+    steps.push(step)?;
+    Ok(steps)
+}
+
+/// The route whose steps the words are, where there is memory for it; none where they are the steps of none.
+fn read_route(alloc: Global, words: Option<&str>) -> Option<Result<Route, AllocError>>
+    ensures { MatchOption result
+        ((steps : List Step) → ¬ SaysRoute (words_left words.entry) steps)
+        (λ route. IfOk route (SaysRoute (words_left words.entry)) × ((steps : List Step) × SaysRoute (words_left words.entry) steps)) }
 {
     let mut left = words;
     let mut count = 0;
+    let mut steps = Ok(Vec::new(alloc));
     while let Some((word, rest)) = next_word(left) {
         if count == MAX_STEPS {
-            return false;
+            return None;
         }
-        let Some(_step) = read_step(word) else {
-            return false;
-        };
+        steps = with_step(steps, read_step(word)?);
         count += 1;
         left = rest;
     }
-    true
-}
-
-/// The route whose steps the words are. The only error is out of memory.
-fn read_route(alloc: Global, words: Option<&str>) -> Result<Route, AllocError>
-    requires { (steps : List Step) × SaysRoute (words_left words) steps }
-    ensures { IfOk result (SaysRoute (words_left words.entry)) }
-{
-    let mut left = words;
-    let mut steps = Vec::new(alloc);
-    while let Some((word, rest)) = next_word(left) {
-        let Some(step) = read_step(word) else {
-            unreachable!()
-        };
-        steps.push(step)?;
-        left = rest;
+    match steps {
+        Ok(steps) => Some(Ok(Route::from_vec(steps))),
+        Err(error) => Some(Err(error)),
     }
-    Ok(Route::from_vec(steps))
 }
 
 /// The number, the endpoint and the rate of a tunnel that its words say.
@@ -267,9 +203,9 @@ fn read_ends(words: &TunnelWords) -> Option<(u16, Ipv4Addr, RateWord)>
 }
 
 /// The tunnel that the words ask for; none where they ask for none. The only error is that there is no memory for it.
-fn read_tunnel(alloc: Global, left: Option<&str>) -> Result<Option<TunnelRequest>, AllocError>
+fn read_tunnel(alloc: Global, left: Option<&str>) -> Result<Option<NewTunnel>, AllocError>
     ensures tunnel { IfOk result (Finds (SaysTunnel (words_left left.entry))) }
-    ensures memory { OnErr result ((t : TunnelRequest) × SaysTunnel (words_left left.entry) t) }
+    ensures memory { OnErr result ((t : NewTunnel) × SaysTunnel (words_left left.entry) t) }
 {
     let Some(words) = cut_tunnel(left) else {
         return Ok(None);
@@ -277,31 +213,32 @@ fn read_tunnel(alloc: Global, left: Option<&str>) -> Result<Option<TunnelRequest
     let Some((number, endpoint, rate)) = read_ends(&words) else {
         return Ok(None);
     };
-    if !is_route(words.steps) {
+    let Some(route) = read_route(alloc, words.steps) else {
         return Ok(None);
-    }
+    };
     let Some(attr) = read_attr(alloc, &words.attr)? else {
         return Ok(None);
     };
-    Ok(Some(TunnelRequest {
+    Ok(Some(NewTunnel {
         number,
         endpoint,
-        rate,
+        route: route?,
+        tspec: tspec_of(alloc, rate)?,
         attr,
-        route: read_route(alloc, words.steps)?,
+        fast_reroute: None,
     }))
 }
 
 /// The change of a tunnel that its words ask for; none where they ask for none. The only error is that there is no memory
-/// for its route.
+/// for it.
 fn change_said(
     alloc: Global,
     number: &str,
     rate: &str,
     steps: Option<&str>,
-) -> Result<Option<ChangeRequest>, AllocError>
+) -> Result<Option<TunnelChange>, AllocError>
     ensures change { IfOk result (Finds (SaysChange (number.now ∷ rate.now ∷ words_left steps.entry))) }
-    ensures memory { OnErr result ((c : ChangeRequest) × SaysChange (number.now ∷ rate.now ∷ words_left steps.entry) c) }
+    ensures memory { OnErr result ((c : TunnelChange) × SaysChange (number.now ∷ rate.now ∷ words_left steps.entry) c) }
 {
     let Some(number) = read_up_to(MAX_NUMBER, number) else {
         return Ok(None);
@@ -309,21 +246,21 @@ fn change_said(
     let Some(rate) = read_rate(rate) else {
         return Ok(None);
     };
-    if !is_route(steps) {
+    let Some(route) = read_route(alloc, steps) else {
         return Ok(None);
-    }
-    Ok(Some(ChangeRequest {
+    };
+    Ok(Some(TunnelChange {
         number,
-        rate,
-        route: read_route(alloc, steps)?,
+        route: route?,
+        tspec: tspec_of(alloc, rate)?,
     }))
 }
 
 /// The change of a tunnel that the words ask for; none where they ask for none. The only error is that there is no memory
-/// for its route.
-fn read_change(alloc: Global, left: Option<&str>) -> Result<Option<ChangeRequest>, AllocError>
+/// for it.
+fn read_change(alloc: Global, left: Option<&str>) -> Result<Option<TunnelChange>, AllocError>
     ensures change { IfOk result (Finds (SaysChange (words_left left.entry))) }
-    ensures memory { OnErr result ((c : ChangeRequest) × SaysChange (words_left left.entry) c) }
+    ensures memory { OnErr result ((c : TunnelChange) × SaysChange (words_left left.entry) c) }
 {
     let Some((number, rate, left)) = next_two(left) else {
         return Ok(None);
@@ -339,7 +276,7 @@ fn only_number(left: Option<&str>) -> Option<u16>
 }
 
 /// The bypass that the words ask for; none where they ask for none.
-fn read_bypass(left: Option<&str>) -> Option<BypassRequest>
+fn read_bypass(left: Option<&str>) -> Option<NewBypass>
     ensures { Finds (SaysBypass (words_left left.entry)) result }
 {
     let (number, tunnel, left) = next_two(left)?;
@@ -347,13 +284,13 @@ fn read_bypass(left: Option<&str>) -> Option<BypassRequest>
 }
 
 /// The bypass that its three words ask for; none where they ask for none.
-fn bypass_said(number: &str, tunnel: &str, link: &str) -> Option<BypassRequest>
+fn bypass_said(number: &str, tunnel: &str, link: &str) -> Option<NewBypass>
     ensures { Finds (SaysBypass (number.now ∷ tunnel.now ∷ link.now ∷ [])) result }
 {
     let number = read_up_to(MAX_NUMBER, number)?;
     let tunnel = read_up_to(MAX_NUMBER, tunnel)?;
     let link = read_link(link)?;
-    Some(BypassRequest {
+    Some(NewBypass {
         number,
         tunnel,
         link,
@@ -386,68 +323,68 @@ fn static_said(prefix: &str, link: &str) -> Option<(Prefix, u16)>
 
 /// What a word and the others command of a bypass or of a static route: `bypass N TUNNEL LINK`, `route PREFIX LINK` or
 /// `unroute PREFIX`; none where they do not.
-fn read_linked(word: &str, left: Option<&str>) -> Option<CommandRequest>
+fn read_linked(word: &str, left: Option<&str>) -> Option<Command>
     requires no_tunnel { (word.now ≢ codes "tunnel") × (word.now ≢ codes "change") }
     requires no_number { (word.now ≢ codes "cancel") × (word.now ≢ codes "drop") × (word.now ≢ codes "unbypass") }
     ensures { Finds (SaysCommand (word.now ∷ words_left left.entry)) result }
 {
     if word == BYPASS {
-        return Some(CommandRequest::AddBypass(read_bypass(left)?));
+        return Some(Command::AddBypass(read_bypass(left)?));
     }
     if word == ROUTE {
         let (prefix, link) = prefix_and_link(left)?;
-        return Some(CommandRequest::AddRoute(prefix, link));
+        return Some(Command::AddRoute(prefix, link));
     }
     if word == UNROUTE {
-        return Some(CommandRequest::DropRoute(only_prefix(left)?));
+        return Some(Command::DropRoute(only_prefix(left)?));
     }
     None
 }
 
 /// What a word and the others command of a tunnel that is there, of a bypass or of a static route: `cancel N`, `drop N`,
 /// `unbypass N`, `bypass N TUNNEL LINK`, `route PREFIX LINK` or `unroute PREFIX`; none where they do not.
-fn read_short(word: &str, left: Option<&str>) -> Option<CommandRequest>
+fn read_short(word: &str, left: Option<&str>) -> Option<Command>
     requires no_tunnel { word.now ≢ codes "tunnel" }
     requires no_change { word.now ≢ codes "change" }
     ensures { Finds (SaysCommand (word.now ∷ words_left left.entry)) result }
 {
     if word == CANCEL {
-        return Some(CommandRequest::CancelChange(only_number(left)?));
+        return Some(Command::CancelChange(only_number(left)?));
     }
     if word == DROP {
-        return Some(CommandRequest::DropTunnel(only_number(left)?));
+        return Some(Command::DropTunnel(only_number(left)?));
     }
     if word == UNBYPASS {
-        return Some(CommandRequest::DropBypass(only_number(left)?));
+        return Some(Command::DropBypass(only_number(left)?));
     }
     read_linked(word, left)
 }
 
 /// The tunnel that is to begin here, as a command. The only error is that there is no memory for it.
-fn add_tunnel(alloc: Global, left: Option<&str>) -> Result<Option<CommandRequest>, AllocError>
+fn add_tunnel(alloc: Global, left: Option<&str>) -> Result<Option<Command>, AllocError>
     ensures command { IfOk result (Finds (SaysCommand (codes "tunnel" ∷ words_left left.entry))) }
-    ensures memory { OnErr result ((t : TunnelRequest) × SaysTunnel (words_left left.entry) t) }
+    ensures memory { OnErr result ((t : NewTunnel) × SaysTunnel (words_left left.entry) t) }
 {
     match read_tunnel(alloc, left)? {
-        Some(tunnel) => Ok(Some(CommandRequest::AddTunnel(tunnel))),
+        Some(tunnel) => Ok(Some(Command::AddTunnel(tunnel))),
         None => Ok(None),
     }
 }
 
-/// The change of a tunnel, as a command. The only error is that there is no memory for its route.
-fn change_tunnel(alloc: Global, left: Option<&str>) -> Result<Option<CommandRequest>, AllocError>
+/// The change of a tunnel, as a command. The only error is that there is no memory for it.
+fn change_tunnel(alloc: Global, left: Option<&str>) -> Result<Option<Command>, AllocError>
     ensures command { IfOk result (Finds (SaysCommand (codes "change" ∷ words_left left.entry))) }
-    ensures memory { OnErr result ((c : ChangeRequest) × SaysChange (words_left left.entry) c) }
+    ensures memory { OnErr result ((c : TunnelChange) × SaysChange (words_left left.entry) c) }
 {
     match read_change(alloc, left)? {
-        Some(change) => Ok(Some(CommandRequest::ChangeTunnel(change))),
+        Some(change) => Ok(Some(Command::ChangeTunnel(change))),
         None => Ok(None),
     }
 }
 
 /// What the line commands a router; none where it commands nothing. The only error is that there is no memory for a tunnel
 /// that the line brings.
-pub(crate) fn read_command(alloc: Global, line: &str) -> Result<Option<CommandRequest>, AllocError>
+pub(crate) fn read_command(alloc: Global, line: &str) -> Result<Option<Command>, AllocError>
     ensures command { IfOk result (Finds (SaysCommand (words_of line.now))) }
     ensures memory { OnErr result (BringsTunnel line.now) }
 {

@@ -11,7 +11,7 @@ mod numbers;
 mod step;
 mod words;
 
-pub use commands::{BypassRequest, ChangeRequest, CommandRequest, TunnelRequest};
+pub use abstract_paths::Command;
 pub use forms::{expected_form, tell_bad_line};
 pub use lines::{Arrival, Request, are_hex_digits, read_request};
 pub use live::{LiveEnding, serve_lines};

@@ -11,10 +11,11 @@ ghost use Rattle.lsr_lines.specs.Lsps.{AsksAbout};
 ghost use Rattle.lsr_lines.specs.Numbers.{NamesLink, NamesMoment};
 ghost use Rattle.lsr_lines.specs.declared.lsps.LspName.{LspName};
 
-use crate::commands::{CommandRequest, read_command};
+use crate::commands::read_command;
 use crate::lsps::{LspName, read_lsp};
 use crate::numbers::{read_link, read_moment};
 use crate::words::next_word;
+use abstract_paths::Command;
 use std::alloc::{AllocError, Global};
 
 /// What came over a link.
@@ -45,7 +46,7 @@ pub enum Request {
     Start,
     /// `tunnel ..`, `change ..`, `cancel N`, `drop N`, `bypass N TUNNEL LINK`, `unbypass N`, `route PREFIX LINK` or `unroute
     /// PREFIX`: a command about a tunnel, a bypass or a static route.
-    Command(CommandRequest),
+    Command(Command),
     /// `show paths`: the paths that the router knows are printed.
     ShowPaths,
     /// `show resvs`: the reservations that stand are printed.
@@ -273,7 +274,7 @@ fn read_arrival(alloc: Global, word: &str, line: &str) -> Result<Option<Arrival>
 }
 
 /// What the line asks for: `rx LINK HEX`, `frame LINK HEX`, `tick N`, `up LINK`, `down LINK`, `restart`, `start`, a
-/// command ([`CommandRequest`]), `show paths|resvs|table|links|tunnels|bypasses|recent|summary`, `show path KEY` or `show
+/// command ([`Command`]), `show paths|resvs|table|links|tunnels|bypasses|recent|summary`, `show path KEY` or `show
 /// resv KEY`; none where it is no such line. Words are parted by one space. The only error is that there is no memory for bytes or for a tunnel that the line brings,
 /// so it never comes in place of none.
 pub fn read_request(alloc: Global, line: &str) -> Result<Option<Request>, AllocError>

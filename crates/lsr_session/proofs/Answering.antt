@@ -1,18 +1,14 @@
 -- What is printed of an event and of a datagram, be there memory for its text or not.
 use Rattle.std.proofs.Common.{◌≡◌, ◌++◌, ◌∷◌, [], ℕ, List, Result, Ok, Err, inr, refl, sym, subst}
 use Rattle.std.specs.Prelude.{IfOk, OnErr}
-use Rattle.abstract_paths.specs.declared.commands.Command.{Command}
 use Rattle.abstract_paths.specs.declared.events.Event.{Event}
-use Rattle.abstract_paths.specs.declared.events.Event.TheVariants as events
 use Rattle.abstract_paths.specs.declared.events.Made.{Made}
 use Rattle.lsr_facts.specs.declared.refusal.Refusal.{Refusal}
 use Rattle.lsr_lines.specs.Steps.{IsUntold}
-use Rattle.lsr_lines.specs.declared.commands.CommandRequest.{CommandRequest}
 use Rattle.lsr_text.specs.Answers.{answer_text}
 use Rattle.router_core.specs.Machines.{IsDatagramServed, IsEventServed}
 use Rattle.router_core.specs.declared.inputs.Served.{Served}
-use Rattle.lsr_session.specs.Commands.{IsCommandFor}
-use Rattle.lsr_session.specs.Requests.{PrintsCommand, PrintsDatagram, PrintsEvent, SessionState, latest, remembered, reply_of, served_text}
+use Rattle.lsr_session.specs.Requests.{PrintsDatagram, PrintsEvent, SessionState, latest, remembered, reply_of, served_text}
 
 -- the text of an event's answer
 pub event_printed : (before after : SessionState) (event : Event) (answer : Result Made Refusal)
@@ -41,16 +37,3 @@ pub given_untold : {A E S : Type 0} (r : Result A E) (prints : List ℕ → S �
     → OnErr r ((text : List ℕ) × prints text after) → OnErr r (IsUntold prints before after)
 given_untold (Ok text) prints before after given = tt
 given_untold (Err error) prints before after given = inr given
-
--- what is printed for the event that a command is, is printed for the command
-pub command_told : {A E : Type 0} (bytes : A → List ℕ) (r : Result A E) (before after : SessionState) (asked : CommandRequest) (command : Command)
-    → IsCommandFor asked command → IfOk r (λ text. PrintsEvent before (events.Command command) (bytes text) after)
-    → IfOk r (λ text. PrintsCommand before asked (bytes text) after)
-command_told bytes (Ok text) before after asked command is printed = (command, is, printed)
-command_told bytes (Err error) before after asked command is printed = tt
-
-pub command_untold : {A E : Type 0} (r : Result A E) (before after : SessionState) (asked : CommandRequest) (command : Command)
-    → IsCommandFor asked command → OnErr r ((text : List ℕ) × PrintsEvent before (events.Command command) text after)
-    → OnErr r (IsUntold (PrintsCommand before asked) before after)
-command_untold (Ok text) before after asked command is printed = tt
-command_untold (Err error) before after asked command is (text, printed) = inr (text, (command, is, printed))

@@ -7,7 +7,6 @@ use Rattle.std.specs.Ordering.{nat_cmp}
 use Rattle.datagrams.specs.declared.datagram.Passed.{Passed}
 use Rattle.datagrams.specs.declared.datagram.Passed.TheVariants as passes
 use Rattle.forwarding_table.specs.declared.action.Action.{Action}
-use Rattle.abstract_paths.specs.declared.commands.Command.{Command}
 use Rattle.abstract_paths.specs.declared.events.Made.{Made}
 use Rattle.abstract_paths.specs.declared.events.Event.{Event}
 use Rattle.abstract_paths.specs.declared.events.Event.TheVariants as events
@@ -36,11 +35,9 @@ use Rattle.lsr_text.specs.Rows.{bypass_line, head_line, link_line, resvs_text, t
 use Rattle.lsr_text.specs.Shown.{paths_text}
 use Rattle.lsr_text.specs.Summary.{counts_text, reserved_line}
 use Rattle.lsr_text.specs.Tunnels.{tunnels_text}
-use Rattle.lsr_lines.specs.declared.commands.CommandRequest.{CommandRequest}
 use Rattle.lsr_lines.specs.declared.lines.Request.{Request}
 use Rattle.lsr_lines.specs.declared.lines.Request.TheVariants as requests
 use Rattle.lsr_lines.specs.declared.lsps.LspName.{LspName}
-use Rattle.lsr_session.specs.Commands.{IsCommandFor}
 
 -- a session: what its router is and knows, and the last replies, the newest at the end
 pub record SessionState : Type 0 where
@@ -110,10 +107,6 @@ PrintsArrival before link message printed after = PrintsDatagram before link (1 
 abbrev pub PrintsEvent : SessionState → Event → List ℕ → SessionState → Type 0
 PrintsEvent before event printed after =
     (answer : Result Made Refusal) × TakesEvent before.router event answer after.router × Tells before answer printed after
-
--- what is printed for a command: for the event that it is
-abbrev pub PrintsCommand : SessionState → CommandRequest → List ℕ → SessionState → Type 0
-PrintsCommand before asked printed after = (command : Command) × IsCommandFor asked command × PrintsEvent before (events.Command command) printed after
 
 -- the line of what is done with the traffic of a tunnel, if anything is
 abbrev pub head_text : RouterState → ℕ × Tunnel → List ℕ
@@ -185,7 +178,7 @@ PrintsAnswer before (requests.LinkUp link) printed after = PrintsEvent before (e
 PrintsAnswer before (requests.LinkDown link) printed after = PrintsEvent before (events.LinkDown link) printed after
 PrintsAnswer before requests.Restart printed after = PrintsEvent before events.Restart printed after
 PrintsAnswer before requests.Start printed after = PrintsEvent before events.Start printed after
-PrintsAnswer before (requests.Command asked) printed after = PrintsCommand before asked printed after
+PrintsAnswer before (requests.Command command) printed after = PrintsEvent before (events.Command command) printed after
 PrintsAnswer before requests.ShowPaths printed after = (printed ≡ paths_text before.router.state.facts.paths) × (after ≡ before)
 PrintsAnswer before requests.ShowResvs printed after = (printed ≡ resvs_text before.router.state.resvs) × (after ≡ before)
 PrintsAnswer before requests.ShowTable printed after = PrintsTable before.router printed × (after ≡ before)

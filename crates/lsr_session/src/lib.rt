@@ -1,7 +1,6 @@
 //! A session of `lsr step`: its router, and what it answers to requests. The router's type is passed on.
 #![tactic(auto)]
 
-mod commands;
 mod passing;
 mod requests;
 mod shown;

@@ -2,18 +2,18 @@
 ghost use Rattle.std.specs.Prelude.{◌≡◌, ◌∷◌, ◌++◌, ℕ, List, [], IfOk, Ok, OnErr, string_bytes};
 ghost use Rattle.lsr_lines.specs.Steps.{IsUntold};
 ghost use Rattle.lsr_text.specs.Answers.{answer_text, refusal_line, replies_text};
-ghost use Rattle.lsr_session.specs.Requests.{PrintsAnswer, PrintsArrival, PrintsCommand, PrintsDatagram, PrintsEvent, remembered, reply_of, served_text};
+ghost use Rattle.abstract_paths.specs.declared.events.Event.TheVariants as events;
+ghost use Rattle.lsr_session.specs.Requests.{PrintsAnswer, PrintsArrival, PrintsDatagram, PrintsEvent, remembered, reply_of, served_text};
 
-use crate::commands::command_of;
 use crate::passing::passed_text;
 use crate::shown::{
     show_bypasses, show_links, show_path, show_paths, show_resv, show_resvs, show_summary,
     show_table, show_tunnels,
 };
-use abstract_paths::{Event, KIND_HOP, Made};
+use abstract_paths::{Command, Event, KIND_HOP, Made};
 use circular_buffer::HeapCircularBuffer;
 use lsr_facts::{Refusal, Reply};
-use lsr_lines::{Answers, Arrival, CommandRequest, Request};
+use lsr_lines::{Answers, Arrival, Request};
 use lsr_text::{answer_text, push_replies};
 use router_core::{Machine, Served};
 use std::alloc::{AllocError, Global};
@@ -76,7 +76,7 @@ fn answer(alloc: Global, session: &mut Session, request: &Request) -> Result<Str
         Request::LinkDown(link) => answer_event(alloc, session, Event::LinkDown(*link)),
         Request::Restart => answer_event(alloc, session, Event::Restart),
         Request::Start => answer_event(alloc, session, Event::Start),
-        Request::Command(asked) => answer_command(alloc, session, asked),
+        Request::Command(command) => answer_command(alloc, session, command),
         Request::ShowPaths => show_paths(alloc, &session.router),
         Request::ShowResvs => show_resvs(alloc, &session.router),
         Request::ShowTable => show_table(alloc, &session.router),
@@ -206,16 +206,16 @@ fn answer_event(alloc: Global, session: &mut Session, event: Event) -> Result<St
     answer_text(alloc, &answer)
 }
 
-/// Makes the step of a command. Where memory ran out for the command the session is as it was.
+/// Makes the step of a command. Where memory ran out for a copy of the command the session is as it was.
 fn answer_command(
     alloc: Global,
     session: &mut Session,
-    asked: &CommandRequest,
+    command: &Command,
 ) -> Result<String, AllocError>
-    ensures told { IfOk result (λ text. PrintsCommand session.old asked.now (string_bytes text) session.new) }
-    ensures untold { OnErr result (IsUntold (PrintsCommand session.old asked.now) session.old session.new) }
+    ensures told { IfOk result (λ text. PrintsEvent session.old (events.Command command.now) (string_bytes text) session.new) }
+    ensures untold { OnErr result (IsUntold (PrintsEvent session.old (events.Command command.now)) session.old session.new) }
 {
-    let command = command_of(alloc, asked)?;
+    let command = command.copied(alloc)?;
     answer_event(alloc, session, Event::Command(command))
 }
 

@@ -2,10 +2,10 @@ use Rattle.lsr_config.specs.Values.{IsMaskedPrefixText, SaysPrefix}
 use Rattle.lsr_config.proofs.Finding.{no_text, text_found}
 use Rattle.lsr_config.proofs.values.prefix_in.Goals as goal
 
-pub returns-in-Some : goal.returns-in-Some
+pub returns : goal.returns
 unfolding SaysPrefix
-returns-in-Some c = text_found IsMaskedPrefixText _ _ _ c.in-Some.ensures c.prefix_of.ensures
+returns c = text_found IsMaskedPrefixText _ _ _ c.in_ok-as_str.ensures c.prefix_of.ensures
 
-pub returns-in-None : goal.returns-in-None
+pub returns-in_err-as_str : goal.returns-in_err-as_str
 unfolding SaysPrefix
-returns-in-None c = no_text IsMaskedPrefixText _ c.in-None.ensures
+returns-in_err-as_str c = rw c.from_residual.ensures (no_text IsMaskedPrefixText _ c.in_err-as_str.ensures)

@@ -23,14 +23,7 @@ returns-then-first-last c = λ labels says.
     let parts = two_labels c.args.ends.now c.first-item.result c.last-item.result (omega arith) c.first-item.is c.last-item.is labels says in
     let first = same_whole 16 1048575 _ _ _ parts.0 c.in_ok-first.ensures.found in
     let last = same_whole 16 1048575 _ _ _ parts.1 c.in_ok-last.ensures.found in
-    omega (arith, parts.2, first, last)
-
-pub returns-then-last-first-ge-MAX_LABELS : goal.returns-then-last-first-ge-MAX_LABELS
-returns-then-last-first-ge-MAX_LABELS c = λ labels says.
-    let parts = two_labels c.args.ends.now c.first-item.result c.last-item.result (omega arith) c.first-item.is c.last-item.is labels says in
-    let first = same_whole 16 1048575 _ _ _ parts.0 c.in_ok-first.ensures.found in
-    let last = same_whole 16 1048575 _ _ _ parts.1 c.in_ok-last.ensures.found in
-    omega (arith, parts.3, first, last)
+    omega (arith, parts.2, parts.3, first, last)
 
 pub returns : goal.returns
 returns c = labels_found c.args.ends.now c.first-item.result c.last-item.result (omega arith) c.first-item.is c.last-item.is _ _ c.in_ok-first.ensures.found c.in_ok-last.ensures.found (omega arith) (omega arith)

@@ -11,13 +11,7 @@ pub returns-then-number-least-clause-found : goal.returns-then-number-least-clau
 unfolding SaysWhole
 returns-then-number-least-clause-found c = λ n says.
     let same = same_integer _ n c.in_ok-number.number says.0 c.in_ok-number.ensures in
-    omega (arith, says.1, same)
-
-pub returns-then-number-most-clause-found : goal.returns-then-number-most-clause-found
-unfolding SaysWhole
-returns-then-number-most-clause-found c = λ n says.
-    let same = same_integer _ n c.in_ok-number.number says.0 c.in_ok-number.ensures in
-    omega (arith, says.2, same)
+    omega (arith, says.1, says.2, same)
 
 pub returns-clause-found : goal.returns-clause-found
 unfolding SaysWhole

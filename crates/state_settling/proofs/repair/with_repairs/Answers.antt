@@ -1,5 +1,5 @@
 -- One LSP more is looked at: its repair is put, if there is to be one. There is none where its reservation goes.
-use Rattle.std.proofs.Common.{◌≡◌, None, Option, Some, ap, subst, sym, ◌∙◌}
+use Rattle.std.proofs.Common.{◌≡◌, Option, Some, ap, subst, sym, ◌∙◌}
 use Rattle.std.specs.FinMap.Entries.{find, put}
 use Rattle.std.specs.Option.{option_and_then, option_map_or}
 use Rattle.std.proofs.lemmas.List.Elements.{All-from_recursion, All-get_or}
