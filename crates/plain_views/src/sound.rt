@@ -9,7 +9,7 @@ ghost use Rattle.abstract_router.specs.Preempting.{claims_of};
 ghost use Rattle.abstract_router.specs.Soundness.{IsSound};
 ghost use Rattle.admission.specs.Bandwidths.{AreRated};
 
-use crate::claimed::claims_of;
+use crate::claimed::{claims_of, conflicts, limit_of};
 use crate::known::Known;
 use crate::labels::first_free;
 use admission::{reserved_with, victims_of};
@@ -17,7 +17,6 @@ use lsr_facts::{
     Assignment, Bypass, Claim, Item, Key, Node, PathFact, Repair, Request, ResvFact, ResvStyle,
     Router, State, Tunnel, Upstream, expires, has_waited, is_same_session,
 };
-use message_rules::{conflicting_style, limit_of};
 use rsvp_objects::Session;
 use sorted_rows::Table;
 use state_views::{StateView, WholeState};
@@ -222,9 +221,12 @@ impl WholeState for SoundView<'_> {
             .any(|path| is_same_session(session, &path.0.session))
     }
 
-    #[tactic(auto, using(message_rules::specs::Conflicts::conflicting_style))]
     fn conflicting_style(&self, link: u16, style: ResvStyle, key: &Key) -> Option<ResvStyle> {
-        conflicting_style(link, style, key, self.claim_rows())
+        let resvs = self.known.state.resvs.as_slice();
+        resvs
+            .iter()
+            .find(|resv| conflicts(link, style, key, *resv))
+            .map(|resv| resv.1.style)
     }
 
     #[tactic(auto, unfolding(lsr_facts::specs::Admission::fits))]
