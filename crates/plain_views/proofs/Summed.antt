@@ -1,6 +1,6 @@
 -- What the reservations of a sound router claim can be added up.
 use Rattle.std.specs.Prelude.{◌≡◌, ◌&&◌, ◌+◌, ◌≤◌, ◌^◌, ℕ, Bool, true, false, cond, not, T, List, [], ◌∷◌, length, Option, Some, None, is_some, Result, Ok, Err}
-use Rattle.std.specs.FinMap.Entries.{find, is_sorted, is_sorted-where_key, length_without, where_key}
+use Rattle.std.specs.FinMap.Entries.{below_all, find, is_sorted, is_sorted-where_key, length_without, where_key}
 use Rattle.std.specs.List.{AllByRecursion}
 use Rattle.std.specs.Option.{option_map_or}
 use Rattle.std.specs.Ordering.{eq_by_cmp, is_eq}
@@ -45,7 +45,8 @@ no_more {X} {Y} (x ∷ xs) ys hx hy each =
     let less = subst (λ b. cond b 1 0 + length left ≡ length ys) each.0 (length_without key_cmp key_total x.0 ys hy) in
     let others = all-both (λ (e : Key × X). key_cmp x.0 e.0 ≡ Less) (λ (e : Key × X). is_some (find key_cmp e.0 ys) ≡ true) (λ (e : Key × X). is_some (find key_cmp e.0 left) ≡ true)
     (λ e below found. ap is_some (find-removed_other key_cmp key_total e.0 x.0 ys (ap is_eq below)) ∙ found) xs (all-below key_cmp x.0 xs (first _ _ hx)) each.1 in
-    let rest : length xs ≤ length left = no_more {X = X} {Y = Y} xs left (second _ _ hx) (is_sorted-where_key key_cmp (λ k. not (eq_by_cmp key_cmp x.0 k)) ys hy) others in
+    let sorted : T (is_sorted key_cmp xs) = second (below_all key_cmp x.0 xs) (is_sorted key_cmp xs) hx in
+    let rest : length xs ≤ length left = no_more xs left sorted (is_sorted-where_key key_cmp (λ k. not (eq_by_cmp key_cmp x.0 k)) ys hy) others in
     omega (arith, less, rest)
 
 -- a path that a test passes is known
