@@ -113,6 +113,9 @@ module _ (r : Router) (s : State) (is : IsSound r s) where
   pub few_labels : length s.labels ≤ 1024
   few_labels = omega (arith, length-labelled r s is.labels, few_paths)
 
+  pub few_assignments : length s.assignments ≤ 1024
+  few_assignments = omega (arith, ap length is.no_assignments)
+
   pub few_moments : length s.facts.sent ≤ 1024
   unfolding items_of lsps_of
   few_moments =

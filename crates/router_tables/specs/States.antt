@@ -33,7 +33,7 @@ facts_of t = record {
 
 -- and all that they say
 abbrev pub state_of : Rows → State
-state_of t = record { facts = facts_of t; resvs = t.bandwidth.resvs; repairs = t.repairs; labels = t.labels.labels; sent_upstream = t.upstream.sent }
+state_of t = record { facts = facts_of t; resvs = t.bandwidth.resvs; repairs = t.repairs; labels = t.labels.labels; assignments = t.assignments; resting = []; sent_upstream = t.upstream.sent }
 
 abbrev pub router_state_of : Rows → RouterState
 router_state_of t = record { router = t.router; state = state_of t }
@@ -65,20 +65,12 @@ emptied s = record {
   sent_upstream = [];
 }
 
--- The rows of a router of a configuration as it is opened: nothing is known of LSPs, and all that there may ever be has room.
+-- The rows of a router of a configuration as it is opened: they say what is known then, and nothing is claimed or forwarded.
 pub record AreOpened (c : Setup) (t : Rows) : Type 0 where
   pub config : IsConfig c
-  pub router : t.router ≡ c.router
-  pub moment : t.moment ≡ 0
-  pub up : t.up ≡ map (λ l. (l.0, l.1.up)) c.router.links
-  pub routes : t.routes ≡ c.routes
-  pub tunnels : t.tunnels ≡ c.tunnels
-  pub bypasses : t.bypasses ≡ c.bypasses
-  pub paths : t.paths ≡ []
-  pub timers : t.timers ≡ record { refresh_ms = c.router.refresh_ms; sent = [] }
-  pub resvs : t.bandwidth.resvs ≡ []
+  pub is : router_state_of t ≡ opened c
+  pub period : t.timers.refresh_ms ≡ c.router.refresh_ms
+  pub upstream_period : t.upstream.refresh_ms ≡ c.router.refresh_ms
   pub claims : t.bandwidth.claims ≡ []
-  pub repairs : t.repairs ≡ []
-  pub labels : t.labels ≡ record { range = c.router.labels; labels = [] }
-  pub upstream : t.upstream ≡ record { refresh_ms = c.router.refresh_ms; sent = [] }
+  pub range : t.labels.range ≡ c.router.labels
   pub table : t.table ≡ record { labels = []; tunnels = [] }

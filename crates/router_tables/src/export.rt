@@ -6,7 +6,7 @@ ghost use Rattle.router_tables.specs.States.{state_of};
 use crate::rows::Rows;
 use crate::tunnels::tunnels_copied;
 use lsr_facts::{Facts, State};
-use sorted_rows::TryCopy;
+use sorted_rows::{Table, TryCopy};
 use std::alloc::{AllocError, Global};
 
 /// A copy of the facts that rows say. The only error is out of memory.
@@ -39,12 +39,15 @@ pub(crate) fn export(alloc: Global, rows: &Rows) -> Result<State, AllocError>
     let sent_upstream = rows.upstream.copied(alloc)?;
     let resvs = rows.bandwidth.resvs_copied(alloc)?;
     let repairs = rows.repairs.copied(alloc)?;
+    let assignments = rows.assignments.copied(alloc)?;
     let facts = facts_of(alloc, rows)?;
     Ok(State {
         facts,
         resvs,
         repairs,
         labels,
+        assignments,
+        resting: Table::new(alloc),
         sent_upstream,
     })
 }
