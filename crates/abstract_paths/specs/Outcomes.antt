@@ -7,7 +7,6 @@ use Rattle.rsvp_objects.specs.declared.values.Session.{Session}
 use Rattle.rsvp_objects.specs.declared.values.Template.{Template}
 use Rattle.rsvp_contents.specs.declared.messages.Content.{Content}
 use Rattle.rsvp_contents.specs.declared.messages.Content.TheVariants as contents
-use Rattle.rsvp_contents.specs.declared.message.Reading.TheVariants as readings
 use Rattle.abstract_paths.specs.Frame.TheVariants as frames
 use Rattle.lsr_facts.specs.declared.errors.RsvpError.{RsvpError}
 use Rattle.lsr_facts.specs.declared.facts.Facts.{Facts}
@@ -53,7 +52,7 @@ refused s refusal = silent (replies.Refused refusal) s
 
 -- a message that goes out by a link
 abbrev pub sent_by : ℕ → Content → Output
-sent_by link content = record { link = link; frame = frames.Hop (readings.Whole content) }
+sent_by link content = record { link = link; frame = frames.Hop content }
 
 -- a message that goes out by a link, towards the router of an address, with the limit 64: each router that passes it on takes
 -- one off, and one that it comes to with 1 doesn't pass it on

@@ -8,7 +8,6 @@ use Rattle.std.specs.Ordering.{eq_by_cmp}
 use Rattle.std.specs.declared.cmp.Ordering.{Ordering}
 use Rattle.rsvp_contents.specs.declared.messages.Content.{Content}
 use Rattle.rsvp_contents.specs.declared.messages.Content.TheVariants as contents
-use Rattle.rsvp_contents.specs.declared.message.Reading.TheVariants as readings
 use Rattle.abstract_paths.specs.Frames.{frame_bytes}
 use Rattle.abstract_paths.specs.Frame.{Frame}
 use Rattle.abstract_paths.specs.Frame.TheVariants as frames
@@ -29,8 +28,7 @@ tear_of _ = None
 -- The tear of what was sent in a frame over a link: it goes the same way, under the same labels, or to the same router.
 -- What others sent is none of this router's.
 abbrev pub tear_by : ℕ → Frame → Option Output
-tear_by link (frames.Hop (readings.Whole content)) = option_map (sent_by link) (tear_of content)
-tear_by link (frames.Hop (readings.Unknown content class ctype)) = None
+tear_by link (frames.Hop content) = option_map (sent_by link) (tear_of content)
 tear_by link (frames.Labelled stack (payloads.Message content)) =
     option_map (λ tear. record { link = link; frame = frames.Labelled stack (payloads.Message tear) }) (tear_of content)
 tear_by link (frames.Labelled stack payload) = None

@@ -20,9 +20,9 @@ abbrev pub forgotten : {I : Type 0} → Option Output → I × Output → Option
 forgotten now was = if is_none now then Some (was.0, None) else None
 
 -- an item that is sent has this moment from then on
-abbrev pub renewed : {I : Type 0} → (I → I → Ordering) → List I → ℕ → Option Output → I × Output → Option (I × Option ℕ)
-renewed cmp due moment was wants = if rests cmp due was wants then None else Some (wants.0, Some moment)
+abbrev pub renewed_moment : {I : Type 0} → (I → I → Ordering) → List I → ℕ → Option Output → I × Output → Option (I × Option ℕ)
+renewed_moment cmp due moment was wants = if rests cmp due was wants then None else Some (wants.0, Some moment)
 
 -- what becomes of the moments between what was wanted and what is: no other moment changes
 abbrev pub moments_between : {I : Type 0} → (I → I → Ordering) → List I → ℕ → List (I × Output) → List (I × Output) → List (I × Option ℕ)
-moments_between cmp due moment was is = between cmp (renewed cmp due moment) is was ++ between cmp forgotten was is
+moments_between cmp due moment was is = between cmp (renewed_moment cmp due moment) is was ++ between cmp forgotten was is

@@ -20,7 +20,7 @@ use Rattle.abstract_paths.specs.declared.events.Output.{Output}
 use Rattle.abstract_paths.specs.Outputs.{between, is_due, is_same_frame, rests, send_for, tear_for}
 use Rattle.abstract_paths.specs.StampLaws.{find-stamps, keys-stamps, none-is, ties}
 use Rattle.abstract_paths.specs.Stamps.{stamp, stamps}
-use Rattle.abstract_paths.specs.Touched.{forgotten, found_rows, is_among, moments_between, renewed}
+use Rattle.abstract_paths.specs.Touched.{forgotten, found_rows, is_among, moments_between, renewed_moment}
 use Rattle.abstract_paths.specs.RowLaws.{both, first, second}
 
 module _ {K C O : Type 0} (cmp : K → K → Ordering) (total : IsTotalOrder cmp) (exact : (x y : K) → cmp x y ≡ Equal → x ≡ y) where
@@ -163,17 +163,17 @@ module _ {I : Type 0} (cmp : I → I → Ordering) where
       filter_map_agree_within (λ row. forgotten (find cmp row.0 is) row) (λ row. option_map (λ y. (row.0, y)) (gone is row)) was
       (all-always (λ row. forgotten (find cmp row.0 is) row ≡ option_map (λ y. (row.0, y)) (gone is row)) (λ row. paired (is_none (find cmp row.0 is)) row.0 None) was)
 
-  renewed_rows : (due : List I) (moment : ℕ) (was is : List (I × Output)) → between cmp (renewed cmp due moment) is was ≡ filter_map (λ row. option_map (λ y. (row.0, y)) (sent_then due moment was row)) is
+  renewed_rows : (due : List I) (moment : ℕ) (was is : List (I × Output)) → between cmp (renewed_moment cmp due moment) is was ≡ filter_map (λ row. option_map (λ y. (row.0, y)) (sent_then due moment was row)) is
   renewed_rows due moment was is =
-      filter_map_agree_within (λ row. renewed cmp due moment (find cmp row.0 was) row) (λ row. option_map (λ y. (row.0, y)) (sent_then due moment was row)) is
-      (all-always (λ row. renewed cmp due moment (find cmp row.0 was) row ≡ option_map (λ y. (row.0, y)) (sent_then due moment was row)) (λ row. unpaired (rests cmp due (find cmp row.0 was) row) row.0 (Some moment)) is)
+      filter_map_agree_within (λ row. renewed_moment cmp due moment (find cmp row.0 was) row) (λ row. option_map (λ y. (row.0, y)) (sent_then due moment was row)) is
+      (all-always (λ row. renewed_moment cmp due moment (find cmp row.0 was) row ≡ option_map (λ y. (row.0, y)) (sent_then due moment was row)) (λ row. unpaired (rests cmp due (find cmp row.0 was) row) row.0 (Some moment)) is)
 
   -- moments that go, and that are renewed, stand in the order of items
   pub is_sorted-forgotten : (was is : List (I × Output)) → T (is_sorted cmp was) → T (is_sorted cmp (between cmp forgotten was is))
   is_sorted-forgotten was is g = subst (λ rows. T (is_sorted cmp rows)) (sym (forgotten_rows was is)) (sorted_made cmp (gone is) was g)
 
-  pub is_sorted-renewed : (due : List I) (moment : ℕ) (was is : List (I × Output)) → T (is_sorted cmp is) → T (is_sorted cmp (between cmp (renewed cmp due moment) is was))
-  is_sorted-renewed due moment was is h = subst (λ rows. T (is_sorted cmp rows)) (sym (renewed_rows due moment was is)) (sorted_made cmp (sent_then due moment was) is h)
+  pub is_sorted-renewed_moment : (due : List I) (moment : ℕ) (was is : List (I × Output)) → T (is_sorted cmp is) → T (is_sorted cmp (between cmp (renewed_moment cmp due moment) is was))
+  is_sorted-renewed_moment due moment was is h = subst (λ rows. T (is_sorted cmp rows)) (sym (renewed_rows due moment was is)) (sorted_made cmp (sent_then due moment was) is h)
 
   -- what an item's moment becomes, by what was wanted and what is
   moment_becomes : (item : I) (due : List I) (sent : List (I × ℕ)) (moment : ℕ) (old new : Option Output) (at : Option ℕ) → find cmp item sent ≡ at → is_some (find cmp item sent) ≡ is_some old
@@ -205,7 +205,7 @@ module _ {I : Type 0} (cmp : I → I → Ordering) (total : IsTotalOrder cmp) (e
       → find cmp item (moments_between cmp due moment was is)
       ≡ option_or (option_and_then (λ o. sent_then cmp due moment was (item, o)) (find cmp item is)) (option_and_then (λ o. gone cmp is (item, o)) (find cmp item was))
   find-moments_between item due moment was is g h =
-      find-append cmp item (between cmp (renewed cmp due moment) is was) (between cmp forgotten was is)
+      find-append cmp item (between cmp (renewed_moment cmp due moment) is was) (between cmp forgotten was is)
       ∙ (λ i. option_or
       ((ap (find cmp item) (renewed_rows cmp due moment was is) ∙ find-made cmp total exact (sent_then cmp due moment was) item is h) i)
       ((ap (find cmp item) (forgotten_rows cmp was is) ∙ find-made cmp total exact (gone cmp is) item was g) i))
@@ -245,7 +245,7 @@ module _ {I : Type 0} (cmp : I → I → Ordering) (total : IsTotalOrder cmp) (e
 
     touched_between : (now : ℕ) → moments_between cmp due now was is ≡ moments_between cmp due now (where_key cmp touched was) (where_key cmp touched is)
     touched_between now = λ i.
-        between-touched cmp total exact (renewed cmp due now) touched is was h (λ item apart. sym (found item apart)) (λ item o apart. ap (λ b. cond b None (Some (item, Some now))) (rests_same cmp due item o (none item apart))) i
+        between-touched cmp total exact (renewed_moment cmp due now) touched is was h (λ item apart. sym (found item apart)) (λ item o apart. ap (λ b. cond b None (Some (item, Some now))) (rests_same cmp due item o (none item apart))) i
         ++ between-touched cmp total exact forgotten touched was is g found (λ item o apart. refl) i
 
     pub touched_moments : (sent : List (I × ℕ)) (now : ℕ) → keys_of sent ≡ keys_of was → (moments : List (I × Option ℕ)) → ((item : I) → find cmp item moments ≡ find cmp item (moments_between cmp due now (where_key cmp touched was) (where_key cmp touched is))) → edited cmp moments sent ≡ stamps cmp due was sent now is

@@ -1,5 +1,5 @@
 -- What events do: messages that come, moments, links, commands, a restart and a start.
-use Rattle.std.specs.Prelude.{ℕ, ◌==◌, ◌&&◌, not, Bool, true, false, if◌then◌else◌, [], is_none, option_to_list}
+use Rattle.std.specs.Prelude.{ℕ, ◌==◌, ◌&&◌, not, Bool, true, false, if◌then◌else◌, is_none, option_to_list}
 use Rattle.std.specs.FinMap.Entries.{find}
 use Rattle.std.specs.List.{list_any}
 use Rattle.rsvp_contents.specs.declared.message.Reading.TheVariants as readings
@@ -13,7 +13,7 @@ use Rattle.lsr_facts.specs.declared.refusal.Refusal.TheVariants.{InUse, LinkDown
 use Rattle.lsr_facts.specs.declared.reply.Reply.TheVariants as replies
 use Rattle.lsr_facts.specs.declared.reply.Reply.{Reply}
 use Rattle.lsr_facts.specs.declared.router.Router.{Router}
-use Rattle.lsr_facts.specs.Reservations.{expire, expire_repairs}
+use Rattle.lsr_facts.specs.Reservations.{expire_repairs, expire_resvs}
 use Rattle.abstract_paths.specs.declared.commands.Command.{Command}
 use Rattle.abstract_paths.specs.declared.commands.Command.TheVariants.{DropBypass}
 use Rattle.abstract_paths.specs.declared.ways.ArrivalWay.{ArrivalWay}
@@ -31,12 +31,12 @@ use Rattle.lsr_facts.specs.Lifetimes.{due_items}
 use Rattle.abstract_paths.specs.Restarts.{restarted, started}
 use Rattle.abstract_paths.specs.Tears.{path_err_arrival, path_tear_arrival}
 use Rattle.abstract_paths.specs.Time.{tick}
-use Rattle.abstract_router.specs.Errors.{no_label}
+use Rattle.lsr_facts.specs.Errors.{no_label}
 use Rattle.abstract_router.specs.Labels.{has_free_label}
 use Rattle.abstract_router.specs.Outcomes.{Outcome, of_paths, refused}
 use Rattle.abstract_router.specs.Reserving.{resv_arrival, unknown_resv}
 use Rattle.abstract_router.specs.Returning.{returned_err, returned_resv, returned_tear, returned_unknown}
-use Rattle.abstract_router.specs.States.{State, without_held}
+use Rattle.abstract_router.specs.States.{State, bare, without_held}
 use Rattle.abstract_router.specs.Tearing.{resv_err_arrival, resv_tear_arrival, stack_err_arrival}
 
 -- the reply is that it was done
@@ -119,7 +119,7 @@ arrival r s a =
 abbrev pub for_reservations : Router → State → ℕ → Outcome → Outcome
 for_reservations r s n o =
     if o.is_silent then o
-    else record o { after = record o.after { resvs = expire n s.resvs; repairs = expire_repairs n s.repairs }; upstream_due = due_items r.refresh_ms s.sent_upstream n }
+    else record o { after = record o.after { resvs = expire_resvs n s.resvs; repairs = expire_repairs n s.repairs }; upstream_due = due_items r.refresh_ms s.sent_upstream n }
 
 -- A moment comes.
 unfoldable pub moment_comes : Router → State → ℕ → Outcome
@@ -145,8 +145,8 @@ command_comes r s c =
 -- A restart: what messages set up is lost, reservations, repairs and labels too.
 abbrev pub lost : State → Outcome
 lost s =
-    let o = of_paths s (restarted s.facts) in
-    record o { after = record o.after { resvs = []; repairs = []; labels = []; assignments = []; resting = []; sent_upstream = [] } }
+    let o = restarted s.facts in
+    record (of_paths s o) { after = bare o.after }
 
 -- What an event does of itself.
 abbrev pub outcome : Router → State → Event → Outcome

@@ -3,7 +3,6 @@ pub mod Choosing
 pub mod ChoosingLaws
 pub mod ClaimsLaws
 pub mod BypassTunnels
-pub mod Errors
 pub mod LabelLaws
 pub mod Labels
 pub mod LspLaws

@@ -17,7 +17,7 @@ use Rattle.lsr_facts.specs.declared.claim.Request.{Request}
 use Rattle.lsr_facts.specs.declared.resv_fact.ResvFact.{ResvFact}
 use Rattle.abstract_paths.specs.declared.events.Output.{Output}
 use Rattle.lsr_facts.specs.Reservations.{style_word}
-use Rattle.abstract_router.specs.Errors.{preempted}
+use Rattle.lsr_facts.specs.Errors.{preempted}
 use Rattle.abstract_router.specs.Outcomes.{reservation_error, told_downstream}
 use Rattle.abstract_router.specs.States.{State}
 
@@ -38,8 +38,8 @@ abbrev pub limit_of : Router → ℕ → ℕ
 limit_of r link = option_map_or (λ l. l.limit) (link_at r link) 0
 
 -- the reservation fits its link
-abbrev pub fits : Router → State → Key → ResvFact → Bool
-fits r s key fact = admission.fits (limit_of r fact.link) (request_of s.facts.paths key fact) (claims_of s.facts.paths s.resvs)
+abbrev pub fits_link : Router → State → Key → ResvFact → Bool
+fits_link r s key fact = admission.fits (limit_of r fact.link) (request_of s.facts.paths key fact) (claims_of s.facts.paths s.resvs)
 
 -- those who give way to it
 abbrev pub giving_way : Router → State → Key → ResvFact → List Key

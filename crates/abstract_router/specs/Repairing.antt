@@ -15,7 +15,7 @@ use Rattle.abstract_paths.specs.Outcomes.{found_here, told_upstream}
 use Rattle.abstract_paths.specs.Places.{is_up, place_of}
 use Rattle.abstract_paths.specs.Tears.{leaves_by}
 use Rattle.abstract_router.specs.BypassTunnels.{bypass_tunnels_of, over_at}
-use Rattle.abstract_router.specs.Errors.{locally_repaired}
+use Rattle.lsr_facts.specs.Errors.{locally_repaired}
 use Rattle.abstract_router.specs.Lsps.{around_of}
 use Rattle.abstract_router.specs.Protecting.{repair_with, selected}
 use Rattle.abstract_router.specs.States.{State, with_repairs_where}

@@ -25,9 +25,9 @@ use Rattle.abstract_paths.specs.declared.events.Output.{Output}
 use Rattle.abstract_paths.specs.Outcomes.{lsp}
 use Rattle.abstract_paths.specs.Paths.{has_loop, lifetime, unknown_object}
 use Rattle.abstract_paths.specs.Tears.{leaves_by}
-use Rattle.abstract_router.specs.Errors.{no_bandwidth, no_path, no_sender, style_conflict, unknown_style, unsupported_service, bad_flowspec, unacceptable_label}
+use Rattle.lsr_facts.specs.Errors.{no_bandwidth, no_path, no_sender, style_conflict, unknown_style, unsupported_service, bad_flowspec, unacceptable_label}
 use Rattle.abstract_router.specs.Outcomes.{Outcome, replied, reservation_error, refused, told_downstream}
-use Rattle.abstract_router.specs.Preempting.{all_told_preempted, fits, giving_way}
+use Rattle.abstract_router.specs.Preempting.{all_told_preempted, fits_link, giving_way}
 use Rattle.forwarding_table.specs.Labels.{is_label}
 use Rattle.abstract_router.specs.States.{State, is_held, is_repaired, with_resv, without_resvs}
 
@@ -80,7 +80,7 @@ verdict_by_style r s key fact has_room =
 abbrev pub verdict_on_path : Router → State → Key → ResvFact → PathFact → Verdict
 verdict_on_path r s key fact path =
     if not (leaves_by fact.link path) || is_repaired s key then PassedOver
-    else verdict_by_style r s key fact (fits r s key fact)
+    else verdict_by_style r s key fact (fits_link r s key fact)
 
 -- What becomes of it: the first of these that holds (RFC 2205, B, 3 and 4).
 unfoldable pub verdict_of : Router → State → Key → ResvFact → Verdict

@@ -1,5 +1,5 @@
 -- What holds of every state that a label switching router comes to.
-use Rattle.std.specs.Prelude.{◌≡◌, ℕ, ◌≤◌, true, List, Some, None, IsOk, IsTrue, T, nat_eq}
+use Rattle.std.specs.Prelude.{◌≡◌, ℕ, ◌≤◌, true, List, [], Some, None, IsOk, IsTrue, T, nat_eq}
 use Rattle.std.specs.FinMap.Entries.{find, is_sorted}
 use Rattle.std.specs.List.{AllByRecursion, IsDistinct}
 use Rattle.std.specs.Option.{option_map_or}
@@ -65,7 +65,8 @@ pub record AreLabelled (r : Router) (s : State) : Type 0 where
 
 -- What holds of every state: links, routes, time and paths are as they should be; reservations are within the limits of
 -- their links, and each stands on its path; each repair stands on its path and on a bypass that is up; each LSP that
--- doesn't begin here has a label of its own; and the moments are known of exactly the Paths and the Resvs that are wanted.
+-- doesn't begin here has a label of its own; no bandwidth of a bypass is assigned, and no label rests; and the moments are
+-- known of exactly the Paths and the Resvs that are wanted.
 pub record IsSound (r : Router) (s : State) : Type 0 where
   pub paths : IsStanding r s.facts
   pub held : AreHeld r s
@@ -73,5 +74,7 @@ pub record IsSound (r : Router) (s : State) : Type 0 where
   pub repaired : AreRepaired s
   pub repairs_standing : AllByRecursion (λ repair. repair_stands r s repair ≡ true) s.repairs
   pub labels : AreLabelled r s
+  pub no_assignments : s.assignments ≡ []
+  pub no_rests : s.resting ≡ []
   pub sent : keys_of s.facts.sent ≡ keys_of (items_of r s)
   pub sent_upstream : keys_of s.sent_upstream ≡ keys_of (upstream_of r s)

@@ -1,6 +1,6 @@
 -- What a label switching router knows, and the changes that events make of it.
 pub use Rattle.lsr_facts.specs.declared.state.State.{State}
-use Rattle.std.specs.Prelude.{◌||◌, not, Bool, List, filter, is_some}
+use Rattle.std.specs.Prelude.{◌||◌, not, Bool, List, [], filter, is_some}
 use Rattle.std.specs.FinMap.Entries.{find, put}
 pub use Rattle.lsr_facts.specs.Orders.{is_one_of}
 use Rattle.lsr_facts.specs.Orders.{key_cmp}
@@ -8,6 +8,23 @@ use Rattle.lsr_facts.specs.declared.facts.Facts.{Facts}
 use Rattle.lsr_facts.specs.declared.key.Key.{Key}
 use Rattle.lsr_facts.specs.declared.repair.Repair.{Repair}
 use Rattle.lsr_facts.specs.declared.resv_fact.ResvFact.{ResvFact}
+use Rattle.lsr_facts.specs.declared.router.Router.{Router}
+use Rattle.abstract_paths.specs.Restarts.{all_cancelled}
+
+-- a router: what never changes of it, and what it knows
+pub record RouterState : Type 0 where
+  pub router : Router
+  pub state : State
+
+-- a state that knows these facts and nothing of LSPs beside their paths: none is reserved, repaired or labelled, no bandwidth of a
+-- bypass is assigned, no label rests, and no Resv was sent
+abbrev pub bare : Facts → State
+bare facts = record { facts = facts; resvs = []; repairs = []; labels = []; assignments = []; resting = []; sent_upstream = [] }
+
+-- what is left where all is lost that messages set up: the moment, links, static routes, tunnels and bypasses, but no change of a
+-- tunnel
+abbrev pub emptied : State → State
+emptied s = bare (record s.facts { tunnels = all_cancelled s.facts.tunnels; paths = []; sent = [] })
 
 -- what is known of links, routes, time and paths is replaced
 abbrev pub with_facts : Facts → State → State

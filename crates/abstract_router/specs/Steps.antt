@@ -36,11 +36,11 @@ use Rattle.abstract_router.specs.Labels.{IsLabelling, labels_after}
 use Rattle.abstract_router.specs.Outcomes.{Outcome}
 use Rattle.abstract_router.specs.Outputs.{item_stamps, outputs_of, upstream_stamps}
 use Rattle.abstract_router.specs.Repairing.{repaired, repairs_left, told_repaired}
-use Rattle.abstract_router.specs.States.{State, is_reserved, with_facts, with_resvs_where}
+use Rattle.abstract_router.specs.States.{State, bare, is_reserved, with_facts, with_resvs_where}
 
--- a router as it is opened: no path, no reservation, no repair, no label
+-- a router as it is opened: nothing is known of LSPs
 abbrev pub opening : Router → List (Prefix × ℕ) → List (ℕ × Tunnel) → List (ℕ × Bypass) → State
-opening r routes tunnels bypasses = record { facts = opening_facts r routes tunnels bypasses; resvs = []; repairs = []; labels = []; assignments = []; resting = []; sent_upstream = [] }
+opening r routes tunnels bypasses = bare (opening_facts r routes tunnels bypasses)
 
 -- the LSP that is to take the place of the tunnel's current one is reserved
 abbrev pub is_ready : Router → State → ℕ × Tunnel → Bool

@@ -9,7 +9,7 @@ use Rattle.sorted_rows.specs.Edits.{edited}
 use Rattle.lsr_facts.specs.Orders.{key_cmp}
 use Rattle.lsr_facts.specs.declared.key.Key.{Key}
 use Rattle.lsr_facts.specs.Claims.{claim_of}
-use Rattle.lsr_facts.specs.Reservations.{expire}
+use Rattle.lsr_facts.specs.Reservations.{expire_resvs}
 use Rattle.lsr_facts.specs.declared.claim.Claim.{Claim}
 use Rattle.lsr_facts.specs.declared.resv_fact.ResvFact.{ResvFact}
 
@@ -51,7 +51,7 @@ claims_of resvs claims = where_key key_cmp (λ key. is_some (find key_cmp key re
 
 -- Those reservations alone are left that live past a moment.
 abbrev pub left_at : ℕ → Bandwidth → Bandwidth
-left_at moment b = record b { resvs = expire moment b.resvs; claims = claims_of (expire moment b.resvs) b.claims }
+left_at moment b = record b { resvs = expire_resvs moment b.resvs; claims = claims_of (expire_resvs moment b.resvs) b.claims }
 
 -- An LSP keeps what it has at this priority from now on. Where it has nothing, nothing changes.
 abbrev pub with_holding : Key → ℕ → Bandwidth → Bandwidth

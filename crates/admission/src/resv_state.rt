@@ -6,7 +6,7 @@ ghost use Rattle.std.specs.Ordering.{is_eq};
 ghost use Rattle.std.specs.Prelude.{◌≡◌, ◌≤◌, T, [], IfOk, filter, find as find_first, length, not, slice_get};
 ghost use Rattle.lsr_facts.specs.Orders.{key_cmp};
 ghost use Rattle.lsr_facts.specs.Conflicts.{conflicts};
-ghost use Rattle.lsr_facts.specs.Reservations.{expire, lives_past};
+ghost use Rattle.lsr_facts.specs.Reservations.{expire_resvs, resv_lives_past};
 ghost use Rattle.sorted_rows.specs.Edits.{edited};
 ghost use Rattle.sorted_rows.specs.Rows.{keys_of};
 
@@ -58,9 +58,9 @@ struct Survivors {
 }
 
 impl Sweep<Key, ResvFact> for Survivors {
-    ghost use Rattle.lsr_facts.specs.Reservations.{lives_past};
+    ghost use Rattle.lsr_facts.specs.Reservations.{resv_lives_past};
 
-    ghost stays = { λ s resv. lives_past s.moment resv.1 };
+    ghost stays = { λ s resv. resv_lives_past s.moment resv.1 };
 
     ghost left = { λ s fact. fact };
 
@@ -151,7 +151,7 @@ impl ResvState {
     /// The LSPs whose reservations expire at a moment, in milliseconds (RFC 2205, 2.3), in the order of their keys.
     /// The only error is out of memory.
     pub(crate) fn expiring(&self, alloc: Global, moment: u64) -> Result<Vec<Key>, AllocError>
-        ensures { IfOk result (λ keys. keys.items ≡ keys_of (filter (λ resv. not (lives_past moment resv.1)) self.now)) }
+        ensures { IfOk result (λ keys. keys.items ≡ keys_of (filter (λ resv. not (resv_lives_past moment resv.1)) self.now)) }
     {
         self.rows.come(alloc, moment)
     }
@@ -238,7 +238,7 @@ impl ResvState {
     /// A moment comes, in milliseconds: each reservation goes whose expiry isn't above it (RFC 2205, 2.3). Takes no
     /// memory.
     pub(crate) fn expire(&mut self, moment: u64)
-        ensures { self.new ≡ expire moment self.old }
+        ensures { self.new ≡ expire_resvs moment self.old }
     {
         self.rows.sweep(&Survivors { moment });
     }

@@ -7,7 +7,7 @@ ghost use Rattle.lsr_facts.specs.Orders.{key_cmp};
 ghost use Rattle.lsr_facts.specs.Admission.{fits, victims_of};
 ghost use Rattle.lsr_facts.specs.Claims.{claim_of, reserved_of};
 ghost use Rattle.lsr_facts.specs.Conflicts.{conflicts};
-ghost use Rattle.lsr_facts.specs.Reservations.{lives_past};
+ghost use Rattle.lsr_facts.specs.Reservations.{resv_lives_past};
 ghost use Rattle.sorted_rows.specs.Edits.{edited};
 ghost use Rattle.sorted_rows.specs.InTurn.{given, in_turn, taken};
 ghost use Rattle.sorted_rows.specs.Rows.{keys_of};
@@ -96,7 +96,7 @@ impl Admission {
     /// The only error is out of memory.
     pub fn expiring(&self, alloc: Global, moment: u64) -> Result<Vec<Key>, AllocError>
         ensures { IfOk result (λ keys. keys.items
-            ≡ keys_of (filter (λ resv. not (lives_past moment resv.1)) self.now.resvs)) }
+            ≡ keys_of (filter (λ resv. not (resv_lives_past moment resv.1)) self.now.resvs)) }
     {
         self.resvs.expiring(alloc, moment)
     }

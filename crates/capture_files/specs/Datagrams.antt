@@ -2,8 +2,8 @@
 use Rattle.std.specs.Prelude.{ℕ, ◌-◌, ◌*◌, ◌/◌, ◌%◌, ◌^◌, ◌==◌, ◌&&◌, ◌||◌, not, nat_le, nat_lt, if◌then◌else◌, Bool, List, length, take, drop, slice_index}
 use Rattle.std.specs.Option.{option_map_or}
 use Rattle.byteorder.specs.Endian.{big_number}
-use Rattle.capture_files.specs.declared.datagram.Content.{Content}
-use Rattle.capture_files.specs.declared.datagram.Content.TheVariants as contents
+use Rattle.capture_files.specs.declared.datagram.PacketContent.{PacketContent}
+use Rattle.capture_files.specs.declared.datagram.PacketContent.TheVariants as contents
 use Rattle.capture_files.specs.Links.{ip_in}
 
 -- a content as the definitions see it
@@ -14,7 +14,7 @@ pub data Carried : Type 0 where
   cut : Carried
   other : Carried
 
-abbrev pub carried : Content → Carried
+abbrev pub carried : PacketContent → Carried
 carried (contents.Rsvp message) = rsvp message.now
 carried (contents.Udp source_port destination_port payload) = udp source_port destination_port payload.now
 carried contents.Fragment = fragment

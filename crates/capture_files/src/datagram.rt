@@ -36,7 +36,7 @@ const UDP_LENGTH_FIELD: usize = 4;
 
 /// What a packet carries for RSVP.
 #[derive(Clone, Copy, Debug)]
-pub enum Content<'a> {
+pub enum PacketContent<'a> {
     /// The bytes of an IPv4 packet of protocol 46: an RSVP message, if they are one. They aren't looked at.
     Rsvp(&'a [u8]),
     /// A UDP datagram: a frame of a router, if its ports and its payload say so. Its checksum isn't looked at.
@@ -92,17 +92,17 @@ fn is_fragment(ip: &[u8]) -> bool
 
 /// The UDP datagram that the payload of an IPv4 packet is.
 #[tactic(auto, unfolding(crate::specs::Datagrams::udp_in))]
-fn udp_in(datagram: &[u8]) -> Content<'_>
+fn udp_in(datagram: &[u8]) -> PacketContent<'_>
     ensures { carried result ≡ udp_in datagram.now }
 {
     if datagram.len() < UDP_HEADER_LEN {
-        return Content::Other;
+        return PacketContent::Other;
     }
     let len = usize::from(BigEndian::read_u16(&datagram[UDP_LENGTH_FIELD..]));
     if len < UDP_HEADER_LEN || datagram.len() < len {
-        return Content::Other;
+        return PacketContent::Other;
     }
-    Content::Udp {
+    PacketContent::Udp {
         source_port: BigEndian::read_u16(datagram),
         destination_port: BigEndian::read_u16(&datagram[DESTINATION_FIELD..]),
         payload: &datagram[UDP_HEADER_LEN..len],
@@ -111,25 +111,25 @@ fn udp_in(datagram: &[u8]) -> Content<'_>
 
 /// What an IP packet carries.
 #[tactic(auto, unfolding(crate::specs::Datagrams::datagram_in))]
-fn datagram_in(ip: &[u8]) -> Content<'_>
+fn datagram_in(ip: &[u8]) -> PacketContent<'_>
     ensures { carried result ≡ datagram_in ip.now }
 {
     if !has_header(ip) {
-        return Content::Other;
+        return PacketContent::Other;
     }
     let protocol = ip[PROTOCOL_FIELD];
     if protocol != RSVP && protocol != UDP {
-        return Content::Other;
+        return PacketContent::Other;
     }
     if is_fragment(ip) {
-        return Content::Fragment;
+        return PacketContent::Fragment;
     }
     if ip.len() < total_len(ip) {
-        return Content::Cut;
+        return PacketContent::Cut;
     }
     let payload = &ip[header_len(ip)..total_len(ip)];
     if protocol == RSVP {
-        Content::Rsvp(payload)
+        PacketContent::Rsvp(payload)
     } else {
         udp_in(payload)
     }
@@ -137,19 +137,19 @@ fn datagram_in(ip: &[u8]) -> Content<'_>
 
 /// What the bytes of a packet of this link type carry. Known are Ethernet with at most eight IEEE 802.1Q tags (link type 1),
 /// raw IP (101, 228, 12 and 14) and Linux's cooked packets (113 and 276); packets of other link types are
-/// [`Content::Other`].
-pub fn content_of(link_type: u16, bytes: &[u8]) -> Content<'_>
+/// [`PacketContent::Other`].
+pub fn content_of(link_type: u16, bytes: &[u8]) -> PacketContent<'_>
     ensures { carried result ≡ content_in link_type bytes.now }
 {
     match ip_in(link_type, bytes) {
         Some(ip) => datagram_in(ip),
-        None => Content::Other,
+        None => PacketContent::Other,
     }
 }
 
 impl<'a> Packet<'a> {
     /// What the packet carries for RSVP.
-    pub fn content(&self) -> Content<'a>
+    pub fn content(&self) -> PacketContent<'a>
         ensures { carried result ≡ content_in self.now.link_type self.now.bytes.now }
     {
         content_of(self.link_type, self.bytes)

@@ -18,7 +18,7 @@ mod times;
 mod whole;
 
 pub use capture::Capture;
-pub use datagram::{Content, content_of};
+pub use datagram::{PacketContent, content_of};
 pub use fault::{CaptureFault, Damage};
 pub use packet::Packet;
 pub use whole::{Packets, read_packets};

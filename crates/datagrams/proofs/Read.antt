@@ -6,8 +6,8 @@ use Rattle.rsvp_contents.specs.Spelling.{ReadsMessage}
 use Rattle.rsvp_contents.specs.declared.dropped.Dropped.{Dropped}
 use Rattle.rsvp_contents.specs.declared.dropped.Dropped.TheVariants as dropped
 use Rattle.rsvp_contents.specs.declared.message.Reading.{Reading}
-use Rattle.link_frames.specs.declared.payload.Payload.{Payload}
-use Rattle.link_frames.specs.declared.payload.Payload.TheVariants as payloads
+use Rattle.link_frames.specs.declared.payload.ReceivedPayload.{ReceivedPayload}
+use Rattle.link_frames.specs.declared.payload.ReceivedPayload.TheVariants as received_payloads
 use Rattle.lsr_facts.specs.declared.refusal.Refusal.{Refusal}
 use Rattle.lsr_facts.specs.declared.router.Router.{Router}
 use Rattle.abstract_paths.specs.Ways.{takes}
@@ -31,9 +31,9 @@ message_dropped link way bytes dropped.NoMemory refusal h is = inr (ap Err is)
 message_dropped link way bytes fault refusal h is = inl (inl (fault, h.told, ap Err is))
 
 -- a message whose stack ends here
-pub message_delivered : (link : ℕ) (payload : Payload) (content bytes : List ℕ) (answer : Result Datagram Refusal) → payload ≡ payloads.Unread content → bytes ≡ content → OrNoMemory (IsMessage link ways.Stack bytes) answer → OrNoMemory (IsDelivered link payload) answer
+pub message_delivered : (link : ℕ) (payload : ReceivedPayload) (content bytes : List ℕ) (answer : Result Datagram Refusal) → payload ≡ received_payloads.Message content → bytes ≡ content → OrNoMemory (IsMessage link ways.Stack bytes) answer → OrNoMemory (IsDelivered link payload) answer
 message_delivered link payload content bytes answer is same h =
-    subst (λ (p : Payload). OrNoMemory (IsDelivered link p) answer) (sym is)
+    subst (λ (p : ReceivedPayload). OrNoMemory (IsDelivered link p) answer) (sym is)
     (subst (λ (b : List ℕ). OrNoMemory (IsMessage link ways.Stack b) answer) same h)
 
 -- a message in a Routed frame for this router

@@ -13,10 +13,12 @@ use Rattle.rsvp_contents.specs.declared.dropped.Dropped.{Dropped}
 use Rattle.rsvp_contents.specs.declared.dropped.Dropped.TheVariants as dropped
 use Rattle.rsvp_contents.specs.declared.message.Reading.{Reading}
 use Rattle.link_frames.specs.Frames.{IsFirstFrameFault, SpellsFrame, head_fault}
-use Rattle.link_frames.specs.declared.frame.Frame.{Frame}
-use Rattle.link_frames.specs.declared.frame.Frame.TheVariants as frames
-use Rattle.link_frames.specs.declared.payload.Payload.{Payload}
-use Rattle.link_frames.specs.declared.payload.Payload.TheVariants as payloads
+use Rattle.link_frames.specs.declared.frame.Frame.TheVariants.{Labelled}
+use Rattle.link_frames.specs.declared.frame.ReceivedFrame.{ReceivedFrame}
+use Rattle.link_frames.specs.declared.frame.ReceivedFrame.TheVariants as received_frames
+use Rattle.link_frames.specs.declared.payload.Payload.TheVariants.{Received}
+use Rattle.link_frames.specs.declared.payload.ReceivedPayload.{ReceivedPayload}
+use Rattle.link_frames.specs.declared.payload.ReceivedPayload.TheVariants as received_payloads
 use Rattle.lsr_facts.specs.declared.refusal.Refusal.{Refusal}
 use Rattle.lsr_facts.specs.declared.refusal.Refusal.TheVariants as refusals
 use Rattle.lsr_facts.specs.declared.router.Router.{Router}
@@ -66,15 +68,14 @@ IsRelay link to limit message answer =
     (answer ≡ Ok (kinds.Event (events.Relay (record { link = link; to = to; limit = limit; message = message }))))
 
 -- A payload whose stack ends here: bytes have arrived, a message is one for this router that came through the stack.
-abbrev pub IsDelivered : ℕ → Payload → Result Datagram Refusal → Type 0
-IsDelivered link (payloads.Bytes content) answer = answer ≡ Ok (kinds.Passed (passes.Delivered content))
-IsDelivered link (payloads.Unread content) answer = IsMessage link ways.Stack content answer
-IsDelivered link (payloads.Message message) answer = ⊥
+abbrev pub IsDelivered : ℕ → ReceivedPayload → Result Datagram Refusal → Type 0
+IsDelivered link (received_payloads.Bytes content) answer = answer ≡ Ok (kinds.Passed (passes.Delivered content))
+IsDelivered link (received_payloads.Message content) answer = IsMessage link ways.Stack content answer
 
 -- A payload, by what becomes of its stack: it goes on under what is left of the stack, as it came; it is for this router;
 -- or it is dropped.
-abbrev pub IsCarried : ℕ → Forwarding → Payload → Result Datagram Refusal → Type 0
-IsCarried link (Send out stack) payload answer = answer ≡ Ok (kinds.Passed (passes.Sent out (frames.Labelled stack payload)))
+abbrev pub IsCarried : ℕ → Forwarding → ReceivedPayload → Result Datagram Refusal → Type 0
+IsCarried link (Send out stack) payload answer = answer ≡ Ok (kinds.Passed (passes.Sent out (Labelled stack (Received payload))))
 IsCarried link Deliver payload answer = IsDelivered link payload answer
 IsCarried link (Drop fault) payload answer = answer ≡ Err (refusal_of fault)
 
@@ -85,16 +86,15 @@ IsRouted r link to limit message answer =
 
 -- A frame: the message of a Hop frame; a payload under a stack of labels (RFC 3031, 3.10); or a message for the router that
 -- has an address, be it this one or another.
-abbrev pub IsFrame : Router → (List StackEntry → Forwarding) → ℕ → Frame → Result Datagram Refusal → Type 0
-IsFrame r forward link (frames.Hop reading) answer = IsReading link ways.Hop reading answer
-IsFrame r forward link (frames.Labelled stack payload) answer = IsCarried link (forward stack) payload answer
-IsFrame r forward link (frames.Routed to limit message) answer = ⊥
-IsFrame r forward link (frames.Relayed to limit message) answer = IsRouted r link to limit message answer
+abbrev pub IsFrame : Router → (List StackEntry → Forwarding) → ℕ → ReceivedFrame → Result Datagram Refusal → Type 0
+IsFrame r forward link (received_frames.Hop reading) answer = IsReading link ways.Hop reading answer
+IsFrame r forward link (received_frames.Labelled stack payload) answer = IsCarried link (forward stack) payload answer
+IsFrame r forward link (received_frames.Routed to limit message) answer = IsRouted r link to limit message answer
 
 -- What a datagram is, by the router's own addresses and by what becomes of stacks of labels: it is dropped for its first
 -- fault, or it is the frame that it spells. Memory can run out in place of either, but not for one whose head has a fault.
 abbrev pub IsDatagram : Router → (List StackEntry → Forwarding) → ℕ → List ℕ → Result Datagram Refusal → Type 0
 IsDatagram r forward link bytes answer =
     ((fault : Dropped) × IsFirstFrameFault bytes fault × (answer ≡ dropped_for fault))
-    ⊎ ((frame : Frame) × SpellsFrame bytes frame × IsFrame r forward link frame answer)
+    ⊎ ((frame : ReceivedFrame) × SpellsFrame bytes frame × IsFrame r forward link frame answer)
     ⊎ ((head_fault bytes ≡ None) × (answer ≡ Err refusals.NoMemory))

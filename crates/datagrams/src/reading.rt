@@ -2,13 +2,15 @@
 
 ghost use Rattle.std.specs.Prelude.{◌≡◌};
 ghost use Rattle.datagrams.specs.Datagrams.{IsCarried, IsDatagram, IsDelivered, IsFrame, IsMessage, IsReading, IsRelay, IsRouted, refusal_of};
-ghost use Rattle.datagrams.specs.Parts.{IsFrameRead, IsPayloadRead, OrNoMemory, refusal_for};
+ghost use Rattle.datagrams.specs.Parts.{OrNoMemory, refusal_for};
 
 use crate::datagram::{Datagram, Forwards, Passed};
 use abstract_paths::{ArrivalWay, Arrive, Event, Relay, takes};
 use explicit_routes::is_own;
 use forwarding_table::{Fault, Forwarding};
-use link_frames::{Data, Frame, MAX_DATA_LEN, Payload, Reading, Unread};
+use link_frames::{
+    Data, Frame, MAX_DATA_LEN, Payload, Reading, ReceivedFrame, ReceivedPayload, Unread,
+};
 use lsr_facts::{Refusal, Router};
 use rsvp_contents::Dropped;
 use rsvp_messages::{read_frame, read_message};
@@ -104,16 +106,14 @@ fn routed(
 }
 
 /// A payload whose stack ends here: bytes have arrived, a message is one for this router that came through the stack.
-fn deliver(alloc: Global, link: u16, payload: Payload) -> Result<Datagram, Refusal>
-    requires { IsPayloadRead payload }
+fn deliver(alloc: Global, link: u16, payload: ReceivedPayload) -> Result<Datagram, Refusal>
     ensures { OrNoMemory (IsDelivered link payload) result }
 {
     match payload {
-        Payload::Bytes(content) => Ok(Datagram::Passed(Passed::Delivered(content))),
-        Payload::Unread(content) => {
+        ReceivedPayload::Bytes(content) => Ok(Datagram::Passed(Passed::Delivered(content))),
+        ReceivedPayload::Message(content) => {
             read_for_this(alloc, link, ArrivalWay::Stack, content.as_slice())
         }
-        Payload::Message(_) => unreachable!(),
     }
 }
 
@@ -122,15 +122,14 @@ fn carry(
     alloc: Global,
     link: u16,
     forwarding: Forwarding,
-    payload: Payload,
+    payload: ReceivedPayload,
 ) -> Result<Datagram, Refusal>
-    requires { IsPayloadRead payload }
     ensures { OrNoMemory (IsCarried link forwarding payload) result }
 {
     match forwarding {
         Forwarding::Send { link, stack } => Ok(Datagram::Passed(Passed::Sent {
             link,
-            frame: Frame::Labelled(stack, payload),
+            frame: Frame::Labelled(stack, Payload::Received(payload)),
         })),
         Forwarding::Deliver => deliver(alloc, link, payload),
         Forwarding::Drop(fault) => Err(refusal_of(fault)),
@@ -143,18 +142,18 @@ fn by_frame<F: Forwards>(
     router: &Router,
     labels: &F,
     link: u16,
-    frame: Frame,
+    frame: ReceivedFrame,
 ) -> Result<Datagram, Refusal>
-    requires { IsFrameRead frame }
     ensures { OrNoMemory (IsFrame router.now (F.forwarded labels.now) link frame) result }
 {
     match frame {
-        Frame::Hop(reading) => arrival(link, ArrivalWay::Hop, reading),
-        Frame::Labelled(stack, payload) => carry(alloc, link, labels.forward(&stack), payload),
-        Frame::Relayed { to, limit, message } => {
+        ReceivedFrame::Hop(reading) => arrival(link, ArrivalWay::Hop, reading),
+        ReceivedFrame::Labelled(stack, payload) => {
+            carry(alloc, link, labels.forward(&stack), payload)
+        }
+        ReceivedFrame::Routed { to, limit, message } => {
             routed(alloc, router, link, to, limit, &message)
         }
-        Frame::Routed { .. } => unreachable!(),
     }
 }
 

@@ -5,8 +5,8 @@ ghost use Rattle.std.specs.Ordering.{nat_cmp};
 ghost use Rattle.std.specs.Prelude.{◌≡◌};
 ghost use Rattle.abstract_router.specs.BypassTunnels.{bypass_tunnel_by, bypass_tunnels_of, over_at, over_of};
 
-use lsr_facts::{Bypass, BypassTunnel, Over, Tunnel};
-use message_rules::{current_key, is_up};
+use lsr_facts::{Bypass, BypassTunnel, Over, Tunnel, current_key};
+use message_rules::is_up;
 use state_views::StateView;
 
 /// What the tunnel of a number runs over: its current LSP is reserved, over a link that is up.

@@ -18,7 +18,7 @@ use std::sync::{Mutex, Wait};
 
 /// A router with its journal, and the book of its ledger: as many entries were made as the ports have in all.
 #[derive(Drop)]
-struct Kept<L: Ledger, R: Wait + Drop> {
+struct Booked<L: Ledger, R: Wait + Drop> {
     locked: Locked<R>,
     calls: Book<L>,
     ghost counted: { locked.counts.number ≡ calls.total },
@@ -26,7 +26,7 @@ struct Kept<L: Ledger, R: Wait + Drop> {
 
 /// A router that many threads feed, each by a port of its own. Its name is that of its ledger: no other core has it.
 pub struct Core<L: Ledger, R: Wait + Drop> {
-    lock: Mutex<Kept<L, R>>,
+    lock: Mutex<Booked<L, R>>,
     router: Router,
 }
 
@@ -70,7 +70,7 @@ impl<L: Ledger> Port<L> {
     }
 }
 
-impl<L: Ledger, R: Wait + Drop> Kept<L, R> {
+impl<L: Ledger, R: Wait + Drop> Booked<L, R> {
     /// Applies an event of a port. What is refused changes neither.
     fn apply(
         &mut self,
@@ -179,7 +179,7 @@ pub fn open<L: Ledger, R: Wait + Drop>(
     let ports = ports_of(alloc, &mut rest, ports)?;
     Ok(Opened {
         core: Core {
-            lock: Mutex::new(Kept { locked, calls }),
+            lock: Mutex::new(Booked { locked, calls }),
             router,
         },
         ports,

@@ -9,7 +9,7 @@ ghost use Rattle.interface_workers.specs.Reconciled.{AreJoined, AreOneRun, IsRec
 ghost use Rattle.interface_workers.specs.Walks.{GoesOn, HasPorts, IsAt, IsNext, IsTold, IsWithin, called_in, mine, passed, place_at};
 
 use journal_bytes::{is_same_router, is_same_state};
-use run_journal::{Entry, Mark, Receipt, Segment, Tally, WrittenFrame};
+use run_journal::{Entry, JournalCounts, Mark, Receipt, Segment, WrittenFrame};
 use thiserror::Error;
 
 /// Receipts and segments are those of one run.
@@ -76,7 +76,7 @@ fn place_of(marks: &[Mark], index: usize) -> u64
 
 impl Walk {
     /// A walk that begins here, for the mark at an index.
-    fn new(from: &Tally, index: usize) -> Walk
+    fn new(from: &JournalCounts, index: usize) -> Walk
         ensures at { IsAt result from.now }
         ensures index { result.index ≡ index }
         ensures entries { result.entries ≡ 0 }
@@ -325,13 +325,13 @@ fn walked(segment: &Segment) -> Walk
 }
 
 /// Whether these are the numbers after a segment's entries.
-fn are_end_numbers(segment: &Segment, tally: &Tally) -> bool
-    ensures { IsTrue result ↔ (tally.now ≡ counted_all segment.now.from segment.now.entries) }
+fn are_end_numbers(segment: &Segment, counts: &JournalCounts) -> bool
+    ensures { IsTrue result ↔ (counts.now ≡ counted_all segment.now.from segment.now.entries) }
 {
     let walk = walked(segment);
-    is_sum(tally.number(), walk.number, walk.entries)
-        && is_sum(tally.published(), walk.published, walk.changes)
-        && are_end_marks(segment, tally.marks())
+    is_sum(counts.number(), walk.number, walk.entries)
+        && is_sum(counts.published(), walk.published, walk.changes)
+        && are_end_marks(segment, counts.marks())
 }
 
 /// Whether a segment goes on from the one before.
@@ -363,10 +363,10 @@ fn are_first_marks(marks: &[Mark]) -> bool
 }
 
 /// Whether these are the numbers of a router that had no entry.
-fn are_first_numbers(tally: &Tally) -> bool
-    ensures { IsTrue result ↔ (tally.now ≡ first_counts (length tally.now.marks)) }
+fn are_first_numbers(counts: &JournalCounts) -> bool
+    ensures { IsTrue result ↔ (counts.now ≡ first_counts (length counts.now.marks)) }
 {
-    tally.number() == 0 && tally.published() == 0 && are_first_marks(tally.marks())
+    counts.number() == 0 && counts.published() == 0 && are_first_marks(counts.marks())
 }
 
 /// Whether segments are a whole journal; else the number, from 1, of the first that doesn't go on from the one before, which is

@@ -9,10 +9,9 @@ use crate::gate::Gate;
 use crate::readers::CoreReader;
 use crate::reading::read_by;
 use crate::wire::Wire;
-use abstract_paths::{Event, Frame};
-use link_frames::Reading;
+use abstract_paths::Event;
 use lsr_facts::Refusal;
-use rsvp_messages::write_frame;
+use rsvp_messages::frame_bytes;
 use run_journal::{Datagram, Frames, Passed, Receipt, Segment};
 use std::alloc::{AllocError, Global};
 use std::sync::Wait;
@@ -56,23 +55,13 @@ fn send_all<W: Wire>(wire: &mut W, frames: &Frames) {
     }
 }
 
-/// The bytes of a frame that is passed on, or none where memory ran out.
-fn written(alloc: Global, frame: &Frame) -> Result<Vec<u8>, AllocError> {
-    let mut bytes = Vec::new(alloc);
-    match frame {
-        Frame::Hop(Reading::Unknown(..)) => {}
-        frame => write_frame(frame, &mut bytes)?,
-    }
-    Ok(bytes)
-}
-
 /// Carries a frame that is passed on by its labels, where there is memory for its bytes; else it is lost. Whether it was
 /// carried; a payload that has arrived isn't.
 fn pass_on<W: Wire>(alloc: Global, wire: &mut W, passed: &Passed) -> bool {
     let Passed::Sent { link, frame } = passed else {
         return false;
     };
-    let Ok(bytes) = written(alloc, frame) else {
+    let Ok(bytes) = frame_bytes(alloc, frame) else {
         return false;
     };
     wire.failures() < u64::MAX && wire.send(*link, bytes.as_slice()).is_ok()

@@ -16,8 +16,8 @@ use Rattle.lsr_facts.specs.Orders.{key_cmp}
 use Rattle.lsr_facts.specs.declared.key.Key.{Key}
 use Rattle.lsr_facts.specs.declared.router.LabelRange.{LabelRange}
 use Rattle.label_space.specs.Labels.{IsFree, IsHeld, IsOf, Labels, hold, release}
-use Rattle.label_space.specs.LineLaws.{Contains-cons_cases, Contains-first, Contains-from_without, Contains-without, absent_from, gone_differs, none_contained}
-use Rattle.label_space.specs.Lines.{without}
+use Rattle.label_space.specs.LineLaws.{Contains-cons_cases, Contains-first, Contains-from_without, Contains-line_without, absent_from, gone_differs, none_contained}
+use Rattle.label_space.specs.Lines.{line_without}
 use Rattle.label_space.specs.FreeLabels.{is_free}
 use Rattle.label_space.specs.BindingLaws.{free-from_not_found, free-not_found, free_differs, one_key}
 use Rattle.label_space.specs.Bindings.{AreBound, AreHeldOf}
@@ -70,13 +70,13 @@ module _ (space : Labels) (labels : List (Key × ℕ)) (are : AreBound space lab
       let sorted = is_sorted-put key_cmp key_total key label labels are.in_order in
       let free_by : (other : ℕ) → IsFree (hold space label) other → is_free now other ≡ true =
       λ other among. free-from_not_found now other sorted (λ q found. elim (cases_put key label labels q other found) [
-        | inl same ↦ absent_from (without label space.free) label (gone_differs label space.free) (subst (λ v. Contains (without label space.free) v) (sym same) among)
+        | inl same ↦ absent_from (line_without label space.free) label (gone_differs label space.free) (subst (λ v. Contains (line_without label space.free) v) (sym same) among)
         | inr before ↦ free-not_found labels other ((are.free other).0 (Contains-from_without label space.free other among)).1 q before
       ]) in
       let free_to : (other : ℕ) → IsOf space.range other → is_free now other ≡ true → IsFree (hold space label) other =
       λ other is_own is.
       let apart : label ≢ other = λ same. free-not_found now other is key (find-put_same key_cmp key_total key label labels ∙ ap Some same) in
-      Contains-without label space.free other apart ((are.free other).1 (is_own, free-from_not_found labels other are.in_order (λ q found. free-not_found now other is q (put_after key label labels new q other found)))) in
+      Contains-line_without label space.free other apart ((are.free other).1 (is_own, free-from_not_found labels other are.in_order (λ q found. free-not_found now other is q (put_after key label labels new q other found)))) in
       record {
         in_order = sorted;
         held = record {

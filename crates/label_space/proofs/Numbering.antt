@@ -8,7 +8,7 @@ use Rattle.sorted_rows.specs.ListLaws.{all-map, all-weaker}
 use Rattle.lsr_facts.specs.declared.router.LabelRange.{LabelRange}
 use Rattle.label_space.specs.Labels.{HasPlaces, IsLabelSpace, IsOf, labels_at}
 use Rattle.label_space.specs.LineLaws.{Contains-cons_cases, Contains-first, Contains-later, none_contained}
-use Rattle.label_space.specs.Lines.{without}
+use Rattle.label_space.specs.Lines.{line_without}
 
 module _ (first : ℕ) where
   -- two labels differ where their places do
@@ -20,16 +20,16 @@ module _ (first : ℕ) where
       ]
 
   -- a place leaves the line as its label does
-  pub map-without : (place : ℕ) (line : List ℕ) → map (λ p. first + p) (without place line) ≡ without (first + place) (map (λ p. first + p) line)
-  map-without place [] = refl
-  map-without place (y ∷ line) =
-      let rest = map-without place line in
+  pub map-line_without : (place : ℕ) (line : List ℕ) → map (λ p. first + p) (line_without place line) ≡ line_without (first + place) (map (λ p. first + p) line)
+  map-line_without place [] = refl
+  map-line_without place (y ∷ line) =
+      let rest = map-line_without place line in
       let labels = map (λ p. first + p) line in
-      elim (place == y) as (λ b. map (λ p. first + p) (cond (not b) (y ∷ without place line) (without place line)) ≡ cond (not b) ((first + y) ∷ without (first + place) labels) (without (first + place) labels)) [
+      elim (place == y) as (λ b. map (λ p. first + p) (cond (not b) (y ∷ line_without place line) (line_without place line)) ≡ cond (not b) ((first + y) ∷ line_without (first + place) labels) (line_without (first + place) labels)) [
         | true ↦ rest
         | false ↦ ap (λ l. (first + y) ∷ l) rest
       ]
-      ∙ ap (λ b. cond (not b) ((first + y) ∷ without (first + place) labels) (without (first + place) labels)) (sym (same_test place y))
+      ∙ ap (λ b. cond (not b) ((first + y) ∷ line_without (first + place) labels) (line_without (first + place) labels)) (sym (same_test place y))
 
   -- a label is among those of the places where its place is among these
   pub from_label : (line : List ℕ) (label : ℕ) → Contains (map (λ p. first + p) line) label → (first ≤ label) × Contains line (label - first)

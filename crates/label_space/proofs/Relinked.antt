@@ -8,8 +8,8 @@ use Rattle.std.proofs.lemmas.List.Elements.{Contains-append_left, Contains-push}
 use Rattle.std.proofs.lemmas.List.FromFn.{get_or-range_with_len, length-range_with_len}
 use Rattle.std.proofs.lemmas.Map.Steps.{length-le_from_distinct_below}
 use Rattle.sorted_rows.specs.ListLaws.{all-append, all-filter, all-weaker}
-use Rattle.label_space.specs.LineLaws.{Contains-without, Differs, IsDistinct-joined, IsDistinct-without, cases_contained, differs_from, line_around, without-between}
-use Rattle.label_space.specs.Lines.{AreLinks, IsLinked, line_of, without}
+use Rattle.label_space.specs.LineLaws.{Contains-line_without, Differs, IsDistinct-joined, IsDistinct-line_without, cases_contained, differs_from, line_around, line_without-between}
+use Rattle.label_space.specs.Lines.{AreLinks, IsLinked, line_of, line_without}
 use Rattle.label_space.proofs.Links.{all-first, all-last, all-part, around_place, line_from-linked, linked-join, linked-part, linked-removed, linked-set_end, linked-set_next, linked-set_previous}
 
 -- the end differs from each place
@@ -115,7 +115,7 @@ module _ (count : ℕ) (next previous : List ℕ) (links : AreLinks count next p
       eqb-false place (get_or next place 0) differs (sym same)
 
   -- A place leaves the line: the places on both sides of it name each other, and it names itself.
-  pub removed : (place last first : ℕ) → Contains (line_of count next) place → last ≡ get_or previous place 0 → first ≡ get_or next place 0 → AreLinks count (set (set next last first) place place) (set previous first last) × (line_of count (set (set next last first) place place) ≡ without place (line_of count next))
+  pub removed : (place last first : ℕ) → Contains (line_of count next) place → last ≡ get_or previous place 0 → first ≡ get_or next place 0 → AreLinks count (set (set next last first) place place) (set previous first last) × (line_of count (set (set next last first) place place) ≡ line_without place (line_of count next))
   removed place last first among is_last is_first =
       let line = line_of count next in
       let around = line_around line place among in
@@ -131,17 +131,17 @@ module _ (count : ℕ) (next previous : List ℕ) (links : AreLinks count next p
       let apart : place ≢ count = λ same. absurd (omega (arith, below)) in
       let away = all-append (λ y. (place == y) ≡ false) before behind sides.differs_before sides.differs_behind in
       let alone_again = linked-set_next (set next last first) (set previous first last) place place count (before ++ behind) count apart away relinked in
-      let left : without place line ≡ before ++ behind = ap (without place) around.2 ∙ without-between place before behind sides.differs_before sides.differs_behind in
-      are_links count (set (set next last first) place place) (set previous first last) (without place line)
+      let left : line_without place line ≡ before ++ behind = ap (line_without place) around.2 ∙ line_without-between place before behind sides.differs_before sides.differs_behind in
+      are_links count (set (set next last first) place place) (set previous first last) (line_without place line)
       (length-set (set next last first) place place ∙ length-set next last first ∙ links.nexts)
       (length-set previous first last ∙ links.previouses)
       (subst (λ l. IsLinked (set (set next last first) place place) (set previous first last) count l count) (sym left) alone_again)
       (all-filter (λ p. p < count) (λ other. not (place == other)) line links.within)
-      (IsDistinct-without place line links.apart)
+      (IsDistinct-line_without place line links.apart)
       (λ other other_below absent. elim (cases_eq other place) [
         | inl same ↦ get_or-set_at (set next last first) place other place 0 same (omega (arith, length-set next last first, links.nexts)) ∙ sym same
         | inr other_apart ↦
-            let other_absent : ¬ Contains line other = λ other_among. absent (Contains-without place line other (λ same. other_apart (sym same)) other_among) in
+            let other_absent : ¬ Contains line other = λ other_among. absent (Contains-line_without place line other (λ same. other_apart (sym same)) other_among) in
             let other_differs = (all-part (λ y. (other == y) ≡ false) before place behind (subst (Differs other) around.2 (differs_from line other other_absent))).0 in
             let last_differs = all-last (λ p. (other == p) ≡ false) next previous count before place parts.0 (ne_eqb other count (λ same. absurd (omega (arith, other_below)))) other_differs in
             get_or-set_other (set next last first) place other place 0 other_apart

@@ -11,8 +11,8 @@ use Rattle.sorted_rows.specs.ListLaws.{all-filter, all-weaker}
 use Rattle.lsr_facts.specs.declared.router.LabelRange.{LabelRange}
 use Rattle.label_space.specs.Changes.{Change, IsTaken, after, held, released}
 use Rattle.label_space.specs.Labels.{IsFree, IsHeld, IsLabelSpace, IsOf, Labels, give, hold, release}
-use Rattle.label_space.specs.LineLaws.{Contains-first, Contains-from_without, Contains-later, Contains-without, Differs, IsDistinct-joined, IsDistinct-without, absent_from, differs_from, gone_differs, none_contained, without-first}
-use Rattle.label_space.specs.Lines.{without}
+use Rattle.label_space.specs.LineLaws.{Contains-first, Contains-from_without, Contains-later, Contains-line_without, Differs, IsDistinct-joined, IsDistinct-line_without, absent_from, differs_from, gone_differs, none_contained, line_without-first}
+use Rattle.label_space.specs.Lines.{line_without}
 
 -- where none is given all are held
 all_held : (range : LabelRange) (free : List ℕ) → slice_get free 0 ≡ None → (label : ℕ) → IsOf range label → IsHeld record { range = range; free = free } label
@@ -30,19 +30,19 @@ none_given labels space = (all_held labels.range labels.free, none_left labels.r
 -- one that was held is held
 pub IsHeld-hold : (labels : Labels) (label : ℕ) → IsOf labels.range label → IsHeld (hold labels label) label
 IsHeld-hold labels label own =
-    record { own = own; taken = absent_from (without label labels.free) label (gone_differs label labels.free) }
+    record { own = own; taken = absent_from (line_without label labels.free) label (gone_differs label labels.free) }
 
 -- and all others are free as before
 pub IsFree-hold : (labels : Labels) (label other : ℕ) → other ≢ label → (IsFree (hold labels label) other ↔ IsFree labels other)
 IsFree-hold labels label other apart =
-    (Contains-from_without label labels.free other, Contains-without label labels.free other (λ same. apart (sym same)))
+    (Contains-from_without label labels.free other, Contains-line_without label labels.free other (λ same. apart (sym same)))
 
 -- a change leaves a label space
 pub IsLabelSpace-hold : (labels : Labels) (label : ℕ) → IsLabelSpace labels → IsLabelSpace (hold labels label)
 IsLabelSpace-hold labels label space = record {
   range = space.range;
   own = All-filter (λ other. not (label == other)) (IsOf labels.range) labels.free space.own;
-  apart = IsDistinct-without label labels.free space.apart;
+  apart = IsDistinct-line_without label labels.free space.apart;
 }
 
 pub IsLabelSpace-release : (labels : Labels) (label : ℕ) → IsLabelSpace labels → IsHeld labels label → IsLabelSpace (release labels label)
@@ -55,13 +55,13 @@ IsLabelSpace-release labels label space taken = record {
 -- the first leaves the line as the others are in it
 pub free-hold_first : (labels : Labels) (label : ℕ) (others : List ℕ) → IsLabelSpace labels → labels.free ≡ label ∷ others → (hold labels label).free ≡ others
 free-hold_first labels label others space is =
-    ap (without label) is ∙ without-first label others (IsDistinct-head nat_eq label others (subst (IsDistinct nat_eq) is space.apart))
+    ap (line_without label) is ∙ line_without-first label others (IsDistinct-head nat_eq label others (subst (IsDistinct nat_eq) is space.apart))
 
 -- each of a line is taken, where the others are that one leaves
-taken_with : (first : ℕ) (later : List Change) (line : List ℕ) → AllByRecursion (IsTaken later) (without first line) → AllByRecursion (IsTaken (held first ∷ later)) line
+taken_with : (first : ℕ) (later : List Change) (line : List ℕ) → AllByRecursion (IsTaken later) (line_without first line) → AllByRecursion (IsTaken (held first ∷ later)) line
 taken_with first later [] = λ each. tt
 taken_with first later (x ∷ line) =
-    elim (first == x) as (λ b. (first == x) ≡ b → AllByRecursion (IsTaken later) (cond (not b) (x ∷ without first line) (without first line)) → AllByRecursion (IsTaken (held first ∷ later)) (x ∷ line)) [
+    elim (first == x) as (λ b. (first == x) ≡ b → AllByRecursion (IsTaken later) (cond (not b) (x ∷ line_without first line) (line_without first line)) → AllByRecursion (IsTaken (held first ∷ later)) (x ∷ line)) [
       | true ↦ λ same each. (Contains-first (held first) later (held x) (ap held (eqb-true first x same)), taken_with first later line each)
       | false ↦ λ apart each. (Contains-later (held first) later (held x) each.0, taken_with first later line each.1)
     ] refl
@@ -73,9 +73,9 @@ waits [] labels (x ∷ before) behind label is differs untaken given =
     absurd (eqb-false label x differs.0 (sym (same_Some x label (sym (ap (λ line. slice_get line 0) is) ∙ given))))
 waits (held other ∷ later) labels before behind label is differs untaken given =
     let apart : (other == label) ≡ false = ne_eqb other label (λ same. untaken (Contains-first (held other) later (held label) (ap held same))) in
-    let line = ap (without other) is ∙ filter-append (λ x. not (other == x)) before (label ∷ behind) ∙ ap (λ b. without other before ++ cond (not b) (label ∷ without other behind) (without other behind)) apart in
+    let line = ap (line_without other) is ∙ filter-append (λ x. not (other == x)) before (label ∷ behind) ∙ ap (λ b. line_without other before ++ cond (not b) (label ∷ line_without other behind) (line_without other behind)) apart in
     taken_with other later before
-    (waits later (hold labels other) (without other before) (without other behind) label line (all-filter (λ y. (label == y) ≡ false) (λ x. not (other == x)) before differs) (λ taken. untaken (Contains-later (held other) later (held label) taken)) given)
+    (waits later (hold labels other) (line_without other before) (line_without other behind) label line (all-filter (λ y. (label == y) ≡ false) (λ x. not (other == x)) before differs) (λ taken. untaken (Contains-later (held other) later (held label) taken)) given)
 waits (released other ∷ later) labels before behind label is differs untaken given =
     let line = ap (λ free. free ++ other ∷ []) is ∙ append_assoc before (label ∷ behind) (other ∷ []) in
     all-weaker (IsTaken later) (IsTaken (released other ∷ later)) (λ x taken. Contains-later (released other) later (held x) taken) before

@@ -3,7 +3,7 @@ use Rattle.std.specs.Prelude.{◌≡◌, ℕ, ◌+◌, ◌-◌, ◌≤◌, nat_e
 use Rattle.std.specs.List.{IsDistinct, range_with_len}
 use Rattle.lsr_facts.specs.Routers.{AreLabels}
 use Rattle.lsr_facts.specs.declared.router.LabelRange.{LabelRange}
-use Rattle.label_space.specs.Lines.{without}
+use Rattle.label_space.specs.Lines.{line_without}
 
 -- a router's labels, and those of them that are free, in the order in which they are given
 pub record Labels : Type 0 where
@@ -40,7 +40,7 @@ give labels = slice_get labels.free 0
 
 -- An LSP takes a label: it is free no more.
 abbrev pub hold : Labels → ℕ → Labels
-hold labels label = record labels { free = without label labels.free }
+hold labels label = record labels { free = line_without label labels.free }
 
 -- An LSP gives a label back: it is the last of the free ones.
 abbrev pub release : Labels → ℕ → Labels

@@ -6,7 +6,7 @@ use Rattle.std.proofs.lemmas.Bool.{cases_eq, eqb-false, eqb-true, ne_eqb}
 use Rattle.std.proofs.lemmas.List.Elements.{filter-append}
 use Rattle.std.proofs.lemmas.Map.Keys.{IsDistinct-head, IsDistinct-tail, IsDistinct-cons}
 use Rattle.sorted_rows.specs.ListLaws.{all-append, all-filter, all-weaker, filter-all_pass}
-use Rattle.label_space.specs.Lines.{without}
+use Rattle.label_space.specs.Lines.{line_without}
 
 -- a number that differs from each of a line
 abbrev pub Differs : ℕ → List ℕ → Type 0
@@ -69,70 +69,70 @@ line_around (y ∷ line) x among =
     ]
 
 -- a line without one that isn't in it is the line
-pub without-absent : (gone : ℕ) (line : List ℕ) → Differs gone line → without gone line ≡ line
-without-absent gone line differs =
+pub line_without-absent : (gone : ℕ) (line : List ℕ) → Differs gone line → line_without gone line ≡ line
+line_without-absent gone line differs =
     filter-all_pass (λ other. not (gone == other)) line (all-weaker (λ y. (gone == y) ≡ false) (λ y. not (gone == y) ≡ true) (λ y apart. ap not apart) line differs)
 
 -- a line without its first
-pub without-first : (gone : ℕ) (line : List ℕ) → Differs gone line → without gone (gone ∷ line) ≡ line
-without-first gone line differs =
-    elim (gone == gone) as (λ b. (gone == gone) ≡ b → cond (not b) (gone ∷ without gone line) (without gone line) ≡ line) [
-      | true ↦ λ same. without-absent gone line differs
+pub line_without-first : (gone : ℕ) (line : List ℕ) → Differs gone line → line_without gone (gone ∷ line) ≡ line
+line_without-first gone line differs =
+    elim (gone == gone) as (λ b. (gone == gone) ≡ b → cond (not b) (gone ∷ line_without gone line) (line_without gone line) ≡ line) [
+      | true ↦ λ same. line_without-absent gone line differs
       | false ↦ λ apart. absurd (eqb-false gone gone apart refl)
     ] refl
 
 -- a line without one of it is what stands before that one, and what stands behind it
-pub without-between : (gone : ℕ) (before behind : List ℕ) → Differs gone before → Differs gone behind → without gone (before ++ gone ∷ behind) ≡ before ++ behind
-without-between gone before behind first later =
-    filter-append (λ other. not (gone == other)) before (gone ∷ behind) ∙ (λ i. without-absent gone before first i ++ without-first gone behind later i)
+pub line_without-between : (gone : ℕ) (before behind : List ℕ) → Differs gone before → Differs gone behind → line_without gone (before ++ gone ∷ behind) ≡ before ++ behind
+line_without-between gone before behind first later =
+    filter-append (λ other. not (gone == other)) before (gone ∷ behind) ∙ (λ i. line_without-absent gone before first i ++ line_without-first gone behind later i)
 
 -- a line keeps all others
-pub Contains-without : (gone : ℕ) (line : List ℕ) (x : ℕ) → gone ≢ x → Contains line x → Contains (without gone line) x
-Contains-without gone [] x other among = among
-Contains-without gone (y ∷ line) x other among =
-    let rest = Contains-without gone line x other in
-    elim (gone == y) as (λ b. (gone == y) ≡ b → Contains (cond (not b) (y ∷ without gone line) (without gone line)) x) [
+pub Contains-line_without : (gone : ℕ) (line : List ℕ) (x : ℕ) → gone ≢ x → Contains line x → Contains (line_without gone line) x
+Contains-line_without gone [] x other among = among
+Contains-line_without gone (y ∷ line) x other among =
+    let rest = Contains-line_without gone line x other in
+    elim (gone == y) as (λ b. (gone == y) ≡ b → Contains (cond (not b) (y ∷ line_without gone line) (line_without gone line)) x) [
       | true ↦ λ same. elim (Contains-cons_cases y line x among) [
         | inl here ↦ absurd (other (eqb-true gone y same ∙ here))
         | inr later ↦ rest later
       ]
       | false ↦ λ apart. elim (Contains-cons_cases y line x among) [
-        | inl here ↦ Contains-first y (without gone line) x here
-        | inr later ↦ Contains-later y (without gone line) x (rest later)
+        | inl here ↦ Contains-first y (line_without gone line) x here
+        | inr later ↦ Contains-later y (line_without gone line) x (rest later)
       ]
     ] refl
 
 -- and has no more than before
-pub Contains-from_without : (gone : ℕ) (line : List ℕ) (x : ℕ) → Contains (without gone line) x → Contains line x
+pub Contains-from_without : (gone : ℕ) (line : List ℕ) (x : ℕ) → Contains (line_without gone line) x → Contains line x
 Contains-from_without gone [] x = λ among. among
 Contains-from_without gone (y ∷ line) x =
     let rest = Contains-from_without gone line x in
-    elim (gone == y) as (λ b. Contains (cond (not b) (y ∷ without gone line) (without gone line)) x → Contains (y ∷ line) x) [
+    elim (gone == y) as (λ b. Contains (cond (not b) (y ∷ line_without gone line) (line_without gone line)) x → Contains (y ∷ line) x) [
       | true ↦ λ among. Contains-later y line x (rest among)
-      | false ↦ λ among. elim (Contains-cons_cases y (without gone line) x among) [
+      | false ↦ λ among. elim (Contains-cons_cases y (line_without gone line) x among) [
         | inl here ↦ Contains-first y line x here
         | inr later ↦ Contains-later y line x (rest later)
       ]
     ]
 
 -- the one that left is in it no more
-pub gone_differs : (gone : ℕ) (line : List ℕ) → Differs gone (without gone line)
+pub gone_differs : (gone : ℕ) (line : List ℕ) → Differs gone (line_without gone line)
 gone_differs gone [] = tt
 gone_differs gone (y ∷ line) =
-    elim (gone == y) as (λ b. (gone == y) ≡ b → Differs gone (cond (not b) (y ∷ without gone line) (without gone line))) [
+    elim (gone == y) as (λ b. (gone == y) ≡ b → Differs gone (cond (not b) (y ∷ line_without gone line) (line_without gone line))) [
       | true ↦ λ same. gone_differs gone line
       | false ↦ λ apart. (apart, gone_differs gone line)
     ] refl
 
 -- nothing is twice in what is left of a line
-pub IsDistinct-without : (gone : ℕ) (line : List ℕ) → IsDistinct nat_eq line → IsDistinct nat_eq (without gone line)
-IsDistinct-without gone [] distinct = distinct
-IsDistinct-without gone (y ∷ line) distinct =
-    let rest = IsDistinct-without gone line (IsDistinct-tail nat_eq y line distinct) in
+pub IsDistinct-line_without : (gone : ℕ) (line : List ℕ) → IsDistinct nat_eq line → IsDistinct nat_eq (line_without gone line)
+IsDistinct-line_without gone [] distinct = distinct
+IsDistinct-line_without gone (y ∷ line) distinct =
+    let rest = IsDistinct-line_without gone line (IsDistinct-tail nat_eq y line distinct) in
     let head = all-filter (λ z. (y == z) ≡ false) (λ other. not (gone == other)) line (IsDistinct-head nat_eq y line distinct) in
-    elim (gone == y) as (λ b. IsDistinct nat_eq (cond (not b) (y ∷ without gone line) (without gone line))) [
+    elim (gone == y) as (λ b. IsDistinct nat_eq (cond (not b) (y ∷ line_without gone line) (line_without gone line))) [
       | true ↦ rest
-      | false ↦ IsDistinct-cons nat_eq y (without gone line) head rest
+      | false ↦ IsDistinct-cons nat_eq y (line_without gone line) head rest
     ]
 
 -- nor in a line that another one joins at the end

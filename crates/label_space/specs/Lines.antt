@@ -8,8 +8,8 @@ pub record Places : Type 0 where
   pub line : List ℕ
 
 -- a line that one member left, with the others in their order
-abbrev pub without : ℕ → List ℕ → List ℕ
-without gone line = filter (λ other. not (gone == other)) line
+abbrev pub line_without : ℕ → List ℕ → List ℕ
+line_without gone line = filter (λ other. not (gone == other)) line
 
 -- from one place along a line to another, each place and the one behind it name each other
 abbrev pub IsLinked : List ℕ → List ℕ → ℕ → List ℕ → ℕ → Type 0

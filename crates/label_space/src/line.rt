@@ -1,6 +1,6 @@
 ghost use Rattle.std.specs.Prelude.{◌≡◌, ◌<◌, ◌↔◌, ◌++◌, ◌∷◌, [], All, Contains, IfOk, IsTrue, nat_eq, slice_get};
 ghost use Rattle.std.specs.List.{IsDistinct, range_with_len};
-ghost use Rattle.label_space.specs.Lines.{without};
+ghost use Rattle.label_space.specs.Lines.{line_without};
 
 use sorted_rows::TryCopy;
 use std::alloc::{AllocError, Global};
@@ -74,7 +74,7 @@ impl Line {
     /// A place leaves the line, wherever it stands there. Takes no memory.
     pub(crate) fn remove(&mut self, place: u32)
         requires { Contains self.old.line place }
-        ensures line { self.new ≡ record self.old { line = without place self.old.line } }
+        ensures line { self.new ≡ record self.old { line = line_without place self.old.line } }
         ensures within { place < self.old.count }
     {
         let before = self.previous[place as usize];

@@ -10,11 +10,11 @@ use sorted_rows::Table;
 use state_views::{Edits, WholeState};
 use std::alloc::AllocError;
 
-/// LSPs, in the order of their keys.
-pub(crate) type Lsps = Table<Key, ()>;
-
 /// Among others all LSPs that are repaired. The only error is out of memory.
-fn with_repaired<V: WholeState>(view: &V, keys: Lsps) -> Result<Lsps, AllocError>
+fn with_repaired<V: WholeState>(
+    view: &V,
+    keys: Table<Key, ()>,
+) -> Result<Table<Key, ()>, AllocError>
     ensures { IfOk result (λ all. all ≡ with_keys (V.state view.now).repairs keys) }
 {
     let mut all = keys;
@@ -31,8 +31,8 @@ fn with_repaired<V: WholeState>(view: &V, keys: Lsps) -> Result<Lsps, AllocError
 pub(crate) fn with_bypassed<V: WholeState>(
     view: &V,
     edits: &Edits,
-    keys: Lsps,
-) -> Result<Lsps, AllocError>
+    keys: Table<Key, ()>,
+) -> Result<Table<Key, ()>, AllocError>
     ensures { IfOk result (AreBypassed (V.router view.now) (V.state view.now) (edited edits.now (V.state view.now)) keys) }
 {
     if is_same_around(view, edits) {

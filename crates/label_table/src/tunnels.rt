@@ -15,8 +15,7 @@ use crate::bypassed::with_bypassed;
 use crate::edits::put_change;
 use facility_backup::over_at;
 use forwarding_table::Action;
-use lsr_facts::{Key, Repair};
-use message_rules::current_key;
+use lsr_facts::{Key, Repair, current_key};
 use sorted_rows::Table;
 use state_views::{Changed, Edits, StateView, WholeState};
 use std::alloc::{AllocError, Global};
@@ -71,7 +70,8 @@ fn put_push<V: StateView>(
     )
 }
 
-/// And so have the tunnels of all these numbers.
+/// The tunnel of each of these numbers has the action that edits lead to, where that is another. The only error is out
+/// of memory.
 fn put_pushes<V: StateView, E>(
     changes: &mut Table<u16, Option<Action>>,
     view: &V,
@@ -87,7 +87,8 @@ fn put_pushes<V: StateView, E>(
     Ok(())
 }
 
-/// And so have those that these LSPs name.
+/// Each tunnel that one of these LSPs names has the action that edits lead to, where that is another. The only error is
+/// out of memory.
 fn put_pushes_of<V: StateView, E>(
     changes: &mut Table<u16, Option<Action>>,
     view: &V,

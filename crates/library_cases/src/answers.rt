@@ -3,14 +3,14 @@ use crate::outcomes::Form;
 use crate::pieces::Pieces;
 use anyhow::{Context, Error, Result, anyhow, bail};
 use rsvp_messages::{
-    Dropped, Frame, Message, Payload, Reading, checksum, has_good_checksum, read_frame,
-    read_message, write_frame, write_message,
+    Dropped, Frame, Message, Payload, Reading, ReceivedFrame, ReceivedPayload, checksum,
+    frame_bytes, has_good_checksum, read_frame, read_message, write_message,
 };
 use rsvp_objects::{Object, RateWord, read_object, write_object};
 use std::alloc::{AllocError, Global};
 
 /// What is said of the input, and the bytes that are written of what was read.
-pub type Answer = (String, Option<Vec<u8>>);
+pub type CaseAnswer = (String, Option<Vec<u8>>);
 
 /// What is said of a dropped message or frame.
 fn refusal(fault: Dropped) -> Error {
@@ -48,7 +48,7 @@ fn told(
 }
 
 /// How the message was read, with what it says where that is asked for, and how it is written.
-fn spoken(alloc: Global, reading: &Reading, is_shown: bool) -> Result<Answer, AllocError> {
+fn spoken(alloc: Global, reading: &Reading, is_shown: bool) -> Result<CaseAnswer, AllocError> {
     let message = message_in(reading);
     let mut written = Vec::new(alloc);
     write_message(message, &mut written)?;
@@ -58,7 +58,7 @@ fn spoken(alloc: Global, reading: &Reading, is_shown: bool) -> Result<Answer, Al
 }
 
 /// How the message is read, with what it says where that is asked for, and how it is written.
-fn message(alloc: Global, bytes: &[u8], is_shown: bool) -> Result<Answer> {
+fn message(alloc: Global, bytes: &[u8], is_shown: bool) -> Result<CaseAnswer> {
     let answer = match read_message(alloc, bytes) {
         Ok(reading) => spoken(alloc, &reading, is_shown),
         Err(fault) => return Err(refusal(fault)),
@@ -67,55 +67,63 @@ fn message(alloc: Global, bytes: &[u8], is_shown: bool) -> Result<Answer> {
 }
 
 /// How the frame was read.
-fn read_as(alloc: Global, frame: &Frame) -> Result<String, AllocError> {
+fn read_as(alloc: Global, frame: &ReceivedFrame) -> Result<String, AllocError> {
     match frame {
-        Frame::Hop(reading) => kind_of(alloc, reading),
-        Frame::Labelled(stack, _) => format!(in alloc; "labelled {:?}", stack.as_slice()),
-        Frame::Routed { to, limit, .. } => format!(in alloc; "routed {to} {limit}"),
-        Frame::Relayed { to, limit, .. } => format!(in alloc; "routed {to} {limit}"),
+        ReceivedFrame::Hop(reading) => kind_of(alloc, reading),
+        ReceivedFrame::Labelled(stack, _) => format!(in alloc; "labelled {:?}", stack.as_slice()),
+        ReceivedFrame::Routed { to, limit, .. } => format!(in alloc; "routed {to} {limit}"),
     }
 }
 
-/// How the frame was read, and how it is written where that can be.
-fn framed(alloc: Global, frame: &Frame) -> Result<Answer, AllocError> {
-    let said = read_as(alloc, frame)?;
-    if let Frame::Hop(Reading::Unknown(..)) = frame {
-        return Ok((said, None));
+/// The frame as it goes on, where it has no message that was read in part.
+fn passed_on(frame: ReceivedFrame) -> Option<Frame> {
+    match frame {
+        ReceivedFrame::Hop(Reading::Whole(message)) => Some(Frame::Hop(message)),
+        ReceivedFrame::Hop(Reading::Unknown(..)) => None,
+        ReceivedFrame::Labelled(stack, payload) => {
+            Some(Frame::Labelled(stack, Payload::Received(payload)))
+        }
+        ReceivedFrame::Routed { to, limit, message } => Some(Frame::Relayed { to, limit, message }),
     }
-    let mut written = Vec::new(alloc);
-    write_frame(frame, &mut written)?;
-    Ok((said, Some(written)))
-}
-
-/// How the frame is read, and how it is written.
-fn frame(alloc: Global, bytes: &[u8]) -> Result<Answer> {
-    let answer = match read_frame(alloc, bytes) {
-        Ok(frame) => framed(alloc, &frame),
-        Err(fault) => return Err(refusal(fault)),
-    };
-    Ok(answer?)
 }
 
 /// The payload with the message in it read.
-fn made_payload(alloc: Global, payload: Payload) -> Result<Payload> {
+fn made_payload(alloc: Global, payload: ReceivedPayload) -> Result<Payload> {
     match payload {
-        Payload::Unread(data) => Ok(Payload::Message(whole(alloc, data.as_slice())?)),
-        payload => Ok(payload),
+        ReceivedPayload::Message(data) => Ok(Payload::Message(whole(alloc, data.as_slice())?)),
+        payload => Ok(Payload::Received(payload)),
     }
 }
 
 /// The frame with the message in it read, as the router has it that makes the message.
-fn made(alloc: Global, frame: Frame) -> Result<Frame> {
+fn made(alloc: Global, frame: ReceivedFrame) -> Result<Option<Frame>> {
     match frame {
-        Frame::Labelled(stack, payload) => {
-            Ok(Frame::Labelled(stack, made_payload(alloc, payload)?))
+        ReceivedFrame::Labelled(stack, payload) => {
+            let payload = made_payload(alloc, payload)?;
+            Ok(Some(Frame::Labelled(stack, payload)))
         }
-        Frame::Relayed { to, limit, message } => {
+        ReceivedFrame::Routed { to, limit, message } => {
             let message = whole(alloc, message.as_slice())?;
-            Ok(Frame::Routed { to, limit, message })
+            Ok(Some(Frame::Routed { to, limit, message }))
         }
-        frame => Ok(frame),
+        frame => Ok(passed_on(frame)),
     }
+}
+
+/// How the frame is read, and how it is written where that can be: as it is passed on, or by the router that makes the
+/// message in it.
+fn frame(alloc: Global, bytes: &[u8], is_made: bool) -> Result<CaseAnswer> {
+    let frame = read_frame(alloc, bytes).map_err(refusal)?;
+    let said = read_as(alloc, &frame)?;
+    let goes = if is_made {
+        made(alloc, frame)?
+    } else {
+        passed_on(frame)
+    };
+    let Some(frame) = goes else {
+        return Ok((said, None));
+    };
+    Ok((said, Some(frame_bytes(alloc, &frame)?)))
 }
 
 /// The message that the bytes are, if each of its objects is known.
@@ -126,15 +134,8 @@ fn whole(alloc: Global, bytes: &[u8]) -> Result<Message> {
     }
 }
 
-/// How the frame is read, and how it is written by the router that makes the message in it.
-fn made_frame(alloc: Global, bytes: &[u8]) -> Result<Answer> {
-    let frame = read_frame(alloc, bytes).map_err(refusal)?;
-    let answer = framed(alloc, &made(alloc, frame)?);
-    Ok(answer?)
-}
-
 /// How many bytes the object has, its Class-Num, its C-Type and what it says, and how it is written.
-fn described(alloc: Global, object: &Object, len: usize) -> Result<Answer, AllocError> {
+fn described(alloc: Global, object: &Object, len: usize) -> Result<CaseAnswer, AllocError> {
     let (class, ctype) = (object.class(), object.ctype());
     let mut written = Vec::new(alloc);
     write_object(object, &mut written)?;
@@ -143,7 +144,7 @@ fn described(alloc: Global, object: &Object, len: usize) -> Result<Answer, Alloc
 }
 
 /// How many bytes the first object has, its Class-Num, its C-Type and what it says, and how it is written.
-fn object(alloc: Global, bytes: &[u8]) -> Result<Answer> {
+fn object(alloc: Global, bytes: &[u8]) -> Result<CaseAnswer> {
     let answer = match read_object(alloc, bytes) {
         Ok((object, len)) => described(alloc, &object, len),
         Err(fault) => bail!("refused {fault:?}"),
@@ -224,12 +225,12 @@ fn said(alloc: Global, verb: &str, bytes: &[u8]) -> Result<String> {
 }
 
 /// What the verb says of the bytes, and what it writes of what it read.
-fn answer_to(alloc: Global, verb: &str, bytes: &[u8]) -> Result<Answer> {
+fn answer_to(alloc: Global, verb: &str, bytes: &[u8]) -> Result<CaseAnswer> {
     match verb {
         "message" | "objects" => message(alloc, bytes, false),
         "show" => message(alloc, bytes, true),
-        "frame" => frame(alloc, bytes),
-        "make" => made_frame(alloc, bytes),
+        "frame" => frame(alloc, bytes, false),
+        "make" => frame(alloc, bytes, true),
         "object" => object(alloc, bytes),
         _ => Ok((said(alloc, verb, bytes)?, None)),
     }
@@ -249,7 +250,7 @@ fn counted(alloc: Global, pieces: &Pieces, verb: &str, text: &str) -> Result<Str
 }
 
 /// What the verb answers to the text after it. What is refused is an error, whose text says why.
-pub fn answer(alloc: Global, pieces: &Pieces, verb: &str, text: &str) -> Result<Answer> {
+pub fn answer(alloc: Global, pieces: &Pieces, verb: &str, text: &str) -> Result<CaseAnswer> {
     if verb == "mutate" || verb == "repeat" {
         return Ok((counted(alloc, pieces, verb, text)?, None));
     }

@@ -33,7 +33,7 @@ mod pieces;
 mod words;
 
 use admission::Admission;
-use answers::{Answer, answer, input};
+use answers::{CaseAnswer, answer, input};
 use anyhow::{Context, Result};
 use pieces::Pieces;
 use sorted_rows::Table;
@@ -75,7 +75,7 @@ fn answered(
     verb: &str,
     case: &str,
     text: &str,
-) -> Result<Answer> {
+) -> Result<CaseAnswer> {
     if bandwidth::is_verb(verb) {
         return Ok((bandwidth::answer(alloc, &mut bench.admission, case)?, None));
     }
@@ -89,7 +89,7 @@ fn answered_or_refused(
     verb: &str,
     case: &str,
     text: &str,
-) -> Result<Answer, AllocError> {
+) -> Result<CaseAnswer, AllocError> {
     match answered(alloc, bench, verb, case, text) {
         Ok(answer) => Ok(answer),
         Err(fault) => Ok((format!(in alloc; "{fault}")?, None)),
@@ -115,7 +115,7 @@ fn other_answer(
     alloc: Global,
     pieces: &Pieces,
     verb: &str,
-    answer: &Answer,
+    answer: &CaseAnswer,
     (words, form): (&str, &str),
 ) -> Result<Option<String>> {
     let (said, written) = answer;

@@ -1,4 +1,4 @@
-use rsvp_messages::{Dropped, Frame, Payload, Reading, read_frame, read_message};
+use rsvp_messages::{Dropped, Reading, ReceivedFrame, ReceivedPayload, read_frame, read_message};
 use std::alloc::{AllocError, Global};
 use std::fmt;
 
@@ -62,12 +62,16 @@ impl Outcome {
     }
 
     /// What this frame was read as.
-    fn said(frame: &Frame) -> Outcome {
+    fn said(frame: &ReceivedFrame) -> Outcome {
         match frame {
-            Frame::Hop(reading) => Outcome::read(reading),
-            Frame::Labelled(stack, Payload::Bytes(_)) => Outcome::Bytes(stack.as_slice().len()),
-            Frame::Labelled(stack, _) => Outcome::Message(stack.as_slice().len()),
-            Frame::Routed { .. } | Frame::Relayed { .. } => Outcome::Routed,
+            ReceivedFrame::Hop(reading) => Outcome::read(reading),
+            ReceivedFrame::Labelled(stack, ReceivedPayload::Bytes(_)) => {
+                Outcome::Bytes(stack.as_slice().len())
+            }
+            ReceivedFrame::Labelled(stack, ReceivedPayload::Message(_)) => {
+                Outcome::Message(stack.as_slice().len())
+            }
+            ReceivedFrame::Routed { .. } => Outcome::Routed,
         }
     }
 }

@@ -12,8 +12,12 @@ use Rattle.rsvp_contents.specs.Answers.{ReadsOrDrops}
 use Rattle.rsvp_contents.specs.Written.{message_bytes}
 use Rattle.link_frames.specs.declared.payload.Payload.{Payload}
 use Rattle.link_frames.specs.declared.payload.Payload.TheVariants as payloads
+use Rattle.link_frames.specs.declared.payload.ReceivedPayload.{ReceivedPayload}
+use Rattle.link_frames.specs.declared.payload.ReceivedPayload.TheVariants as received_payloads
 use Rattle.link_frames.specs.declared.frame.Frame.{Frame}
 use Rattle.link_frames.specs.declared.frame.Frame.TheVariants as frames
+use Rattle.link_frames.specs.declared.frame.ReceivedFrame.{ReceivedFrame}
+use Rattle.link_frames.specs.declared.frame.ReceivedFrame.TheVariants as received_frames
 use Rattle.label_stacks.specs.Stacks.{words_at, has_one_bottom, stack_of, stack_bytes}
 
 -- The first byte is the kind: 1 Hop, 2 Labelled, 3 Routed.
@@ -32,10 +36,10 @@ abbrev pub payload_part : List ℕ → List ℕ
 payload_part bytes = drop (4 * count_of bytes) (drop 2 bytes)
 
 -- a payload as it comes: a message in it isn't read
-abbrev pub payload_of : ℕ → List ℕ → Payload
-payload_of kind content = if kind == 0 then payloads.Bytes content else payloads.Unread content
+abbrev pub payload_of : ℕ → List ℕ → ReceivedPayload
+payload_of kind content = if kind == 0 then received_payloads.Bytes content else received_payloads.Message content
 
-abbrev pub payload_in : List ℕ → Payload
+abbrev pub payload_in : List ℕ → ReceivedPayload
 payload_in bytes = payload_of (slice_index (payload_part bytes) 0) (drop 1 (payload_part bytes))
 
 -- The first fault of a Labelled frame: no count; more than eight entries; entries or the payload's kind cut short;
@@ -67,22 +71,21 @@ abbrev pub head_fault : List ℕ → Option Dropped
 head_fault bytes = option_or (frame_fault bytes) (if kind_of bytes == 1 then header_fault (drop 1 bytes) else None)
 
 -- the Labelled frame that the bytes say
-abbrev pub labelled_in : List ℕ → Frame
-labelled_in bytes = frames.Labelled (stack_of (words_of bytes)) (payload_in bytes)
+abbrev pub labelled_in : List ℕ → ReceivedFrame
+labelled_in bytes = received_frames.Labelled (stack_of (words_of bytes)) (payload_in bytes)
 
--- the Routed frame that they say, its message unread: four bytes of address, one of limit, and the message
-abbrev pub routed_in : List ℕ → Frame
-routed_in bytes = frames.Relayed (address_at (drop 1 bytes)) (slice_index bytes 5) (drop 6 bytes)
+-- the Routed frame that they say: four bytes of address, one of limit, and the message
+abbrev pub routed_in : List ℕ → ReceivedFrame
+routed_in bytes = received_frames.Routed (address_at (drop 1 bytes)) (slice_index bytes 5) (drop 6 bytes)
 
--- What the bytes of each kind say. A message that others may pass on is unread in it.
-abbrev pub Says : List ℕ → Frame → Type 0
-Says bytes (frames.Hop reading) = (kind_of bytes ≡ 1) × SpellsReading (drop 1 bytes) reading
-Says bytes (frames.Labelled stack payload) = (kind_of bytes ≡ 2) × (frames.Labelled stack payload ≡ labelled_in bytes)
-Says bytes (frames.Routed to limit message) = ⊥
-Says bytes (frames.Relayed to limit message) = (kind_of bytes ≡ 3) × (frames.Relayed to limit message ≡ routed_in bytes)
+-- what the bytes of each kind say
+abbrev pub Says : List ℕ → ReceivedFrame → Type 0
+Says bytes (received_frames.Hop reading) = (kind_of bytes ≡ 1) × SpellsReading (drop 1 bytes) reading
+Says bytes (received_frames.Labelled stack payload) = (kind_of bytes ≡ 2) × (received_frames.Labelled stack payload ≡ labelled_in bytes)
+Says bytes (received_frames.Routed to limit message) = (kind_of bytes ≡ 3) × (received_frames.Routed to limit message ≡ routed_in bytes)
 
 -- The bytes spell the frame.
-abbrev pub SpellsFrame : List ℕ → Frame → Type 0
+abbrev pub SpellsFrame : List ℕ → ReceivedFrame → Type 0
 SpellsFrame bytes frame = (frame_fault bytes ≡ None) × Says bytes frame
 
 -- The fault is the first: the frame's, or that of the message of a Hop frame.
@@ -91,18 +94,17 @@ IsFirstFrameFault bytes fault =
     (frame_fault bytes ≡ Some fault) ⊎ ((frame_fault bytes ≡ None) × (kind_of bytes ≡ 1) × IsFirstFault (drop 1 bytes) fault)
 
 -- what a reader of frames answers
-abbrev pub ReadsFrame : List ℕ → Result Frame Dropped → Type 0
+abbrev pub ReadsFrame : List ℕ → Result ReceivedFrame Dropped → Type 0
 ReadsFrame = ReadsOrDrops SpellsFrame IsFirstFrameFault
 
--- A frame that can be written holds no message that was read in part.
-abbrev pub IsWhole : Frame → Type 0
-IsWhole (frames.Hop (readings.Unknown message class ctype)) = ⊥
-IsWhole frame = Unit {0}
+-- what a payload that came is passed on as
+abbrev pub received_payload_bytes : ReceivedPayload → List ℕ
+received_payload_bytes (received_payloads.Bytes content) = 0 ∷ content
+received_payload_bytes (received_payloads.Message content) = 1 ∷ content
 
 -- what a payload is written as
 abbrev pub payload_bytes : Payload → List ℕ
-payload_bytes (payloads.Bytes content) = 0 ∷ content
-payload_bytes (payloads.Unread content) = 1 ∷ content
+payload_bytes (payloads.Received payload) = received_payload_bytes payload
 payload_bytes (payloads.Message message) = 1 ∷ message_bytes message
 
 -- what a Routed frame is written as
@@ -111,22 +113,22 @@ routed_bytes octets limit message = 3 ∷ (octets ++ (limit ∷ message))
 
 -- a frame's bytes
 abbrev pub frame_bytes : Frame → List ℕ
-frame_bytes (frames.Hop (readings.Whole message)) = 1 ∷ message_bytes message
-frame_bytes (frames.Hop (readings.Unknown message class ctype)) = []
+frame_bytes (frames.Hop message) = 1 ∷ message_bytes message
 frame_bytes (frames.Labelled stack payload) = 2 ∷ length stack ∷ (stack_bytes stack ++ payload_bytes payload)
 frame_bytes (frames.Routed to limit message) = routed_bytes (ipv4_octets to) limit (message_bytes message)
 frame_bytes (frames.Relayed to limit message) = routed_bytes (ipv4_octets to) limit message
 
--- A frame as those see it who may pass its message on: they don't read it.
-abbrev pub unread_payload : Payload → Payload
-unread_payload (payloads.Message message) = payloads.Unread (message_bytes message)
-unread_payload payload = payload
+-- A payload as it comes at whoever may pass it on: a message in it isn't read.
+abbrev pub unread_payload : Payload → ReceivedPayload
+unread_payload (payloads.Received payload) = payload
+unread_payload (payloads.Message message) = received_payloads.Message (message_bytes message)
 
-abbrev pub unread : Frame → Frame
-unread (frames.Hop reading) = frames.Hop reading
-unread (frames.Labelled stack payload) = frames.Labelled stack (unread_payload payload)
-unread (frames.Routed to limit message) = frames.Relayed to limit (message_bytes message)
-unread (frames.Relayed to limit message) = frames.Relayed to limit message
+-- A frame as it comes: the message of a Hop frame is read whole, one that others may pass on isn't read.
+abbrev pub unread : Frame → ReceivedFrame
+unread (frames.Hop message) = received_frames.Hop (readings.Whole message)
+unread (frames.Labelled stack payload) = received_frames.Labelled stack (unread_payload payload)
+unread (frames.Routed to limit message) = received_frames.Routed to limit (message_bytes message)
+unread (frames.Relayed to limit message) = received_frames.Routed to limit message
 
 -- what is written of a message is read as the same message
 abbrev pub IsReadAgain : Content → Type 0

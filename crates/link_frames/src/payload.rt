@@ -35,13 +35,32 @@ impl Rule for UnreadRule {
 /// A message that isn't read.
 pub type Unread = Kept<UnreadRule>;
 
-/// What a Labelled frame carries.
+/// What a Labelled frame carries that came.
 #[derive(Debug, Drop)]
-pub enum Payload {
+pub enum ReceivedPayload {
     /// Bytes of a user.
     Bytes(Data),
     /// A message that isn't read before it is where it is to go.
-    Unread(Data),
+    Message(Data),
+}
+
+impl Clone for ReceivedPayload {
+    ghost is_clone = { λ source copy. copy ≡ source };
+
+    /// A copy of the payload. The only error is out of memory.
+    fn clone(&self) -> Result<ReceivedPayload, AllocError> {
+        match self {
+            ReceivedPayload::Bytes(data) => Ok(ReceivedPayload::Bytes(data.clone()?)),
+            ReceivedPayload::Message(data) => Ok(ReceivedPayload::Message(data.clone()?)),
+        }
+    }
+}
+
+/// What a Labelled frame carries that goes out.
+#[derive(Debug, Drop)]
+pub enum Payload {
+    /// A payload as it came: it is passed on.
+    Received(ReceivedPayload),
     /// A message as this router makes it.
     Message(Message),
 }
@@ -52,8 +71,7 @@ impl Clone for Payload {
     /// A copy of the payload. The only error is out of memory.
     fn clone(&self) -> Result<Payload, AllocError> {
         match self {
-            Payload::Bytes(data) => Ok(Payload::Bytes(data.clone()?)),
-            Payload::Unread(data) => Ok(Payload::Unread(data.clone()?)),
+            Payload::Received(payload) => Ok(Payload::Received(payload.clone()?)),
             Payload::Message(message) => Ok(Payload::Message(message.clone()?)),
         }
     }

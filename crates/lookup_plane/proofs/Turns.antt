@@ -22,7 +22,7 @@ use Rattle.lookup_plane.specs.Published.{Adds, HasSlots, IsPublished, IsWriting,
 use Rattle.lookup_plane.specs.Slots.{absorbed, emptied, opening, slot_at, written}
 use Rattle.lookup_plane.specs.declared.change.TableChange.{TableChange}
 use Rattle.lookup_plane.specs.declared.rule.View.{View}
-use Rattle.lookup_plane.specs.declared.slots.Content.{Content}
+use Rattle.lookup_plane.specs.declared.slots.PublishedTable.{PublishedTable}
 use Rattle.lookup_plane.specs.declared.slots.Slots.{Slots}
 use Rattle.lookup_plane.proofs.Writes.{length-emptied, length-written, slot_at-empty, slot_at-emptied, slot_at-outside, slot_at-written}
 
@@ -59,7 +59,7 @@ module _ (first number : ℕ) (cleared : Bool) (rows : List (ℕ × Option Actio
 
 module _ (first last : ℕ) where
   -- slots stay where they are
-  pub has_absorbed : (s : Content) (change : TableChange) → HasSlots first last s → HasSlots first last (absorbed s change)
+  pub has_absorbed : (s : PublishedTable) (change : TableChange) → HasSlots first last s → HasSlots first last (absorbed s change)
   has_absorbed s change has = record {
     first = has.first;
     labels = rw (length-written s.first_label change.labels (emptied change.cleared s.labels) ∙ length-emptied change.cleared s.labels) has.labels;
@@ -67,7 +67,7 @@ module _ (first last : ℕ) where
   }
 
   -- what slots show after a change
-  pub shows_absorbed : (s : Content) (changes : List TableChange) (change : TableChange) → HasSlots first last s → IsChangeOf first last change → length changes + 1 < 2 ^ 64 → Shows s changes → Shows (absorbed s change) (changes ++ change ∷ [])
+  pub shows_absorbed : (s : PublishedTable) (changes : List TableChange) (change : TableChange) → HasSlots first last s → IsChangeOf first last change → length changes + 1 < 2 ^ 64 → Shows s changes → Shows (absorbed s change) (changes ++ change ∷ [])
   shows_absorbed s changes change has is few shows = record {
     labels = λ label.
         slot_absorbed s.first_label label change.cleared change.labels s.labels (look changes label) (shows.labels label)
@@ -82,7 +82,7 @@ module _ (first last : ℕ) where
   }
 
   -- and after many
-  pub shows_folded : (s : Content) (seen pending : List TableChange) → HasSlots first last s → All (IsChangeOf first last) pending → length seen + length pending < 2 ^ 64 → Shows s seen → Shows (fold absorbed s pending) (seen ++ pending) × HasSlots first last (fold absorbed s pending)
+  pub shows_folded : (s : PublishedTable) (seen pending : List TableChange) → HasSlots first last s → All (IsChangeOf first last) pending → length seen + length pending < 2 ^ 64 → Shows s seen → Shows (fold absorbed s pending) (seen ++ pending) × HasSlots first last (fold absorbed s pending)
   shows_folded s seen [] has are few shows = (rw (append-nil seen) shows, has)
   shows_folded s seen (change ∷ pending) has are few shows =
       let is = All-head (IsChangeOf first last) change pending are in

@@ -7,22 +7,22 @@ use Rattle.lookup_plane.specs.Changes.{IsChangeOf, StartsWith, look, look_tunnel
 use Rattle.lookup_plane.specs.Slots.{slot_at}
 use Rattle.lookup_plane.specs.declared.change.TableChange.{TableChange}
 use Rattle.lookup_plane.specs.declared.rule.View.{View}
-use Rattle.lookup_plane.specs.declared.slots.Content.{Content}
+use Rattle.lookup_plane.specs.declared.slots.PublishedTable.{PublishedTable}
 use Rattle.lookup_plane.specs.declared.slots.Slots.{Slots}
 
 -- what slots hold
-abbrev pub content : Slots → Content
+abbrev pub content : Slots → PublishedTable
 content x = record { first_label = x.first_label; labels = x.labels.items; tunnels = x.tunnels.items; count = x.count }
 
 -- The content shows what these changes make of an empty table, and how many they are. The actions of labels write labels.
-pub record Shows (s : Content) (changes : List TableChange) : Type 0 where
+pub record Shows (s : PublishedTable) (changes : List TableChange) : Type 0 where
   pub labels : (label : ℕ) → slot_at s.first_label s.labels label ≡ look changes label
   pub tunnels : (number : ℕ) → number < 2 ^ 16 → slot_at 0 s.tunnels number ≡ look_tunnel changes number
   pub counted : s.count ≡ length changes
   pub writes : (label : ℕ) → IfSome (look changes label) WritesLabels
 
 -- The content has a slot for each label of the range, and for each number of a tunnel.
-pub record HasSlots (first_label last_label : ℕ) (s : Content) : Type 0 where
+pub record HasSlots (first_label last_label : ℕ) (s : PublishedTable) : Type 0 where
   pub first : s.first_label ≡ first_label
   pub labels : first_label + length s.labels ≡ last_label + 1
   pub tunnels : length s.tunnels ≡ 2 ^ 16

@@ -2,7 +2,7 @@
 use Rattle.std.specs.Prelude.{ℕ, ◌+◌, ◌-◌, ◌%◌, ◌^◌, Bool, nat_le, if◌then◌else◌, List, [], ◌∷◌, Option, None, length, replicate, slice_index_or, slice_set}
 use Rattle.forwarding_table.specs.declared.action.Action.{Action}
 use Rattle.lookup_plane.specs.declared.change.TableChange.{TableChange}
-use Rattle.lookup_plane.specs.declared.slots.Content.{Content}
+use Rattle.lookup_plane.specs.declared.slots.PublishedTable.{PublishedTable}
 
 -- what is done with a number, by slots from this number on
 abbrev pub slot_at : ℕ → List (Option Action) → ℕ → Option Action
@@ -22,11 +22,11 @@ abbrev pub emptied : Bool → List (Option Action) → List (Option Action)
 emptied cleared slots = if cleared then replicate (length slots) None else slots
 
 -- what slots hold when a table is opened: of labels from this one on, this many
-abbrev pub opening : ℕ → ℕ → Content
+abbrev pub opening : ℕ → ℕ → PublishedTable
 opening first_label labels = record { first_label = first_label; labels = replicate labels None; tunnels = replicate (2 ^ 16) None; count = 0 }
 
 -- what slots hold after a change. Changes are counted up to the width of a word
-abbrev pub absorbed : Content → TableChange → Content
+abbrev pub absorbed : PublishedTable → TableChange → PublishedTable
 absorbed s change = record {
   first_label = s.first_label;
   labels = written s.first_label change.labels (emptied change.cleared s.labels);

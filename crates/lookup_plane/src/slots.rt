@@ -26,7 +26,7 @@ pub struct Slots {
 }
 
 /// What clauses see of a published table. No value of it is made: an array stands for a list of any length.
-pub struct Content {
+pub struct PublishedTable {
     /// The lowest label of the range.
     pub first_label: u32,
     /// What is done with the labels of the range, from that one on.
@@ -134,7 +134,7 @@ impl Slots {
 }
 
 impl Absorb<TableChange> for Slots {
-    type State = Content;
+    type State = PublishedTable;
 
     ghost state = { content };
 

@@ -77,7 +77,7 @@ fn open_router(alloc: Global, more: &str) -> Result<Machine, Fault> {
 
 /// What a router answers to a frame that comes over a link, in short.
 #[derive(Clone, Copy)]
-pub enum Answer {
+pub enum FrameReply {
     /// It was done, and so many frames were sent.
     Sent(u64),
     /// It is an error of RSVP: its code and its value (RFC 2205, B).
@@ -87,22 +87,22 @@ pub enum Answer {
 }
 
 /// What a router answers to a frame that comes over a link.
-fn answer_to(alloc: Global, router: &mut Machine, link: u16, frame: &[u8]) -> Answer {
+fn answer_to(alloc: Global, router: &mut Machine, link: u16, frame: &[u8]) -> FrameReply {
     match &router.serve_datagram(alloc, link, frame) {
         Ok(Served::Made(made)) => match made.reply {
-            Reply::Done => Answer::Sent(made.outputs.as_slice().len() as u64),
-            Reply::Error(error) => Answer::Error(error.code, error.value),
-            Reply::Refused(_) => Answer::Other,
+            Reply::Done => FrameReply::Sent(made.outputs.as_slice().len() as u64),
+            Reply::Error(error) => FrameReply::Error(error.code, error.value),
+            Reply::Refused(_) => FrameReply::Other,
         },
-        _ => Answer::Other,
+        _ => FrameReply::Other,
     }
 }
 
 /// A frame comes over a link, and is done: how many frames that sends.
 fn feed(alloc: Global, router: &mut Machine, link: u16, frame: &[u8]) -> Result<u64, Fault> {
     match answer_to(alloc, router, link, frame) {
-        Answer::Sent(sent) => Ok(sent),
-        Answer::Error(..) | Answer::Other => Err(Fault::NotTaken),
+        FrameReply::Sent(sent) => Ok(sent),
+        FrameReply::Error(..) | FrameReply::Other => Err(Fault::NotTaken),
     }
 }
 
@@ -197,7 +197,7 @@ impl Fed {
     }
 
     /// What the router answers to a frame that comes over link 1.
-    pub fn answer(&mut self, alloc: Global, frame: &[u8]) -> Answer {
+    pub fn answer(&mut self, alloc: Global, frame: &[u8]) -> FrameReply {
         answer_to(alloc, &mut self.router, IN_LINK, frame)
     }
 

@@ -27,19 +27,19 @@ fn percent(part: u64, whole: u64) -> u64 {
 
 /// How readers look labels up.
 #[derive(Clone, Copy)]
-enum Way {
+enum LookupMode {
     /// Each label by itself.
     Single,
     /// In bursts.
     Bursts,
 }
 
-impl Way {
+impl LookupMode {
     /// What is printed for it.
     fn words(self) -> &'static str {
         match self {
-            Way::Single => "single look-ups",
-            Way::Bursts => "look-ups in bursts of 256",
+            LookupMode::Single => "single look-ups",
+            LookupMode::Bursts => "look-ups in bursts of 256",
         }
     }
 }
@@ -67,10 +67,10 @@ fn sum_of(paces: &[io::Result<Pace>], links: u64) -> Result<u64, Fault> {
     Ok(sum)
 }
 
-/// How many look-ups a second there are in this way by one thread for each table, each of which makes so many, up to a whole burst.
+/// How many look-ups a second there are in this mode by one thread for each table, each of which makes so many, up to a whole burst.
 fn read_all<R: Threads + Clock + Sync, T: LookUp + Bursts + Send + Drop>(
     rt: &R,
-    way: Way,
+    mode: LookupMode,
     tables: Vec<T>,
     count: u32,
 ) -> Result<u64, Fault> {
@@ -78,9 +78,9 @@ fn read_all<R: Threads + Clock + Sync, T: LookUp + Bursts + Send + Drop>(
     let paces = thread::map_vec(
         rt,
         tables,
-        &|table| match way {
-            Way::Single => pace_of_singles(rt, table, whole),
-            Way::Bursts => pace_of_bursts(rt, table, whole),
+        &|table| match mode {
+            LookupMode::Single => pace_of_singles(rt, table, whole),
+            LookupMode::Bursts => pace_of_bursts(rt, table, whole),
         },
     )?;
     sum_of(paces.as_slice(), u64::from(whole) * u64::from(OUT_LINK))
@@ -99,7 +99,7 @@ struct Beside {
 fn read_beside<R: Threads + Wait + Clock + Send + Sync + Drop>(
     rt: &R,
     alloc: Global,
-    way: Way,
+    mode: LookupMode,
     writer: &mut Writer<R>,
     readers: Vec<LookupReader>,
     count: u32,
@@ -108,7 +108,7 @@ fn read_beside<R: Threads + Wait + Clock + Send + Sync + Drop>(
     let (looks, changes) = thread::join(
         rt,
         || {
-            let looks = read_all(rt, way, readers, count);
+            let looks = read_all(rt, mode, readers, count);
             is_done.store(true, Ordering::SeqCst);
             looks
         },
@@ -120,43 +120,43 @@ fn read_beside<R: Threads + Wait + Clock + Send + Sync + Drop>(
     })
 }
 
-/// How many look-ups a second so many readers make in this way.
+/// How many look-ups a second so many readers make in this mode.
 fn readers_alone<R: Threads + Wait + Clock + Clone + Send + Sync + Drop>(
     rt: &R,
     alloc: Global,
-    way: Way,
+    mode: LookupMode,
     readers: usize,
     count: u32,
 ) -> Result<u64, Fault>
     requires { readers ≤ 64 }
 {
     match open(alloc, rt.clone()?, readers) {
-        Ok((_writer, readers)) => read_all(rt, way, readers, count),
+        Ok((_writer, readers)) => read_all(rt, mode, readers, count),
         Err(fault) => Err(fault),
     }
 }
 
-/// How many look-ups a second so many readers make in this way beside a writer.
+/// How many look-ups a second so many readers make in this mode beside a writer.
 fn readers_beside<R: Threads + Wait + Clock + Clone + Send + Sync + Drop>(
     rt: &R,
     alloc: Global,
-    way: Way,
+    mode: LookupMode,
     readers: usize,
     count: u32,
 ) -> Result<Beside, Fault>
     requires { readers ≤ 64 }
 {
     match open(alloc, rt.clone()?, readers) {
-        Ok((mut writer, readers)) => read_beside(rt, alloc, way, &mut writer, readers, count),
+        Ok((mut writer, readers)) => read_beside(rt, alloc, mode, &mut writer, readers, count),
         Err(fault) => Err(fault),
     }
 }
 
-/// How many look-ups a second so many threads make in this way in a bare array that they share.
+/// How many look-ups a second so many threads make in this mode in a bare array that they share.
 fn array_alone<R: Threads + Clock + Sync>(
     rt: &R,
     alloc: Global,
-    way: Way,
+    mode: LookupMode,
     readers: usize,
     count: u32,
 ) -> Result<u64, Fault> {
@@ -164,7 +164,7 @@ fn array_alone<R: Threads + Clock + Sync>(
     let bare = Bare {
         actions: actions.as_slice(),
     };
-    read_all(rt, way, vec![in alloc; bare; readers]?, count)
+    read_all(rt, mode, vec![in alloc; bare; readers]?, count)
 }
 
 /// How many changes a second are published where nobody reads.
@@ -231,8 +231,14 @@ fn longest_look_up<R: Threads + Wait + Clock + Clone + Send + Sync + Drop>(
 }
 
 /// Prints how many look-ups a second so many readers make.
-fn tell_rate<R: Print>(rt: &R, readers: usize, way: Way, rate: u64, at: &str) -> Result<(), Fault> {
-    let words = way.words();
+fn tell_rate<R: Print>(
+    rt: &R,
+    readers: usize,
+    mode: LookupMode,
+    rate: u64,
+    at: &str,
+) -> Result<(), Fault> {
+    let words = mode.words();
     println!(rt; "readers {readers}: {rate} {words} a second {at}")?;
     Ok(())
 }
@@ -254,22 +260,22 @@ fn tell_writer<R: Print>(
     Ok(())
 }
 
-/// Measures and prints how many look-ups a second so many readers make in this way.
+/// Measures and prints how many look-ups a second so many readers make in this mode.
 fn tell_readers<R: Threads + Wait + Clock + Print + Clone + Send + Sync + Drop>(
     rt: &R,
     alloc: Global,
-    way: Way,
+    mode: LookupMode,
     readers: usize,
     count: u32,
 ) -> Result<(), Fault>
     requires { readers ≤ 64 }
 {
-    let alone = readers_alone(rt, alloc, way, readers, count)?;
-    tell_rate(rt, readers, way, alone, "without a writer")?;
-    let beside = readers_beside(rt, alloc, way, readers, count)?;
-    tell_rate(rt, readers, way, beside.looks, "beside a writer")?;
-    let bare = array_alone(rt, alloc, way, readers, count)?;
-    tell_rate(rt, readers, way, bare, "in a bare array")?;
+    let alone = readers_alone(rt, alloc, mode, readers, count)?;
+    tell_rate(rt, readers, mode, alone, "without a writer")?;
+    let beside = readers_beside(rt, alloc, mode, readers, count)?;
+    tell_rate(rt, readers, mode, beside.looks, "beside a writer")?;
+    let bare = array_alone(rt, alloc, mode, readers, count)?;
+    tell_rate(rt, readers, mode, bare, "in a bare array")?;
     tell_writer(rt, readers, alone, beside, bare)
 }
 
@@ -281,15 +287,15 @@ fn tell_longest<R: Print>(rt: &R, of: &str, longest: Longest, count: u32) -> Res
     Ok(())
 }
 
-/// Looks labels up in this way beside a writer, so many by each reader, and prints that each was found.
+/// Looks labels up in this mode beside a writer, so many by each reader, and prints that each was found.
 fn tell_found<R: Threads + Wait + Clock + Print + Clone + Send + Sync + Drop>(
     rt: &R,
     alloc: Global,
-    way: Way,
+    mode: LookupMode,
     count: u32,
 ) -> Result<(), Fault> {
-    let _beside = readers_beside(rt, alloc, way, MOST_READERS, count)?;
-    let words = way.words();
+    let _beside = readers_beside(rt, alloc, mode, MOST_READERS, count)?;
+    let words = mode.words();
     println!(rt; "lookups: {MOST_READERS} readers found each label, {count} {words} by each")?;
     Ok(())
 }
@@ -300,8 +306,8 @@ pub fn count_lookups<R: Threads + Wait + Clock + Print + Clone + Send + Sync + D
     alloc: Global,
     count: u32,
 ) -> Result<(), Fault> {
-    tell_found(rt, alloc, Way::Single, count)?;
-    tell_found(rt, alloc, Way::Bursts, count)
+    tell_found(rt, alloc, LookupMode::Single, count)?;
+    tell_found(rt, alloc, LookupMode::Bursts, count)
 }
 
 /// Measures look-ups, each reader of which makes so many, and prints what came. The fault says what to do.
@@ -313,8 +319,8 @@ pub fn measure_lookups<R: Threads + Wait + Clock + Print + Clone + Send + Sync +
     let changes = writer_alone(rt, alloc)?;
     println!(rt; "readers 0: {changes} changes a second")?;
     for readers in 1..=MOST_READERS {
-        tell_readers(rt, alloc, Way::Single, readers, count)?;
-        tell_readers(rt, alloc, Way::Bursts, readers, count)?;
+        tell_readers(rt, alloc, LookupMode::Single, readers, count)?;
+        tell_readers(rt, alloc, LookupMode::Bursts, readers, count)?;
     }
     Ok(())
 }

@@ -1,6 +1,6 @@
 //! How long steps of one router take.
 
-use crate::fed::{Answer, Fed, MOST_LSPS};
+use crate::fed::{Fed, FrameReply, MOST_LSPS};
 use router_core::Event;
 use std::alloc::Global;
 use std::time::{Clock, Duration, Instant};
@@ -63,8 +63,8 @@ impl Turn {
             }
             Turn::Idle => fed.pass(alloc, 1),
             Turn::Junk => match fed.answer(alloc, JUNK) {
-                Answer::Other => Ok(0),
-                Answer::Sent(_) | Answer::Error(..) => Err(Fault::NotTaken),
+                FrameReply::Other => Ok(0),
+                FrameReply::Sent(_) | FrameReply::Error(..) => Err(Fault::NotTaken),
             },
         }
     }
@@ -252,8 +252,8 @@ fn tell_filled<R: Print>(rt: &R, alloc: Global) -> Result<(), Fault> {
     tell_known(rt, alloc, &fed)?;
     let more = about_tunnel(alloc, PATH_FRAME, MOST_LSPS + 1)?;
     match fed.answer(alloc, more.as_slice()) {
-        Answer::Error(code, value) => println!(rt; "steps: one more: error {code} {value}")?,
-        Answer::Sent(_) | Answer::Other => return Err(Fault::NotTaken),
+        FrameReply::Error(code, value) => println!(rt; "steps: one more: error {code} {value}")?,
+        FrameReply::Sent(_) | FrameReply::Other => return Err(Fault::NotTaken),
     }
     fed.pass(alloc, LIFETIME_MS)?;
     tell_known(rt, alloc, &fed)

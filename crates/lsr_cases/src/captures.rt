@@ -1,5 +1,5 @@
 //! What a reader of capture files gives of a file, whole.
-use capture_files::{Capture, Content, Packet};
+use capture_files::{Capture, Packet, PacketContent};
 use std::alloc::{AllocError, Global};
 use std::fmt::Write as _;
 use std::io::Write;
@@ -25,13 +25,17 @@ fn push_time(text: &mut String, time: Option<Duration>) -> Result<(), AllocError
 }
 
 /// Appends what the packet carries.
-fn push_content(alloc: Global, text: &mut String, content: Content) -> Result<(), AllocError> {
+fn push_content(
+    alloc: Global,
+    text: &mut String,
+    content: PacketContent,
+) -> Result<(), AllocError> {
     match content {
-        Content::Rsvp(message) => {
+        PacketContent::Rsvp(message) => {
             let digits = hex::encode(alloc, message)?;
             write!(text, "rsvp {digits}")
         }
-        Content::Udp {
+        PacketContent::Udp {
             source_port,
             destination_port,
             payload,
@@ -39,9 +43,9 @@ fn push_content(alloc: Global, text: &mut String, content: Content) -> Result<()
             let digits = hex::encode(alloc, payload)?;
             write!(text, "udp {source_port} {destination_port} {digits}")
         }
-        Content::Fragment => text.push_str("fragment"),
-        Content::Cut => text.push_str("cut"),
-        Content::Other => text.push_str("other"),
+        PacketContent::Fragment => text.push_str("fragment"),
+        PacketContent::Cut => text.push_str("cut"),
+        PacketContent::Other => text.push_str("other"),
     }
 }
 

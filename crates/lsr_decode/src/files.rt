@@ -9,7 +9,7 @@ ghost use Rattle.lsr_decode.specs.declared.files.FileEnding.{FileEnding};
 ghost use Rattle.lsr_decode.specs.Files.{DecodesBytes, DecodesFile, IsBlock, ShowsPacket, ShowsPackets, advice_of, counts_text, damage_text, file_ending_text, file_status, has_message, heading_text, hop_message, is_cut, is_file_name, is_fragment, is_of_version, is_other, message_in, message_of, time_text};
 
 use crate::decoding::message_text;
-use capture_files::{CaptureFault, Content, Damage, Packet, read_packets};
+use capture_files::{CaptureFault, Damage, Packet, PacketContent, read_packets};
 use line_streams::{ByteStream, InputFault, read_bytes, tell_input_fault};
 use lsr_facts::Refusal;
 use lsr_text::refusal_name;
@@ -71,13 +71,13 @@ fn hop_message(payload: &[u8]) -> Option<&[u8]>
 }
 
 /// The message that is carried: of protocol 46, or in a Hop frame.
-fn message_in(content: Content<'_>) -> Option<&[u8]>
+fn message_in(content: PacketContent<'_>) -> Option<&[u8]>
     ensures { option_map (λ message. message.now) result ≡ message_in (carried content.entry) }
 {
     match content {
-        Content::Rsvp(message) => Some(message),
-        Content::Udp { payload, .. } => hop_message(payload),
-        Content::Fragment | Content::Cut | Content::Other => None,
+        PacketContent::Rsvp(message) => Some(message),
+        PacketContent::Udp { payload, .. } => hop_message(payload),
+        PacketContent::Fragment | PacketContent::Cut | PacketContent::Other => None,
     }
 }
 
@@ -99,14 +99,14 @@ fn has_message(packet: &Packet) -> bool
 fn is_fragment(packet: &Packet) -> bool
     ensures { result ≡ is_fragment packet.now }
 {
-    matches!(packet.content(), Content::Fragment)
+    matches!(packet.content(), PacketContent::Fragment)
 }
 
 /// Whether not all of the packet was captured.
 fn is_cut(packet: &Packet) -> bool
     ensures { result ≡ is_cut packet.now }
 {
-    matches!(packet.content(), Content::Cut)
+    matches!(packet.content(), PacketContent::Cut)
 }
 
 /// Whether the packet is none of these.

@@ -3,6 +3,7 @@ use Rattle.std.specs.Prelude.{◌≡◌, ℕ, ◌≤◌, ◌==◌, ◌&&◌, Boo
 use Rattle.std.specs.FinMap.Entries as rows
 use Rattle.std.specs.List.{AllByRecursion, list_any}
 use Rattle.std.specs.Ordering.{nat_cmp}
+use Rattle.lsr_facts.specs.Limits.{max_bypasses}
 use Rattle.lsr_facts.specs.Routers.{HasLink}
 use Rattle.lsr_facts.specs.declared.bypass.Bypass.{Bypass}
 use Rattle.lsr_facts.specs.declared.router.Router.{Router}
@@ -24,5 +25,5 @@ pub record IsBypass (r : Router) (tunnels : List (ℕ × Tunnel)) (bypass : ℕ 
 -- the bypasses of a router: each has a number of its own, and there are at most 64
 pub record AreBypasses (r : Router) (tunnels : List (ℕ × Tunnel)) (bypasses : List (ℕ × Bypass)) : Type 0 where
   pub in_order : T (rows.is_sorted nat_cmp bypasses)
-  pub few : length bypasses ≤ 64
+  pub few : length bypasses ≤ max_bypasses
   pub each : AllByRecursion (IsBypass r tunnels) bypasses

@@ -8,6 +8,7 @@ pub mod Conflicts
 pub mod Errors
 pub mod Holdings
 pub mod Lifetimes
+pub mod Limits
 pub mod NumberLaws
 pub mod Numbers
 pub mod OrderLaws

@@ -22,12 +22,12 @@ abbrev pub style_word : ResvStyle → Style
 style_word style = record { word = style_bits style }
 
 -- the reservation's expiry is yet to come: one whose expiry is this moment has expired (RFC 2205, 2.3)
-abbrev pub lives_past : ℕ → ResvFact → Bool
-lives_past moment fact = nat_lt moment fact.expiry
+abbrev pub resv_lives_past : ℕ → ResvFact → Bool
+resv_lives_past moment fact = nat_lt moment fact.expiry
 
 -- Each reservation goes that has expired (RFC 2205, 2.3).
-unfoldable pub expire : ℕ → List (Key × ResvFact) → List (Key × ResvFact)
-expire moment resvs = filter (λ resv. lives_past moment resv.1) resvs
+unfoldable pub expire_resvs : ℕ → List (Key × ResvFact) → List (Key × ResvFact)
+expire_resvs moment resvs = filter (λ resv. resv_lives_past moment resv.1) resvs
 
 -- a reservation, whenever it expires, which no message says
 abbrev pub timeless_resv : ResvFact → ResvFact
@@ -39,4 +39,4 @@ timeless_repair repair = record repair { resv = timeless_resv repair.resv }
 
 -- A repair expires as the reservation does from which it comes.
 unfoldable pub expire_repairs : ℕ → List (Key × Repair) → List (Key × Repair)
-expire_repairs moment repairs = filter (λ repair. lives_past moment repair.1.resv) repairs
+expire_repairs moment repairs = filter (λ repair. resv_lives_past moment repair.1.resv) repairs

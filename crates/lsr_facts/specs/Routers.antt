@@ -9,6 +9,7 @@ use Rattle.std.specs.Ordering.{nat_cmp}
 use Rattle.std.specs.declared.net.ipv4_addr.Ipv4Addr.{Ipv4Addr}
 use Rattle.rsvp_contents.specs.Below.objects.Ranges.{IsAddress}
 use Rattle.rsvp_contents.specs.Below.bodies.declared.prefix.Prefix.{Prefix}
+use Rattle.lsr_facts.specs.Limits.{max_links, max_routes}
 use Rattle.lsr_facts.specs.Orders.{prefix_cmp}
 use Rattle.lsr_facts.specs.declared.router.LabelRange.{LabelRange}
 use Rattle.lsr_facts.specs.declared.router.Link.{Link}
@@ -51,7 +52,7 @@ pub record IsRouter (r : Router) : Type 0 where
   pub refresh : 1 ≤ r.refresh_ms
   pub labels : AreLabels r.labels
   pub in_order : T (rows.is_sorted nat_cmp r.links)
-  pub few : length r.links ≤ 16
+  pub few : length r.links ≤ max_links
   pub links : AllByRecursion IsLink r.links
   pub apart : IsDistinct is_same (own_addresses r)
 
@@ -64,7 +65,7 @@ masked address length =
 -- the static routes: to prefixes with no bits past their length, over links of the router, at most 256
 pub record AreRoutes (r : Router) (routes : List (Prefix × ℕ)) : Type 0 where
   pub in_order : T (rows.is_sorted prefix_cmp routes)
-  pub few : length routes ≤ 256
+  pub few : length routes ≤ max_routes
   pub prefixes : AllByRecursion (λ route. route.0.length ≤ 32) routes
   pub masked : AllByRecursion (λ route. ipv4_bits route.0.address % 2 ^ (32 - route.0.length) ≡ 0) routes
   pub over_links : AllByRecursion (λ route. HasLink r route.1) routes

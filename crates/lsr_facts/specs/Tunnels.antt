@@ -9,6 +9,7 @@ use Rattle.rsvp_contents.specs.Below.objects.Ranges.{IsAddress}
 use Rattle.rsvp_contents.specs.Below.bodies.declared.step.Step.{Step}
 use Rattle.rsvp_contents.specs.Below.bodies.declared.step.Step.TheVariants.{Ipv4}
 use Rattle.rsvp_contents.specs.Limits.{is_short_route}
+use Rattle.lsr_facts.specs.Limits.{max_tunnels}
 use Rattle.lsr_facts.specs.Orders.{is_one_of}
 use Rattle.lsr_facts.specs.Routers.{is_same, own_addresses}
 use Rattle.lsr_facts.specs.declared.key.Key.{Key}
@@ -65,5 +66,5 @@ pub record IsTunnel (r : Router) (tunnel : ℕ × Tunnel) : Type 0 where
 -- the tunnels that begin at a router: each has a number of its own, and there are at most 256
 pub record AreTunnels (r : Router) (tunnels : List (ℕ × Tunnel)) : Type 0 where
   pub in_order : T (rows.is_sorted nat_cmp tunnels)
-  pub few : length tunnels ≤ 256
+  pub few : length tunnels ≤ max_tunnels
   pub each : AllByRecursion (IsTunnel r) tunnels

@@ -63,4 +63,14 @@ pub fn errors_have_their_numbers()
     ensures round { RsvpError.ROUTING_LOOP ≡ errors.routing_loop }
     ensures l3pid { RsvpError.UNSUPPORTED_L3PID ≡ errors.unsupported_l3pid }
     ensures long { RsvpError.RECORD_TOO_LONG ≡ errors.record_too_long }
+    ensures bandwidth { RsvpError.NO_BANDWIDTH ≡ errors.no_bandwidth }
+    ensures no_path { RsvpError.NO_PATH ≡ errors.no_path }
+    ensures sender { RsvpError.NO_SENDER ≡ errors.no_sender }
+    ensures unknown_style { RsvpError.UNKNOWN_STYLE ≡ errors.unknown_style }
+    ensures preempted { RsvpError.PREEMPTED ≡ errors.preempted }
+    ensures service { RsvpError.UNSUPPORTED_SERVICE ≡ errors.unsupported_service }
+    ensures flowspec { RsvpError.BAD_FLOWSPEC ≡ errors.bad_flowspec }
+    ensures unacceptable { RsvpError.UNACCEPTABLE_LABEL ≡ errors.unacceptable_label }
+    ensures no_label { RsvpError.NO_LABEL ≡ errors.no_label }
+    ensures repaired { RsvpError.LOCALLY_REPAIRED ≡ errors.locally_repaired }
 {}

@@ -52,7 +52,7 @@ impl Via {
     }
 }
 
-/// Where a path comes from: who sent its Path, and until when that counts.
+/// A previous hop (PHOP, RFC 2205, 3.1.2): who sent the path's Path, and until when that counts.
 #[derive(Clone, Copy, Debug, PartialEq, Eq)]
 pub struct Origin {
     /// How its Paths come.

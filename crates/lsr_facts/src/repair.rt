@@ -13,7 +13,8 @@ use std::net::Ipv4Addr;
 pub struct Repair {
     /// The number of the bypass.
     pub bypass: u16,
-    /// Whether the bypass ends later than at the next hop: node protection (RFC 4090, 3.2).
+    /// Whether it is an NNHOP bypass (RFC 4090, 2): it ends after the next hop, so that the router there is
+    /// protected too.
     pub is_nnhop: bool,
     /// The reservation that was lost, on the link that is protected. Its label is the one under which the router at the
     /// bypass's end takes the LSP.
@@ -50,7 +51,7 @@ pub struct Over {
     pub label: u32,
 }
 
-/// A bypass, as a point of local repair sees it (RFC 4090, 3.2).
+/// A bypass tunnel, as the point of local repair sees it (RFC 4090, 2 and 3.2).
 #[derive(Clone, Copy, Debug, PartialEq, Eq)]
 pub struct BypassTunnel {
     /// The number of the tunnel that it runs through.
@@ -68,7 +69,8 @@ pub struct BypassTunnel {
 pub struct Selected {
     /// The number of the bypass.
     pub bypass: u16,
-    /// Whether it ends later than at the next hop.
+    /// Whether it is an NNHOP bypass (RFC 4090, 2): it ends after the next hop, so that the router there is
+    /// protected too.
     pub is_nnhop: bool,
     /// The label under which the router at its end takes the LSP.
     pub label: u32,

@@ -1,6 +1,6 @@
 ghost use Rattle.std.specs.Prelude.{◌≡◌, nat_lt, true};
 ghost use Rattle.lsr_facts.specs.Conflicts.{is_same_style};
-ghost use Rattle.lsr_facts.specs.Reservations.{lives_past, style_bits, style_of, style_word, timeless_resv};
+ghost use Rattle.lsr_facts.specs.Reservations.{resv_lives_past, style_bits, style_of, style_word, timeless_resv};
 
 use crate::{Passing, Same};
 use rsvp_bodies::{Flowspec, Record};
@@ -99,7 +99,7 @@ impl Drop for ResvFact {
 impl ResvFact {
     /// Whether its expiry is yet to come at a moment, in milliseconds.
     pub fn lives_past(&self, moment: u64) -> bool
-        ensures { result ≡ lives_past moment self.now }
+        ensures { result ≡ resv_lives_past moment self.now }
     {
         moment < self.expiry
     }

@@ -14,8 +14,8 @@ use Rattle.lsr_lines.specs.declared.live.LiveEnding.{LiveEnding}
 use Rattle.lsr_lines.specs.declared.live.LiveEnding.TheVariants as endings
 use Rattle.line_streams.specs.declared.reader.Found.{Found}
 use Rattle.line_streams.specs.declared.reader.Found.TheVariants as founds
-use Rattle.lsr_lines.specs.declared.step.Served.{Served}
-use Rattle.lsr_lines.specs.declared.step.Served.TheVariants as lots
+use Rattle.lsr_lines.specs.declared.step.LineOutcome.{LineOutcome}
+use Rattle.lsr_lines.specs.declared.step.LineOutcome.TheVariants as lots
 use Rattle.line_streams.proofs.Reading.{reads_all, reads_last, reads_line, reads_none, reads_short}
 use Rattle.lsr_lines.proofs.Stepping.{prints_push, told_none}
 
@@ -30,7 +30,7 @@ none_more : (bytes more : List ℕ) → more ≡ [] → bytes ≡ bytes ++ more
 none_more bytes more e = sym (append-nil bytes) ∙ ap (λ l. bytes ++ l) (sym e)
 
 -- one line more is served
-pub serves_more : {S : Type 0} (answers : S → Request → List ℕ → S → Type 0) (echo : Bool) (before : S) (lines : List (List ℕ)) (printed told : List ℕ) (mid : S) (count number : ℕ) (line more text : List ℕ) (served : Served) (after : S)
+pub serves_more : {S : Type 0} (answers : S → Request → List ℕ → S → Type 0) (echo : Bool) (before : S) (lines : List (List ℕ)) (printed told : List ℕ) (mid : S) (count number : ℕ) (line more text : List ℕ) (served : LineOutcome) (after : S)
     → ServesAll answers echo before lines printed told mid → count ≡ length lines → number ≡ count + 1 → (served ≡ lots.Memory → ⊥) → BecomesLive answers echo mid number line more text served after
     → ServesAll answers echo before (line ∷ lines) (printed ++ more) (told ++ text) after
 serves_more answers echo before lines printed told mid count number line more text lots.Done after s counted n some (silent, inl (remark, none, same)) =
@@ -61,7 +61,7 @@ marks_same : (bad : Bool) (told text : List ℕ) → Marks bad told → text ≡
 marks_same false told text marks none = sym (none_more told text none) ∙ marks
 marks_same true told text marks none = subst (λ l. 1 ≤ length l) (none_more told text none) marks
 
-pub marks_more : {S : Type 0} (answers : S → Request → List ℕ → S → Type 0) (echo : Bool) (mid : S) (bad : Bool) (told : List ℕ) (number : ℕ) (line more text : List ℕ) (served : Served) (after : S) → Marks bad told
+pub marks_more : {S : Type 0} (answers : S → Request → List ℕ → S → Type 0) (echo : Bool) (mid : S) (bad : Bool) (told : List ℕ) (number : ℕ) (line more text : List ℕ) (served : LineOutcome) (after : S) → Marks bad told
     → (served ≡ lots.Memory → ⊥) → BecomesLive answers echo mid number line more text served after → Marks (bad || is_told served) (told ++ text)
 marks_more answers echo mid bad told number line more text lots.Done after marks some became = marks_same bad told text marks became.0
 marks_more answers echo mid bad told number line more text lots.NoRequest after marks some became = marks_longer bad told text marks (subst (λ l. 1 ≤ length l) (sym became.3) (omega arith))
@@ -109,7 +109,7 @@ comes first mid now lines held line left founds.End r breaks some finds = absurd
 
 -- it is served
 pub live_more : {S : Type 0} (answers : S → Request → List ℕ → S → Type 0) (echo : Bool) (before : S) (first mid now : Stream) (output shown shows error said says : Option (List ℕ)) (held line seen left : List ℕ) (count number : ℕ) (bad : Bool) (session : S)
-    (found : Found) (served : Served) (more text : List ℕ) (after : S) → IsLiveTo answers echo before first mid output shown error said held count bad session → (now.may_break ≡ true → mid.may_break ≡ true) → Finds mid now held line left (Ok found)
+    (found : Found) (served : LineOutcome) (more text : List ℕ) (after : S) → IsLiveTo answers echo before first mid output shown error said held count bad session → (now.may_break ≡ true → mid.may_break ≡ true) → Finds mid now held line left (Ok found)
     → (found ≡ founds.End → ⊥) → (found ≡ founds.LastLine → ⊥) → seen ≡ line → number ≡ count + 1 → (served ≡ lots.Memory → ⊥) → Appends shown shows more → Appends said says text → BecomesLive answers echo session number seen more text served after
     → IsLiveTo answers echo before first now output shows error says left number (bad || is_told served) after
 live_more answers echo before first mid now output shown shows error said says held line seen left count number bad session founds.End served more text after r breaks finds some whole same n room prints tells became = absurd (some refl)
@@ -131,7 +131,7 @@ live_more answers echo before first mid now output shown shows error said says h
 
 -- and where it is the last one, that ends the run
 pub live_last : {S : Type 0} (answers : S → Request → List ℕ → S → Type 0) (echo : Bool) (before : S) (first mid now : Stream) (output shown shows error said says : Option (List ℕ)) (held line seen left : List ℕ) (count number : ℕ) (bad : Bool) (session : S)
-    (found : Found) (served : Served) (more text : List ℕ) (after : S) → IsLiveTo answers echo before first mid output shown error said held count bad session → Finds mid now held line left (Ok found)
+    (found : Found) (served : LineOutcome) (more text : List ℕ) (after : S) → IsLiveTo answers echo before first mid output shown error said held count bad session → Finds mid now held line left (Ok found)
     → found ≡ founds.LastLine → seen ≡ line → number ≡ count + 1 → (served ≡ lots.Memory → ⊥) → Appends shown shows more → Appends said says text → BecomesLive answers echo session number seen more text served after
     → Ends answers echo before first now output shows error says (bad || is_told served) endings.Done
 live_last answers echo before first mid now output shown shows error said says held line seen left count number bad session found served more text after r finds last same n room prints tells became = (
@@ -170,7 +170,7 @@ live_untext answers echo before first mid now output shown error said held line 
 
 -- where there is no memory for it, too
 pub live_full : {S : Type 0} (answers : S → Request → List ℕ → S → Type 0) (echo : Bool) (before : S) (first mid now : Stream) (output shown shows error said says : Option (List ℕ)) (held line seen left : List ℕ) (count number : ℕ) (bad : Bool) (session : S)
-    (found : Found) (served : Served) (more text : List ℕ) (after : S) → IsLiveTo answers echo before first mid output shown error said held count bad session → (now.may_break ≡ true → mid.may_break ≡ true) → Finds mid now held line left (Ok found)
+    (found : Found) (served : LineOutcome) (more text : List ℕ) (after : S) → IsLiveTo answers echo before first mid output shown error said held count bad session → (now.may_break ≡ true → mid.may_break ≡ true) → Finds mid now held line left (Ok found)
     → (found ≡ founds.End → ⊥) → seen ≡ line → served ≡ lots.Memory → Appends shown shows more → Appends said says text → BecomesLive answers echo session number seen more text served after
     → Ends answers echo before first now output shows error says bad endings.Memory
 live_full answers echo before first mid now output shown shows error said says held line seen left count number bad session found served more text after r breaks finds some same full prints tells became =

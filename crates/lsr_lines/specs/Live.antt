@@ -11,8 +11,8 @@ use Rattle.line_streams.specs.declared.input.InputFault.TheVariants as faults
 use Rattle.lsr_lines.specs.declared.lines.Request.{Request}
 use Rattle.lsr_lines.specs.declared.live.LiveEnding.{LiveEnding}
 use Rattle.lsr_lines.specs.declared.live.LiveEnding.TheVariants as endings
-use Rattle.lsr_lines.specs.declared.step.Served.{Served}
-use Rattle.lsr_lines.specs.declared.step.Served.TheVariants as lots
+use Rattle.lsr_lines.specs.declared.step.LineOutcome.{LineOutcome}
+use Rattle.lsr_lines.specs.declared.step.LineOutcome.TheVariants as lots
 
 -- a line that asks for nothing
 abbrev pub AsksNothing : List ℕ → Type 0
@@ -65,13 +65,13 @@ Marks false told = told ≡ []
 Marks true told = 1 ≤ length told
 
 -- whether it is told of a line that it asks for nothing
-abbrev pub is_told : Served → Bool
+abbrev pub is_told : LineOutcome → Bool
 is_told lots.Done = false
 is_told lots.NoRequest = true
 is_told lots.Memory = false
 
 -- What becomes of one line of this number: it is served; or it asks for nothing, and that is told; or memory ran out for it.
-abbrev pub BecomesLive : {S : Type 0} → (S → Request → List ℕ → S → Type 0) → Bool → S → ℕ → List ℕ → List ℕ → List ℕ → Served → S → Type 0
+abbrev pub BecomesLive : {S : Type 0} → (S → Request → List ℕ → S → Type 0) → Bool → S → ℕ → List ℕ → List ℕ → List ℕ → LineOutcome → S → Type 0
 BecomesLive answers echo before number line printed told lots.Done after =
     (told ≡ [])
     × (((is_remark line ≡ true) × (printed ≡ []) × (after ≡ before)) ⊎ ((is_remark line ≡ false) × ServesLine answers echo before line printed after))

@@ -5,8 +5,8 @@ use Rattle.lsr_lines.specs.Lines.{AsksFor, BringsMore}
 use Rattle.lsr_lines.specs.declared.lines.Request.{Request}
 use Rattle.lsr_lines.specs.declared.step.Ending.{Ending}
 use Rattle.lsr_lines.specs.declared.step.Ending.TheVariants as endings
-use Rattle.lsr_lines.specs.declared.step.Served.{Served}
-use Rattle.lsr_lines.specs.declared.step.Served.TheVariants as lots
+use Rattle.lsr_lines.specs.declared.step.LineOutcome.{LineOutcome}
+use Rattle.lsr_lines.specs.declared.step.LineOutcome.TheVariants as lots
 
 -- an empty line, or one that begins with #
 abbrev pub is_remark : List ℕ → Bool
@@ -71,7 +71,7 @@ IsUntold prints before after = (after ≡ before) ⊎ ((text : List ℕ) × prin
 
 -- What becomes of one line: it is served; or it asks for nothing, and nothing is printed or changed; or memory ran out for
 -- one that asks for something, and nothing is printed.
-abbrev pub Becomes : {S : Type 0} → (S → Request → List ℕ → S → Type 0) → Bool → S → List ℕ → List ℕ → Served → S → Type 0
+abbrev pub Becomes : {S : Type 0} → (S → Request → List ℕ → S → Type 0) → Bool → S → List ℕ → List ℕ → LineOutcome → S → Type 0
 Becomes answers echo before line printed lots.Done after = ServesLine answers echo before line printed after
 Becomes answers echo before line printed lots.NoRequest after =
     (printed ≡ []) × (is_passed echo line ≡ false) × ((request : Request) → AsksFor line request → ⊥) × (after ≡ before)

@@ -4,7 +4,7 @@ ghost use Rattle.std.specs.Io.KnownBytes.{Appends};
 ghost use Rattle.lsr_lines.specs.Live.{BecomesLive, Lives, Marks, is_told};
 
 use crate::forms::tell_bad_line;
-use crate::step::{Answers, Served, is_remark, step_line};
+use crate::step::{Answers, LineOutcome, is_remark, step_line};
 use line_streams::{ByteStream, Found, InputFault, LineReader};
 use std::alloc::Global;
 use std::io;
@@ -22,10 +22,10 @@ pub enum LiveEnding {
 }
 
 /// Whether it is told of a line that it asks for nothing.
-fn is_told(served: Served) -> bool
+fn is_told(served: LineOutcome) -> bool
     ensures { result ≡ is_told served }
 {
-    matches!(served, Served::NoRequest)
+    matches!(served, LineOutcome::NoRequest)
 }
 
 /// Serves the line of this number: a remark is passed over, a line that asks for something is answered, and of another one it
@@ -39,23 +39,23 @@ fn serve_line<A: Answers, W: Write, E: Write>(
     line: &str,
     output: &mut W,
     error: &mut E,
-) -> io::Result<(A, Served)>
+) -> io::Result<(A, LineOutcome)>
     ensures { IfOk result (λ r. (printed : List ℕ) × (told : List ℕ)
         × Appends (W.contents output.old) (W.contents output.new) printed × Appends (E.contents error.old) (E.contents error.new) told
         × BecomesLive A.answers echo session number line.now printed told r.1 r.0) }
 {
     if is_remark(line) {
-        return Ok((session, Served::Done));
+        return Ok((session, LineOutcome::Done));
     }
     let (session, served) = step_line(alloc, session, echo, line, output)?;
     output.flush()?;
     match served {
-        Served::Done => Ok((session, Served::Done)),
-        Served::NoRequest => {
+        LineOutcome::Done => Ok((session, LineOutcome::Done)),
+        LineOutcome::NoRequest => {
             tell_bad_line(error, number, line)?;
-            Ok((session, Served::NoRequest))
+            Ok((session, LineOutcome::NoRequest))
         }
-        Served::Memory => Ok((session, Served::Memory)),
+        LineOutcome::Memory => Ok((session, LineOutcome::Memory)),
     }
 }
 
@@ -96,7 +96,7 @@ pub fn serve_lines<A: Answers, S: ByteStream, W: Write, E: Write>(
             }
         };
         let (next, served) = serve_line(alloc, session, echo, count + 1, text, output, error)?;
-        if let Served::Memory = served {
+        if let LineOutcome::Memory = served {
             return Ok((LiveEnding::Memory, bad));
         }
         session = next;

@@ -39,7 +39,7 @@ pub enum Ending<'a> {
 
 /// What became of one line.
 #[derive(Clone, Copy)]
-pub(crate) enum Served {
+pub(crate) enum LineOutcome {
     /// It was served: its answer was printed, or it was passed over.
     Done,
     /// It asks for nothing that there is.
@@ -81,25 +81,25 @@ pub(crate) fn step_line<A: Answers, W: Write>(
     echo: bool,
     line: &str,
     output: &mut W,
-) -> io::Result<(A, Served)>
+) -> io::Result<(A, LineOutcome)>
     ensures { IfOk result (λ r. (printed : List ℕ) × Appends (W.contents output.old) (W.contents output.new) printed
         × Becomes A.answers echo session line.now printed r.1 r.0) }
 {
     if is_passed(echo, line) {
-        return Ok((session, Served::Done));
+        return Ok((session, LineOutcome::Done));
     }
     let request = match read_request(alloc, line) {
         Ok(Some(request)) => request,
-        Ok(None) => return Ok((session, Served::NoRequest)),
-        Err(_) => return Ok((session, Served::Memory)),
+        Ok(None) => return Ok((session, LineOutcome::NoRequest)),
+        Err(_) => return Ok((session, LineOutcome::Memory)),
     };
     match session.answer(alloc, &request) {
         (session, Ok(text)) => {
             put_echo(echo, line, output)?;
             output.write_all(text.as_bytes())?;
-            Ok((session, Served::Done))
+            Ok((session, LineOutcome::Done))
         }
-        (session, Err(_)) => Ok((session, Served::Memory)),
+        (session, Err(_)) => Ok((session, LineOutcome::Memory)),
     }
 }
 
@@ -124,7 +124,7 @@ fn step_into<A: Answers, W: Write>(
     line: &str,
     block: &mut Vec<u8>,
     output: &mut W,
-) -> io::Result<(A, Served)>
+) -> io::Result<(A, LineOutcome)>
     ensures { IfOk result (λ r. (printed : List ℕ)
         × Appends (append_known (W.contents output.old) block.old.items) (append_known (W.contents output.new) block.new.items) printed
         × Becomes A.answers echo session line.now printed r.1 r.0) }
@@ -164,9 +164,9 @@ fn step_all<'a, A: Answers, W: Write>(
         let (next, served) = step_into(alloc, session, echo, line, block, output)?;
         session = next;
         match served {
-            Served::Done => {}
-            Served::NoRequest => return Ok(Ending::BadLine(number, line)),
-            Served::Memory => return Ok(Ending::Memory),
+            LineOutcome::Done => {}
+            LineOutcome::NoRequest => return Ok(Ending::BadLine(number, line)),
+            LineOutcome::Memory => return Ok(Ending::Memory),
         }
         rest = others;
     }

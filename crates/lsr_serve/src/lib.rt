@@ -8,7 +8,7 @@ mod turns;
 mod udp_wire;
 
 pub use interface_workers as workers;
-pub use run::{PortCount, Served, TICK_MS, serve_on};
+pub use run::{PortCount, RunReport, TICK_MS, serve_on};
 pub use serving::{serve_links, tell_run};
 pub use sockets::{LinkSockets, read_sockets};
 pub use turns::{DEFAULT_TURNS, MAX_TURNS, read_turns};

@@ -30,7 +30,7 @@ pub struct PortCount {
 
 /// What a run leaves.
 #[derive(Debug)]
-pub struct Served {
+pub struct RunReport {
     /// How much each port did, in the order of the ports.
     pub ports: Vec<PortCount>,
     /// The receipts of all ports, those of each in its order.
@@ -40,9 +40,9 @@ pub struct Served {
 }
 
 /// Written out, so that it is dropped by one call, whatever the run left.
-impl Drop for Served {
+impl Drop for RunReport {
     fn drop(self) {
-        let Served {
+        let RunReport {
             ports: _ports,
             receipts: _receipts,
             segments: _segments,
@@ -129,7 +129,7 @@ fn workers<L: Ledger, W: Drop>(
 }
 
 /// Puts the work of one more port to what the others left. The only error is out of memory.
-fn add_work(served: &mut Served, work: Work) -> Result<(), AllocError> {
+fn add_work(served: &mut RunReport, work: Work) -> Result<(), AllocError> {
     let Work {
         mut receipts,
         mut segments,
@@ -145,7 +145,10 @@ fn add_work(served: &mut Served, work: Work) -> Result<(), AllocError> {
 }
 
 /// Puts the work of more ports to what the others left. The only error is out of memory.
-fn add_works(served: &mut Served, works: Vec<Result<Work, AllocError>>) -> Result<(), AllocError> {
+fn add_works(
+    served: &mut RunReport,
+    works: Vec<Result<Work, AllocError>>,
+) -> Result<(), AllocError> {
     for work in works {
         add_work(served, work?)?;
     }
@@ -159,23 +162,23 @@ fn sort_segments(segments: &mut Vec<Segment>) -> Result<(), AllocError> {
 }
 
 /// Puts the last segment to the others, all in their order. The only error is out of memory.
-fn add_last(served: &mut Served, last: Segment) -> Result<(), AllocError> {
+fn add_last(served: &mut RunReport, last: Segment) -> Result<(), AllocError> {
     served.segments.push(last)?;
     sort_segments(&mut served.segments)
 }
 
 /// Puts the work of the clock's port to what the others left, and the last segment. The only error is out of memory.
-fn add_rest(served: &mut Served, clock_work: Work, last: Segment) -> Result<(), AllocError> {
+fn add_rest(served: &mut RunReport, clock_work: Work, last: Segment) -> Result<(), AllocError> {
     match add_work(served, clock_work) {
         Ok(()) => add_last(served, last),
         Err(error) => Err(error),
     }
 }
 
-impl Served {
+impl RunReport {
     /// Nothing yet.
-    fn new(alloc: Global) -> Served {
-        Served {
+    fn new(alloc: Global) -> RunReport {
+        RunReport {
             ports: Vec::new(alloc),
             receipts: Vec::new(alloc),
             segments: Vec::new(alloc),
@@ -185,7 +188,7 @@ impl Served {
 
 /// Puts together what the run left: the work of all ports, and the last segment. The only error is out of memory.
 fn gather(
-    served: &mut Served,
+    served: &mut RunReport,
     works: Vec<Result<Work, AllocError>>,
     clock_work: Work,
     last: Segment,
@@ -213,7 +216,7 @@ fn run_threads<
     clock_wire: &mut W,
     gate: &G,
     turns: u32,
-) -> Result<Served, AllocError> {
+) -> Result<RunReport, AllocError> {
     let (works, clock_work) = thread::join(
         rt,
         || thread::map_vec(
@@ -226,7 +229,7 @@ fn run_threads<
     let works = works?;
     let clock_work = clock_work?;
     let last = core.rotate(rt, alloc)?;
-    let mut served = Served::new(alloc);
+    let mut served = RunReport::new(alloc);
     gather(&mut served, works, clock_work, last)?;
     Ok(served)
 }
@@ -248,7 +251,7 @@ fn serve_named<
     clock_wire: W,
     gate: &G,
     turns: u32,
-) -> Result<Served, OpenFault>
+) -> Result<RunReport, OpenFault>
     requires name { blank.name ≡ L.name }
     requires parts { blank.parts ≡ L.parts }
     requires ports { (length links.items + 1 ≤ L.parts) × (L.parts ≤ 64) }
@@ -295,7 +298,7 @@ pub fn serve_on<
     clock_wire: W,
     gate: &G,
     turns: u32,
-) -> Result<Served, OpenFault>
+) -> Result<RunReport, OpenFault>
     requires { length links.items < 64 }
 {
     let blank = Blank::new(links.len() as u64 + 1);

@@ -3,7 +3,7 @@ ghost use Rattle.std.specs.Prelude.{◌≡◌, ◌<◌, ℕ, List, length, IfOk}
 ghost use Rattle.std.specs.Io.KnownBytes.{Appends};
 ghost use Rattle.lsr_serve.specs.Told.{Serves, TellsRun};
 
-use crate::run::{PortCount, Served, serve_on};
+use crate::run::{PortCount, RunReport, serve_on};
 use crate::sockets::LinkSockets;
 use crate::udp_wire::{LinkWire, ServeFault, UdpWire, open_clock_wire, open_wires};
 use interface_workers::{Mismatch, OpenGate, Receipt, Segment, reconcile};
@@ -87,7 +87,7 @@ fn served<R: Net + Threads + Wait + Clock + Clone + Send + Sync + Drop>(
     config: Config,
     links: &Table<u16, LinkSockets>,
     turns: u32,
-) -> Result<Served, ServeFault>
+) -> Result<RunReport, ServeFault>
     requires { length links.now < 64 }
 {
     let (wires, clock_wire) = open_all(rt, alloc, links)?;

@@ -8,12 +8,12 @@ use Rattle.link_frames.specs.declared.frame.Frame.TheVariants as frames
 
 -- the word that the line of a frame begins with
 abbrev pub sent_word : Frame → List ℕ
-sent_word (frames.Hop reading) = codes "tx"
+sent_word (frames.Hop message) = codes "tx"
 sent_word frame = codes "frame"
 
 -- what is shown of a frame: of a Hop frame its message, which stands after its kind
 abbrev pub shown_bytes : Frame → List ℕ
-shown_bytes (frames.Hop reading) = drop 1 (frame_bytes (frames.Hop reading))
+shown_bytes (frames.Hop message) = drop 1 (frame_bytes (frames.Hop message))
 shown_bytes frame = frame_bytes frame
 
 -- `tx LINK HEX`, the message of a Hop frame, or `frame LINK HEX`, the whole of another frame

@@ -146,13 +146,13 @@ routed_lines fact =
     route_line (codes "given") fact.given ++ (route_line (codes "rest") fact.rest ++ (record_lines fact.recorded ++ passed_line (length fact.passing)))
 
 -- the bypass that the LSP runs over, the link that it had before, and the label under which the bypass's end takes it
-unfoldable pub bypass_tunnel_words : Repair → List ℕ
-bypass_tunnel_words repair =
+unfoldable pub repair_words : Repair → List ℕ
+repair_words repair =
     codes "  repair bypass " ++ (decimal repair.bypass ++ (codes " link " ++ (decimal repair.resv.link ++ (codes " label " ++ decimal repair.resv.label))))
 
 -- `repair bypass N link N label L expires N ms`
 unfoldable pub used_line : ℕ → Repair → List ℕ
-used_line moment repair = bypass_tunnel_words repair ++ left_words moment repair.resv.expiry
+used_line moment repair = repair_words repair ++ left_words moment repair.resv.expiry
 
 -- if it is repaired
 abbrev pub repair_line : ℕ → Option Repair → List ℕ

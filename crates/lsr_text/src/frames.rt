@@ -2,8 +2,8 @@
 ghost use Rattle.std.specs.Prelude.{◌≡◌, ◌++◌, IfOk, OnOk, string_bytes};
 ghost use Rattle.lsr_text.specs.FrameLines.{delivery_line, sent_line, sent_word, shown_bytes};
 
-use link_frames::{Data, Frame, Reading};
-use rsvp_messages::{write_frame, write_message};
+use link_frames::{Data, Frame};
+use rsvp_messages::{frame_bytes, write_message};
 use std::alloc::{AllocError, Global};
 use std::fmt::Write;
 
@@ -17,19 +17,20 @@ fn sent_word(frame: &Frame) -> &'static str
     }
 }
 
-/// What is shown of a frame: of a Hop frame its message, nothing of one that was read in part; of another the whole.
+/// What is shown of a frame: of a Hop frame its message, of another the whole.
 fn shown_bytes(alloc: Global, frame: &Frame) -> Result<Vec<u8>, AllocError>
     ensures { IfOk result (λ bytes. bytes.items ≡ shown_bytes frame.now) }
 {
-    let mut bytes = Vec::new(alloc);
     match frame {
-        Frame::Hop(Reading::Whole(message)) => write_message(message, &mut bytes)?,
-        Frame::Hop(Reading::Unknown(..)) => {}
+        Frame::Hop(message) => {
+            let mut bytes = Vec::new(alloc);
+            write_message(message, &mut bytes)?;
+            Ok(bytes)
+        }
         Frame::Labelled(..) | Frame::Routed { .. } | Frame::Relayed { .. } => {
-            write_frame(frame, &mut bytes)?;
+            frame_bytes(alloc, frame)
         }
     }
-    Ok(bytes)
 }
 
 /// Appends the line of a frame that is sent: `tx LINK HEX`, the message of a Hop frame, or `frame LINK HEX`, the whole

@@ -1,7 +1,7 @@
 //! What `show path KEY` and `show resv KEY` print: one LSP whole.
 ghost use Rattle.std.specs.Option.{option_copied};
 ghost use Rattle.std.specs.Prelude.{◌≡◌, ◌++◌, IfOk, OnOk, flat_map, string_bytes};
-ghost use Rattle.lsr_text.specs.Lsps.{asked_line, attr_at, attr_line, backup_words, called_words, carried_lines, counted_line, counting_line, bypass_tunnel_words, fast_reroute_line, from_words, given_word, hop_lines, hop_words, is_preempted, is_preempting, labels_line, left_words, limit_words, next_line, origin_line, origin_lines, out_words, passed_line, path_head, path_lines, path_lsp_text, preempted_line, preempting_line, priority_words, rate_line, rate_word, repair_line, reserved_lines, resv_head, resv_lines, resv_lsp_text, rival_key, rival_line, rival_lines, routed_lines, said_line, set_words, used_line, via_words};
+ghost use Rattle.lsr_text.specs.Lsps.{asked_line, attr_at, attr_line, backup_words, called_words, carried_lines, counted_line, counting_line, fast_reroute_line, from_words, given_word, hop_lines, hop_words, is_preempted, is_preempting, labels_line, left_words, limit_words, next_line, origin_line, origin_lines, out_words, passed_line, path_head, path_lines, path_lsp_text, preempted_line, preempting_line, priority_words, rate_line, rate_word, repair_line, repair_words, reserved_lines, resv_head, resv_lines, resv_lsp_text, rival_key, rival_line, rival_lines, routed_lines, said_line, set_words, used_line, via_words};
 ghost use Rattle.object_text.specs.Traffic.{rate_bytes};
 
 use crate::routes::{push_flags, push_name, push_record, push_route};
@@ -300,9 +300,9 @@ fn push_routed(alloc: Global, text: &mut String, fact: &PathFact) -> Result<(), 
 }
 
 /// Appends the bypass of a repair, the link that was lost, and the label at the bypass's end.
-#[tactic(auto, unfolding(crate::specs::Lsps::bypass_tunnel_words))]
-fn push_bypass_tunnel(text: &mut String, repair: &Repair) -> Result<(), AllocError>
-    ensures { OnOk result (string_bytes text.new ≡ string_bytes text.old ++ bypass_tunnel_words repair.now) }
+#[tactic(auto, unfolding(crate::specs::Lsps::repair_words))]
+fn push_repair_words(text: &mut String, repair: &Repair) -> Result<(), AllocError>
+    ensures { OnOk result (string_bytes text.new ≡ string_bytes text.old ++ repair_words repair.now) }
 {
     let bypass = repair.bypass;
     let link = repair.resv.link;
@@ -315,7 +315,7 @@ fn push_bypass_tunnel(text: &mut String, repair: &Repair) -> Result<(), AllocErr
 fn push_used(text: &mut String, moment: u64, repair: &Repair) -> Result<(), AllocError>
     ensures { OnOk result (string_bytes text.new ≡ string_bytes text.old ++ used_line moment repair.now) }
 {
-    push_bypass_tunnel(text, repair)?;
+    push_repair_words(text, repair)?;
     push_left(text, moment, repair.resv.expiry)
 }
 

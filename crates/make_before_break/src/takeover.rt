@@ -10,8 +10,7 @@ ghost use Rattle.state_views.specs.Edits.{edited};
 ghost use Rattle.make_before_break.specs.Switching.{ready_at, with_all_switched, with_switched};
 
 use lsr_facts::changes::switch;
-use lsr_facts::{Router, Tunnel};
-use message_rules::{current_key, pending_key};
+use lsr_facts::{Router, Tunnel, current_key, pending_key};
 use sorted_rows::{Table, TryCopy};
 use state_views::{Changed, Edits, StateView, WholeState, node_of};
 use std::alloc::{AllocError, Global};
@@ -91,7 +90,8 @@ fn switch_one(
     edits.tunnels.set(number, Some(tunnel))
 }
 
-/// And so of all these. Takes no memory where there is none; the only error is out of memory.
+/// Edits, and then each of these tunnels goes over to its new LSP, and the path of the one that carried its traffic
+/// goes. Takes no memory where there is no tunnel; the only error is out of memory.
 fn switch_all(
     router: &Router,
     edits: &mut Edits,

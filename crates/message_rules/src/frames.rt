@@ -3,19 +3,13 @@
 ghost use Rattle.std.specs.Prelude.{◌≡◌, IfOk, Some, map};
 ghost use Rattle.rsvp_contents.specs.Spelling.{IsMessage};
 ghost use Rattle.rsvp_contents.specs.declared.messages.Content.TheVariants as contents;
-ghost use Rattle.abstract_paths.specs.Frames.{frame_bytes};
 ghost use Rattle.explicit_routes.specs.Below.paths.Outputs.{is_same_frame, tear_by, tear_of};
 
 use crate::messages::sent_by;
 use abstract_paths::{Frame, Output, Payload};
-use rsvp_contents::{
-    Content, Filters, FlowDescriptor, Message, Path, PathTear, Reading, Resv, ResvTear,
-};
-use rsvp_messages::write_frame;
+use rsvp_contents::{Content, Filters, FlowDescriptor, Message, Path, PathTear, Resv, ResvTear};
+use rsvp_messages::frame_bytes;
 use std::alloc::{AllocError, Global};
-
-/// So many bytes are taken for a frame before it is written: few frames are longer.
-const FRAME_ROOM: usize = 256;
 
 /// The LSPs that flow descriptors name.
 fn filters_of(alloc: Global, descriptors: &[FlowDescriptor]) -> Result<Filters, AllocError>
@@ -76,7 +70,7 @@ pub fn tear_by(alloc: Global, was: &Output) -> Result<Option<Output>, AllocError
     ensures { IfOk result (λ tear. tear ≡ tear_by was.now.link was.now.frame) }
 {
     match &was.frame {
-        Frame::Hop(Reading::Whole(message)) => match tear_of(alloc, message)? {
+        Frame::Hop(message) => match tear_of(alloc, message)? {
             Some(tear) => Ok(Some(sent_by(was.link, tear))),
             None => Ok(None),
         },
@@ -102,23 +96,11 @@ pub fn tear_by(alloc: Global, was: &Output) -> Result<Option<Output>, AllocError
     }
 }
 
-/// The bytes of a frame; none, where its message wasn't read whole.
-fn bytes_of(alloc: Global, frame: &Frame) -> Result<Vec<u8>, AllocError>
-    ensures { IfOk result (λ bytes. bytes.items ≡ frame_bytes frame.now) }
-{
-    if let Frame::Hop(Reading::Unknown(..)) = frame {
-        return Ok(Vec::new(alloc));
-    }
-    let mut bytes = Vec::with_capacity(alloc, FRAME_ROOM)?;
-    write_frame(frame, &mut bytes)?;
-    Ok(bytes)
-}
-
 /// Whether the frames are the same, byte for byte.
 pub(crate) fn is_same_frame(alloc: Global, a: &Frame, b: &Frame) -> Result<bool, AllocError>
     ensures { IfOk result (λ same. same ≡ is_same_frame a.now b.now) }
 {
-    let first = bytes_of(alloc, a)?;
-    let second = bytes_of(alloc, b)?;
+    let first = frame_bytes(alloc, a)?;
+    let second = frame_bytes(alloc, b)?;
     Ok(first == second)
 }

@@ -7,8 +7,6 @@
 mod descriptors;
 mod errors;
 mod frames;
-mod heads;
-pub mod laws;
 mod merging;
 mod messages;
 mod paths;
@@ -22,16 +20,11 @@ mod upstream;
 mod wanted;
 
 pub use descriptors::{key_in, named, resv_by};
-pub use errors::{
-    BAD_FLOWSPEC, LOCALLY_REPAIRED, NO_BANDWIDTH, NO_LABEL, NO_PATH, NO_SENDER, PREEMPTED,
-    UNACCEPTABLE_LABEL, UNKNOWN_STYLE, UNSUPPORTED_SERVICE, reservation_error, style_conflict,
-    traffic_error,
-};
+pub use errors::{reservation_error, traffic_error};
 pub use explicit_routes::{
     Frame, Output, Outputs, RouteError, RouteFault, Way, head_way, is_up, link_at, route_to,
 };
 pub use frames::tear_by;
-pub use heads::{current_key, head_key, pending_key};
 pub use merging::{
     came_through, is_beside, is_full_beside, is_stack, may_join, stack_origin, under,
 };

@@ -6,7 +6,7 @@ ghost use Rattle.explicit_routes.specs.Below.paths.Places.{place_at};
 
 use explicit_routes::{Frame, Output, route_to};
 use lsr_facts::{Key, Node, Router, RsvpError, Via};
-use rsvp_contents::{Message, Reading};
+use rsvp_contents::Message;
 use rsvp_objects::{ErrorSpec, Session, Template};
 use std::net::Ipv4Addr;
 
@@ -38,7 +38,7 @@ pub fn sent_by(link: u16, message: Message) -> Output
 {
     Output {
         link,
-        frame: Frame::Hop(Reading::Whole(message)),
+        frame: Frame::Hop(message),
     }
 }
 

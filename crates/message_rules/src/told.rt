@@ -12,11 +12,11 @@ ghost use Rattle.abstract_router.specs.Preempting.{told_preempted};
 ghost use Rattle.abstract_router.specs.Reserving.{named};
 ghost use Rattle.message_rules.specs.Rooms.{HaveRoom};
 
-use crate::errors::{PREEMPTED, reservation_error};
+use crate::errors::reservation_error;
 use crate::messages::sent_by;
 use abstract_paths::Output;
 use explicit_routes::link_at;
-use lsr_facts::{Key, ResvFact, Router};
+use lsr_facts::{Key, ResvFact, Router, RsvpError};
 use rsvp_contents::{Content, ErrorDescriptor, ErrorDescriptors, Message, Resv, ResvErr};
 use rsvp_objects::{ErrorSpec, Hop, Session, Style, Template};
 use std::alloc::{AllocError, Global};
@@ -97,7 +97,7 @@ pub fn told_preempted(
         flowspec: Some(fact.flowspec.clone()?),
         filter: key.sender,
     };
-    let error = reservation_error(router, false, PREEMPTED);
+    let error = reservation_error(router, false, RsvpError::PREEMPTED);
     told_downstream(
         alloc,
         router,

@@ -7,10 +7,10 @@ ghost use Rattle.lsr_facts.specs.Tunnels.{head_key, heads_of, is_head, route_fro
 ghost use Rattle.abstract_paths.specs.Heads.{head_path, with_head};
 ghost use Rattle.path_steps.specs.Signalling.{with_some};
 
-use lsr_facts::{Choice, Key, PathFact, Role, Router, Tunnel, TunnelLsp};
-use message_rules::{
-    ETHERTYPE_IPV4, current_key, head_key, head_way, link_of, pending_key, rest_of,
+use lsr_facts::{
+    Choice, Key, PathFact, Role, Router, Tunnel, TunnelLsp, current_key, head_key, pending_key,
 };
+use message_rules::{ETHERTYPE_IPV4, head_way, link_of, rest_of};
 use rsvp_contents::{LabelRequest, Passing, Record};
 use sorted_rows::Table;
 use state_views::{StateView, node_of};

@@ -4,10 +4,11 @@
 
 mod heads;
 mod merging;
-mod paths;
+mod path;
+mod path_err;
+mod path_tear;
 mod relays;
 mod signals;
-mod tears;
 mod told;
 
 pub use heads::{head_of, is_head};
@@ -15,8 +16,9 @@ pub use merging::{
     path_through, stack_path_arrival, stack_tear_arrival, unknown_stack_path_arrival,
 };
 pub use message_rules::{current_key, head_key, leaves_by, pending_key};
-pub use paths::{path_arrival, unknown_path_arrival};
+pub use path::{path_arrival, unknown_path_arrival};
+pub use path_err::{err_of_path, path_err_arrival};
+pub use path_tear::path_tear_arrival;
 pub use relays::{exceeds_hop_limit, relay};
 pub use signals::signalled;
-pub use tears::{err_of_path, path_err_arrival, path_tear_arrival};
 pub use told::failed;

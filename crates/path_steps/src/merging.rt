@@ -12,8 +12,8 @@ ghost use Rattle.abstract_router.specs.Outcomes.{of_paths};
 ghost use Rattle.abstract_router.specs.Returning.{the_one};
 ghost use Rattle.state_views.specs.Drafts.{IsDraft};
 
-use crate::paths::path_edit;
-use crate::tears::torn_from;
+use crate::path::path_edit;
+use crate::path_tear::torn_from;
 use crate::told::stack_path_failed;
 use lsr_facts::{Key, PathFact, Refusal, Reply};
 use message_rules::{

@@ -12,8 +12,7 @@ ghost use Rattle.path_steps.specs.Signalling.{AreOfKnown, IsCounted, is_passed_o
 
 use crate::heads::head_of;
 use lsr_facts::limits::MAX_LSPS;
-use lsr_facts::{Key, PathFact, Tunnel};
-use message_rules::current_key;
+use lsr_facts::{Key, PathFact, Tunnel, current_key};
 use state_views::{Changed, Edits, StateView, WholeState};
 use std::alloc::{AllocError, Global};
 

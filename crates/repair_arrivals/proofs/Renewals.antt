@@ -33,7 +33,7 @@ use Rattle.resv_arrivals.specs.Progresses.{fact_at, is_heard}
 use Rattle.resv_arrivals.specs.declared.asked.Asked.{Asked}
 use Rattle.repair_arrivals.proofs.Matches.{around_apart, same_from}
 use Rattle.repair_arrivals.specs.Progresses.{IsReached, bare, reached, repairs_at}
-use Rattle.repair_arrivals.specs.declared.progress.Progress.{Progress}
+use Rattle.repair_arrivals.specs.declared.progress.RepairProgress.{RepairProgress}
 
 -- a repair of which as much is left
 abbrev filled : Key × (ℕ × (Bool × ℕ)) → Key × Repair
@@ -60,7 +60,7 @@ module _ (r : Router) (style : ResvStyle) (v : Resv) (d : FlowDescriptor) (p : r
       carried-bare r v d repair fact p (verdict_by_style r p.state repair.0 fact true)
 
 -- The next flow descriptor is for the repair that it was for before all.
-pub next_is : (r : Router) (style : ResvStyle) (v : Resv) (d : FlowDescriptor) (s : State) (p : Progress) (found : Option (Key × Repair)) → IsReached s p → found ≡ repair_from r s v.hop.address (key_in v d)
+pub next_is : (r : Router) (style : ResvStyle) (v : Resv) (d : FlowDescriptor) (s : State) (p : RepairProgress) (found : Option (Key × Repair)) → IsReached s p → found ≡ repair_from r s v.hop.address (key_in v d)
     → option_map_or (renewed r style v d (reached s p)) found (reached s p) ≡ next_returned r style v (reached s p) d
 next_is r style v d s p found left is =
     renewed-bare r style v d (reached s p) found
@@ -69,7 +69,7 @@ next_is r style v d s p found left is =
     ∙ sym (renewed-bare r style v d (reached s p) (repair_from r (reached s p).state v.hop.address (key_in v d)))
 
 -- One for a repair comes to what its verdict leads to.
-pub renewed_by : (r : Router) (s : State) (p : Progress) (asked : Asked) (repair : Repair) (verdict : Verdict) → asked.link ≡ repair.resv.link
+pub renewed_by : (r : Router) (s : State) (p : RepairProgress) (asked : Asked) (repair : Repair) (verdict : Verdict) → asked.link ≡ repair.resv.link
     → verdict_by_style r s asked.key (fact_at s.facts.moment asked) true ≡ verdict
     → renewed r asked.style asked.resv.now asked.descriptor.now (reached s p) (asked.key, repair) ≡ carried_back r asked.resv.now asked.descriptor.now (asked.key, repair) (fact_at s.facts.moment asked) (reached s p) verdict
 renewed_by r s p asked repair verdict same is =
@@ -81,7 +81,7 @@ renewed_by r s p asked repair verdict same is =
     ap by_link (sym same) ∙ ap (carried_back r v d (asked.key, repair) (fact_at s.facts.moment asked) (reached s p)) is
 
 -- One in error leads to what the code makes of it.
-pub failed_leads : (r : Router) (s : State) (p : Progress) (v : Resv) (d : FlowDescriptor) (repair : Key × Repair) (fact : ResvFact) (e : RsvpError) (told : Option Output) (errors : List Output) (first : Option RsvpError)
+pub failed_leads : (r : Router) (s : State) (p : RepairProgress) (v : Resv) (d : FlowDescriptor) (repair : Key × Repair) (fact : ResvFact) (e : RsvpError) (told : Option Output) (errors : List Output) (first : Option RsvpError)
     → first ≡ option_or p.first (Some e)
     → told ≡ told_through (around_of r s) repair.1 v.session (reservation_error r true e) v.style (named d ∷ [])
     → errors ≡ p.errors ++ option_to_list told
@@ -113,7 +113,7 @@ keys-values : {K X Y : Type 0} (f : X → Y) (rows : List (K × X)) → keys_of 
 keys-values f [] = refl
 keys-values f (row ∷ rows) = ap (λ keys. row.0 ∷ keys) (keys-values f rows)
 
-module _ (s : State) (p now : Progress) (key : Key) (repair : Repair) (fact : ResvFact) (sorted : T (is_sorted key_cmp s.repairs)) where
+module _ (s : State) (p now : RepairProgress) (key : Key) (repair : Repair) (fact : ResvFact) (sorted : T (is_sorted key_cmp s.repairs)) where
   -- what is repaired once it is granted
   repairs_then : now.edits ≡ put key_cmp key (Some (record repair { resv = fact })) p.edits → repairs_at s now ≡ put key_cmp key (record repair { resv = fact }) (repairs_at s p)
   repairs_then edits =

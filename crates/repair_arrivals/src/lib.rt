@@ -4,15 +4,15 @@
 #![tactic(auto)]
 
 mod matching;
-mod path_errs;
+mod path_err;
 mod progress;
 mod renewing;
-mod returns;
-mod tears;
+mod resv;
+mod resv_tear;
 mod telling;
 
-pub use path_errs::returned_err;
-pub use returns::{returned_resv, returned_unknown};
+pub use path_err::returned_err;
+pub use resv::{returned_resv, returned_unknown};
+pub use resv_tear::returned_tear;
 pub use state_views::{Draft, WholeState};
-pub use tears::returned_tear;
 pub use telling::told_through;

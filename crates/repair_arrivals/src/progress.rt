@@ -9,7 +9,7 @@ use std::alloc::Global;
 
 /// What some of a Resv's flow descriptors have led to.
 #[derive(Debug, Drop)]
-pub struct Progress {
+pub struct RepairProgress {
     /// Of LSPs what is known of their repairs from now on.
     pub edits: Table<Key, Option<Repair>>,
     /// The errors that are told, in the order found.
@@ -20,12 +20,12 @@ pub struct Progress {
     pub has_granted: bool,
 }
 
-impl Progress {
+impl RepairProgress {
     /// Nothing has changed. Takes no memory.
-    pub fn new(alloc: Global) -> Progress
+    pub fn new(alloc: Global) -> RepairProgress
         ensures { result ≡ record { edits = []; errors = []; first = None; has_granted = false } }
     {
-        Progress {
+        RepairProgress {
             edits: Table::new(alloc),
             errors: Outputs::new(alloc),
             first: None,

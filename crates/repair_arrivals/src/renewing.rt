@@ -12,7 +12,7 @@ ghost use Rattle.resv_arrivals.specs.Progresses.{fact_at, is_heard};
 ghost use Rattle.repair_arrivals.specs.Progresses.{IsReached, reached};
 
 use crate::matching::repair_from;
-use crate::progress::Progress;
+use crate::progress::RepairProgress;
 use crate::telling::told_back;
 use lsr_facts::{Repair, ResvStyle, RsvpError};
 use message_rules::{key_in, resv_by};
@@ -25,11 +25,11 @@ use std::alloc::{AllocError, Global};
 fn failed<V: StateView>(
     alloc: Global,
     view: &V,
-    progress: Progress,
+    progress: RepairProgress,
     asked: &Asked,
     repair: &Repair,
     error: RsvpError,
-) -> Result<Progress, AllocError>
+) -> Result<RepairProgress, AllocError>
     requires held { AreHeld (V.router view.now) (V.state view.now) }
     requires room { HaveRoom (named asked.now.descriptor.now ∷ []) }
     requires reached { IsReached (V.state view.now) progress }
@@ -40,7 +40,7 @@ fn failed<V: StateView>(
     ensures reached { IfOk result (IsReached (V.state view.now)) }
 {
     let told = told_back(alloc, view, asked.resv, asked.descriptor, repair, error)?;
-    Ok(Progress {
+    Ok(RepairProgress {
         errors: with_told(progress.errors, told)?,
         first: progress.first.or(Some(error)),
         ..progress
@@ -50,10 +50,10 @@ fn failed<V: StateView>(
 /// A flow descriptor for a repair is granted: what it asks for takes the place of what the repair kept.
 fn granted<V: StateView>(
     view: &V,
-    progress: Progress,
+    progress: RepairProgress,
     asked: &Asked,
     repair: &Repair,
-) -> Result<Progress, AllocError>
+) -> Result<RepairProgress, AllocError>
     requires moment { (V.state view.now).facts.moment ≤ 2 ^ 62 }
     requires in_order { T (is_sorted key_cmp (V.state view.now).repairs) }
     requires found { find key_cmp asked.now.key (V.state view.now).repairs ≡ Some repair.now }
@@ -79,7 +79,7 @@ fn granted<V: StateView>(
     };
     let mut edits = progress.edits;
     edits.set(asked.key, Some(renewed))?;
-    Ok(Progress {
+    Ok(RepairProgress {
         edits,
         errors: progress.errors,
         first: progress.first,
@@ -91,10 +91,10 @@ fn granted<V: StateView>(
 fn renewed<V: WholeState>(
     alloc: Global,
     view: &V,
-    progress: Progress,
+    progress: RepairProgress,
     asked: &Asked,
     repair: &Repair,
-) -> Result<Progress, AllocError>
+) -> Result<RepairProgress, AllocError>
     requires moment { (V.state view.now).facts.moment ≤ 2 ^ 62 }
     requires held { AreHeld (V.router view.now) (V.state view.now) }
     requires in_order { T (is_sorted key_cmp (V.state view.now).repairs) }
@@ -121,11 +121,11 @@ fn renewed<V: WholeState>(
 pub fn next_returned<V: WholeState>(
     alloc: Global,
     view: &V,
-    progress: Progress,
+    progress: RepairProgress,
     style: ResvStyle,
     resv: &Resv,
     descriptor: &FlowDescriptor,
-) -> Result<Progress, AllocError>
+) -> Result<RepairProgress, AllocError>
     requires moment { (V.state view.now).facts.moment ≤ 2 ^ 62 }
     requires held { AreHeld (V.router view.now) (V.state view.now) }
     requires in_order { T (is_sorted key_cmp (V.state view.now).repairs) }

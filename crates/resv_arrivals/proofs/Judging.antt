@@ -24,8 +24,8 @@ use Rattle.lsr_facts.specs.Priorities.{holding_of, setup_of}
 use Rattle.lsr_facts.specs.declared.claim.Request.{Request}
 use Rattle.lsr_facts.specs.declared.resv_fact.ResvFact.{ResvFact}
 use Rattle.lsr_facts.specs.declared.resv_fact.ResvStyle.{ResvStyle}
-use Rattle.abstract_router.specs.Errors.{no_bandwidth, no_path, no_sender, style_conflict, unacceptable_label}
-use Rattle.abstract_router.specs.Preempting.{claims_of, fits, giving_way, limit_of, request_of}
+use Rattle.lsr_facts.specs.Errors.{no_bandwidth, no_path, no_sender, style_conflict, unacceptable_label}
+use Rattle.abstract_router.specs.Preempting.{claims_of, fits_link, giving_way, limit_of, request_of}
 use Rattle.abstract_paths.specs.Paths.{has_loop}
 use Rattle.abstract_paths.specs.Tears.{leaves_by}
 use Rattle.abstract_router.specs.Reserving.{Verdict, Failed, PassedOver, Granted, conflicts, verdict_by_rate, verdict_of, verdict_on_path}
@@ -90,9 +90,9 @@ by_room r fact has_room (Ok rate) = by (not (is_label fact.label)) (has_loop r f
 -- stands against it.
 pub on_path_is : (r : Router) (s : State) (key : Key) (fact : ResvFact) (path : PathFact) (found : Option ResvStyle) → leaves_by fact.link path ≡ true → is_repaired s key ≡ false
     → found ≡ option_map (λ other. other.1.style) (find_first (conflicts fact.link fact.style key) s.resvs)
-    → verdict_on_path r s key fact path ≡ option_map_or (λ style. Failed (style_conflict style)) found (verdict_by_rate r fact (fits r s key fact) (flowspec_rate fact.flowspec))
+    → verdict_on_path r s key fact path ≡ option_map_or (λ style. Failed (style_conflict style)) found (verdict_by_rate r fact (fits_link r s key fact) (flowspec_rate fact.flowspec))
 on_path_is r s key fact path found leaves unrepaired found_is =
-    let rest = verdict_by_rate r fact (fits r s key fact) (flowspec_rate fact.flowspec) in
+    let rest = verdict_by_rate r fact (fits_link r s key fact) (flowspec_rate fact.flowspec) in
     (λ i. cond (not (leaves i) || unrepaired i) PassedOver (option_map_or (λ (other : Key × ResvFact). Failed (style_conflict other.1.style)) (find_first (conflicts fact.link fact.style key) s.resvs) rest))
     ∙ by_style (find_first (conflicts fact.link fact.style key) s.resvs) rest
     ∙ ap (λ (o : Option ResvStyle). option_map_or (λ style. Failed (style_conflict style)) o rest) (sym found_is)
@@ -114,7 +114,7 @@ module _ (r : Router) (s : State) (key : Key) (fact : ResvFact) where
   abbrev IsRated : Verdict → Type 0
   IsRated verdict = verdict ≡ Granted → IsOk (flowspec_rate fact.flowspec)
 
-  rated_by_rate : (rate : Result ℕ TrafficFault) → flowspec_rate fact.flowspec ≡ rate → IsRated (verdict_by_rate r fact (fits r s key fact) rate)
+  rated_by_rate : (rate : Result ℕ TrafficFault) → flowspec_rate fact.flowspec ≡ rate → IsRated (verdict_by_rate r fact (fits_link r s key fact) rate)
   rated_by_rate (Err fault) is = λ e. absurd (let h = e in cc)
   rated_by_rate (Ok rate) is = λ e. subst IsOk (sym is) refl
 
@@ -123,7 +123,7 @@ module _ (r : Router) (s : State) (key : Key) (fact : ResvFact) where
       cond_both (not (leaves_by fact.link path) || is_repaired s key) _ _ IsRated (λ other. λ e. absurd (let h = e in cc))
       (λ leaves. by (find_first (conflicts fact.link fact.style key) s.resvs))
     where
-      by : (o : Option (Key × ResvFact)) → IsRated (option_map_or (λ other. Failed (style_conflict other.1.style)) o (verdict_by_rate r fact (fits r s key fact) (flowspec_rate fact.flowspec)))
+      by : (o : Option (Key × ResvFact)) → IsRated (option_map_or (λ other. Failed (style_conflict other.1.style)) o (verdict_by_rate r fact (fits_link r s key fact) (flowspec_rate fact.flowspec)))
       by None = rated_by_rate (flowspec_rate fact.flowspec) refl
       by (Some other) = λ e. absurd (let h = e in cc)
 
@@ -151,11 +151,11 @@ module _ (r : Router) (s : State) (p : Progress) (asked : Asked) (request : Requ
 
   -- An LSP that asks for what it claims already has room, and nobody gives way.
   pub renewed_is : request ≡ request_of s.facts.paths asked.key (fact_at s.facts.moment asked) → request.setup ≤ 7 → find key_cmp request.key (claims_at s p) ≡ Some request.claim
-      → (fits r (reached s p).state asked.key (fact_at s.facts.moment asked) ≡ true) × IsRenewed r s p asked
+      → (fits_link r (reached s p).state asked.key (fact_at s.facts.moment asked) ≡ true) × IsRenewed r s p asked
   renewed_is asks most found =
       let fact = fact_at s.facts.moment asked in
       let sorted = claims_sorted r s p is in
-      let room : fits r (reached s p).state asked.key fact ≡ true = sym (ap (λ (q : Request). admission.fits (limit_of r q.claim.link) q (claims_at s p)) asks) ∙ fits_again request (claims_at s p) sorted found (limit_of r request.claim.link) within most in
+      let room : fits_link r (reached s p).state asked.key fact ≡ true = sym (ap (λ (q : Request). admission.fits (limit_of r q.claim.link) q (claims_at s p)) asks) ∙ fits_again request (claims_at s p) sorted found (limit_of r request.claim.link) within most in
       let alone : giving_way r (reached s p).state asked.key fact ≡ [] = sym (ap (λ (q : Request). victims_of (limit_of r q.claim.link) q (claims_at s p)) asks) ∙ none_gives_way request (claims_at s p) sorted found (limit_of r request.claim.link) within in
       (room, record { claimed = subst (λ (q : Request). find key_cmp q.key (claims_at s p) ≡ Some q.claim) asks found; alone = alone })
 
@@ -164,8 +164,8 @@ pub as_it_fits : (r : Router) (s : State) (p : Progress) (asked : Asked) (rate :
     → verdict_by_rate r (fact_at s.facts.moment asked) true (Ok rate) ≡ Granted
     → request ≡ request_of s.facts.paths asked.key (fact_at s.facts.moment asked)
     → room ≡ admission.fits (limit_of r request.claim.link) request (claims_at s p)
-    → verdict_by_rate r (fact_at s.facts.moment asked) (fits r (reached s p).state asked.key (fact_at s.facts.moment asked)) (flowspec_rate asked.descriptor.now.flowspec) ≡ in_room room Granted
+    → verdict_by_rate r (fact_at s.facts.moment asked) (fits_link r (reached s p).state asked.key (fact_at s.facts.moment asked)) (flowspec_rate asked.descriptor.now.flowspec) ≡ in_room room Granted
 as_it_fits r s p asked rate request room rated granted asks is =
     let fact = fact_at s.facts.moment asked in
-    let has : fits r (reached s p).state asked.key fact ≡ room = sym (is ∙ ap (λ (q : Request). admission.fits (limit_of r q.claim.link) q (claims_at s p)) asks) in
+    let has : fits_link r (reached s p).state asked.key fact ≡ room = sym (is ∙ ap (λ (q : Request). admission.fits (limit_of r q.claim.link) q (claims_at s p)) asks) in
     (λ i. verdict_by_rate r fact (has i) (rated i)) ∙ by_room r fact room (Ok rate) ∙ ap (in_room room) granted

@@ -21,8 +21,7 @@ use crate::replies::{resv_replied, with_told};
 use abstract_paths::Outputs;
 use lsr_facts::{Key, Reply, ResvStyle, RsvpError};
 use message_rules::{
-    UNKNOWN_STYLE, key_in, named, reservation_error, resv_leaves_room, told_downstream,
-    unknown_object,
+    key_in, named, reservation_error, resv_leaves_room, told_downstream, unknown_object,
 };
 use rsvp_contents::{ErrorDescriptor, Resv};
 use state_views::{Draft, Edits, StateView, WholeState};
@@ -137,7 +136,15 @@ pub fn resv_arrival<V: WholeState>(
         resv.now).is_silent ≡ false) }
 {
     let Some(style) = ResvStyle::of(resv.style) else {
-        return resv_failed(alloc, view, link, resv, false, None, UNKNOWN_STYLE);
+        return resv_failed(
+            alloc,
+            view,
+            link,
+            resv,
+            false,
+            None,
+            RsvpError::UNKNOWN_STYLE,
+        );
     };
     let progress = all_descriptors(alloc, view, link, style, resv)?;
     Ok(replied(alloc, view, progress))

@@ -169,7 +169,8 @@ fn claims_with<V: WholeState>(
     Ok(now)
 }
 
-/// And so for the next flow descriptor, if there is one: after the last nobody asks. The only error is out of memory.
+/// What reservations claim for the next flow descriptor, once these LSPs have lost theirs and a request is granted;
+/// `None` after the last descriptor, where nobody asks. The only error is out of memory.
 pub fn claims_for_next<V: WholeState>(
     alloc: Global,
     view: &V,

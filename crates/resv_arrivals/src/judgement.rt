@@ -9,8 +9,8 @@ ghost use Rattle.resv_arrivals.specs.Progresses.{fact_at};
 
 use crate::asked::Asked;
 use forwarding_table::is_label;
-use lsr_facts::RsvpError;
-use message_rules::{UNACCEPTABLE_LABEL, has_been_here, style_conflict, traffic_error};
+use lsr_facts::{RsvpError, style_conflict};
+use message_rules::{has_been_here, traffic_error};
 use rsvp_contents::FlowDescriptor;
 use state_views::{StateView, WholeState};
 
@@ -42,7 +42,7 @@ pub fn judge<V: StateView>(view: &V, asked: &Asked) -> Judgement
         Err(fault) => return Judgement::Failed(traffic_error(fault)),
     };
     if !is_label(label.number) {
-        return Judgement::Failed(UNACCEPTABLE_LABEL);
+        return Judgement::Failed(RsvpError::UNACCEPTABLE_LABEL);
     }
     if has_been_here(&view.node(), recorded) {
         return Judgement::PassedOver;

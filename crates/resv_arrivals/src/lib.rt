@@ -15,5 +15,5 @@ mod verdicts;
 pub use arrivals::{resv_arrival, unknown_resv};
 pub use asked::Asked;
 pub use judgement::{Judgement, judge_beside};
-pub use message_rules::{NO_LABEL, resv_err_leaves_room, told_downstream};
+pub use message_rules::{resv_err_leaves_room, told_downstream};
 pub use replies::{resv_replied, with_told};

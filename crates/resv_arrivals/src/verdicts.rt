@@ -5,7 +5,7 @@ ghost use Rattle.std.specs.Prelude.{◌≡◌, Ok, Some, false, true};
 ghost use Rattle.lsr_facts.specs.Orders.{key_cmp};
 ghost use Rattle.rsvp_bodies.specs.Traffic.{flowspec_rate};
 ghost use Rattle.abstract_paths.specs.Tears.{leaves_by};
-ghost use Rattle.abstract_router.specs.Preempting.{fits};
+ghost use Rattle.abstract_router.specs.Preempting.{fits_link};
 ghost use Rattle.abstract_router.specs.Reserving as reserving;
 ghost use Rattle.abstract_router.specs.Reserving.{verdict_by_rate, verdict_of, verdict_on_path};
 ghost use Rattle.abstract_router.specs.States.{is_repaired};
@@ -15,8 +15,8 @@ use crate::asked::Asked;
 use crate::claims::{fits, is_claimed, style_in_conflict};
 use crate::judgement::{Judgement, judge};
 use crate::progress::Progress;
-use lsr_facts::{PathFact, Request, RsvpError};
-use message_rules::{NO_BANDWIDTH, NO_PATH, NO_SENDER, leaves_by, request_of, style_conflict};
+use lsr_facts::{PathFact, Request, RsvpError, style_conflict};
+use message_rules::{leaves_by, request_of};
 use state_views::WholeState;
 
 /// What becomes of a flow descriptor.
@@ -49,14 +49,14 @@ fn verdict_in_room<V: WholeState>(
     ensures { let s = (reached (V.state view.now) progress.now).state in
         let fact = fact_at (V.state view.now).facts.moment asked.now in
         IsVerdict (V.router view.now) (V.state view.now) progress.now asked.now result
-        (verdict_by_rate (V.router view.now) fact (fits (V.router view.now) s asked.now.key fact) (flowspec_rate fact.flowspec)) }
+        (verdict_by_rate (V.router view.now) fact (fits_link (V.router view.now) s asked.now.key fact) (flowspec_rate fact.flowspec)) }
 {
     let request = request_of(asked.key, asked.link, asked.style, rate, path.attr.as_ref());
     if progress.claims.is_none() && is_claimed(view, progress, &request) {
         return Verdict::Renewed;
     }
     if !fits(view, progress, &request) {
-        return Verdict::Failed(NO_BANDWIDTH);
+        return Verdict::Failed(RsvpError::NO_BANDWIDTH);
     }
     Verdict::Granted(request)
 }
@@ -73,7 +73,7 @@ fn verdict_by_rate<V: WholeState>(
     ensures { let s = (reached (V.state view.now) progress.now).state in
         let fact = fact_at (V.state view.now).facts.moment asked.now in
         IsVerdict (V.router view.now) (V.state view.now) progress.now asked.now result
-        (verdict_by_rate (V.router view.now) fact (fits (V.router view.now) s asked.now.key fact) (flowspec_rate fact.flowspec)) }
+        (verdict_by_rate (V.router view.now) fact (fits_link (V.router view.now) s asked.now.key fact) (flowspec_rate fact.flowspec)) }
 {
     match judge(view, asked) {
         Judgement::Failed(error) => Verdict::Failed(error),
@@ -150,7 +150,7 @@ pub fn verdict_of<V: WholeState>(view: &V, progress: &Progress, asked: &Asked) -
     // A path of its own is one of the session: so the others are asked for only where it has none.
     match view.path(&asked.key) {
         Some(path) => verdict_by_path(view, progress, asked, path),
-        None if view.knows_session(&asked.key.session) => Verdict::Failed(NO_SENDER),
-        None => Verdict::Failed(NO_PATH),
+        None if view.knows_session(&asked.key.session) => Verdict::Failed(RsvpError::NO_SENDER),
+        None => Verdict::Failed(RsvpError::NO_PATH),
     }
 }

@@ -1,7 +1,6 @@
 -- Messages for the LSPs of tunnels that begin here.
-use Rattle.std.specs.Prelude.{◌≡◌, ◌&&◌, ◌++◌, ◌==◌, ℕ, not, Bool, true, false, cond, if◌then◌else◌, List, [], ◌∷◌, filter_map, length, Option, Some, None, IfSome, is_none, is_some}
+use Rattle.std.specs.Prelude.{◌≡◌, ◌&&◌, ◌++◌, ◌==◌, ℕ, not, Bool, true, false, cond, if◌then◌else◌, List, [], ◌∷◌, filter_map, length, Option, Some, None, IfSome, is_none}
 use Rattle.std.specs.FinMap.Entries.{find}
-use Rattle.std.specs.List.{AllByRecursion, flat_map}
 use Rattle.std.specs.Option.{option_map_or}
 use Rattle.std.specs.Ordering.{nat_cmp}
 use Rattle.std.specs.declared.net.ipv4_addr.Ipv4Addr.{Ipv4Addr}
@@ -12,7 +11,6 @@ use Rattle.rsvp_contents.specs.declared.messages.Content.TheVariants as contents
 use Rattle.rsvp_contents.specs.declared.messages.Content.{Content}
 use Rattle.rsvp_contents.specs.declared.messages.Path.{Path}
 use Rattle.rsvp_contents.specs.declared.messages.PathErr.{PathErr}
-use Rattle.sorted_rows.specs.Rows.{keys_of}
 use Rattle.sorted_rows.specs.RowsLaws.{find-put_same}
 use Rattle.rsvp_bodies.specs.declared.step.Step.{Step}
 use Rattle.lsr_facts.specs.Lifetimes.{begins_here}
@@ -47,10 +45,9 @@ use Rattle.abstract_paths.specs.Soundness.{IsCountAs, IsHeadOf, IsPath, IsStandi
 use Rattle.abstract_paths.specs.Stamps.{stamps}
 use Rattle.abstract_paths.specs.Tears.{err_of_path, leaves_by, path_err_arrival, path_err_passed_on}
 use Rattle.abstract_router.specs.Arrivals.{arrival, is_done, labelled_path_arrival, message_arrival}
-use Rattle.abstract_router.specs.BypassTunnels.{bypass_tunnels_of, over_at}
-use Rattle.abstract_router.specs.Errors.{no_label}
+use Rattle.abstract_router.specs.BypassTunnels.{bypass_tunnels_of}
+use Rattle.lsr_facts.specs.Errors.{no_label}
 use Rattle.abstract_router.specs.Labels.{has_free_label}
-use Rattle.abstract_router.specs.Lsps.{lsps_of}
 use Rattle.abstract_router.specs.Outcomes.{of_paths, refused, replied}
 use Rattle.abstract_router.specs.Outputs.{item_stamps, outputs_of, upstream_stamps}
 use Rattle.abstract_router.specs.Repairing.{told_repaired}
@@ -58,8 +55,9 @@ use Rattle.abstract_router.specs.Soundness.{IsSound}
 use Rattle.abstract_router.specs.States.{State, with_facts}
 use Rattle.abstract_router.specs.Steps.{AreSettled, known_after, sent_in, settled, taken_over}
 use Rattle.abstract_router.specs.Steps as steps
-use Rattle.abstract_router.specs.Upstreams.{upstream_of, upstream_rows}
-use Rattle.abstract_router.specs.Wanted.{item_rows, items_of}
+use Rattle.abstract_router.specs.Upstreams.{upstream_of}
+use Rattle.abstract_router.specs.Wanted.{items_of}
+use Rattle.router_soundness.proofs.Beside.{items_beside, sound_beside, upstream_beside}
 use Rattle.router_laws.specs.Words.{comes}
 use Rattle.router_laws.proofs.BypassTunnels.{bypass_tunnels-put}
 use Rattle.router_laws.proofs.Led.{answered, led, sends}
@@ -108,24 +106,13 @@ module _ (r : Router) (s : State) (is : IsSound r s) (tunnels : List (ℕ × Tun
 
   -- the same is wanted, since bypasses run over what they ran over
   items_same : items_of r changed ≡ items_of r s
-  unfolding items_of lsps_of
-  items_same = ap (λ bypass_tunnels. item_rows (record { place = place_of r s.facts; bypass_tunnels = bypass_tunnels }) (lsps_of s)) same_bypass_tunnels
+  items_same = items_beside r s s.facts.cold tunnels same_bypass_tunnels
 
   upstream_same : upstream_of r changed ≡ upstream_of r s
-  unfolding upstream_of lsps_of
-  upstream_same = ap (λ bypass_tunnels. flat_map (upstream_rows (record { place = place_of r s.facts; bypass_tunnels = bypass_tunnels })) (lsps_of s)) same_bypass_tunnels
+  upstream_same = upstream_beside r s s.facts.cold tunnels same_bypass_tunnels
 
   sound_changed : IsSound r changed
-  sound_changed = record {
-    paths = standing;
-    held = record { in_order = is.held.in_order; each = is.held.each; one_style = is.held.one_style; within = is.held.within };
-    standing = is.standing;
-    repaired = record { in_order = is.repaired.in_order; each = is.repaired.each; apart = is.repaired.apart };
-    repairs_standing = subst (λ bypass_tunnels. AllByRecursion (λ repair. (is_some (over_at bypass_tunnels repair.1.bypass) && option_map_or (leaves_by repair.1.resv.link) (find key_cmp repair.0 s.facts.paths) false) ≡ true) s.repairs) (sym same_bypass_tunnels) is.repairs_standing;
-    labels = record { of_lsps = is.labels.of_lsps; from_first = is.labels.from_first; to_last = is.labels.to_last; apart = is.labels.apart };
-    sent = is.sent ∙ ap keys_of (sym items_same);
-    sent_upstream = is.sent_upstream ∙ ap keys_of (sym upstream_same);
-  }
+  sound_changed = sound_beside r s s.facts.cold tunnels same_bypass_tunnels standing is
 
   known_changed : (chosen : List (Key × ℕ)) → known_after r s chosen (replied replies.Done [] changed) ≡ changed
   unfolding item_stamps upstream_stamps

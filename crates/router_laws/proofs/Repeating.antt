@@ -40,9 +40,9 @@ use Rattle.abstract_router.specs.ClaimsLaws.{claims-put}
 use Rattle.router_soundness.proofs.Claiming.{setup_most}
 use Rattle.router_soundness.proofs.Entries.{reserved_or_repaired}
 use Rattle.abstract_router.specs.Arrivals.{arrival}
-use Rattle.abstract_router.specs.Errors.{no_bandwidth, no_path, no_sender, style_conflict, unacceptable_label, unknown_style}
+use Rattle.lsr_facts.specs.Errors.{no_bandwidth, no_path, no_sender, style_conflict, unacceptable_label, unknown_style}
 use Rattle.abstract_router.specs.Outcomes.{refused, replied}
-use Rattle.abstract_router.specs.Preempting.{all_told_preempted, attr_at, claims_of, fits, giving_way, limit_of, request_of}
+use Rattle.abstract_router.specs.Preempting.{all_told_preempted, attr_at, claims_of, fits_link, giving_way, limit_of, request_of}
 use Rattle.abstract_router.specs.Reserving.{Failed, Granted, PassedOver, Progress, Verdict, all_descriptors, carried_on, conflicts, is_same_style, key_in, next_descriptor, resv_arrival, resv_by, resv_failed, resv_replied, verdict_by_rate, verdict_of, verdict_on_path}
 use Rattle.abstract_router.specs.Soundness.{IsResv, IsSound}
 use Rattle.abstract_router.specs.States.{State, is_repaired, with_resv, without_resvs}
@@ -109,9 +109,9 @@ module _ (r : Router) (s : State) (is : IsSound r s) (key : Key) (fact : ResvFac
       by resv at true true true same link = ap not (is.held.one_style key resv.0 fact resv.1 found at same (sym (eqb-true resv.1.link fact.link link)))
 
   -- it fits its link, and nobody gives way to it
-  fits-itself : fits r s key fact ≡ true
+  fits_link-itself : fits_link r s key fact ≡ true
   unfolding admission.fits
-  fits-itself =
+  fits_link-itself =
       le-leb _ (limit_of r fact.link) (subst (λ cs. reserved_of fact.link (request_of s.facts.paths key fact).setup cs ≤ limit_of r fact.link) (sym claims-same) (is.held.within fact.link (request_of s.facts.paths key fact).setup (setup_most (attr_at s.facts.paths key))))
 
   enough : is_enough (limit_of r fact.link) (request_of s.facts.paths key fact) claims [] ≡ true
@@ -129,15 +129,15 @@ module _ (r : Router) (s : State) (is : IsSound r s) (key : Key) (fact : ResvFac
   abbrev again : Verdict
   again = if has_loop r fact.recorded then PassedOver else Granted
 
-  by_rate : (rate : Result ℕ TrafficFault) → IsOk rate → verdict_by_rate r fact (fits r s key fact) rate ≡ again
+  by_rate : (rate : Result ℕ TrafficFault) → IsOk rate → verdict_by_rate r fact (fits_link r s key fact) rate ≡ again
   by_rate (Err fault) ok = absurd (let e = ok in cc)
   by_rate (Ok rate) ok =
-      ap (λ b. if not b then Failed unacceptable_label else if has_loop r fact.recorded then PassedOver else if not (fits r s key fact) then Failed no_bandwidth else Granted) own.label
-      ∙ ap (λ b. if has_loop r fact.recorded then PassedOver else if not b then Failed no_bandwidth else Granted) fits-itself
+      ap (λ b. if not b then Failed unacceptable_label else if has_loop r fact.recorded then PassedOver else if not (fits_link r s key fact) then Failed no_bandwidth else Granted) own.label
+      ∙ ap (λ b. if has_loop r fact.recorded then PassedOver else if not b then Failed no_bandwidth else Granted) fits_link-itself
 
   on_path : (path : PathFact) → leaves_by fact.link path ≡ true → verdict_on_path r s key fact path ≡ again
   on_path path leaves =
-      let rated = verdict_by_rate r fact (fits r s key fact) (flowspec_rate fact.flowspec) in
+      let rated = verdict_by_rate r fact (fits_link r s key fact) (flowspec_rate fact.flowspec) in
       let told = λ (other : Key × ResvFact). Failed (style_conflict other.1.style) in
       ap (λ b. if not b || is_repaired s key then PassedOver else option_map_or told (find_first (conflicts fact.link fact.style key) s.resvs) rated) leaves
       ∙ ap (λ b. if b then PassedOver else option_map_or told (find_first (conflicts fact.link fact.style key) s.resvs) rated) unrepaired

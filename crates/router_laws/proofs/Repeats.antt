@@ -16,7 +16,7 @@ use Rattle.rsvp_contents.specs.declared.messages.Content.TheVariants as contents
 use Rattle.rsvp_contents.specs.declared.messages.Path.{Path}
 use Rattle.rsvp_bodies.specs.TokenBuckets.{token_rate}
 use Rattle.sorted_rows.specs.RowsLaws.{find-put_same, put-found}
-use Rattle.lsr_facts.specs.Errors.{bad_tspec, system_error, routing_loop, unsupported_l3pid, record_too_long}
+use Rattle.lsr_facts.specs.Errors.{bad_tspec, no_label, record_too_long, routing_loop, system_error, unsupported_l3pid}
 use Rattle.lsr_facts.specs.OrderLaws.{address_total, key_total}
 use Rattle.lsr_facts.specs.Orders.{address_cmp, key_cmp}
 use Rattle.lsr_facts.specs.Routers.{IsRouter, link_at}
@@ -46,7 +46,6 @@ use Rattle.abstract_paths.specs.Places.{Place, is_up, place_of}
 use Rattle.abstract_paths.specs.Routing.{next_hop}
 use Rattle.abstract_paths.specs.Soundness.{IsHeadOf}
 use Rattle.abstract_router.specs.Arrivals.{arrival, arrival_by, is_done, labelled_path_arrival}
-use Rattle.abstract_router.specs.Errors.{no_label}
 use Rattle.abstract_router.specs.Labels.{has_free_label}
 use Rattle.abstract_router.specs.Outcomes.{Outcome, of_paths, refused, replied}
 use Rattle.abstract_router.specs.Repairing.{repaired, repairs_left}

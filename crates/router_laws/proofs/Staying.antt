@@ -16,7 +16,7 @@ use Rattle.lsr_facts.specs.declared.key.Key.{Key}
 use Rattle.lsr_facts.specs.declared.path_fact.PathFact.{PathFact}
 use Rattle.lsr_facts.specs.declared.reply.Reply.TheVariants as replies
 use Rattle.lsr_facts.specs.declared.router.Router.{Router}
-use Rattle.lsr_facts.specs.Reservations.{expire, expire_repairs, lives_past}
+use Rattle.lsr_facts.specs.Reservations.{expire_repairs, expire_resvs, resv_lives_past}
 use Rattle.lsr_facts.specs.declared.repair.Over.{Over}
 use Rattle.lsr_facts.specs.declared.repair.Repair.{Repair}
 use Rattle.lsr_facts.specs.declared.resv_fact.ResvFact.{ResvFact}
@@ -66,24 +66,24 @@ module _ (r : Router) (before : State) (n : ℕ) (key : Key) (path : PathFact) (
   leaves_still link = ap (λ p. option_map_or (leaves_by link) p false) path_stays ∙ ap (λ p. option_map_or (leaves_by link) p false) (sym known)
 
   -- A reservation stands on it still, so it is left.
-  resv_left : (resv : ResvFact) → find key_cmp key before.resvs ≡ Some resv → lives_past n resv ≡ true → find key_cmp key (left_standing r (ticked r before n).after).resvs ≡ Some resv
-  unfolding ticked expire repairs_left
+  resv_left : (resv : ResvFact) → find key_cmp key before.resvs ≡ Some resv → resv_lives_past n resv ≡ true → find key_cmp key (left_standing r (ticked r before n).after).resvs ≡ Some resv
+  unfolding ticked expire_resvs repairs_left
   resv_left resv found refreshed =
       let facts = signalled r (lived before.facts n) in
-      find-kept (stands facts) key resv (filter (λ v. lives_past n v.1) before.resvs) (is_sorted-filter key_cmp (λ v. lives_past n v.1) before.resvs is.held.in_order)
-      (find-kept (λ v. lives_past n v.1) key resv before.resvs is.held.in_order found refreshed)
+      find-kept (stands facts) key resv (filter (λ v. resv_lives_past n v.1) before.resvs) (is_sorted-filter key_cmp (λ v. resv_lives_past n v.1) before.resvs is.held.in_order)
+      (find-kept (λ v. resv_lives_past n v.1) key resv before.resvs is.held.in_order found refreshed)
       ((λ i. is_up (up_stays i) resv.link && leaves_still resv.link i)
       ∙ subst (λ o. IfSome o (λ v. stands before.facts (key, v) ≡ true)) found (find-all_row key_cmp key_exact (λ v. stands before.facts v ≡ true) key before.resvs is.standing))
 
   -- So is a repair, where its bypass is up.
-  repair_left : (repair : Repair) (over : Over) → find key_cmp key before.repairs ≡ Some repair → lives_past n repair.resv ≡ true → over_at (bypass_tunnels_of r (left_standing r (ticked r before n).after)) repair.bypass ≡ Some over
+  repair_left : (repair : Repair) (over : Over) → find key_cmp key before.repairs ≡ Some repair → resv_lives_past n repair.resv ≡ true → over_at (bypass_tunnels_of r (left_standing r (ticked r before n).after)) repair.bypass ≡ Some over
       → find key_cmp key (left_standing r (ticked r before n).after).repairs ≡ Some repair
   unfolding ticked expire_repairs repairs_left bypass_tunnels_of
   repair_left repair over found refreshed up =
       let s = resvs_left (ticked r before n).after in
       let stood = subst (λ o. IfSome o (λ v. repair_stands r before (key, v) ≡ true)) found (find-all_row key_cmp key_exact (λ v. repair_stands r before v ≡ true) key before.repairs is.repairs_standing) in
-      find-kept (repair_stands r s) key repair (filter (λ v. lives_past n v.1.resv) before.repairs) (is_sorted-filter key_cmp (λ v. lives_past n v.1.resv) before.repairs is.repaired.in_order)
-      (find-kept (λ v. lives_past n v.1.resv) key repair before.repairs is.repaired.in_order found refreshed)
+      find-kept (repair_stands r s) key repair (filter (λ v. resv_lives_past n v.1.resv) before.repairs) (is_sorted-filter key_cmp (λ v. resv_lives_past n v.1.resv) before.repairs is.repaired.in_order)
+      (find-kept (λ v. resv_lives_past n v.1.resv) key repair before.repairs is.repaired.in_order found refreshed)
       ((λ i. is_some (up i) && leaves_still repair.resv.link i)
       ∙ (and_parts (is_some (over_at (bypass_tunnels_of r before) repair.bypass)) (option_map_or (leaves_by repair.resv.link) (find key_cmp key before.facts.paths) false) stood).1)
 
@@ -97,13 +97,13 @@ after_moment r before after made n is rests step event done =
 
 -- A moment takes no reservation that was refreshed in time, and whose path lives on.
 pub refreshed_stays : (r : Router) (before after : State) (made : Made) (n : ℕ) (key : Key) (resv : ResvFact) (path : PathFact) → IsSound r before → AreSettled r before → Step r before made after → made.event ≡ events.Tick n → made.reply ≡ replies.Done
-    → find key_cmp key before.resvs ≡ Some resv → lives_past n resv ≡ true → find key_cmp key before.facts.paths ≡ Some path → lifetimes.lives_on n (key, path) ≡ true → find key_cmp key after.resvs ≡ Some resv
+    → find key_cmp key before.resvs ≡ Some resv → resv_lives_past n resv ≡ true → find key_cmp key before.facts.paths ≡ Some path → lifetimes.lives_on n (key, path) ≡ true → find key_cmp key after.resvs ≡ Some resv
 refreshed_stays r before after made n key resv path is rests step event done found refreshed known alive =
     ap (λ (s : State). find key_cmp key s.resvs) (after_moment r before after made n is rests step event done) ∙ resv_left r before n key path is known alive resv found refreshed
 
 -- Nor does it take such a repair, where the bypass is up after it.
 pub refreshed_repair_stays : (r : Router) (before after : State) (made : Made) (n : ℕ) (key : Key) (repair : Repair) (path : PathFact) (over : Over) → IsSound r before → AreSettled r before → Step r before made after → made.event ≡ events.Tick n → made.reply ≡ replies.Done
-    → find key_cmp key before.repairs ≡ Some repair → lives_past n repair.resv ≡ true → find key_cmp key before.facts.paths ≡ Some path → lifetimes.lives_on n (key, path) ≡ true → over_at (bypass_tunnels_of r after) repair.bypass ≡ Some over → find key_cmp key after.repairs ≡ Some repair
+    → find key_cmp key before.repairs ≡ Some repair → resv_lives_past n repair.resv ≡ true → find key_cmp key before.facts.paths ≡ Some path → lifetimes.lives_on n (key, path) ≡ true → over_at (bypass_tunnels_of r after) repair.bypass ≡ Some over → find key_cmp key after.repairs ≡ Some repair
 unfolding bypass_tunnels_of
 refreshed_repair_stays r before after made n key repair path over is rests step event done found refreshed known alive up =
     let came = after_moment r before after made n is rests step event done in

@@ -83,7 +83,7 @@ ticked r s n = record {
   errors = [];
   due = due_items r.refresh_ms s.facts.sent n;
   upstream_due = due_items r.refresh_ms s.sent_upstream n;
-  after = record s { facts = signalled r (lived s.facts n); resvs = reservations.expire n s.resvs; repairs = reservations.expire_repairs n s.repairs };
+  after = record s { facts = signalled r (lived s.facts n); resvs = reservations.expire_resvs n s.resvs; repairs = reservations.expire_repairs n s.repairs };
   is_silent = false;
 }
 
@@ -182,12 +182,12 @@ module _ (r : Router) (before after : State) (made : Made) (n : ℕ) (x : Step r
 
   -- no reservation either
   pub no_resv_expired : AllByRecursion (λ resv. n < resv.1.expiry) after.resvs
-  unfolding ticked reservations.expire taken_over repaired repairs_left
+  unfolding ticked reservations.expire_resvs taken_over repaired repairs_left
   no_resv_expired =
       let then_facts : Facts = (taken_over r (ticked r before n).after).facts in
       subst (λ (s : State). AllByRecursion (λ resv. n < resv.1.expiry) s.resvs) (sym after_tick)
-      (all-filter (λ resv. n < resv.1.expiry) (stands then_facts) (filter (λ resv. reservations.lives_past n resv.1) before.resvs)
-      (all-filter_passes (λ resv. n < resv.1.expiry) (λ resv. reservations.lives_past n resv.1) (λ resv lives. ltb-true n resv.1.expiry lives) before.resvs))
+      (all-filter (λ resv. n < resv.1.expiry) (stands then_facts) (filter (λ resv. reservations.resv_lives_past n resv.1) before.resvs)
+      (all-filter_passes (λ resv. n < resv.1.expiry) (λ resv. reservations.resv_lives_past n resv.1) (λ resv lives. ltb-true n resv.1.expiry lives) before.resvs))
 
   -- what is repaired in its step was reserved, and lives past it
   new_lives : (s : State) (resv : Key × ResvFact) → n < resv.1.expiry → IfSome (option_map {U = Key × Repair} (λ repair. (resv.0, repair)) (repair_of r s resv)) (λ repair. n < repair.1.resv.expiry)
@@ -206,7 +206,7 @@ module _ (r : Router) (before after : State) (made : Made) (n : ℕ) (x : Step r
 
   -- and no repair
   pub no_repair_expired : AllByRecursion (λ repair. n < repair.1.resv.expiry) after.repairs
-  unfolding ticked reservations.expire reservations.expire_repairs taken_over repaired repairs_left new_repairs
+  unfolding ticked reservations.expire_resvs reservations.expire_repairs taken_over repaired repairs_left new_repairs
   no_repair_expired =
       let s = taken_over r (ticked r before n).after in
       let Lives : Key × Repair → Type 0 = λ repair. n < repair.1.resv.expiry in
@@ -215,25 +215,25 @@ module _ (r : Router) (before after : State) (made : Made) (n : ℕ) (x : Step r
       (all-filter Lives (repair_stands r (resvs_left (repaired r s))) (repaired r s).repairs
       (all-put_in Lives (new_repairs r s) s.repairs
       (all-filter_map_within Lives again s.resvs
-      (all-filter_passes (λ resv. IfSome (again resv) Lives) (λ resv. reservations.lives_past n resv.1) (λ resv lives. new_lives s resv (ltb-true n resv.1.expiry lives)) before.resvs))
-      (all-filter_passes Lives (λ repair. reservations.lives_past n repair.1.resv) (λ repair lives. ltb-true n repair.1.resv.expiry lives) before.repairs)))
+      (all-filter_passes (λ resv. IfSome (again resv) Lives) (λ resv. reservations.resv_lives_past n resv.1) (λ resv lives. new_lives s resv (ltb-true n resv.1.expiry lives)) before.resvs))
+      (all-filter_passes Lives (λ repair. reservations.resv_lives_past n repair.1.resv) (λ repair lives. ltb-true n repair.1.resv.expiry lives) before.repairs)))
 
 -- After a moment no tunnel's new LSP is reserved that was none before.
 pub ticked-settled : (r : Router) (before : State) (n : ℕ) → AreSettled r before → AreSettled r (ticked r before n).after
-unfolding ticked lived reservations.expire
+unfolding ticked lived reservations.expire_resvs
 ticked-settled r before n rests =
     let after = (ticked r before n).after in
     subst (λ (tunnels : List (ℕ × Tunnel)). AllByRecursion (λ tunnel. is_ready r after tunnel ≡ false) tunnels) (sym (ap (λ (s : Facts). s.tunnels) (signalled-same r (lived before.facts n))))
     (all-weaker (λ tunnel. is_ready r before tunnel ≡ false) (λ tunnel. is_ready r after tunnel ≡ false)
-    (λ tunnel waits. still_waits r before after tunnel.0 tunnel.1 (λ key none. none_of_fewer (λ resv. reservations.lives_past n resv.1) key before.resvs none) waits)
+    (λ tunnel waits. still_waits r before after tunnel.0 tunnel.1 (λ key none. none_of_fewer (λ resv. reservations.resv_lives_past n resv.1) key before.resvs none) waits)
     before.facts.tunnels rests)
 
 -- Where each reservation was over a link that is up, it is so after a moment.
 pub up_ticked : (r : Router) (before : State) (n : ℕ) → AreOverUp before → AreOverUp (ticked r before n).after
-unfolding ticked lived reservations.expire
+unfolding ticked lived reservations.expire_resvs
 up_ticked r before n up =
-    subst (λ links. AllByRecursion (λ resv. is_up links resv.1.link ≡ true) (filter (λ resv. reservations.lives_past n resv.1) before.resvs)) (sym (ap (λ (s : Facts). s.up) (signalled-same r (lived before.facts n))))
-    (all-filter (λ resv. is_up before.facts.up resv.1.link ≡ true) (λ resv. reservations.lives_past n resv.1) before.resvs up)
+    subst (λ links. AllByRecursion (λ resv. is_up links resv.1.link ≡ true) (filter (λ resv. reservations.resv_lives_past n resv.1) before.resvs)) (sym (ap (λ (s : Facts). s.up) (signalled-same r (lived before.facts n))))
+    (all-filter (λ resv. is_up before.facts.up resv.1.link ≡ true) (λ resv. reservations.resv_lives_past n resv.1) before.resvs up)
 
 -- what is known of an LSP when a moment has come
 pub find-expire : (n : ℕ) (key : Key) (paths : List (Key × PathFact)) → T (is_sorted key_cmp paths) → find key_cmp key (expire n paths) ≡ option_map (living n) (option_and_then (λ fact. then_some (lives_on n (key, fact)) fact) (find key_cmp key paths))

@@ -58,7 +58,7 @@ use Rattle.abstract_paths.specs.Tears.{err_of_path, leaves_by, path_err_arrival,
 use Rattle.abstract_paths.specs.TouchedLaws.{find-made}
 use Rattle.abstract_router.specs.Arrivals.{arrival_by, arrival, is_done, labelled_path_arrival, message_arrival, reading_arrival, routed_arrival, stack_arrival, unknown_routed_arrival, unknown_stack_arrival}
 use Rattle.abstract_router.specs.BypassTunnels.{bypass_tunnels_of, over_at}
-use Rattle.abstract_router.specs.Errors.{unknown_style}
+use Rattle.lsr_facts.specs.Errors.{unknown_style}
 use Rattle.abstract_router.specs.Labels.{has_free_label, labels_after}
 use Rattle.abstract_router.specs.Outcomes.{Outcome, of_paths, refused}
 use Rattle.abstract_router.specs.Preempting.{giving_way}

@@ -69,7 +69,7 @@ use Rattle.abstract_paths.specs.RowLaws.{keys-map}
 use Rattle.abstract_paths.specs.Tears.{leaves_by, path_err_arrival, path_tear_arrival}
 use Rattle.abstract_paths.specs.Time.{tick}
 use Rattle.abstract_router.specs.Arrivals.{arrival, arrival_by, command_comes, commanded_by, for_reservations, is_done, labelled_path_arrival, lost, message_arrival, moment_comes, outcome, reading_arrival, routed_arrival, stack_arrival, takes_used_bypass}
-use Rattle.abstract_router.specs.Errors.{no_label, no_sender, unknown_style}
+use Rattle.lsr_facts.specs.Errors.{no_label, no_sender, unknown_style}
 use Rattle.abstract_router.specs.Labels.{has_free_label}
 use Rattle.abstract_router.specs.Outcomes.{Outcome, of_paths, refused}
 use Rattle.abstract_router.specs.Preempting.{giving_way}

@@ -30,7 +30,7 @@ use Rattle.abstract_paths.specs.Soundness.{IsStanding}
 use Rattle.abstract_router.specs.Arrivals.{lost, outcome}
 use Rattle.abstract_router.specs.Outcomes.{of_paths, replied}
 use Rattle.abstract_router.specs.Soundness.{IsSound}
-use Rattle.abstract_router.specs.States.{State}
+use Rattle.abstract_router.specs.States.{State, bare}
 use Rattle.abstract_router.specs.Steps.{AreSettled, Step, known_after}
 use Rattle.router_laws.specs.Words.{link_event}
 use Rattle.router_laws.proofs.Led.{answered, led, sends}
@@ -71,7 +71,7 @@ way_kept n fact p same = ap (λ b. cond b (Ok (way_of fact)) (next_hop n p.route
 
 -- A restart.
 pub restart_rest : (r : Router) (before after : State) (made : Made) → Step r before made after → made.event ≡ events.Restart
-    → (made.reply ≡ replies.Done) × (made.outputs ≡ []) × (after ≡ record { facts = record before.facts { cold = true; tunnels = all_cancelled before.facts.tunnels; paths = []; sent = [] }; resvs = []; repairs = []; labels = []; sent_upstream = [] })
+    → (made.reply ≡ replies.Done) × (made.outputs ≡ []) × (after ≡ bare (record before.facts { cold = true; tunnels = all_cancelled before.facts.tunnels; paths = []; sent = [] }))
 restart_rest r before after made x is =
     let o = lost before in
     (answered r before after made events.Restart o x is refl, sends r before after made events.Restart o x is refl, led r before after made events.Restart o x is refl)

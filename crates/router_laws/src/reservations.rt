@@ -12,7 +12,7 @@ ghost use Rattle.lsr_facts.specs.Orders.{key_cmp};
 ghost use Rattle.lsr_facts.specs.Tunnels.{current_key};
 ghost use Rattle.lsr_facts.specs.declared.bypass.Bypass.{Bypass};
 ghost use Rattle.lsr_facts.specs.declared.path_fact.PathFact.{PathFact};
-ghost use Rattle.lsr_facts.specs.Reservations.{lives_past, style_of};
+ghost use Rattle.lsr_facts.specs.Reservations.{resv_lives_past, style_of};
 ghost use Rattle.lsr_facts.specs.Upstreams.{upstream_cmp};
 ghost use Rattle.lsr_facts.specs.declared.repair.Over.{Over};
 ghost use Rattle.lsr_facts.specs.declared.repair.Repair.{Repair};
@@ -41,14 +41,14 @@ pub fn refreshed_reservations_stay()
     ensures resvs { (r : Router) (before after : State) (made : Made) (n : ℕ) (key : Key) (resv : ResvFact) (path : PathFact) →
         IsSound r before → AreSettled r before →
         Step r before made after → made.event ≡ events.Tick n → made.reply ≡ replies.Done →
-        find key_cmp key before.resvs ≡ Some resv → lives_past n resv ≡ true →
+        find key_cmp key before.resvs ≡ Some resv → resv_lives_past n resv ≡ true →
         find key_cmp key before.facts.paths ≡ Some path → lives_on n (key, path) ≡ true →
         find key_cmp key after.resvs ≡ Some resv }
     ensures repairs { (r : Router) (before after : State) (made : Made) (n : ℕ) (key : Key) (repair : Repair) (path : PathFact)
         (over : Over) →
         IsSound r before → AreSettled r before →
         Step r before made after → made.event ≡ events.Tick n → made.reply ≡ replies.Done →
-        find key_cmp key before.repairs ≡ Some repair → lives_past n repair.resv ≡ true →
+        find key_cmp key before.repairs ≡ Some repair → resv_lives_past n repair.resv ≡ true →
         find key_cmp key before.facts.paths ≡ Some path → lives_on n (key, path) ≡ true →
         over_at (bypass_tunnels_of r after) repair.bypass ≡ Some over →
         find key_cmp key after.repairs ≡ Some repair }

@@ -18,7 +18,7 @@ ghost use Rattle.abstract_paths.specs.Paths.{is_same_route, way_for, way_of};
 ghost use Rattle.abstract_paths.specs.Places.{Place, is_up};
 ghost use Rattle.abstract_paths.specs.Restarts.{all_cancelled};
 ghost use Rattle.abstract_router.specs.Soundness.{IsSound};
-ghost use Rattle.abstract_router.specs.States.{State};
+ghost use Rattle.abstract_router.specs.States.{State, bare};
 ghost use Rattle.abstract_router.specs.Steps.{AreSettled, Step};
 ghost use Rattle.abstract_router.specs.Touched.{IsSameElsewhere};
 ghost use Rattle.abstract_router.specs.Upstreams.{upstream_of};
@@ -58,18 +58,12 @@ pub fn restarts_lose_what_messages_set_up()
     ensures { (r : Router) (before after : State) (made : Made) →
         Step r before made after → made.event ≡ events.Restart →
         (made.reply ≡ replies.Done) × (made.outputs ≡ [])
-        × (after ≡ record {
-          facts = record before.facts {
-            cold = true;
-            tunnels = all_cancelled before.facts.tunnels;
-            paths = [];
-            sent = [];
-          };
-          resvs = [];
-          repairs = [];
-          labels = [];
-          sent_upstream = [];
-        }) }
+        × (after ≡ bare (record before.facts {
+          cold = true;
+          tunnels = all_cancelled before.facts.tunnels;
+          paths = [];
+          sent = [];
+        })) }
 {}
 
 /// A start makes a router run, and changes and sends nothing.

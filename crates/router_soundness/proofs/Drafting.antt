@@ -1,6 +1,6 @@
 -- Whatever an event does of itself leaves the state such that what follows makes it sound: each by its few primitives.
 use Rattle.std.specs.Prelude.{◌≡◌, ℕ, ◌^◌, Bool, true, false, not, nat_lt, List, [], ◌∷◌, filter, Option, Some, None, is_none, option_to_list, if◌then◌else◌}
-use Rattle.std.specs.List.{AllByRecursion, IsDistinct}
+use Rattle.std.specs.List.{AllByRecursion}
 use Rattle.std.specs.Option.{option_map_or}
 use Rattle.std.proofs.Common.{refl, ap, sym, subst, inl, arith}
 use Rattle.std.proofs.lemmas.Bool.{cond_both, ltb-true}
@@ -15,7 +15,7 @@ use Rattle.lsr_facts.specs.declared.refusal.Refusal.TheVariants.{InUse, NoMatch}
 use Rattle.lsr_facts.specs.declared.router.Router.{Router}
 use Rattle.lsr_facts.specs.declared.tunnel.Tunnel.{Tunnel}
 use Rattle.lsr_facts.specs.declared.tunnel.TunnelLsp.{TunnelLsp}
-use Rattle.lsr_facts.specs.Reservations.{expire, expire_repairs, lives_past}
+use Rattle.lsr_facts.specs.Reservations.{expire_repairs, expire_resvs, resv_lives_past}
 use Rattle.lsr_facts.specs.declared.repair.Repair.{Repair}
 use Rattle.lsr_facts.specs.declared.resv_fact.ResvFact.{ResvFact}
 use Rattle.abstract_paths.specs.declared.commands.Command.{Command}
@@ -33,24 +33,20 @@ use Rattle.abstract_paths.specs.Outcomes as paths
 use Rattle.abstract_paths.specs.Outcomes.{lsp}
 use Rattle.abstract_paths.specs.Places.{is_up, place_of}
 use Rattle.abstract_paths.proofs.Primitives.{sound_restarted, sound_started}
-use Rattle.abstract_paths.specs.Restarts.{started}
+use Rattle.abstract_paths.specs.Restarts.{restarted, started}
 use Rattle.abstract_paths.specs.Soundness.{IsStanding}
-use Rattle.abstract_router.specs.Lsps.{lsps_of}
-use Rattle.abstract_router.specs.Wanted.{items_of}
 use Rattle.abstract_paths.specs.Relays.{relay, relayed_by}
 use Rattle.abstract_paths.specs.Routing.{route_to}
 use Rattle.abstract_router.specs.Steps.{IsCommand, IsEvent}
 use Rattle.abstract_paths.specs.Time.{tick}
 use Rattle.router_soundness.proofs.Holding.{held_where, held_with_facts, held_with_repairs}
 use Rattle.router_soundness.proofs.Repairing.{repaired_resvs_where, repaired_where, repaired_with_facts}
+use Rattle.router_soundness.proofs.Beside.{sound_cold}
 use Rattle.router_soundness.proofs.Settling.{Leaves}
+use Rattle.router_soundness.proofs.Bare.{sound_bare}
 use Rattle.router_soundness.specs.Drafted.{IsDrafted}
 use Rattle.abstract_router.specs.Arrivals.{command_comes, commanded_by, for_reservations, lost, moment_comes, outcome, takes_used_bypass}
 use Rattle.abstract_router.specs.Choosing.{HasLabel}
-use Rattle.abstract_router.specs.BypassTunnels.{bypass_tunnels_of}
-use Rattle.abstract_router.specs.Preempting.{claims_of}
-use Rattle.abstract_router.specs.Upstreams.{upstream_of}
-use Rattle.lsr_facts.specs.Claims.{rate_of_all, reserved_of}
 use Rattle.abstract_router.specs.Outcomes.{Outcome, of_paths, refused}
 use Rattle.abstract_router.specs.Soundness.{IsResv, IsSound}
 use Rattle.abstract_router.specs.States.{State, is_one_of, with_facts, with_repairs_where, with_resvs_where, without_held, without_resvs}
@@ -79,42 +75,44 @@ runs_for true event other wakes = absurd (other (wakes refl))
 runs_for false event other wakes = refl
 
 -- a reservation is as it should be at a later moment that it outlives
-still_resv : (m n : ℕ) (resv : Key × ResvFact) → IsResv m resv → lives_past n resv.1 ≡ true → IsResv n resv
+still_resv : (m n : ℕ) (resv : Key × ResvFact) → IsResv m resv → resv_lives_past n resv.1 ≡ true → IsResv n resv
 still_resv m n resv was lives = record { has_rate = was.has_rate; label = was.label; live = omega (arith, ltb-true n resv.1.expiry lives); recorded = was.recorded; passing = was.passing; passed_on = was.passed_on; adspec_last = was.adspec_last }
 
 module _ (r : Router) (s : State) (n : ℕ) (is : IsSound r s) where
   -- the reservations that outlive a moment
-  living_resvs : AllByRecursion (IsResv n) (filter (λ (resv : Key × ResvFact). lives_past n resv.1) s.resvs)
+  living_resvs : AllByRecursion (IsResv n) (filter (λ (resv : Key × ResvFact). resv_lives_past n resv.1) s.resvs)
   living_resvs =
-      all-both (IsResv s.facts.moment) (λ resv. lives_past n resv.1 ≡ true) (IsResv n) (still_resv s.facts.moment n) (filter (λ resv. lives_past n resv.1) s.resvs)
-      (all-filter (IsResv s.facts.moment) (λ resv. lives_past n resv.1) s.resvs is.held.each) (all-filter_passes (λ resv. lives_past n resv.1 ≡ true) (λ resv. lives_past n resv.1) (λ resv passes. passes) s.resvs)
+      all-both (IsResv s.facts.moment) (λ resv. resv_lives_past n resv.1 ≡ true) (IsResv n) (still_resv s.facts.moment n) (filter (λ resv. resv_lives_past n resv.1) s.resvs)
+      (all-filter (IsResv s.facts.moment) (λ resv. resv_lives_past n resv.1) s.resvs is.held.each) (all-filter_passes (λ resv. resv_lives_past n resv.1 ≡ true) (λ resv. resv_lives_past n resv.1) (λ resv passes. passes) s.resvs)
 
   -- and the repairs that do
-  living_repairs : AllByRecursion (λ repair. IsResv n (repair.0, repair.1.resv)) (filter (λ (repair : Key × Repair). lives_past n repair.1.resv) s.repairs)
+  living_repairs : AllByRecursion (λ repair. IsResv n (repair.0, repair.1.resv)) (filter (λ (repair : Key × Repair). resv_lives_past n repair.1.resv) s.repairs)
   living_repairs =
-      all-both (λ (repair : Key × Repair). IsResv s.facts.moment (repair.0, repair.1.resv)) (λ repair. lives_past n repair.1.resv ≡ true) (λ repair. IsResv n (repair.0, repair.1.resv))
-      (λ repair was lives. still_resv s.facts.moment n (repair.0, repair.1.resv) was lives) (filter (λ (repair : Key × Repair). lives_past n repair.1.resv) s.repairs)
-      (all-filter (λ (repair : Key × Repair). IsResv s.facts.moment (repair.0, repair.1.resv)) (λ repair. lives_past n repair.1.resv) s.repairs is.repaired.each)
-      (all-filter_passes (λ (repair : Key × Repair). lives_past n repair.1.resv ≡ true) (λ repair. lives_past n repair.1.resv) (λ repair passes. passes) s.repairs)
+      all-both (λ (repair : Key × Repair). IsResv s.facts.moment (repair.0, repair.1.resv)) (λ repair. resv_lives_past n repair.1.resv ≡ true) (λ repair. IsResv n (repair.0, repair.1.resv))
+      (λ repair was lives. still_resv s.facts.moment n (repair.0, repair.1.resv) was lives) (filter (λ (repair : Key × Repair). resv_lives_past n repair.1.resv) s.repairs)
+      (all-filter (λ (repair : Key × Repair). IsResv s.facts.moment (repair.0, repair.1.resv)) (λ repair. resv_lives_past n repair.1.resv) s.repairs is.repaired.each)
+      (all-filter_passes (λ (repair : Key × Repair). resv_lives_past n repair.1.resv ≡ true) (λ repair. resv_lives_past n repair.1.resv) (λ repair passes. passes) s.repairs)
 
 -- a moment that comes
 tick-leaves : (r : Router) (s : State) (n : ℕ) → IsSound r s → LeavesStanding r (tick r s.facts n) → Leaves r s (moment_comes r s n)
-unfolding moment_comes tick expire expire_repairs lifetimes.expire
+unfolding moment_comes tick expire_resvs expire_repairs lifetimes.expire
 tick-leaves r s n is =
     cond_both (nat_lt (2 ^ 62) n) _ _ (λ o. LeavesStanding r o → Leaves r s (for_reservations r s n (of_paths s o))) (λ above. λ leaves. is)
     (λ most. cond_both (nat_lt n s.facts.moment) _ _ (λ o. LeavesStanding r o → Leaves r s (for_reservations r s n (of_paths s o))) (λ below. λ leaves. is)
     (λ later. λ leaves.
     let living = record s.facts { moment = n; paths = lifetimes.expire n s.facts.paths } in
     let moment = sym (ap (λ (x : Facts). x.moment) (signalled-same r living)) in
-    let resvs = with_resvs_where (λ resv. lives_past n resv.1) s in
+    let resvs = with_resvs_where (λ resv. resv_lives_past n resv.1) s in
     record {
       paths = leaves;
-      held = held_with_repairs r (with_facts (signalled r living) resvs) (filter (λ repair. lives_past n repair.1.resv) s.repairs)
-          (held_with_facts r resvs (signalled r living) (held_where r s (λ resv. lives_past n resv.1) is.held) (subst (λ (m : ℕ). AllByRecursion (IsResv m) resvs.resvs) moment (living_resvs r s n is)));
-      repaired = repaired_with_facts (with_repairs_where (λ repair. lives_past n repair.1.resv) resvs) (signalled r living)
-          (repaired_where resvs (λ repair. lives_past n repair.1.resv) (repaired_resvs_where s (λ resv. lives_past n resv.1) is.held.in_order is.repaired))
-          (subst (λ (m : ℕ). AllByRecursion (λ repair. IsResv m (repair.0, repair.1.resv)) (filter (λ (repair : Key × Repair). lives_past n repair.1.resv) s.repairs)) moment (living_repairs r s n is));
+      held = held_with_repairs r (with_facts (signalled r living) resvs) (filter (λ repair. resv_lives_past n repair.1.resv) s.repairs)
+          (held_with_facts r resvs (signalled r living) (held_where r s (λ resv. resv_lives_past n resv.1) is.held) (subst (λ (m : ℕ). AllByRecursion (IsResv m) resvs.resvs) moment (living_resvs r s n is)));
+      repaired = repaired_with_facts (with_repairs_where (λ repair. resv_lives_past n repair.1.resv) resvs) (signalled r living)
+          (repaired_where resvs (λ repair. resv_lives_past n repair.1.resv) (repaired_resvs_where s (λ resv. resv_lives_past n resv.1) is.held.in_order is.repaired))
+          (subst (λ (m : ℕ). AllByRecursion (λ repair. IsResv m (repair.0, repair.1.resv)) (filter (λ (repair : Key × Repair). resv_lives_past n repair.1.resv) s.repairs)) moment (living_repairs r s n is));
       labels = refl;
+      assignments = refl;
+      resting = refl;
       choice = inl (signalled-all r (HasLabel s.labels) (head_has s.labels) living
           (all-map (HasLabel s.labels) (lifetimes.with_living n) (filter (lifetimes.lives_on n) s.facts.paths) (all-filter (HasLabel s.labels) (lifetimes.lives_on n) s.facts.paths (labelled r s is))));
     }))
@@ -151,6 +149,8 @@ command-leaves r s c is = by (refusal_of r s.facts c)
           held = held_with_repairs r (without_resvs keys after) (filter (λ repair. not (is_one_of keys repair.0)) s.repairs) (held_where r after (λ resv. not (is_one_of keys resv.0)) held);
           repaired = repaired_where (without_resvs keys after) (λ repair. not (is_one_of keys repair.0)) (repaired_resvs_where after (λ resv. not (is_one_of keys resv.0)) is.held.in_order repaired);
           labels = refl;
+          assignments = refl;
+          resting = refl;
           choice = inl (commanded-all r (HasLabel s.labels) (head_has s.labels) s.facts c (labelled r s is));
         }
 
@@ -160,31 +160,11 @@ command-leaves r s c is = by (refusal_of r s.facts c)
 
 -- What is lost by a restart leaves nothing but links, static routes and the moment.
 lost-sound : (r : Router) (s : State) → IsSound r s → IsSound r (lost s).after
-unfolding claims_of reserved_of rate_of_all items_of upstream_of lsps_of IsDistinct
-lost-sound r s is = record {
-  paths = sound_restarted r s.facts is.paths;
-  held = record { in_order = tt; each = tt; one_style = λ a b x y at_a at_b. absurd (let e = at_a in cc); within = λ link priority most. omega arith };
-  standing = tt;
-  repaired = record { in_order = tt; each = tt; apart = tt };
-  repairs_standing = tt;
-  labels = record { of_lsps = refl; from_first = tt; to_last = tt; apart = tt };
-  sent = refl;
-  sent_upstream = refl;
-}
+lost-sound r s is = sound_bare r (restarted s.facts).after (sound_restarted r s.facts is.paths)
 
 -- A start leaves all else as it was.
 started-sound : (r : Router) (s : State) → IsSound r s → IsSound r (of_paths s (started s.facts)).after
-unfolding items_of upstream_of lsps_of bypass_tunnels_of
-started-sound r s is = record {
-  paths = sound_started r s.facts is.paths;
-  held = record { in_order = is.held.in_order; each = is.held.each; one_style = is.held.one_style; within = is.held.within };
-  standing = is.standing;
-  repaired = record { in_order = is.repaired.in_order; each = is.repaired.each; apart = is.repaired.apart };
-  repairs_standing = is.repairs_standing;
-  labels = record { of_lsps = is.labels.of_lsps; from_first = is.labels.from_first; to_last = is.labels.to_last; apart = is.labels.apart };
-  sent = is.sent;
-  sent_upstream = is.sent_upstream;
-}
+started-sound r s is = sound_cold r s false (sound_started r s.facts is.paths) is
 
 -- Whatever an event does of itself leaves the state so that what follows makes it sound.
 pub outcome-leaves : (r : Router) (s : State) (event : Event) → IsRouter r → IsSound r s → IsEvent event → (s.facts.cold ≡ true → event ≡ events.Start) → Leaves r s (outcome r s event)

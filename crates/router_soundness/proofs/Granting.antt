@@ -27,9 +27,9 @@ use Rattle.abstract_paths.specs.Tears.{leaves_by}
 use Rattle.abstract_router.specs.ClaimsLaws.{claims-put, claims-where, sorted-claims}
 use Rattle.router_soundness.proofs.Claiming.{holding_below_setup, setup_most}
 use Rattle.router_soundness.proofs.Labelling.{eqb-same}
-use Rattle.abstract_router.specs.Errors.{no_sender, style_conflict}
+use Rattle.lsr_facts.specs.Errors.{no_sender, style_conflict}
 use Rattle.router_soundness.proofs.Holding.{found-all, held_where}
-use Rattle.abstract_router.specs.Preempting.{attr_at, claims_of, fits, giving_way, limit_of, request_of}
+use Rattle.abstract_router.specs.Preempting.{attr_at, claims_of, fits_link, giving_way, limit_of, request_of}
 use Rattle.abstract_router.specs.Reserving.{Verdict, Failed, Granted, conflicts, is_same_style, verdict_by_rate, verdict_by_style, verdict_of, verdict_on_path}
 use Rattle.abstract_router.specs.Soundness.{AreHeld, IsResv}
 use Rattle.abstract_router.specs.States.{State, is_one_of, is_repaired, with_resv, without_resvs}
@@ -44,7 +44,7 @@ pub record IsAccepted (s : State) (key : Key) (fact : ResvFact) (has_room : Bool
 -- and one that takes bandwidth of its link.
 pub record IsGranted (r : Router) (s : State) (key : Key) (fact : ResvFact) : Type 0 where
   pub unrepaired : is_repaired s key ≡ false
-  pub accepted : IsAccepted s key fact (fits r s key fact)
+  pub accepted : IsAccepted s key fact (fits_link r s key fact)
 
 module _ (r : Router) (s : State) (key : Key) (fact : ResvFact) (has_room : Bool) where
   -- what follows from a verdict by rate and style, if it is to grant
@@ -77,7 +77,7 @@ module _ (r : Router) (s : State) (key : Key) (fact : ResvFact) where
   means_on_path : (path : PathFact) → Means (verdict_on_path r s key fact path)
   means_on_path path =
       cond_both (not (leaves_by fact.link path) || is_repaired s key) _ _ Means (λ other. λ e. absurd (let h = e in cc))
-      (λ leaves. λ e. record { unrepaired = (or_parts (not (leaves_by fact.link path)) (is_repaired s key) leaves).1; accepted = accepted_means r s key fact (fits r s key fact) e })
+      (λ leaves. λ e. record { unrepaired = (or_parts (not (leaves_by fact.link path)) (is_repaired s key) leaves).1; accepted = accepted_means r s key fact (fits_link r s key fact) e })
 
   pub granted_means : verdict_of r s key fact ≡ Granted → IsGranted r s key fact
   unfolding verdict_of

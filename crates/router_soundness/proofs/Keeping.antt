@@ -145,9 +145,11 @@ of_paths-leaves r s o is leaves keeps = by o.is_silent leaves keeps
       held = held_with_facts r s o.after is.held (subst (λ m. AllByRecursion (IsResv m) s.resvs) (sym same.0) is.held.each);
       repaired = repaired_with_facts s o.after is.repaired (subst (λ m. AllByRecursion (λ repair. IsResv m (repair.0, repair.1.resv)) s.repairs) (sym same.0) is.repaired.each);
       labels = refl;
+      assignments = refl;
+      resting = refl;
       choice = same.1;
     }
 
 -- an event may leave all as it was
 pub unchanged : (r : Router) (s : State) → IsSound r s → IsDrafted r s s
-unchanged r s is = record { paths = is.paths; held = is.held; repaired = is.repaired; labels = refl; choice = inl (labelled r s is) }
+unchanged r s is = record { paths = is.paths; held = is.held; repaired = is.repaired; labels = refl; assignments = refl; resting = refl; choice = inl (labelled r s is) }

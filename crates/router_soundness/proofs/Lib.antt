@@ -1,4 +1,6 @@
 pub mod Arriving
+pub mod Bare
+pub mod Beside
 pub mod Choosing
 pub mod Claiming
 pub mod Drafting

@@ -29,9 +29,9 @@ use Rattle.router_soundness.proofs.Repairing.{repaired_resvs_where, repaired_wit
 use Rattle.router_soundness.proofs.Settling.{Leaves}
 use Rattle.router_soundness.specs.Drafted.{IsDrafted}
 use Rattle.abstract_router.specs.Choosing.{HasLabel}
-use Rattle.abstract_router.specs.Errors.{unknown_style}
+use Rattle.lsr_facts.specs.Errors.{unknown_style}
 use Rattle.abstract_router.specs.Outcomes.{refused}
-use Rattle.abstract_router.specs.Preempting.{giving_way, fits}
+use Rattle.abstract_router.specs.Preempting.{giving_way, fits_link}
 use Rattle.abstract_router.specs.Reserving.{Progress, Verdict, Failed, PassedOver, Granted, all_descriptors, carried_on, key_in, next_descriptor, resv_arrival, resv_by, resv_failed, resv_replied, verdict_of}
 use Rattle.abstract_router.specs.Soundness.{AreHeld, AreRepaired, IsResv, IsSound}
 use Rattle.abstract_router.specs.States.{State, is_one_of, without_resvs}
@@ -43,6 +43,8 @@ pub record IsCarried (r : Router) (s : State) (after : State) : Type 0 where
   pub repaired : AreRepaired after
   pub facts : after.facts ≡ s.facts
   pub labels : after.labels ≡ s.labels
+  pub assignments : after.assignments ≡ s.assignments
+  pub resting : after.resting ≡ s.resting
 
 -- what a Resv carries that is a message fits
 pub record Fits (v : Resv) : Type 0 where
@@ -79,7 +81,7 @@ asked_is s link style v d key has_room fit short may = record {
 
 -- so it is before any descriptor
 pub carried_none : (r : Router) (s : State) → IsSound r s → IsCarried r s s
-carried_none r s is = record { held = is.held; repaired = is.repaired; facts = refl; labels = refl }
+carried_none r s is = record { held = is.held; repaired = is.repaired; facts = refl; labels = refl; assignments = refl; resting = refl }
 
 module _ (r : Router) (s : State) (link : ℕ) (style : ResvStyle) (v : Resv) (fit : Fits v) where
   -- one descriptor more
@@ -93,10 +95,12 @@ module _ (r : Router) (s : State) (link : ℕ) (style : ResvStyle) (v : Resv) (f
       let may = granted_means r progress.state (key_in v d) fact by in
       let gone = giving_way r progress.state (key_in v d) fact in
       record {
-        held = held_granted r progress.state (key_in v d) fact is.held may (asked_is progress.state link style v d (key_in v d) (fits r progress.state (key_in v d) fact) fit short may.accepted);
+        held = held_granted r progress.state (key_in v d) fact is.held may (asked_is progress.state link style v d (key_in v d) (fits_link r progress.state (key_in v d) fact) fit short may.accepted);
         repaired = repaired_with_resv (without_resvs gone progress.state) (key_in v d) fact may.unrepaired (repaired_resvs_where progress.state (λ resv. not (is_one_of gone resv.0)) is.held.in_order is.repaired);
         facts = is.facts;
         labels = is.labels;
+        assignments = is.assignments;
+        resting = is.resting;
       }
 
   all_carried : (ds : List FlowDescriptor) (progress : Progress) → IsTrue (have_short_records ds) → IsCarried r s progress.state → IsCarried r s (fold (next_descriptor r link style v) progress ds).state
@@ -112,6 +116,8 @@ drafted r s after is carried = record {
   held = carried.held;
   repaired = carried.repaired;
   labels = carried.labels;
+  assignments = carried.assignments;
+  resting = carried.resting;
   choice = inl (subst (λ facts. AllByRecursion (HasLabel s.labels) facts.paths) (sym carried.facts) (labelled r s is));
 }
 
@@ -140,6 +146,8 @@ resv_tear-leaves r s link t is =
       held = held_where r s (λ resv. not (is_resv_torn_by link t resv)) is.held;
       repaired = repaired_resvs_where s (λ resv. not (is_resv_torn_by link t resv)) is.held.in_order is.repaired;
       labels = refl;
+      assignments = refl;
+      resting = refl;
       choice = inl (labelled r s is);
     })
     (λ none. is)

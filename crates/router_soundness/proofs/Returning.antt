@@ -61,6 +61,8 @@ module _ (r : Router) (s : State) (style : ResvStyle) (v : Resv) (fit : Fits v) 
         repaired = repaired_with_repair progress.state repair.0 (record repair.1 { resv = fact }) asked apart is.repaired;
         facts = is.facts;
         labels = is.labels;
+        assignments = is.assignments;
+        resting = is.resting;
       }
 
   -- one descriptor more
@@ -96,7 +98,7 @@ module _ (r : Router) (s : State) where
   pub returned_tear-leaves : (t : ResvTear) → IsSound r s → Leaves r s (returned_tear r s t)
   returned_tear-leaves t is =
       returned_tear_by (Leaves r s) r s is t
-      (λ test. drafted r s (with_repairs_where test s) is (record { held = held_with_repairs r s (filter test s.repairs) is.held; repaired = repaired_where s test is.repaired; facts = refl; labels = refl }))
+      (λ test. drafted r s (with_repairs_where test s) is (record { held = held_with_repairs r s (filter test s.repairs) is.held; repaired = repaired_where s test is.repaired; facts = refl; labels = refl; assignments = refl; resting = refl }))
 
   -- and a PathErr.
   pub returned_err-leaves : (e : PathErr) → IsSound r s → Leaves r s (returned_err r s e)

@@ -1,7 +1,6 @@
 -- A router is opened sound, and each step and each run keeps it so.
 use Rattle.std.specs.Prelude.{ℕ, List, [], ◌∷◌}
-use Rattle.std.specs.List.{IsDistinct}
-use Rattle.std.proofs.Common.{refl, sym, subst, arith}
+use Rattle.std.proofs.Common.{sym, subst}
 use Rattle.rsvp_bodies.specs.declared.prefix.Prefix.{Prefix}
 use Rattle.lsr_facts.specs.Bypasses.{AreBypasses}
 use Rattle.lsr_facts.specs.Routers.{AreRoutes, IsRouter}
@@ -10,37 +9,25 @@ use Rattle.lsr_facts.specs.declared.bypass.Bypass.{Bypass}
 use Rattle.lsr_facts.specs.declared.router.Router.{Router}
 use Rattle.lsr_facts.specs.declared.tunnel.Tunnel.{Tunnel}
 use Rattle.abstract_paths.specs.declared.events.Made.{Made}
-use Rattle.lsr_facts.specs.Claims.{rate_of_all, reserved_of}
 use Rattle.abstract_paths.proofs.Primitives.{opening_stands}
-use Rattle.abstract_router.specs.Lsps.{lsps_of}
-use Rattle.abstract_router.specs.Wanted.{items_of}
+use Rattle.abstract_paths.specs.Restarts.{opening_facts}
 use Rattle.router_soundness.proofs.Drafting.{outcome-leaves}
 use Rattle.router_soundness.proofs.Settling.{sound_after}
+use Rattle.router_soundness.proofs.Bare.{sound_bare}
 use Rattle.abstract_router.specs.Arrivals.{outcome}
-use Rattle.abstract_router.specs.Preempting.{claims_of}
 use Rattle.abstract_router.specs.Soundness.{IsSound}
 use Rattle.abstract_router.specs.States.{State}
 use Rattle.abstract_router.specs.Steps.{Run, Step, opening}
-use Rattle.abstract_router.specs.Upstreams.{upstream_of}
 
 -- A router is opened sound.
 pub sound_opening : (r : Router) (routes : List (Prefix × ℕ)) (tunnels : List (ℕ × Tunnel)) (bypasses : List (ℕ × Bypass)) → IsRouter r → AreRoutes r routes → AreTunnels r tunnels → AreBypasses r tunnels bypasses → IsSound r (opening r routes tunnels bypasses)
-unfolding claims_of reserved_of rate_of_all items_of upstream_of lsps_of IsDistinct
-sound_opening r routes tunnels bypasses router are begin protect = record {
-  paths = opening_stands r routes tunnels bypasses are begin protect;
-  held = record { in_order = tt; each = tt; one_style = λ a b x y at_a at_b. absurd (let e = at_a in cc); within = λ link priority most. omega arith };
-  standing = tt;
-  repaired = record { in_order = tt; each = tt; apart = tt };
-  repairs_standing = tt;
-  labels = record { of_lsps = refl; from_first = tt; to_last = tt; apart = tt };
-  sent = refl;
-  sent_upstream = refl;
-}
+sound_opening r routes tunnels bypasses router are begin protect =
+    sound_bare r (opening_facts r routes tunnels bypasses) (opening_stands r routes tunnels bypasses are begin protect)
 
 -- A step keeps it so.
 pub sound_step : (r : Router) (before : State) (made : Made) (after : State) → IsRouter r → IsSound r before → Step r before made after → IsSound r after
 sound_step r before made after router is step =
-    subst (IsSound r) (sym step.changed) (sound_after r before (outcome r before made.event) made.labels is.labels (outcome-leaves r before made.event router is step.possible step.awake) step.chosen)
+    subst (IsSound r) (sym step.changed) (sound_after r before (outcome r before made.event) made.labels is (outcome-leaves r before made.event router is step.possible step.awake) step.chosen)
 
 -- So do steps, one after the other.
 pub sound_run : (r : Router) (before : State) (run : List Made) (after : State) → IsRouter r → IsSound r before → Run r before run after → IsSound r after

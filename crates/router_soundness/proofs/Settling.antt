@@ -24,7 +24,7 @@ use Rattle.abstract_router.specs.Outputs.{item_stamps, upstream_stamps}
 use Rattle.abstract_router.specs.Wanted.{items_of}
 use Rattle.abstract_paths.specs.Soundness.{IsStanding}
 use Rattle.lsr_facts.specs.Orders.{item_cmp, key_cmp}
-use Rattle.abstract_router.specs.Soundness.{AreLabelled, IsSound}
+use Rattle.abstract_router.specs.Soundness.{IsSound}
 use Rattle.abstract_router.specs.States.{State}
 use Rattle.abstract_router.specs.Steps.{resvs_left, settled, stands, taken_over, with_moments, known_after, MayChoose, MayChooseBy}
 
@@ -50,7 +50,7 @@ labelling_taken : (r : Router) (labels : List (Key × ℕ)) (s : State) (chosen 
 labelling_taken r labels s chosen is may = record { of_new = may.of_new ∙ ap (filter (λ key. is_none (find key_cmp key labels))) (sym (labelled_taken r s is)); given = may.given; apart = may.apart }
 
 -- The state is sound once all that follows has been done.
-pub sound_settled : (r : Router) (before : State) (o : Outcome) (chosen : List (Key × ℕ)) → AreLabelled r before → IsDrafted r before o.after → IsLabelling r before.labels o.after.facts.paths chosen
+pub sound_settled : (r : Router) (before : State) (o : Outcome) (chosen : List (Key × ℕ)) → IsSound r before → IsDrafted r before o.after → IsLabelling r before.labels o.after.facts.paths chosen
     → IsSound r (with_moments r before o (settled r chosen o.after))
 unfolding taken_over repaired repairs_left bypass_tunnels_of
 sound_settled r before o chosen were drafted may =
@@ -59,7 +59,7 @@ sound_settled r before o chosen were drafted may =
     let held = held_with_facts r o.after s.facts drafted.held drafted.held.each in
     let standing = held_where r s (stands s.facts) held in
     let repairs = repaired_left r s held (repaired_with_facts o.after s.facts drafted.repaired drafted.repaired.each) in
-    let labels = labelled_after r before s chosen were drafted.labels paths.paths.in_order (labelling_taken r before.labels o.after chosen drafted.paths may) in
+    let labels = labelled_after r before s chosen were.labels drafted.labels paths.paths.in_order (labelling_taken r before.labels o.after chosen drafted.paths may) in
     record {
       paths = sound_sent r s.facts (item_stamps r before o.due (settled r chosen o.after)) paths;
       held = record { in_order = standing.in_order; each = standing.each; one_style = standing.one_style; within = standing.within };
@@ -67,12 +67,14 @@ sound_settled r before o chosen were drafted may =
       repaired = record { in_order = repairs.in_order; each = repairs.each; apart = repairs.apart };
       repairs_standing = all-filter_passes (λ repair. repair_stands r (resvs_left (repaired r s)) repair ≡ true) (repair_stands r (resvs_left (repaired r s))) (λ repair passes. passes) (repaired r s).repairs;
       labels = record { of_lsps = labels.of_lsps; from_first = labels.from_first; to_last = labels.to_last; apart = labels.apart };
+      no_assignments = drafted.assignments ∙ were.no_assignments;
+      no_rests = drafted.resting ∙ were.no_rests;
       sent = stamped_items r before o (settled r chosen o.after);
       sent_upstream = stamped_upstream r before o (settled r chosen o.after);
     }
 
 -- What is known after a step is sound, where the event leaves the state so.
-pub sound_after : (r : Router) (before : State) (o : Outcome) (chosen : List (Key × ℕ)) → AreLabelled r before → Leaves r before o → MayChoose r before o chosen → IsSound r (known_after r before chosen o)
+pub sound_after : (r : Router) (before : State) (o : Outcome) (chosen : List (Key × ℕ)) → IsSound r before → Leaves r before o → MayChoose r before o chosen → IsSound r (known_after r before chosen o)
 sound_after r before o chosen were = by o.is_silent
   where
     by : (silent : Bool) → LeavesBy r before silent o.after → MayChooseBy silent r before.labels o.after.facts.paths chosen

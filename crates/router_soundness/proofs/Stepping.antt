@@ -23,7 +23,7 @@ use Rattle.lsr_facts.specs.declared.refusal.Refusal.{Refusal}
 use Rattle.lsr_facts.specs.declared.refusal.Refusal.TheVariants.{InUse, LinkDown, NoMatch, UnknownLink}
 use Rattle.lsr_facts.specs.declared.reply.Reply.TheVariants as replies
 use Rattle.lsr_facts.specs.declared.router.Router.{Router}
-use Rattle.lsr_facts.specs.Reservations.{expire, expire_repairs, style_of}
+use Rattle.lsr_facts.specs.Reservations.{expire_repairs, expire_resvs, style_of}
 use Rattle.lsr_facts.specs.declared.resv_fact.ResvStyle.{ResvStyle}
 use Rattle.abstract_paths.specs.declared.commands.Command.{Command}
 use Rattle.abstract_paths.specs.declared.ways.ArrivalWay.{ArrivalWay}
@@ -50,7 +50,7 @@ use Rattle.router_soundness.proofs.OtherWays.{returned_err_by, returned_resv_by,
 use Rattle.router_soundness.proofs.Settling.{Leaves, LeavesBy}
 use Rattle.abstract_router.specs.Soundness.{IsSound}
 use Rattle.abstract_router.specs.Arrivals.{arrival, arrival_by, command_comes, commanded_by, for_reservations, is_done, labelled_path_arrival, message_arrival, moment_comes, outcome, reading_arrival, routed_arrival, stack_arrival, takes_used_bypass}
-use Rattle.abstract_router.specs.Errors.{unknown_style}
+use Rattle.lsr_facts.specs.Errors.{unknown_style}
 use Rattle.abstract_router.specs.Labels.{has_free_label}
 use Rattle.abstract_router.specs.Outcomes.{Outcome, of_paths, refused}
 use Rattle.abstract_router.specs.Reserving.{Progress, all_descriptors, resv_arrival, resv_failed, resv_replied, unknown_resv}
@@ -185,7 +185,7 @@ module _ (r : Router) (s : State) where
       ] refl
     where
       comes : Outcome
-      comes = record o { after = record o.after { resvs = expire n s.resvs; repairs = expire_repairs n s.repairs }; upstream_due = due_items r.refresh_ms s.sent_upstream n }
+      comes = record o { after = record o.after { resvs = expire_resvs n s.resvs; repairs = expire_repairs n s.repairs }; upstream_due = due_items r.refresh_ms s.sent_upstream n }
 
   tick-refuses : (n : ℕ) → RefusesSilently s (moment_comes r s n)
   unfolding moment_comes

@@ -9,7 +9,7 @@ use Rattle.lsr_facts.specs.declared.reply.Reply.{Reply}
 use Rattle.lsr_facts.specs.declared.router.Router.{Router}
 use Rattle.abstract_paths.specs.Paths.{failed, key_of, path_arrival}
 use Rattle.abstract_router.specs.Arrivals.{is_done, labelled_path_arrival}
-use Rattle.abstract_router.specs.Errors.{no_label}
+use Rattle.lsr_facts.specs.Errors.{no_label}
 use Rattle.abstract_router.specs.Labels.{has_free_label}
 use Rattle.abstract_router.specs.Outcomes.{Outcome, of_paths}
 use Rattle.abstract_router.specs.States.{State}

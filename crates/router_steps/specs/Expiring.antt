@@ -25,6 +25,6 @@ expiry_at moment paths key = option_map (λ left. (key, left)) (left_at moment p
 abbrev pub expired : ℕ → State → State
 expired moment s = record s {
   facts = record s.facts { moment = moment; paths = expire moment s.facts.paths };
-  resvs = resvs.expire moment s.resvs;
+  resvs = resvs.expire_resvs moment s.resvs;
   repairs = resvs.expire_repairs moment s.repairs;
 }

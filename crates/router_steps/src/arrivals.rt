@@ -7,10 +7,10 @@ ghost use Rattle.abstract_router.specs.Soundness.{IsSound};
 ghost use Rattle.abstract_paths.specs.declared.events.Event.TheVariants as events;
 ghost use Rattle.state_views.specs.Drafts.{IsDraft};
 
-use crate::errors::resv_err_arrival;
+use crate::labelled_path::labelled_path_arrival;
 use crate::links::link_change;
-use crate::paths::labelled_path_arrival;
-use crate::tears::resv_tear_arrival;
+use crate::resv_err::resv_err_arrival;
+use crate::resv_tear::resv_tear_arrival;
 use crate::ticks::tick;
 use crate::ways::{routed_arrival, stack_arrival, unknown_routed_arrival, unknown_stack_arrival};
 use abstract_paths::{ArrivalWay, Arrive, Event, Outputs};

@@ -3,10 +3,10 @@
 #![tactic(auto)]
 
 mod arrivals;
-mod errors;
+mod labelled_path;
 mod links;
-mod paths;
-mod tears;
+mod resv_err;
+mod resv_tear;
 mod ticks;
 mod ways;
 

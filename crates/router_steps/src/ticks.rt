@@ -84,7 +84,7 @@ fn resv_expiries<V: WholeState>(
 ) -> Result<Table<Key, Option<ResvFact>>, AllocError>
     requires { T (is_sorted key_cmp (V.state view.now).resvs) }
     ensures { IfOk result (λ edits. rows.edited key_cmp edits (V.state view.now).resvs
-        ≡ resvs.expire moment (V.state view.now).resvs) }
+        ≡ resvs.expire_resvs moment (V.state view.now).resvs) }
 {
     let keys = view.expiring_resvs(alloc, moment)?;
     without_rows(Table::new(alloc), keys.as_slice())

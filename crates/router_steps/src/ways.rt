@@ -7,7 +7,7 @@ ghost use Rattle.abstract_router.specs.Arrivals.{routed_arrival, stack_arrival, 
 ghost use Rattle.abstract_router.specs.Soundness.{IsSound};
 ghost use Rattle.state_views.specs.Drafts.{IsDraft};
 
-use crate::errors::stack_err_arrival;
+use crate::resv_err::stack_err_arrival;
 use lsr_facts::Refusal;
 use path_steps::{stack_path_arrival, stack_tear_arrival, unknown_stack_path_arrival};
 use repair_arrivals::{returned_err, returned_resv, returned_tear, returned_unknown};
@@ -40,7 +40,7 @@ pub(crate) fn stack_arrival<V: WholeState>(
     }
 }
 
-/// And with an object that its type doesn't know.
+/// What a message does that came through a stack, and has an object that its type doesn't know (RFC 2205, 3.10).
 pub(crate) fn unknown_stack_arrival<V: WholeState>(
     alloc: Global,
     view: &V,
@@ -85,7 +85,7 @@ pub(crate) fn routed_arrival<V: WholeState>(
     }
 }
 
-/// And with an object that its type doesn't know.
+/// What a message does that came in a Routed frame, and has an object that its type doesn't know (RFC 2205, 3.10).
 pub(crate) fn unknown_routed_arrival<V: WholeState>(
     alloc: Global,
     view: &V,

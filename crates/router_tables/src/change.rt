@@ -23,11 +23,11 @@ pub struct Change {
     pub bandwidth: BandwidthEdits,
     /// When Paths were sent last that are kept alive at a neighbour, in milliseconds.
     pub moments: Table<Item, Option<u64>>,
-    /// And Resvs.
+    /// When Resvs were sent last that are kept alive at a neighbour, in milliseconds.
     pub upstream: Table<Upstream, Option<u64>>,
     /// What is done with labels from now on.
     pub table: Table<u32, Option<Action>>,
-    /// And with the traffic of tunnels.
+    /// What is done with the traffic of tunnels from now on.
     pub tunnel_table: Table<u16, Option<Action>>,
 }
 

@@ -1,7 +1,7 @@
 //! The repairs of LSPs that run over bypasses, in memory that is taken when the router is opened.
 
 ghost use Rattle.std.specs.Prelude.{◌≡◌, IfOk, filter, not};
-ghost use Rattle.lsr_facts.specs.Reservations.{lives_past};
+ghost use Rattle.lsr_facts.specs.Reservations.{resv_lives_past};
 ghost use Rattle.sorted_rows.specs.Rows.{keys_of};
 
 use lsr_facts::limits::MAX_LSPS;
@@ -20,9 +20,9 @@ struct ExpiresAt {
 
 impl RowTest<Key, Repair> for ExpiresAt {
     ghost use Rattle.std.specs.Prelude.{not};
-    ghost use Rattle.lsr_facts.specs.Reservations.{lives_past};
+    ghost use Rattle.lsr_facts.specs.Reservations.{resv_lives_past};
 
-    ghost passes = { λ test repair. not (lives_past test.moment repair.1.resv) };
+    ghost passes = { λ test repair. not (resv_lives_past test.moment repair.1.resv) };
 
     fn passes(&self, repair: &(Key, Repair)) -> bool {
         !repair.1.resv.lives_past(self.moment)
@@ -36,7 +36,7 @@ pub(crate) fn expiring(
     moment: u64,
 ) -> Result<Vec<Key>, AllocError>
     ensures { IfOk result (λ keys. keys.items
-        ≡ keys_of (filter (λ repair. not (lives_past moment repair.1.resv)) repairs.now)) }
+        ≡ keys_of (filter (λ repair. not (resv_lives_past moment repair.1.resv)) repairs.now)) }
 {
     repairs.keys_where(alloc, &ExpiresAt { moment })
 }

@@ -4,7 +4,7 @@ use Rattle.std.proofs.lemmas.Bool.{and_parts, and_from, leb-true, le-leb}
 use Rattle.rsvp_contents.specs.declared.messages.Content.{Content}
 use Rattle.rsvp_contents.specs.declared.messages.Content.TheVariants as contents
 use Rattle.rsvp_contents.specs.declared.message.Reading.TheVariants as readings
-use Rattle.rsvp_contents.specs.Fitting.{fits_parts, written_len, fits}
+use Rattle.rsvp_contents.specs.Fitting.{fits_parts, written_len, fits_content}
 use Rattle.rsvp_contents.specs.Spelling.{IsMessage}
 use Rattle.rsvp_contents.specs.Written.{objects_of, type_of}
 use Rattle.rsvp_contents.proofs.Again.{SaysAgain, read_again}
@@ -23,14 +23,14 @@ fits_again (contents.PathTear t) h = path_tear_again t
 fits_again (contents.ResvTear t) h = resv_tear_again t h
 
 -- a message fits
-pub message_fits : (content : Content) → IsMessage content → IsTrue (fits content)
+pub message_fits : (content : Content) → IsMessage content → IsTrue (fits_content content)
 message_fits content is =
     and_from (fits_parts content) (nat_le (written_len content) 4096)
     (read_is_said (type_of content) (objects_of content) (readings.Whole content) is.again).fits
     (le-leb (written_len content) 4096 is.size)
 
 -- and what fits is one
-pub fits_message : (content : Content) → IsTrue (fits content) → IsMessage content
+pub fits_message : (content : Content) → IsTrue (fits_content content) → IsMessage content
 fits_message content h =
     let parts = and_parts (fits_parts content) (nat_le (written_len content) 4096) h in
     record {

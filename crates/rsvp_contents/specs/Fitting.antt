@@ -67,8 +67,8 @@ abbrev pub written_len : Content → ℕ
 written_len content = 8 + length (body_of content)
 
 -- The content fits a message: its parts do, and it is written in at most 4,096 bytes.
-abbrev pub fits : Content → Bool
-fits content = fits_parts content && nat_le (written_len content) 4096
+abbrev pub fits_content : Content → Bool
+fits_content content = fits_parts content && nat_le (written_len content) 4096
 
 -- The Tspec is so short that whatever else the content says, parts that fit leave room for it. A good one
 -- has 32 bytes. Of a message with flow descriptors these are so short.

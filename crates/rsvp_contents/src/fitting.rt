@@ -2,7 +2,7 @@
 
 ghost use Rattle.std.specs.Prelude.{◌≡◌, IsTrue, true};
 ghost use Rattle.std.specs.Option.{option_map_or};
-ghost use Rattle.rsvp_contents.specs.Fitting.{HasRoom, are_passed_by, fits, fits_parts, fits_path, fits_resv, has_adspec_last, has_one_fast_reroute, have_short_records};
+ghost use Rattle.rsvp_contents.specs.Fitting.{HasRoom, are_passed_by, fits_content, fits_parts, fits_path, fits_resv, has_adspec_last, has_one_fast_reroute, have_short_records};
 ghost use Rattle.rsvp_contents.specs.Limits.{is_short_route, is_short_record};
 
 use crate::lengths::*;
@@ -101,7 +101,7 @@ fn fits_resv(resv: &Resv) -> bool
 
 /// Whether the content fits a message.
 pub(crate) fn fits(content: &Content) -> bool
-    ensures fits { result ≡ fits content.now }
+    ensures fits { result ≡ fits_content content.now }
     ensures room { IsTrue (fits_parts content.now) → HasRoom content.now → result ≡ true }
 {
     match content {

@@ -9,7 +9,7 @@ ghost use Rattle.rsvp_contents.specs.declared.messages.Content.{Content};
 ghost use Rattle.rsvp_contents.specs.declared.message.Reading.{Reading};
 ghost use Rattle.rsvp_contents.specs.declared.message.Reading.TheVariants.{Unknown, Whole};
 ghost use Rattle.rsvp_contents.specs.Addresses.{are_addressed};
-ghost use Rattle.rsvp_contents.specs.Fitting.{fits};
+ghost use Rattle.rsvp_contents.specs.Fitting.{fits_content};
 ghost use Rattle.rsvp_contents.specs.Picking.{content_in};
 ghost use Rattle.rsvp_contents.specs.Written.{objects_of, message_bytes, type_of};
 ghost use Rattle.rsvp_contents.specs.Spelling.{IsFirstFault, IsMessage, SpellsReading};
@@ -47,5 +47,5 @@ pub fn what_is_written_spells()
 /// and what is passed on are within their limits; and that is what a reader passes on, an ADSPEC last and
 /// at most one object of class FAST_REROUTE with the Path's own.
 pub fn what_fits_is_a_message()
-    ensures { (content : Content) → IsMessage content ↔ IsTrue (fits content) }
+    ensures { (content : Content) → IsMessage content ↔ IsTrue (fits_content content) }
 {}

@@ -6,8 +6,8 @@ use Rattle.rsvp_contents.specs.declared.dropped.Dropped.TheVariants as dropped
 use Rattle.rsvp_contents.specs.declared.message.Reading.{Reading}
 use Rattle.rsvp_contents.specs.Spelling.{SpellsReading, IsFirstFault, ReadsMessage}
 use Rattle.rsvp_contents.specs.Answers.{Tells, IsTold}
-use Rattle.link_frames.specs.declared.frame.Frame.{Frame}
-use Rattle.link_frames.specs.declared.frame.Frame.TheVariants as frames
+use Rattle.link_frames.specs.declared.frame.ReceivedFrame.{ReceivedFrame}
+use Rattle.link_frames.specs.declared.frame.ReceivedFrame.TheVariants as received_frames
 use Rattle.rsvp_messages.specs.Frames.{IsDropFor}
 use Rattle.link_frames.specs.Frames.{frame_fault, kind_of, SpellsFrame, IsFirstFrameFault, ReadsFrame}
 
@@ -57,30 +57,28 @@ told_none _ x y h = absurd h
 other_kind : {A : Type 0} (n kind other : ℕ) → n ≡ kind → n ≡ other → (kind ≡ other → ⊥) → A
 other_kind n kind other first second apart = absurd (apart (sym first ∙ second))
 
-hop_ok : (bytes : List ℕ) (reading : Reading) → frame_fault bytes ≡ None → kind_of bytes ≡ 1 → ReadsMessage (drop 1 bytes) (Ok reading) → ReadsFrame bytes (Ok (frames.Hop reading))
+hop_ok : (bytes : List ℕ) (reading : Reading) → frame_fault bytes ≡ None → kind_of bytes ≡ 1 → ReadsMessage (drop 1 bytes) (Ok reading) → ReadsFrame bytes (Ok (received_frames.Hop reading))
 hop_ok bytes reading none kind h = record { told = (none, (kind, h.told)); only = only }
   where
-    only : (frame : Frame) → SpellsFrame bytes frame → frames.Hop reading ≡ frame
-    only (frames.Hop other) s = ap (λ (r : Reading). frames.Hop r) (h.only other s.1.1)
-    only (frames.Labelled stack payload) s = other_kind (kind_of bytes) 1 2 kind s.1.0 (λ e. omega (arith, e))
-    only (frames.Routed to limit message) s = absurd s.1
-    only (frames.Relayed to limit message) s = other_kind (kind_of bytes) 1 3 kind s.1.0 (λ e. omega (arith, e))
+    only : (frame : ReceivedFrame) → SpellsFrame bytes frame → received_frames.Hop reading ≡ frame
+    only (received_frames.Hop other) s = ap (λ (r : Reading). received_frames.Hop r) (h.only other s.1.1)
+    only (received_frames.Labelled stack payload) s = other_kind (kind_of bytes) 1 2 kind s.1.0 (λ e. omega (arith, e))
+    only (received_frames.Routed to limit message) s = other_kind (kind_of bytes) 1 3 kind s.1.0 (λ e. omega (arith, e))
 
 hop_err : (bytes : List ℕ) (fault : Dropped) → frame_fault bytes ≡ None → kind_of bytes ≡ 1 → ReadsMessage (drop 1 bytes) (Err fault) → ReadsFrame bytes (Err fault)
 hop_err bytes fault none kind h = record { told = told_fault bytes fault none kind h.told; only = only }
   where
-    only : (frame : Frame) → SpellsFrame bytes frame → Tells (Err fault) frame
-    only (frames.Hop other) s = told_none fault other (frames.Hop other) (h.only other s.1.1)
-    only (frames.Labelled stack payload) s = other_kind (kind_of bytes) 1 2 kind s.1.0 (λ e. omega (arith, e))
-    only (frames.Routed to limit message) s = absurd s.1
-    only (frames.Relayed to limit message) s = other_kind (kind_of bytes) 1 3 kind s.1.0 (λ e. omega (arith, e))
+    only : (frame : ReceivedFrame) → SpellsFrame bytes frame → Tells (Err fault) frame
+    only (received_frames.Hop other) s = told_none fault other (received_frames.Hop other) (h.only other s.1.1)
+    only (received_frames.Labelled stack payload) s = other_kind (kind_of bytes) 1 2 kind s.1.0 (λ e. omega (arith, e))
+    only (received_frames.Routed to limit message) s = other_kind (kind_of bytes) 1 3 kind s.1.0 (λ e. omega (arith, e))
 
 -- the answer of a Hop frame, by that of its message
-hop_made : (bytes : List ℕ) (read : Result Reading Dropped) (made : Result Frame Dropped) → frame_fault bytes ≡ None → kind_of bytes ≡ 1 → MatchResult read (λ r. IsOkAnd made (λ f. f ≡ frames.Hop r)) (λ e. made ≡ Err e) → ReadsMessage (drop 1 bytes) read → ReadsFrame bytes made
-hop_made bytes (Ok reading) (Ok frame) none kind m h = subst (λ (f : Frame). ReadsFrame bytes (Ok f)) (sym m) (hop_ok bytes reading none kind h)
+hop_made : (bytes : List ℕ) (read : Result Reading Dropped) (made : Result ReceivedFrame Dropped) → frame_fault bytes ≡ None → kind_of bytes ≡ 1 → MatchResult read (λ r. IsOkAnd made (λ f. f ≡ received_frames.Hop r)) (λ e. made ≡ Err e) → ReadsMessage (drop 1 bytes) read → ReadsFrame bytes made
+hop_made bytes (Ok reading) (Ok frame) none kind m h = subst (λ (f : ReceivedFrame). ReadsFrame bytes (Ok f)) (sym m) (hop_ok bytes reading none kind h)
 hop_made bytes (Ok reading) (Err e) none kind m h = absurd m
-hop_made bytes (Err fault) made none kind m h = subst (λ (a : Result Frame Dropped). ReadsFrame bytes a) (sym m) (hop_err bytes fault none kind h)
+hop_made bytes (Err fault) made none kind m h = subst (λ (a : Result ReceivedFrame Dropped). ReadsFrame bytes a) (sym m) (hop_err bytes fault none kind h)
 
-pub hop_answered : (bytes message : List ℕ) (read : Result Reading Dropped) (made : Result Frame Dropped) → (length bytes == 0) ≡ false → kind_of bytes ≡ 1 → message ≡ drop 1 bytes → MatchResult read (λ r. IsOkAnd made (λ f. f ≡ frames.Hop r)) (λ e. made ≡ Err e) → ReadsMessage message read → ReadsFrame bytes made
+pub hop_answered : (bytes message : List ℕ) (read : Result Reading Dropped) (made : Result ReceivedFrame Dropped) → (length bytes == 0) ≡ false → kind_of bytes ≡ 1 → message ≡ drop 1 bytes → MatchResult read (λ r. IsOkAnd made (λ f. f ≡ received_frames.Hop r)) (λ e. made ≡ Err e) → ReadsMessage message read → ReadsFrame bytes made
 hop_answered bytes message read made some kind after m h =
     hop_made bytes read made (no_fault bytes some kind) kind m (subst (λ (b : List ℕ). ReadsMessage b read) after h)

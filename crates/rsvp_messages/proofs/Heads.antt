@@ -5,8 +5,8 @@ use Rattle.rsvp_contents.specs.declared.dropped.Dropped.{Dropped}
 use Rattle.rsvp_contents.specs.declared.dropped.Dropped.TheVariants as dropped
 use Rattle.rsvp_contents.specs.declared.message.Reading.{Reading}
 use Rattle.rsvp_contents.specs.Spelling.{header_fault}
-use Rattle.link_frames.specs.declared.frame.Frame.{Frame}
-use Rattle.link_frames.specs.declared.frame.Frame.TheVariants as frames
+use Rattle.link_frames.specs.declared.frame.ReceivedFrame.{ReceivedFrame}
+use Rattle.link_frames.specs.declared.frame.ReceivedFrame.TheVariants as received_frames
 use Rattle.link_frames.specs.Frames.{head_fault, kind_of}
 use Rattle.rsvp_messages.proofs.Answered.{no_fault}
 
@@ -35,14 +35,14 @@ no_header None read other told out = refl
 no_header (Some f) read other told out = absurd (let same : f ≡ dropped.NoMemory = cc in other (ap Some same))
 
 -- for the frame of a message memory ran out where it did for the message
-out_of_read : (read : Result Reading Dropped) (made : Result Frame Dropped) → MatchResult read (λ r. IsOkAnd made (λ f. f ≡ frames.Hop r)) (λ e. made ≡ Err e) → made ≡ Err dropped.NoMemory → read ≡ Err dropped.NoMemory
+out_of_read : (read : Result Reading Dropped) (made : Result ReceivedFrame Dropped) → MatchResult read (λ r. IsOkAnd made (λ f. f ≡ received_frames.Hop r)) (λ e. made ≡ Err e) → made ≡ Err dropped.NoMemory → read ≡ Err dropped.NoMemory
 out_of_read (Ok reading) (Ok frame) m out = absurd cc
 out_of_read (Ok reading) (Err e) m out = absurd m
 out_of_read (Err fault) made m out = let same : fault ≡ dropped.NoMemory = cc in ap Err same
 
 -- the head of a Hop frame
-pub hop_head : (bytes message : List ℕ) (read : Result Reading Dropped) (made : Result Frame Dropped) → (length bytes == 0) ≡ false → kind_of bytes ≡ 1 → message ≡ drop 1 bytes →
-    MatchResult read (λ r. IsOkAnd made (λ f. f ≡ frames.Hop r)) (λ e. made ≡ Err e) → IfSome (header_fault message) (λ f. read ≡ Err f) → made ≡ Err dropped.NoMemory → head_fault bytes ≡ None
+pub hop_head : (bytes message : List ℕ) (read : Result Reading Dropped) (made : Result ReceivedFrame Dropped) → (length bytes == 0) ≡ false → kind_of bytes ≡ 1 → message ≡ drop 1 bytes →
+    MatchResult read (λ r. IsOkAnd made (λ f. f ≡ received_frames.Hop r)) (λ e. made ≡ Err e) → IfSome (header_fault message) (λ f. read ≡ Err f) → made ≡ Err dropped.NoMemory → head_fault bytes ≡ None
 hop_head bytes message read made some kind after m told out =
     let none : header_fault (drop 1 bytes) ≡ None = ap header_fault (sym after) ∙ no_header (header_fault message) read (header_memory message) told (out_of_read read made m out) in
     rw (no_fault bytes some kind, eq-eqb _ _ kind) none

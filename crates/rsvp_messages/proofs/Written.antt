@@ -17,7 +17,10 @@ use Rattle.label_stacks.specs.declared.entry.StackEntry.{StackEntry}
 use Rattle.label_stacks.specs.Stacks.{stack_bytes, IsReadAgain}
 use Rattle.link_frames.specs.declared.payload.Payload.{Payload}
 use Rattle.link_frames.specs.declared.payload.Payload.TheVariants as payloads
+use Rattle.link_frames.specs.declared.payload.ReceivedPayload.{ReceivedPayload}
+use Rattle.link_frames.specs.declared.payload.ReceivedPayload.TheVariants as received_payloads
 use Rattle.link_frames.specs.declared.frame.Frame.TheVariants as frames
+use Rattle.link_frames.specs.declared.frame.ReceivedFrame.TheVariants as received_frames
 use Rattle.rsvp_messages.specs.Frames.{IsPayloadAgain}
 use Rattle.link_frames.specs.Frames.{frame_bytes, frame_fault, labelled_fault, payload_bytes, payload_of, unread, SpellsFrame}
 
@@ -37,7 +40,7 @@ first_passes : (test : Bool) (others : Option Dropped) → test ≡ false → (i
 first_passes test others p = rw p refl
 
 -- a Hop frame
-pub hop_again : (message : Content) → SpellsReading (message_bytes message) (readings.Whole message) → SpellsFrame (frame_bytes (frames.Hop (readings.Whole message))) (frames.Hop (readings.Whole message))
+pub hop_again : (message : Content) → SpellsReading (message_bytes message) (readings.Whole message) → SpellsFrame (frame_bytes (frames.Hop message)) (received_frames.Hop (readings.Whole message))
 unfolding frame_fault
 hop_again message h = (first_passes _ None (some_byte 1 (message_bytes message)), (refl, h))
 
@@ -63,12 +66,12 @@ labelled_passes stack kind content few again known short =
     (ap (λ (p : List ℕ). nat_lt 1 (slice_index p 0)) (part stack (kind ∷ content) again) ∙ le-ltb _ _ known)
     (le-ltb _ _ (omega (arith, size)))
 
-two_parts : {stack stack' : List StackEntry} {payload payload' : Payload} → stack ≡ stack' → payload ≡ payload' → frames.Labelled stack payload ≡ frames.Labelled stack' payload'
+two_parts : {stack stack' : List StackEntry} {payload payload' : ReceivedPayload} → stack ≡ stack' → payload ≡ payload' → received_frames.Labelled stack payload ≡ received_frames.Labelled stack' payload'
 two_parts p q = cc
 
 -- a Labelled frame
 labelled_says : (stack : List StackEntry) (kind : ℕ) (content : List ℕ) → length stack ≤ 8 → IsReadAgain stack → kind ≤ 1 → length content ≤ 4096 →
-    SpellsFrame (2 ∷ length stack ∷ (stack_bytes stack ++ (kind ∷ content))) (frames.Labelled stack (payload_of kind content))
+    SpellsFrame (2 ∷ length stack ∷ (stack_bytes stack ++ (kind ∷ content))) (received_frames.Labelled stack (payload_of kind content))
 unfolding frame_fault
 labelled_says stack kind content few again known short =
     let same = part stack (kind ∷ content) again in (
@@ -78,13 +81,13 @@ labelled_says stack kind content few again known short =
 
 pub labelled_again : (stack : List StackEntry) (payload : Payload) → length stack ≤ 8 → IsReadAgain stack → length (payload_bytes payload) ≤ 4097 →
     SpellsFrame (frame_bytes (frames.Labelled stack payload)) (unread (frames.Labelled stack payload))
-labelled_again stack (payloads.Bytes content) few again short = labelled_says stack 0 content few again (omega arith) (omega (arith, short))
-labelled_again stack (payloads.Unread content) few again short = labelled_says stack 1 content few again (omega arith) (omega (arith, short))
+labelled_again stack (payloads.Received (received_payloads.Bytes content)) few again short = labelled_says stack 0 content few again (omega arith) (omega (arith, short))
+labelled_again stack (payloads.Received (received_payloads.Message content)) few again short = labelled_says stack 1 content few again (omega arith) (omega (arith, short))
 labelled_again stack (payloads.Message message) few again short = labelled_says stack 1 (message_bytes message) few again (omega arith) (omega (arith, short))
 
 -- a Routed frame whose message is unread
 relayed_octets : (octets : List ℕ) (limit : ℕ) (message : List ℕ) → length octets ≡ 4 →
-    let to : Ipv4Addr = record { octets = octets } in SpellsFrame (frame_bytes (frames.Relayed to limit message)) (frames.Relayed to limit message)
+    let to : Ipv4Addr = record { octets = octets } in SpellsFrame (frame_bytes (frames.Relayed to limit message)) (received_frames.Routed to limit message)
 unfolding frame_fault
 relayed_octets [] limit message four = absurd (omega arith)
 relayed_octets (a ∷ []) limit message four = absurd (omega arith)
@@ -95,7 +98,7 @@ relayed_octets (a ∷ b ∷ c ∷ d ∷ []) limit message four =
     (first_passes _ _ (some_byte 3 (a ∷ b ∷ c ∷ d ∷ limit ∷ message)) ∙ first_passes _ None long, (refl, refl))
 relayed_octets (a ∷ b ∷ c ∷ d ∷ e ∷ more) limit message four = absurd (omega arith)
 
-pub relayed_again : (to : Ipv4Addr) (limit : ℕ) (message : List ℕ) → length (ipv4_octets to) ≡ 4 → SpellsFrame (frame_bytes (frames.Relayed to limit message)) (frames.Relayed to limit message)
+pub relayed_again : (to : Ipv4Addr) (limit : ℕ) (message : List ℕ) → length (ipv4_octets to) ≡ 4 → SpellsFrame (frame_bytes (frames.Relayed to limit message)) (received_frames.Routed to limit message)
 relayed_again to limit message four = relayed_octets (ipv4_octets to) limit message four
 
 -- what holds in any case holds where something is written

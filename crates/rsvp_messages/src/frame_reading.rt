@@ -6,8 +6,8 @@ ghost use Rattle.rsvp_messages.specs.Frames.{IsDropFor};
 use crate::read_message;
 use label_stacks::{ENTRY_LEN, has_one_bottom, stack_of};
 use link_frames::{
-    Data, Frame, KIND_HOP, KIND_LABELLED, KIND_ROUTED, MAX_DATA_LEN, PAYLOAD_BYTES,
-    PAYLOAD_MESSAGE, Payload, Stack, Unread,
+    Data, KIND_HOP, KIND_LABELLED, KIND_ROUTED, MAX_DATA_LEN, PAYLOAD_BYTES, PAYLOAD_MESSAGE,
+    ReceivedFrame, ReceivedPayload, Stack, Unread,
 };
 use rsvp_bodies::address_of;
 use rsvp_contents::Dropped;
@@ -52,19 +52,19 @@ fn labelled_fault(bytes: &[u8]) -> Option<Dropped>
 }
 
 /// The payload of this kind.
-fn payload_of(kind: u8, content: Data) -> Payload
+fn payload_of(kind: u8, content: Data) -> ReceivedPayload
     ensures { result ≡ payload_of kind content }
 {
     if kind == PAYLOAD_BYTES {
-        Payload::Bytes(content)
+        ReceivedPayload::Bytes(content)
     } else {
-        Payload::Unread(content)
+        ReceivedPayload::Message(content)
     }
 }
 
 /// The Labelled frame that the bytes spell, or its first fault.
 #[tactic(auto, using(crate::proofs::Answered::drop_for), unfolding(link_frames::specs::Frames::frame_fault))]
-fn read_labelled(alloc: Global, bytes: &[u8]) -> Result<Frame, Dropped>
+fn read_labelled(alloc: Global, bytes: &[u8]) -> Result<ReceivedFrame, Dropped>
     requires some { 1 ≤ length bytes.now }
     requires kind { kind_of bytes.now ≡ 2 }
     ensures fault { IfErr result (IsDropFor bytes.now) }
@@ -79,14 +79,14 @@ fn read_labelled(alloc: Global, bytes: &[u8]) -> Result<Frame, Dropped>
     let (_, payload) = body.split_at(ENTRY_LEN * count);
     let (kind, data) = payload.split_at(1);
     match Data::copy_of(alloc, data) {
-        Ok(data) => Ok(Frame::Labelled(stack, payload_of(kind[0], data))),
+        Ok(data) => Ok(ReceivedFrame::Labelled(stack, payload_of(kind[0], data))),
         Err(_no_memory) => Err(Dropped::NoMemory),
     }
 }
 
 /// The Routed frame that the bytes spell, or its first fault.
 #[tactic(auto, unfolding(link_frames::specs::Frames::frame_fault))]
-fn read_routed(alloc: Global, bytes: &[u8]) -> Result<Frame, Dropped>
+fn read_routed(alloc: Global, bytes: &[u8]) -> Result<ReceivedFrame, Dropped>
     requires some { 1 ≤ length bytes.now }
     requires kind { kind_of bytes.now ≡ 3 }
     ensures fault { IfErr result (IsDropFor bytes.now) }
@@ -97,7 +97,7 @@ fn read_routed(alloc: Global, bytes: &[u8]) -> Result<Frame, Dropped>
     }
     let (head, message) = bytes.split_at(ROUTED_HEAD_LEN);
     match Unread::copy_of(alloc, message) {
-        Ok(message) => Ok(Frame::Relayed {
+        Ok(message) => Ok(ReceivedFrame::Routed {
             to: address_of(&head[1..]),
             limit: head[5],
             message,
@@ -112,7 +112,7 @@ fn read_routed(alloc: Global, bytes: &[u8]) -> Result<Frame, Dropped>
 /// payload's isn't known, and in a Hop frame the message's. The messages of other frames aren't read.
 /// [`Dropped::NoMemory`] can come in place of any answer but a fault of the frame's head, which in a Hop frame goes on
 /// with its message's common header.
-pub fn read_frame(alloc: Global, bytes: &[u8]) -> Result<Frame, Dropped>
+pub fn read_frame(alloc: Global, bytes: &[u8]) -> Result<ReceivedFrame, Dropped>
     ensures reads { ReadsFrame bytes.now result }
 
     // A fault of the head takes no memory to tell.
@@ -122,7 +122,7 @@ pub fn read_frame(alloc: Global, bytes: &[u8]) -> Result<Frame, Dropped>
         return Err(Dropped::Short);
     }
     match bytes[0] {
-        KIND_HOP => read_message(alloc, bytes.split_at(1).1).map(Frame::Hop),
+        KIND_HOP => read_message(alloc, bytes.split_at(1).1).map(ReceivedFrame::Hop),
         KIND_LABELLED => read_labelled(alloc, bytes),
         KIND_ROUTED => read_routed(alloc, bytes),
         _ => Err(Dropped::KindUnsupported),

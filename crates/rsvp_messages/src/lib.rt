@@ -8,7 +8,8 @@
 //! the `specs` of this crate pass on the words that its contracts are made of.
 //!
 //! [`read_frame`] and [`write_frame`] do so with the frames of datagrams. A message in a Hop frame is read with its frame;
-//! others may pass on a message in another, so that one is read where it is to go.
+//! others may pass on a message in another, so that one is read where it is to go. So what comes is a
+//! [`ReceivedFrame`], and what goes out a [`Frame`]; [`frame_bytes`] are the bytes of one.
 //!
 //! A router that passes a PathTear on, as a neighbour that `hop` names:
 //!
@@ -44,9 +45,11 @@ mod parts_reading;
 mod parts_writing;
 
 pub use frame_reading::read_frame;
-pub use frame_writing::write_frame;
+pub use frame_writing::{frame_bytes, write_frame};
 pub use internet_checksum::{checksum, has_good_checksum};
-pub use link_frames::{Frame, KIND_HOP, KIND_LABELLED, KIND_ROUTED, Payload};
+pub use link_frames::{
+    Frame, KIND_HOP, KIND_LABELLED, KIND_ROUTED, Payload, ReceivedFrame, ReceivedPayload,
+};
 pub use message_reading::read_message;
 pub use message_writing::write_message;
 pub use rsvp_contents::{

@@ -2,21 +2,21 @@
 //! stretches of it, and the router with its journal as it stands under a lock.
 #![tactic(auto)]
 
+mod counts;
 mod entry;
 mod locked;
 mod mark;
 mod receipt;
 mod segment;
-mod tally;
 mod writing;
 
+pub use counts::JournalCounts;
 pub use entry::{AnyRule, Bytes, ChosenLabels, Entry, Frames, Listed, WrittenFrame};
 pub use locked::Locked;
 pub use mark::Mark;
 pub use receipt::Receipt;
 pub use router_core::{Datagram, Passed};
 pub use segment::Segment;
-pub use tally::Tally;
 pub use writing::{written_event, written_frames};
 
 /// The most ports of a router.

@@ -8,11 +8,11 @@ ghost use Rattle.lookup_plane.specs.declared.change.TableChange.{TableChange};
 ghost use Rattle.run_journal.specs.Journals.{IsAnnounced, IsAnswered, IsChangeFor, IsEntered, IsEntryFor, IsKept, IsOpening, LeadToTable, early_refusal, opened_journal, rotated, router_in, stretch_of};
 ghost use Rattle.run_journal.specs.Marks.{Follows, first_counts};
 
+use crate::counts::JournalCounts;
 use crate::entry::{Entry, Listed};
 use crate::mark::Mark;
 use crate::receipt::Receipt;
 use crate::segment::Segment;
-use crate::tally::Tally;
 use crate::writing::{written_event, written_frames};
 use crate::{MAX_ENTRIES, MAX_NUMBER};
 use abstract_paths::Event;
@@ -32,9 +32,9 @@ use std::sync::Wait;
 pub struct Locked<R: Wait + Drop> {
     machine: Machine,
     base: State,
-    from: Tally,
+    from: JournalCounts,
     entries: Vec<Entry>,
-    tally: Tally,
+    counts: JournalCounts,
     plane: Plane<R>,
 }
 
@@ -46,7 +46,7 @@ impl<R: Wait + Drop> Drop for Locked<R> {
             base: _base,
             from: _from,
             entries: _entries,
-            tally: _tally,
+            counts: _counts,
             plane: _plane,
         } = self;
     }
@@ -64,7 +64,7 @@ impl<R: Wait + Drop> Model for Locked<R> {
       from = l.from;
       entries = l.entries.items;
       state = l.machine.state;
-      counts = l.tally;
+      counts = l.counts;
       shown = l.plane.published;
     } };
 
@@ -74,7 +74,7 @@ impl<R: Wait + Drop> Model for Locked<R> {
       from = l.from;
       entries = l.entries.items;
       state = l.machine.state;
-      counts = l.tally;
+      counts = l.counts;
       shown = l.plane.published;
     }) × (4096 ≤ vec_capacity l.entries) × IsPlaneOf l.machine.router l.plane };
 }
@@ -189,15 +189,15 @@ impl<R: Wait + Drop> Locked<R> {
     {
         machine.soundness();
         let entries = Vec::with_capacity(alloc, MAX_ENTRIES)?;
-        let tally = Tally::new(alloc, ports)?;
-        let from = tally.try_copy(alloc)?;
+        let counts = JournalCounts::new(alloc, ports)?;
+        let from = counts.try_copy(alloc)?;
         let base = machine.export(alloc)?;
         Ok(Locked {
             machine,
             base,
             from,
             entries,
-            tally,
+            counts,
             plane,
         })
     }
@@ -208,13 +208,13 @@ impl<R: Wait + Drop> Locked<R> {
     fn early_refusal(&self, mark: Mark, event: &Event) -> Option<Refusal>
         ensures { result ≡ early_refusal self.now mark event.now }
     {
-        if !self.tally.is_known(mark) {
+        if !self.counts.is_known(mark) {
             return Some(Refusal::WrongPort);
         }
         if self.machine.is_cold() && !matches!(event, Event::Start) {
             return Some(Refusal::IsCold);
         }
-        if self.entries.len() >= MAX_ENTRIES || self.tally.number() >= MAX_NUMBER {
+        if self.entries.len() >= MAX_ENTRIES || self.counts.number() >= MAX_NUMBER {
             return Some(Refusal::JournalFull);
         }
         None
@@ -243,7 +243,7 @@ impl<R: Wait + Drop> Locked<R> {
         self.machine.make(alloc, ready);
         self.machine.soundness();
         show(&mut self.plane, &self.machine, entry.changes_table);
-        self.tally.count(&entry);
+        self.counts.count(&entry);
         self.entries.push_reserved(entry);
         Ok(())
     }
@@ -264,7 +264,7 @@ impl<R: Wait + Drop> Locked<R> {
         }
         let ready = self.machine.ready(alloc, event)?;
         let entry = entry_of(alloc, mark.port, event, &ready)?;
-        let receipt = self.tally.receipt(alloc, &entry)?;
+        let receipt = self.counts.receipt(alloc, &entry)?;
         self.record(alloc, event, ready, entry)?;
         Ok(receipt)
     }
@@ -278,7 +278,7 @@ impl<R: Wait + Drop> Locked<R> {
     {
         self.soundness();
         let entries = Vec::with_capacity(alloc, MAX_ENTRIES)?;
-        let from = self.tally.try_copy(alloc)?;
+        let from = self.counts.try_copy(alloc)?;
         let router = self.machine.router().try_copy(alloc)?;
         let end = self.machine.export(alloc)?;
         let base = end.try_copy(alloc)?;

@@ -6,8 +6,8 @@ ghost use Rattle.abstract_router.specs.Steps.{Run};
 ghost use Rattle.run_journal.specs.Entries.{AreEntriesOf};
 ghost use Rattle.run_journal.specs.Journals.{IsSegment};
 
+use crate::counts::JournalCounts;
 use crate::entry::Entry;
-use crate::tally::Tally;
 use lsr_facts::{Router, State};
 use std::marker::Model;
 
@@ -17,7 +17,7 @@ use std::marker::Model;
 pub struct Segment {
     pub(crate) router: Router,
     pub(crate) base: State,
-    pub(crate) from: Tally,
+    pub(crate) from: JournalCounts,
     pub(crate) entries: Vec<Entry>,
     pub(crate) end: State,
 }
@@ -61,7 +61,7 @@ impl Segment {
     }
 
     /// The numbers before the first entry.
-    pub fn from(&self) -> &Tally
+    pub fn from(&self) -> &JournalCounts
         ensures { result.now ≡ self.now.from }
     {
         &self.from

@@ -5,11 +5,10 @@ ghost use Rattle.journal_bytes.specs.Events.{event_bytes};
 ghost use Rattle.run_journal.specs.Entries.{written_frame};
 
 use crate::entry::{Bytes, Frames, Listed, WrittenFrame};
-use abstract_paths::{Event, Frame, Output};
+use abstract_paths::{Event, Output};
 use journal_bytes::write_event;
 use rsvp_bodies::Kept;
-use rsvp_contents::Reading;
-use rsvp_messages::write_frame;
+use rsvp_messages::frame_bytes;
 use std::alloc::{AllocError, Global};
 
 /// What happened, as a journal holds it. The only error is out of memory.
@@ -25,15 +24,9 @@ pub fn written_event(alloc: Global, event: &Event) -> Result<Bytes, AllocError>
 fn written_frame(alloc: Global, output: &Output) -> Result<WrittenFrame, AllocError>
     ensures { IfOk result (λ frame. frame ≡ written_frame output.now) }
 {
-    let mut bytes = Vec::new(alloc);
-    match &output.frame {
-        // No step sends a message that was read in part.
-        Frame::Hop(Reading::Unknown(..)) => {}
-        frame => write_frame(frame, &mut bytes)?,
-    }
     Ok(WrittenFrame {
         link: output.link,
-        bytes: Kept::from_vec(bytes),
+        bytes: Kept::from_vec(frame_bytes(alloc, &output.frame)?),
     })
 }
 

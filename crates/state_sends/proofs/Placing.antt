@@ -9,8 +9,8 @@ use Rattle.std.proofs.Common.{refl, sym, ap, ◌∙◌}
 use Rattle.sorted_rows.specs.RowsLaws.{find-append, find-behind, second, ties}
 use Rattle.abstract_paths.specs.declared.events.Output.{Output}
 use Rattle.abstract_paths.specs.Outputs.{between}
-use Rattle.abstract_paths.specs.Touched.{forgotten, moments_between, renewed}
-use Rattle.abstract_paths.specs.TouchedLaws.{is_sorted-forgotten, is_sorted-renewed}
+use Rattle.abstract_paths.specs.Touched.{forgotten, moments_between, renewed_moment}
+use Rattle.abstract_paths.specs.TouchedLaws.{is_sorted-forgotten, is_sorted-renewed_moment}
 use Rattle.state_sends.specs.Placing.{placed}
 
 or_none : {A : Type 0} (o : Option A) → option_or o None ≡ o
@@ -30,10 +30,10 @@ module _ {K X : Type 0} (cmp : K → K → Ordering) (total : IsTotalOrder cmp) 
       ] refl
 
 -- Moments that go, and then those that are renewed, are found as the moments become.
-pub find-become : {I : Type 0} (cmp : I → I → Ordering) → IsTotalOrder cmp → (due : List I) (moment : ℕ) (was is : List (I × Output)) → T (is_sorted cmp was) → T (is_sorted cmp is) → (item : I) → find cmp item (placed cmp (placed cmp [] (between cmp forgotten was is)) (between cmp (renewed cmp due moment) is was)) ≡ find cmp item (moments_between cmp due moment was is)
+pub find-become : {I : Type 0} (cmp : I → I → Ordering) → IsTotalOrder cmp → (due : List I) (moment : ℕ) (was is : List (I × Output)) → T (is_sorted cmp was) → T (is_sorted cmp is) → (item : I) → find cmp item (placed cmp (placed cmp [] (between cmp forgotten was is)) (between cmp (renewed_moment cmp due moment) is was)) ≡ find cmp item (moments_between cmp due moment was is)
 find-become cmp total due moment was is g h item =
     let goes = between cmp forgotten was is in
-    let goes_out = between cmp (renewed cmp due moment) is was in
-    find-placed cmp total item (placed cmp [] goes) goes_out (is_sorted-renewed cmp due moment was is h)
+    let goes_out = between cmp (renewed_moment cmp due moment) is was in
+    find-placed cmp total item (placed cmp [] goes) goes_out (is_sorted-renewed_moment cmp due moment was is h)
     ∙ ap (option_or (find cmp item goes_out)) (find-placed cmp total item [] goes (is_sorted-forgotten cmp was is g) ∙ or_none (find cmp item goes))
     ∙ sym (find-append cmp item goes_out goes)

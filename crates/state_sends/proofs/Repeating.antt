@@ -13,7 +13,7 @@ use Rattle.sorted_rows.specs.RowsLaws.{all_found}
 use Rattle.abstract_paths.specs.Frames.{frame_bytes}
 use Rattle.abstract_paths.specs.declared.events.Output.{Output}
 use Rattle.abstract_paths.specs.Outputs.{between, is_due, is_same_frame, send_for, tear_for}
-use Rattle.abstract_paths.specs.Touched.{forgotten, moments_between, renewed}
+use Rattle.abstract_paths.specs.Touched.{forgotten, moments_between, renewed_moment}
 use Rattle.state_sends.specs.Going.{going}
 use Rattle.state_sends.specs.Placing.{placed}
 use Rattle.state_sends.proofs.Placing.{find-become}
@@ -75,10 +75,10 @@ module _ {I : Type 0} (cmp : I → I → Ordering) (total : IsTotalOrder cmp) (d
       filter_map_agree_within (λ row. option_map (λ r. r.1) (going cmp due row)) (λ row. send_for cmp due (find cmp row.0 is) row) is
       (each (λ o row. option_map (λ r. r.1) (going cmp due row) ≡ send_for cmp due o row) (λ row. sent_by (is_due cmp due row.0) (is_same_frame row.1.frame row.1.frame) row (same row)))
 
-  due_renewed : (moment : ℕ) → filter_map (λ row. option_map (λ r. (r.0, Some moment)) (going cmp due row)) is ≡ between cmp (renewed cmp due moment) is is
+  due_renewed : (moment : ℕ) → filter_map (λ row. option_map (λ r. (r.0, Some moment)) (going cmp due row)) is ≡ between cmp (renewed_moment cmp due moment) is is
   due_renewed moment =
-      filter_map_agree_within (λ row. option_map (λ r. (r.0, Some moment)) (going cmp due row)) (λ row. renewed cmp due moment (find cmp row.0 is) row) is
-      (each (λ o row. option_map (λ r. (r.0, Some moment)) (going cmp due row) ≡ renewed cmp due moment o row) (λ row. renewed_by (is_due cmp due row.0) (is_same_frame row.1.frame row.1.frame) moment row (same row)))
+      filter_map_agree_within (λ row. option_map (λ r. (r.0, Some moment)) (going cmp due row)) (λ row. renewed_moment cmp due moment (find cmp row.0 is) row) is
+      (each (λ o row. option_map (λ r. (r.0, Some moment)) (going cmp due row) ≡ renewed_moment cmp due moment o row) (λ row. renewed_by (is_due cmp due row.0) (is_same_frame row.1.frame row.1.frame) moment row (same row)))
 
   -- So the moments are found as they become.
   pub find-again : (moment : ℕ) (item : I) → find cmp item (placed cmp [] (filter_map (λ row. option_map (λ r. (r.0, Some moment)) (going cmp due row)) is)) ≡ find cmp item (moments_between cmp due moment is is)

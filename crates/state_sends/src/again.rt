@@ -9,7 +9,7 @@ ghost use Rattle.abstract_paths.specs.Touched.{moments_between};
 ghost use Rattle.state_sends.specs.Going.{going};
 ghost use Rattle.state_sends.specs.Placing.{placed};
 
-use crate::between::{Sends, output_of, renewed, with_moment, with_output};
+use crate::between::{Sends, output_of, renewed_moment, with_moment, with_output};
 use crate::rests::is_due_near;
 use crate::rows::place_after;
 use abstract_paths::{Output, Outputs};
@@ -51,7 +51,7 @@ fn all_going<I: Ord + Copy + Drop>(
     while let Some(row) = left.pop() {
         let sent = going(due, place, row);
         place = place_after(place, sent.as_ref());
-        moments = with_moment(moments, renewed(moment, &sent))?;
+        moments = with_moment(moments, renewed_moment(moment, &sent))?;
         sends = with_output(sends, output_of(sent))?;
     }
     Ok(Sends {

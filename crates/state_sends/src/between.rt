@@ -5,7 +5,7 @@ ghost use Rattle.std.specs.List.Sorted.{IsSorted};
 ghost use Rattle.std.specs.Option.{option_copied, option_map, option_to_list};
 ghost use Rattle.std.specs.Prelude.{◌≡◌, ◌++◌, [], IfOk, None, Some, T, if◌then◌else◌, is_none};
 ghost use Rattle.abstract_paths.specs.Outputs.{between, errors_out, send_for, tear_for};
-ghost use Rattle.abstract_paths.specs.Touched.{forgotten, moments_between, renewed};
+ghost use Rattle.abstract_paths.specs.Touched.{forgotten, moments_between, renewed_moment};
 ghost use Rattle.state_sends.specs.Placing.{placed};
 
 use crate::rests::fresh;
@@ -115,7 +115,10 @@ fn torn<I: Ord + Copy + Drop>(
 }
 
 /// The moment of what is sent, if it is.
-pub(crate) fn renewed<I: Copy>(moment: u64, sent: &Option<(I, Output)>) -> Option<(I, Option<u64>)>
+pub(crate) fn renewed_moment<I: Copy>(
+    moment: u64,
+    sent: &Option<(I, Output)>,
+) -> Option<(I, Option<u64>)>
     ensures { result ≡ option_map (λ row. (row.0, Some moment)) sent.now }
 {
     match sent {
@@ -149,7 +152,7 @@ fn kept<I: Ord + Copy + Drop>(
     ensures sends { IfOk result (λ kept. kept.sends ≡ torn.sends
         ++ between I.cmp (send_for I.cmp due.now) is.items was.now) }
     ensures moments { IfOk result (λ kept. kept.moments ≡ placed I.cmp torn.moments
-        (between I.cmp (renewed I.cmp due.now moment)
+        (between I.cmp (renewed_moment I.cmp due.now moment)
         is.items was.now)) }
 {
     let Sends {
@@ -166,7 +169,7 @@ fn kept<I: Ord + Copy + Drop>(
         let known = get_near(was, place, &wants.0);
         place = place_after(place, known);
         let going = fresh(alloc, due, known, wants)?;
-        moments = with_moment(moments, renewed(moment, &going))?;
+        moments = with_moment(moments, renewed_moment(moment, &going))?;
         sends = with_output(sends, output_of(going))?;
     }
     Ok(Sends {

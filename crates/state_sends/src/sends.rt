@@ -38,7 +38,7 @@ pub struct StateSends {
     pub outputs: Outputs,
     /// What becomes of the moments of Paths.
     pub moments: Table<Item, Option<u64>>,
-    /// And of Resvs.
+    /// What becomes of the moments of Resvs.
     pub upstream: Table<Upstream, Option<u64>>,
     /// The LSPs of which not the same is known after, but for when they expire, in the order of their keys.
     pub changed: Table<Key, ()>,
@@ -68,7 +68,7 @@ fn due_paths<V: WholeState>(
     }
 }
 
-/// And the Resvs.
+/// The Resvs that are due at a moment, in milliseconds, if one came. The only error is out of memory.
 fn due_resvs<V: WholeState>(
     alloc: Global,
     view: &V,

@@ -38,14 +38,14 @@ fn holding_on(path: Option<&PathFact>) -> u8
     }
 }
 
-/// That at which an LSP's path has it kept.
+/// The priority at which an LSP's path has its reservation kept.
 fn holding_at<V: StateView>(view: &V, key: &Key) -> u8
     ensures { result ≡ holding_at (V.state view.now).facts.paths key.now }
 {
     holding_on(view.path(key))
 }
 
-/// And after edits of paths.
+/// The priority at which an LSP's path has its reservation kept, after edits of paths.
 #[tactic(auto, using(state_views::specs::EditLaws::row_edited))]
 fn holding_after<V: StateView>(view: &V, paths: &PathEdits, key: &Key) -> u8
     ensures { result ≡ holding_at (edited key_cmp paths.now (V.state view.now).facts.paths) key.now }
@@ -85,7 +85,7 @@ fn kept_rows<V: StateView>(
     Ok(edits)
 }
 
-/// And as a table.
+/// The table of the edits of reservations, beside each the priority at which it is kept after the edits of paths.
 fn kept_edits<V: StateView>(
     alloc: Global,
     view: &V,

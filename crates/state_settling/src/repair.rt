@@ -9,7 +9,7 @@ ghost use Rattle.lsr_facts.specs.declared.key.Key.{Key};
 ghost use Rattle.abstract_paths.specs.MessageLaws.{LeavesRoom};
 ghost use Rattle.abstract_paths.specs.Outcomes.{found_here, told_upstream};
 ghost use Rattle.abstract_paths.specs.Places.{place_at};
-ghost use Rattle.abstract_router.specs.Errors.{locally_repaired};
+ghost use Rattle.lsr_facts.specs.Errors.{locally_repaired};
 ghost use Rattle.abstract_router.specs.Protecting.{repair_with};
 ghost use Rattle.abstract_router.specs.Repairing.{new_repairs, put_repair, repair_of, repaired, told_of, told_repaired};
 ghost use Rattle.abstract_router.specs.Steps.{stands};
@@ -18,8 +18,8 @@ ghost use Rattle.state_views.specs.Joining.{joined_rows};
 ghost use Rattle.state_settling.specs.Repairs.{repair_at};
 
 use facility_backup::{Held, repair, select};
-use lsr_facts::{Key, Node, PathFact, Repair, ResvFact, Selected};
-use message_rules::{LOCALLY_REPAIRED, found_here, is_up, leaves_by, told_upstream};
+use lsr_facts::{Key, Node, PathFact, Repair, ResvFact, RsvpError, Selected};
+use message_rules::{found_here, is_up, leaves_by, told_upstream};
 use sorted_rows::{Table, TryCopy};
 use state_views::{Changed, Edits, Outputs, StateView, WholeState, joined_rows, node_of};
 use std::alloc::{AllocError, Global};
@@ -137,7 +137,8 @@ fn known_repairs<V: WholeState>(
     }
 }
 
-/// And in the order of their keys. The only error is out of memory.
+/// All repairs that there are to be after edits, in the order of their keys. It asks that all reservations that there
+/// were before stood. The only error is out of memory.
 fn new_repairs<V: WholeState>(
     alloc: Global,
     view: &V,
@@ -162,7 +163,7 @@ fn told_on(alloc: Global, node: &Node, key: &Key, path: &PathFact) -> Result<Out
         ≡ told_upstream (place_at node.now) key.now path.now (Some path.now.tspec)
         (found_here node.now.router.now locally_repaired)) }
 {
-    let error = found_here(node.router, LOCALLY_REPAIRED);
+    let error = found_here(node.router, RsvpError::LOCALLY_REPAIRED);
     told_upstream(alloc, node, key, path, &Some(path.tspec.clone()?), error)
 }
 
@@ -181,7 +182,7 @@ fn told_of<A: StateView>(
     }
 }
 
-/// And those that all of these tell, in their order.
+/// The errors that these repairs tell, in the order of the repairs. The only error is out of memory.
 fn told_of_all<A: StateView>(
     alloc: Global,
     after: &A,

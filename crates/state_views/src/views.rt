@@ -10,7 +10,7 @@ ghost use Rattle.lsr_facts.specs.Orders.{item_cmp, key_cmp};
 ghost use Rattle.lsr_facts.specs.declared.router.Router.{Router};
 ghost use Rattle.lsr_facts.specs.Admission.{fits, victims_of};
 ghost use Rattle.lsr_facts.specs.Claims.{is_same_session};
-ghost use Rattle.lsr_facts.specs.Reservations.{lives_past};
+ghost use Rattle.lsr_facts.specs.Reservations.{resv_lives_past};
 ghost use Rattle.lsr_facts.specs.Upstreams.{upstream_cmp};
 ghost use Rattle.sorted_rows.specs.Rows.{keys_of};
 ghost use Rattle.abstract_paths.specs.Places.{place_at, place_of};
@@ -110,7 +110,7 @@ pub trait WholeState: StateView {
     fn sent_at(&self, item: &Item) -> Option<u64>
         ensures sent { result ≡ find item_cmp item.now (Self.state self.now).facts.sent };
 
-    /// And so of a Resv.
+    /// When a Resv was sent last that is kept alive at a neighbour, in milliseconds; `None` for any other.
     fn sent_upstream_at(&self, item: &Upstream) -> Option<u64>
         ensures sent { result ≡ find upstream_cmp item.now (Self.state self.now).sent_upstream };
 
@@ -119,7 +119,7 @@ pub trait WholeState: StateView {
         ensures due { IfOk result (λ items. items.items
             ≡ due_items (Self.router self.now).refresh_ms (Self.state self.now).facts.sent moment) };
 
-    /// And the Resvs.
+    /// The Resvs that are due at a moment, in milliseconds (RFC 2205, 3.7). The only error is out of memory.
     fn due_upstream(&self, alloc: Global, moment: u64) -> Result<Vec<Upstream>, AllocError>
         ensures due { IfOk result (λ items. items.items
             ≡ due_items (Self.router self.now).refresh_ms (Self.state self.now).sent_upstream moment) };
@@ -133,12 +133,12 @@ pub trait WholeState: StateView {
     /// The LSPs whose reservations expire at a moment, in milliseconds. The only error is out of memory.
     fn expiring_resvs(&self, alloc: Global, moment: u64) -> Result<Vec<Key>, AllocError>
         ensures expiring { IfOk result (λ keys. keys.items
-            ≡ keys_of (filter (λ resv. not (lives_past moment resv.1)) (Self.state self.now).resvs)) };
+            ≡ keys_of (filter (λ resv. not (resv_lives_past moment resv.1)) (Self.state self.now).resvs)) };
 
     /// The LSPs whose repairs expire at a moment, in milliseconds. The only error is out of memory.
     fn expiring_repairs(&self, alloc: Global, moment: u64) -> Result<Vec<Key>, AllocError>
         ensures expiring { IfOk result (λ keys. keys.items
-            ≡ keys_of (filter (λ repair. not (lives_past moment repair.1.resv)) (Self.state self.now).repairs)) };
+            ≡ keys_of (filter (λ repair. not (resv_lives_past moment repair.1.resv)) (Self.state self.now).repairs)) };
 
     /// Whether a path of the session is known.
     fn knows_session(&self, session: &Session) -> bool

@@ -67,7 +67,7 @@ fn downstream_at<V: StateView>(
     }
 }
 
-/// And through a bypass. The only error is out of memory.
+/// What is wanted of an LSP through a bypass, at the bypass's end. The only error is out of memory.
 fn backup_at<V: StateView>(alloc: Global, view: &V, key: &Key) -> Result<Option<Wanted>, AllocError>
     requires paths { ArePaths (V.router view.now) (V.state view.now).facts.moment (V.state view.now).facts.paths }
     requires resvs { AllByRecursion (IsResv (V.state view.now).facts.moment) (V.state view.now).resvs }

@@ -7,7 +7,7 @@ mod backups;
 mod downstream;
 mod records;
 mod reserved;
-mod resvs;
+mod resv;
 mod routes;
 mod upstream;
 

@@ -14,7 +14,7 @@ ghost use Rattle.wanted_messages.specs.Fitting.{IsFitting};
 ghost use Rattle.wanted_messages.specs.Telling.{said};
 
 use crate::reserved::reserved_for;
-use crate::resvs::{ToldLsp, upstream_row};
+use crate::resv::{ToldLsp, upstream_row};
 use abstract_paths::Output;
 use lsr_facts::{Key, Origin, PathFact, Upstream};
 use state_views::StateView;

@@ -11,7 +11,7 @@ use std::thread;
 use std::thread::Threads;
 use std::time::{Clock, Duration};
 use worker_fixtures::serve::workers::Gate;
-use worker_fixtures::serve::{LinkWire, Served};
+use worker_fixtures::serve::{LinkWire, RunReport};
 use worker_fixtures::{Fault, TEAR_FRAME};
 
 /// How many turns each thread makes: one in which the frame comes, and one in which none comes.
@@ -67,7 +67,7 @@ fn tell_held<R: Print>(
     rt: &R,
     alloc: Global,
     has_waited: bool,
-    served: &Served,
+    served: &RunReport,
 ) -> Result<(), Fault> {
     let held = if has_waited {
         "port 1 was held until port 2 had left"

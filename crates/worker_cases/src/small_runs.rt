@@ -8,7 +8,7 @@ use std::thread::Threads;
 use std::time::Clock;
 use worker_fixtures::Fault;
 use worker_fixtures::serve::workers::{Gate, Wire};
-use worker_fixtures::serve::{LinkWire, PortCount, Served, serve_on, tell_run};
+use worker_fixtures::serve::{LinkWire, PortCount, RunReport, serve_on, tell_run};
 
 /// What a run of the router of this configuration leaves over these links, of so many turns.
 pub fn served_by<
@@ -25,7 +25,7 @@ pub fn served_by<
     clock_wire: W,
     gate: &G,
     turns: u32,
-) -> Result<Served, Fault>
+) -> Result<RunReport, Fault>
     requires { length links.items < 64 }
 {
     match Config::read(alloc, text) {
@@ -49,7 +49,7 @@ fn tell_ports<R: Print>(rt: &R, of: &str, ports: &[PortCount]) -> Result<(), Fau
 }
 
 /// Prints what `lsr serve` prints of a run, and the status that it gives.
-fn tell_status<R: Print>(rt: &R, alloc: Global, of: &str, served: &Served) -> Result<(), Fault> {
+fn tell_status<R: Print>(rt: &R, alloc: Global, of: &str, served: &RunReport) -> Result<(), Fault> {
     let mut printed = Vec::new(alloc);
     let status = tell_run(
         served.segments.as_slice(),
@@ -66,7 +66,7 @@ pub fn tell_served<R: Print>(
     rt: &R,
     alloc: Global,
     of: &str,
-    served: &Served,
+    served: &RunReport,
 ) -> Result<(), Fault> {
     tell_ports(rt, of, served.ports.as_slice())?;
     let segments = served.segments.len();

@@ -14,7 +14,7 @@ use std::time::{Clock, Duration};
 use std::{io, thread};
 use worker_fixtures::Fault;
 use worker_fixtures::serve::workers::{Gate, OpenGate, Wire, WireFault, reconcile};
-use worker_fixtures::serve::{LinkSockets, LinkWire, Served, UdpWire, open_clock_wire};
+use worker_fixtures::serve::{LinkSockets, LinkWire, RunReport, UdpWire, open_clock_wire};
 
 /// The router where the tunnel begins. Nothing that it knows expires in the time of [`TURNS`].
 const HEAD: &str = r#"
@@ -174,7 +174,7 @@ fn serve_end<'a, R: Threads + Wait + Clock + Clone + Send + Sync + Drop, G: Gate
     end: End<'a>,
     gate: &G,
     is_up: &'a AtomicBool,
-) -> Result<Served, Fault> {
+) -> Result<RunReport, Fault> {
     let End {
         text,
         number,
@@ -210,7 +210,7 @@ fn tell_state<R: Print>(rt: &R, of: &str, state: &State) -> Result<(), Fault> {
 }
 
 /// Prints whether what a router's threads were told is one run, and what it knows at the end.
-fn tell_served<R: Print>(rt: &R, of: &str, served: &Served) -> Result<(), Fault> {
+fn tell_served<R: Print>(rt: &R, of: &str, served: &RunReport) -> Result<(), Fault> {
     let run = match reconcile(served.segments.as_slice(), served.receipts.as_slice()) {
         Ok(_) => "reconciled",
         Err(_) => "not one run",
@@ -223,7 +223,7 @@ fn tell_served<R: Print>(rt: &R, of: &str, served: &Served) -> Result<(), Fault>
 }
 
 /// The same of a run that may have failed.
-fn tell_end<R: Print>(rt: &R, of: &str, end: &Result<Served, Fault>) -> Result<(), Fault> {
+fn tell_end<R: Print>(rt: &R, of: &str, end: &Result<RunReport, Fault>) -> Result<(), Fault> {
     match end {
         Ok(served) => tell_served(rt, of, served),
         Err(fault) => Err(*fault),

@@ -5,7 +5,7 @@ use Rattle.lsr_facts.specs.Orders.{key_cmp}
 use Rattle.lsr_facts.specs.declared.resv_fact.ResvFact.{ResvFact}
 use Rattle.resv_arrivals.specs.Progresses.{fact_at}
 use Rattle.repair_arrivals.proofs.Renewals.{granted_leads, granted_reached}
-use Rattle.repair_arrivals.specs.declared.progress.Progress.{Progress}
+use Rattle.repair_arrivals.specs.declared.progress.RepairProgress.{RepairProgress}
 use Rattle.repair_arrivals.proofs.renewing.granted.Goals as goal
 
 pub returns : goal.returns
@@ -16,7 +16,7 @@ returns g c =
     let asked = c.args.asked.now in
     let repair = c.args.repair.now in
     let fact = fact_at s.facts.moment asked in
-    let now : Progress = record { edits = c.set.new.self; errors = p.errors; first = p.first; has_granted = true } in
+    let now : RepairProgress = record { edits = c.set.new.self; errors = p.errors; first = p.first; has_granted = true } in
     let same : c.in_ok-resv.resv ≡ fact = c.in_ok-resv.ensures ∙ ap (λ m. fact_at m asked) c.moment.ensures.moment in
     let put_so = c.in_ok-set.ensures.ok ∙ ap (λ (f : ResvFact). put key_cmp asked.key (Some (record repair { resv = f })) p.edits) same in
     record {

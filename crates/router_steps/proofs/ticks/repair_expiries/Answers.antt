@@ -3,7 +3,7 @@ use Rattle.std.proofs.lemmas.Result.{IfOk-weaker}
 use Rattle.sorted_rows.specs.Edits.{edited}
 use Rattle.lsr_facts.specs.Orders.{key_cmp}
 use Rattle.lsr_facts.specs.declared.key.Key.{Key}
-use Rattle.lsr_facts.specs.Reservations.{expire_repairs, lives_past}
+use Rattle.lsr_facts.specs.Reservations.{expire_repairs, resv_lives_past}
 use Rattle.lsr_facts.specs.declared.repair.Repair.{Repair}
 use Rattle.state_views.specs.Edits.{without_rows}
 use Rattle.router_steps.proofs.Staying.{edited_staying}
@@ -18,4 +18,4 @@ returns g c =
     IfOk-weaker c.without_rows.result _ (λ edits. edited key_cmp edits repairs ≡ expire_repairs c.args.moment repairs)
     (λ edits is.
     ap made (is ∙ (λ i. without_rows (c.new.ensures i) (keys i)))
-    ∙ edited_staying (λ repair. lives_past c.args.moment repair.1.resv) repairs c.requires) c.without_rows.ensures
+    ∙ edited_staying (λ repair. resv_lives_past c.args.moment repair.1.resv) repairs c.requires) c.without_rows.ensures

@@ -1,20 +1,14 @@
 -- What is written is read as the same frame.
-use Rattle.std.proofs.Common.{rules, ◌≡◌, ◌++◌, ℕ, List, OnOk, ap, sym, subst, ◌∙◌, append_assoc}
+use Rattle.std.proofs.Common.{◌++◌, ℕ, List, ap, ◌∙◌, append_assoc}
 use Rattle.std.proofs.lemmas.Result.{on_ok_weaker, on_err_weaker}
 use Rattle.label_stacks.specs.Stacks.{stack_bytes}
-use Rattle.rsvp_contents.specs.declared.message.Reading.{Reading}
-use Rattle.rsvp_contents.specs.declared.message.Reading.TheVariants as readings
 use Rattle.rsvp_contents.specs.Written.{message_bytes}
-use Rattle.link_frames.specs.declared.frame.Frame.TheVariants as frames
-use Rattle.link_frames.specs.Frames.{frame_bytes, unread, SpellsFrame}
 use Rattle.rsvp_messages.proofs.Written.{front_kept, hop_again, labelled_again, on_ok_always, relayed_again}
 use Rattle.rsvp_messages.proofs.frame_writing.put_frame.Goals as goal
 
-pub returns-in_ok-push-in-Hop-Whole-clause-again : goal.returns-in_ok-push-in-Hop-Whole-clause-again
-returns-in_ok-push-in-Hop-Whole-clause-again c =
-    let e : c.in-Hop-Whole.field-0 ≡ readings.Whole c.in-Hop-Whole.message = search rules in
-    let P : Reading → Type 0 = λ r. OnOk c.write_message.result (SpellsFrame (frame_bytes (frames.Hop r)) (unread (frames.Hop r))) in
-    rw c.in-Hop-Whole.is (subst P (sym e) (on_ok_weaker c.write_message.result (hop_again c.in-Hop-Whole.message) c.write_message.ensures.again))
+pub returns-in_ok-push-in-Hop-clause-again : goal.returns-in_ok-push-in-Hop-clause-again
+returns-in_ok-push-in-Hop-clause-again c =
+    rw c.in-Hop.is (on_ok_weaker c.write_message.result (hop_again c.in-Hop.message) c.write_message.ensures.again)
 
 pub returns-in_ok-write_stack-in-Labelled-clause-again : goal.returns-in_ok-write_stack-in-Labelled-clause-again
 returns-in_ok-write_stack-in-Labelled-clause-again c =

@@ -15,5 +15,5 @@ loop-row-preserved g c =
     let left = c.pop.new.self.items in
     let popped : before ≡ left ++ row ∷ [] = search rules in (
       one_sent before left row popped (λ row. option_map (λ r. r.1) (going cmp due row)) _ _ _ (c.output_of.ensures ∙ ap (option_map (λ r. r.1)) c.going-sent.ensures) c.in_ok-sends.ensures ∙ c.loop-row.invariant.0,
-      one_renewed before left row popped cmp (λ row. option_map (λ r. (r.0, Some moment)) (going cmp due row)) _ _ _ (c.renewed.ensures ∙ ap (option_map (λ r. (r.0, Some moment))) c.going-sent.ensures) c.in_ok-moments.ensures ∙ c.loop-row.invariant.1,
+      one_renewed before left row popped cmp (λ row. option_map (λ r. (r.0, Some moment)) (going cmp due row)) _ _ _ (c.renewed_moment.ensures ∙ ap (option_map (λ r. (r.0, Some moment))) c.going-sent.ensures) c.in_ok-moments.ensures ∙ c.loop-row.invariant.1,
     )

@@ -4,7 +4,7 @@ use Rattle.std.specs.FinMap.Entries.{find}
 use Rattle.std.specs.Option.{option_map}
 use Rattle.abstract_paths.specs.declared.events.Output.{Output}
 use Rattle.abstract_paths.specs.Outputs.{rests, send_for}
-use Rattle.abstract_paths.specs.Touched.{renewed}
+use Rattle.abstract_paths.specs.Touched.{renewed_moment}
 use Rattle.state_sends.proofs.Repeating.{one_renewed, one_sent}
 use Rattle.state_sends.proofs.between.kept.Goals as goal
 
@@ -30,5 +30,5 @@ loop-wants-preserved g c =
     let so = rests cmp due (find cmp wants.0 was) wants in
     let fresh = c.in_ok-going.ensures ∙ ap (λ o. cond {A = Option (_ × Output)} (rests cmp due o wants) None (Some wants)) c.get_near-known.ensures.found in (
       one_sent before left wants popped (λ row. send_for cmp due (find cmp row.0 was) row) _ _ _ (c.output_of.ensures ∙ ap (option_map (λ row. row.1)) fresh ∙ output_then so wants) c.in_ok-sends.ensures ∙ c.loop-wants.invariant.0,
-      one_renewed before left wants popped cmp (λ row. renewed cmp due moment (find cmp row.0 was) row) _ _ _ (c.renewed.ensures ∙ ap (option_map (λ row. (row.0, Some moment))) fresh ∙ moment_then so moment wants) c.in_ok-moments.ensures ∙ c.loop-wants.invariant.1,
+      one_renewed before left wants popped cmp (λ row. renewed_moment cmp due moment (find cmp row.0 was) row) _ _ _ (c.renewed_moment.ensures ∙ ap (option_map (λ row. (row.0, Some moment))) fresh ∙ moment_then so moment wants) c.in_ok-moments.ensures ∙ c.loop-wants.invariant.1,
     )

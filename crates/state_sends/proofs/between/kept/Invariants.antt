@@ -1,7 +1,7 @@
 use Rattle.std.proofs.Common.{◌≡◌, ◌++◌, filter_map, length, reverse}
 use Rattle.std.specs.FinMap.Entries.{find}
 use Rattle.abstract_paths.specs.Outputs.{send_for}
-use Rattle.abstract_paths.specs.Touched.{renewed}
+use Rattle.abstract_paths.specs.Touched.{renewed_moment}
 use Rattle.state_sends.specs.Placing.{placed}
 use Rattle.state_sends.proofs.between.kept.Given as goal
 
@@ -11,7 +11,7 @@ invariant-loop-wants g l =
     let cmp = g.I.Ord.cmp in
     let due = l.due in
     (l.sends ++ filter_map (λ row. send_for cmp due (find cmp row.0 l.was) row) (reverse l.left.items) ≡ l.fn.torn.sends ++ filter_map (λ row. send_for cmp due (find cmp row.0 l.was) row) l.fn.is.items)
-    × (placed cmp l.moments (filter_map (λ row. renewed cmp due l.moment (find cmp row.0 l.was) row) (reverse l.left.items)) ≡ placed cmp l.fn.torn.moments (filter_map (λ row. renewed cmp due l.moment (find cmp row.0 l.was) row) l.fn.is.items))
+    × (placed cmp l.moments (filter_map (λ row. renewed_moment cmp due l.moment (find cmp row.0 l.was) row) (reverse l.left.items)) ≡ placed cmp l.fn.torn.moments (filter_map (λ row. renewed_moment cmp due l.moment (find cmp row.0 l.was) row) l.fn.is.items))
 
 abbrev pub decreases-loop-wants : goal.decreases-loop-wants
 decreases-loop-wants g l = length l.left.items

@@ -1,7 +1,7 @@
 use Rattle.std.proofs.Common.{ℕ, List, ap, sym, subst, ◌∙◌, arith}
 use Rattle.std.specs.List.{Contains}
 use Rattle.std.proofs.lemmas.List.{get_or_read}
-use Rattle.label_space.specs.Lines.{Places, without}
+use Rattle.label_space.specs.Lines.{Places, line_without}
 use Rattle.label_space.proofs.Relinked.{next_within, place_within, previous_within, removed}
 use Rattle.label_space.proofs.line.Line.remove.Goals as goal
 
@@ -41,7 +41,7 @@ returns-clause-line c =
     let behind = get_or_read c.self.inside.next.items c.args.place c.index-behind.result.now (omega (arith, below, links.nexts)) c.index-behind.ensures 0 in
     let said = (removed _ _ _ links c.args.place c.index-before.result.now c.index-behind.result.now among before behind).1 in
     ap (λ (line : List ℕ). record { count = c.self.inside.count; line = line }) said
-    ∙ ap (λ (p : Places). record { count = p.count; line = without c.args.place p.line }) c.self.view_is
+    ∙ ap (λ (p : Places). record { count = p.count; line = line_without c.args.place p.line }) c.self.view_is
 
 pub returns-clause-within : goal.returns-clause-within
 returns-clause-within c =

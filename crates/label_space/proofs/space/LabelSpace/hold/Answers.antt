@@ -1,8 +1,8 @@
 use Rattle.std.proofs.Common.{◌≡◌, ◌+◌, ◌-◌, ap, sym, subst, ◌∙◌, arith}
 use Rattle.label_space.specs.LabelLaws.{IsHeld-hold}
 use Rattle.label_space.specs.Labels.{IsFree, IsHeld, IsOf, Labels, hold, labels_at}
-use Rattle.label_space.specs.Lines.{Places, without}
-use Rattle.label_space.proofs.Numbering.{from_label, map-without}
+use Rattle.label_space.specs.Lines.{Places, line_without}
+use Rattle.label_space.proofs.Numbering.{from_label, map-line_without}
 use Rattle.label_space.proofs.space.LabelSpace.hold.Goals as goal
 
 pub overflow_sub-label : goal.overflow_sub-label
@@ -16,7 +16,7 @@ returns-clause-labels c =
     let among = from_label range.first line c.args.label (subst (λ (labels : Labels). IsFree labels c.args.label) (sym c.self.view_is) c.requires) in
     let is : range.first + (c.args.label - range.first) ≡ c.args.label = omega (arith, among.0) in
     ap (λ (p : Places). record { range = range; free = labels_at range p.line }) c.remove.ensures.line
-    ∙ ap (λ free. record { range = range; free = free }) (map-without range.first (c.args.label - range.first) line ∙ ap (λ label. without label (labels_at range line)) is)
+    ∙ ap (λ free. record { range = range; free = free }) (map-line_without range.first (c.args.label - range.first) line ∙ ap (λ label. line_without label (labels_at range line)) is)
     ∙ ap (λ (labels : Labels). hold labels c.args.label) c.self.view_is
 
 pub returns-clause-held : goal.returns-clause-held

@@ -13,15 +13,15 @@ now g c = record {
   from = c.in_ok-from.from;
   entries = c.in_ok-entries.entries.items;
   state = c.args.machine.state;
-  counts = c.in_ok-tally.tally;
+  counts = c.in_ok-counts.counts;
   shown = c.args.plane.published;
 }
 
 now_is : (g : Over) (c : goal.In_ok-base g) → now g c ≡ opened_journal c.args.machine (first_counts c.args.ports)
 unfolding now
 now_is g c =
-    let from = c.in_ok-from.ensures ∙ c.in_ok-tally.ensures in
-    λ i. record { router = c.args.machine.router; base = c.in_ok-base.ensures i; from = from i; entries = c.in_ok-entries.ensures.items i; state = c.args.machine.state; counts = c.in_ok-tally.ensures i; shown = (c.requires.plane i).published }
+    let from = c.in_ok-from.ensures ∙ c.in_ok-counts.ensures in
+    λ i. record { router = c.args.machine.router; base = c.in_ok-base.ensures i; from = from i; entries = c.in_ok-entries.ensures.items i; state = c.args.machine.state; counts = c.in_ok-counts.ensures i; shown = (c.requires.plane i).published }
 
 pub invariant_of-result : goal.invariant_of-result
 unfolding now

@@ -24,7 +24,7 @@ was g c = record {
   from = c.self.inside.from;
   entries = c.self.inside.entries.items;
   state = c.self.inside.machine.state;
-  counts = c.self.inside.tally;
+  counts = c.self.inside.counts;
   shown = c.self.inside.plane.published;
 }
 
@@ -155,7 +155,7 @@ returns-in_err-announce g c =
       from = c.self.inside.from;
       entries = c.self.inside.entries.items;
       state = c.self.inside.machine.state;
-      counts = c.self.inside.tally;
+      counts = c.self.inside.counts;
       shown = c.announce.new.plane.published;
     } in
     rw p.1 (record {
@@ -166,7 +166,7 @@ returns-in_err-announce g c =
         from = c.self.inside.from;
         entries = c.self.inside.entries.items;
         state = c.self.inside.machine.state;
-        counts = c.self.inside.tally;
+        counts = c.self.inside.counts;
         shown = (c.in_err-announce.ensures i).published;
       });
     })
@@ -179,7 +179,7 @@ invariant_of-self g c =
       from = c.self.inside.from;
       entries = c.self.inside.entries.items;
       state = c.self.inside.machine.state;
-      counts = c.self.inside.tally;
+      counts = c.self.inside.counts;
       shown = p.published;
     }) in
     (subst kept (sym c.in_err-announce.ensures) c.self.invariant.0, c.self.invariant.1, subst (IsPlaneOf c.self.inside.machine.router) (sym c.in_err-announce.ensures) c.self.invariant.2)

@@ -15,7 +15,7 @@ was g c = record {
   from = c.self.inside.from;
   entries = c.self.inside.entries.items;
   state = c.self.inside.machine.state;
-  counts = c.self.inside.tally;
+  counts = c.self.inside.counts;
   shown = c.self.inside.plane.published;
 }
 
@@ -27,7 +27,7 @@ now g c = record {
   from = c.replace-2.new.dest;
   entries = c.replace-3.new.dest.items;
   state = c.self.inside.machine.state;
-  counts = c.self.inside.tally;
+  counts = c.self.inside.counts;
   shown = c.self.inside.plane.published;
 }
 
@@ -35,9 +35,9 @@ now_is : (g : Over) (c : goal.After-replace-3 g) → now g c ≡ rotated (was g 
 unfolding was now
 now_is g c =
     let base : c.replace.new.dest ≡ c.self.inside.machine.state = c.replace.ensures.after ∙ c.in_ok-base.ensures ∙ c.in_ok-end.ensures in
-    let from : c.replace-2.new.dest ≡ c.self.inside.tally = c.replace-2.ensures.after ∙ c.in_ok-from.ensures in
+    let from : c.replace-2.new.dest ≡ c.self.inside.counts = c.replace-2.ensures.after ∙ c.in_ok-from.ensures in
     let entries : c.replace-3.new.dest.items ≡ [] = ap (λ v. v.items) c.replace-3.ensures.after ∙ c.in_ok-entries.ensures.items in
-    λ i. record { router = c.self.inside.machine.router; base = base i; from = from i; entries = entries i; state = c.self.inside.machine.state; counts = c.self.inside.tally; shown = c.self.inside.plane.published }
+    λ i. record { router = c.self.inside.machine.router; base = base i; from = from i; entries = entries i; state = c.self.inside.machine.state; counts = c.self.inside.counts; shown = c.self.inside.plane.published }
 
 -- what was taken away
 taken : (g : Over) → goal.After-replace-3 g → Stretch
