@@ -16,7 +16,7 @@ use Rattle.rsvp_bodies.specs.declared.step.Step.TheVariants.{Ipv4, Other}
 use Rattle.object_text.specs.Routes.{prefix_text}
 use Rattle.object_text.specs.Traffic.{rate_bytes}
 use Rattle.object_text.specs.Words.{address_text}
-use Rattle.config_text.specs.declared.printing.LinkAddresses.{LinkAddresses}
+use Rattle.lsr_config.specs.declared.sockets.LinkSockets.{LinkSockets}
 
 -- ---- values
 
@@ -68,12 +68,12 @@ router_text r =
     ++ (codes "\nlabels = [" ++ (decimal r.labels.first ++ (codes ", " ++ (decimal r.labels.last ++ codes "]\n")))))))
 
 -- the socket addresses of a link, where it has any
-abbrev pub sockets_text : Option LinkAddresses → List ℕ
+abbrev pub sockets_text : Option LinkSockets → List ℕ
 sockets_text None = []
 sockets_text (Some a) = codes "listen = \"" ++ (socket_text a.listen ++ (codes "\"\nsend = \"" ++ (socket_text a.send ++ codes "\"\n")))
 
 -- the socket addresses of the link of this number
-abbrev pub sockets_of : List (ℕ × LinkAddresses) → ℕ → Option LinkAddresses
+abbrev pub sockets_of : List (ℕ × LinkSockets) → ℕ → Option LinkSockets
 sockets_of sockets number = option_map (λ row. row.1) (find (λ row. row.0 == number) sockets)
 
 -- a link's number, and the addresses at its ends
@@ -87,7 +87,7 @@ abbrev pub capacity_text : Link → List ℕ
 capacity_text link = codes "limit = " ++ (decimal link.limit ++ (codes "\nup = " ++ (flag_text link.up ++ codes "\n")))
 
 -- a record of the table `link`
-abbrev pub link_record : List (ℕ × LinkAddresses) → ℕ × Link → List ℕ
+abbrev pub link_record : List (ℕ × LinkSockets) → ℕ × Link → List ℕ
 link_record sockets row = neighbour_text row ++ (capacity_text row.1 ++ sockets_text (sockets_of sockets row.0))
 
 -- a record of the table `route`
@@ -125,7 +125,7 @@ bypass_record row =
     ++ (codes "\nlink = " ++ (decimal row.1.link ++ codes "\n")))))
 
 -- a configuration, whose links have these socket addresses
-abbrev pub config_text : Setup → List (ℕ × LinkAddresses) → List ℕ
+abbrev pub config_text : Setup → List (ℕ × LinkSockets) → List ℕ
 config_text c sockets =
     router_text c.router ++ (flat_map (link_record sockets) c.router.links ++ (flat_map route_record c.routes
     ++ (flat_map tunnel_record c.tunnels ++ flat_map bypass_record c.bypasses)))

@@ -10,6 +10,6 @@ mod section;
 mod telling;
 
 pub use place::{Place, link_without, place_of};
-pub use printing::{LinkAddresses, config_text};
+pub use printing::config_text;
 pub use section::{Section, Spot};
 pub use telling::tell_place;

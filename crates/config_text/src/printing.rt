@@ -3,27 +3,17 @@ ghost use Rattle.std.specs.List.{flat_map};
 ghost use Rattle.std.specs.Prelude.{◌≡◌, ◌++◌, IfOk, OnOk, string_bytes};
 ghost use Rattle.config_text.specs.Printing.{bypass_record, capacity_text, config_text, demand_text, ends_text, flag_text, link_record, loose_text, name_byte, name_line, name_text, neighbour_text, next_step, quoted_step, route_record, route_text, router_text, sockets_of, sockets_text, step_text, steps_text, tunnel_record};
 
-use lsr_config::Config;
+use lsr_config::{Config, LinkSockets};
 use lsr_facts::{Bypass, Link, Router, Tunnel};
 use object_text::rate_bytes;
 use rsvp_bodies::{Prefix, Step};
 use std::alloc::{AllocError, Global};
 use std::fmt::Write;
-use std::net::SocketAddr;
 
 /// What ends a name.
 const NAME_END: &[u8] = b"\"\n";
 /// What begins a name.
 const NAME_START: &[u8] = b"name = \"";
-
-/// The socket addresses of a link.
-#[derive(Clone, Copy, PartialEq, Eq)]
-pub struct LinkAddresses {
-    /// The address at which its frames come in.
-    pub listen: SocketAddr,
-    /// The address to which they go.
-    pub send: SocketAddr,
-}
 
 /// What stands before the records: the router id, the refresh period in milliseconds, and the labels.
 fn router_text(alloc: Global, router: &Router) -> Result<String, AllocError>
@@ -66,18 +56,18 @@ fn capacity_text(alloc: Global, link: &Link) -> Result<String, AllocError>
 }
 
 /// The socket addresses of the link of this number, where it has any.
-fn sockets_of(sockets: &[(u16, LinkAddresses)], number: u16) -> Option<LinkAddresses>
+fn sockets_of(sockets: &[(u16, LinkSockets)], number: u16) -> Option<LinkSockets>
     ensures { result ≡ sockets_of sockets.now number }
 {
     sockets.iter().find(|row| row.0 == number).map(|row| row.1)
 }
 
 /// The socket addresses of a link, where it has any.
-fn sockets_text(alloc: Global, sockets: Option<LinkAddresses>) -> Result<String, AllocError>
+fn sockets_text(alloc: Global, sockets: Option<LinkSockets>) -> Result<String, AllocError>
     ensures { IfOk result (λ text. string_bytes text ≡ sockets_text sockets) }
 {
     match sockets {
-        Some(LinkAddresses { listen, send }) => {
+        Some(LinkSockets { listen, send }) => {
             format!(in alloc; "listen = \"{listen}\"\nsend = \"{send}\"\n")
         }
         None => Ok(String::new(alloc)),
@@ -89,7 +79,7 @@ fn push_link_record(
     alloc: Global,
     text: &mut Vec<u8>,
     row: &(u16, Link),
-    sockets: &[(u16, LinkAddresses)],
+    sockets: &[(u16, LinkSockets)],
 ) -> Result<(), AllocError>
     ensures { OnOk result (text.new.items ≡ text.old.items ++ link_record sockets.now row.now) }
 {
@@ -106,7 +96,7 @@ fn push_links(
     alloc: Global,
     text: &mut Vec<u8>,
     links: &[(u16, Link)],
-    sockets: &[(u16, LinkAddresses)],
+    sockets: &[(u16, LinkSockets)],
 ) -> Result<(), AllocError>
     ensures { OnOk result (text.new.items ≡ text.old.items ++ flat_map (link_record sockets.now) links.now) }
 {
@@ -351,7 +341,7 @@ fn push_bypasses(
 pub fn config_text(
     alloc: Global,
     config: &Config,
-    sockets: &[(u16, LinkAddresses)],
+    sockets: &[(u16, LinkSockets)],
 ) -> Result<Vec<u8>, AllocError>
     ensures { IfOk result (λ text. text.items ≡ config_text config.now sockets.now) }
 {

@@ -63,7 +63,14 @@ fn read_bypass(
     let link = number_at(table, Key::Link, FIRST_LINK)?;
     check_link(link, links)?;
     check_count(Key::Bypass, MAX_BYPASSES, before.len())?;
-    Ok((number, Bypass { tunnel, link, capacity: 0 }))
+    Ok((
+        number,
+        Bypass {
+            tunnel,
+            link,
+            capacity: 0,
+        },
+    ))
 }
 
 /// Refuses the number of a tunnel that isn't there.

@@ -4,7 +4,7 @@ use Rattle.toml.specs.Data.{Data}
 use Rattle.lsr_config.specs.Rules.{Has, HasNumber}
 use Rattle.lsr_config.specs.Values.{SaysSocket}
 use Rattle.lsr_config.specs.declared.key.Key.TheVariants as key
-use Rattle.lsr_serve.specs.declared.sockets.LinkSockets.{LinkSockets}
+use Rattle.lsr_config.specs.declared.sockets.LinkSockets.{LinkSockets}
 
 -- the record says the sockets of the link of this number
 pub record SaysSockets (d : Data) (row : ℕ × LinkSockets) : Type 0 where

@@ -8,8 +8,9 @@ mod turns;
 mod udp_wire;
 
 pub use interface_workers as workers;
+pub use lsr_config::LinkSockets;
 pub use run::{PortCount, RunReport, TICK_MS, serve_on};
 pub use serving::{serve_links, tell_run};
-pub use sockets::{LinkSockets, read_sockets};
+pub use sockets::read_sockets;
 pub use turns::{DEFAULT_TURNS, MAX_TURNS, read_turns};
 pub use udp_wire::{LinkWire, ServeFault, UdpWire, open_clock_wire, open_wires};

@@ -4,12 +4,11 @@ ghost use Rattle.std.specs.Io.KnownBytes.{Appends};
 ghost use Rattle.lsr_serve.specs.Told.{Serves, TellsRun};
 
 use crate::run::{PortCount, RunReport, serve_on};
-use crate::sockets::LinkSockets;
 use crate::udp_wire::{LinkWire, ServeFault, UdpWire, open_clock_wire, open_wires};
 use interface_workers::{Mismatch, OpenGate, Receipt, Segment, reconcile};
 use log::sink::Writer;
 use log::{Log, info};
-use lsr_config::Config;
+use lsr_config::{Config, LinkSockets};
 use sorted_rows::Table;
 use std::alloc::Global;
 use std::io;

@@ -12,7 +12,7 @@ ghost use Rattle.lsr_config.specs.Values.{SaysEach, SaysSocket, SaysWhole};
 ghost use Rattle.lsr_config.specs.declared.fault.ConfigFault.TheVariants as fault;
 ghost use Rattle.lsr_serve.specs.Sockets.{SaysSockets};
 
-use lsr_config::{ConfigFault, Key};
+use lsr_config::{ConfigFault, Key, LinkSockets};
 use lsr_facts::limits::MAX_LINKS;
 use sorted_rows::Table;
 use std::alloc::{AllocError, Global};
@@ -23,15 +23,6 @@ use toml::Value;
 const FIRST_NUMBER: u64 = 1;
 
 const LAST_NUMBER: u64 = 65_535;
-
-/// The socket addresses of a link.
-#[derive(Clone, Copy, PartialEq, Eq)]
-pub struct LinkSockets {
-    /// The address at which its frames come in.
-    pub listen: SocketAddr,
-    /// The address to which they go.
-    pub send: SocketAddr,
-}
 
 /// The socket addresses that a configuration's text gives its links, by their numbers and in the order of the numbers. The
 /// fault is that of the first link, in the order of the text, that has no `listen`, or has one and no `send`; out of memory may

@@ -1,8 +1,8 @@
 //! Wires over UDP sockets of this machine.
 ghost use Rattle.std.specs.Prelude.{◌≡◌, ◌+◌, ◌-◌, ◌^◌, ◌<◌, map, take, IfOk};
 
-use crate::sockets::LinkSockets;
 use interface_workers::{Wire, WireFault};
+use lsr_config::LinkSockets;
 use sorted_rows::Table;
 use std::alloc::{AllocError, Global};
 use std::io;

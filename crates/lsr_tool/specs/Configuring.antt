@@ -1,9 +1,8 @@
 -- What `lsr config` prints, and how it ends.
-use Rattle.std.specs.Prelude.{◌≡◌, ◌⊎◌, ℕ, List, [], map, Option, Some, None, Ok}
+use Rattle.std.specs.Prelude.{◌≡◌, ◌⊎◌, ℕ, List, [], Option, Some, None, Ok}
 use Rattle.std.specs.Io.KnownBytes.{Appends}
 use Rattle.std.specs.Ordering.{nat_cmp}
 use Rattle.config_text.specs.Printing.{config_text}
-use Rattle.config_text.specs.declared.printing.LinkAddresses.{LinkAddresses}
 use Rattle.lsr_config.specs.Configs.{Setup}
 use Rattle.lsr_config.specs.Documents.{SaysTable, records}
 use Rattle.lsr_config.specs.Reading.{IsOfDocument, IsRead}
@@ -12,29 +11,22 @@ use Rattle.line_streams.specs.Texts.{Stream}
 use Rattle.line_streams.specs.declared.input.InputFault.{InputFault}
 use Rattle.lsr_lines.specs.declared.step.Ending.TheVariants as lines
 use Rattle.lsr_serve.specs.Sockets.{SaysSockets}
-use Rattle.lsr_serve.specs.declared.sockets.LinkSockets.{LinkSockets}
+use Rattle.lsr_config.specs.declared.sockets.LinkSockets.{LinkSockets}
 use Rattle.lsr_tool.specs.Endings.{ending_text, status_of}
 use Rattle.lsr_tool.specs.Sessions.{IsConfigText, IsMisconfigured, IsUnreadConfig, name_of}
 use Rattle.lsr_tool.specs.declared.endings.Source.TheVariants as sources
 use Rattle.lsr_tool.specs.declared.endings.RunEnding.{RunEnding}
 use Rattle.lsr_tool.specs.declared.endings.RunEnding.TheVariants as endings
 
--- the addresses of links' sockets, by the numbers of the links
-abbrev pub addresses_of : List (ℕ × LinkSockets) → List (ℕ × LinkAddresses)
-addresses_of sockets = map (λ row. (row.0, record { listen = row.1.listen; send = row.1.send })) sockets
-
 -- The text gives its links these socket addresses, in the order of their numbers. There are none where it doesn't give each
 -- link both.
-abbrev pub GivesAddresses : List ℕ → List (ℕ × LinkAddresses) → Type 0
-GivesAddresses text rows =
-    (rows ≡ [])
-    ⊎ ((sockets : List (ℕ × LinkSockets)) × IsOfDocument text (λ document. SaysTable nat_cmp SaysSockets (records key.Link document) sockets)
-    × (rows ≡ addresses_of sockets))
+abbrev pub GivesAddresses : List ℕ → List (ℕ × LinkSockets) → Type 0
+GivesAddresses text rows = (rows ≡ []) ⊎ IsOfDocument text (λ document. SaysTable nat_cmp SaysSockets (records key.Link document) rows)
 
 -- what is printed of a text that says a configuration
 abbrev pub Prints : List ℕ → List ℕ → Type 0
 Prints text printed =
-    (config : Setup) × (addresses : List (ℕ × LinkAddresses)) × IsRead text (Ok config) × GivesAddresses text addresses
+    (config : Setup) × (addresses : List (ℕ × LinkSockets)) × IsRead text (Ok config) × GivesAddresses text addresses
     × (printed ≡ config_text config addresses)
 
 -- a run that ended well

@@ -4,44 +4,28 @@ ghost use Rattle.std.specs.Prelude.{◌≡◌, ℕ, List, [], Option, IfOk, IfEr
 ghost use Rattle.std.specs.Io.KnownBytes.{Appends};
 ghost use Rattle.line_streams.specs.Texts.{Stream};
 ghost use Rattle.lsr_tool.specs.declared.endings.RunEnding.{RunEnding};
-ghost use Rattle.lsr_tool.specs.Configuring.{Configures, GivesAddresses, Prints, PrintsConfig, addresses_of, done};
+ghost use Rattle.lsr_tool.specs.Configuring.{Configures, GivesAddresses, Prints, PrintsConfig, done};
 ghost use Rattle.lsr_tool.specs.Endings.{ending_text, status_of};
 ghost use Rattle.lsr_tool.specs.Sessions.{IsConfigText};
 
 use crate::endings::{DONE, RunEnding, Source, status_of, tell_ending};
 use crate::files::FilesByName;
 use crate::session::{misconfigured, read_config_text, said};
-use config_text::{LinkAddresses, config_text};
+use config_text::config_text;
 use line_streams::ByteStream;
-use lsr_config::{Config, ConfigFault};
-use lsr_serve::{LinkSockets, read_sockets};
+use lsr_config::{Config, ConfigFault, LinkSockets};
+use lsr_serve::read_sockets;
 use std::alloc::{AllocError, Global};
 use std::io;
 use std::io::Write;
 
-/// The socket addresses of links, by their numbers. The only error is that memory ran out.
-fn addresses_of(
-    alloc: Global,
-    sockets: &[(u16, LinkSockets)],
-) -> Result<Vec<(u16, LinkAddresses)>, AllocError>
-    ensures { IfOk result (λ rows. rows.items ≡ addresses_of sockets.now) }
-{
-    sockets
-        .iter()
-        .map(|row| {
-            let (number, LinkSockets { listen, send }) = *row;
-            (number, LinkAddresses { listen, send })
-        })
-        .collect(alloc)
-}
-
 /// The socket addresses that a configuration's text gives its links, or none where it doesn't give each link both. The only
 /// error is that memory ran out.
-fn read_addresses(alloc: Global, text: &str) -> Result<Vec<(u16, LinkAddresses)>, AllocError>
+fn read_addresses(alloc: Global, text: &str) -> Result<Vec<(u16, LinkSockets)>, AllocError>
     ensures { IfOk result (λ rows. GivesAddresses text.now rows.items) }
 {
     match read_sockets(alloc, text) {
-        Ok(sockets) => addresses_of(alloc, sockets.as_slice()),
+        Ok(sockets) => Ok(sockets.into_rows()),
         Err(ConfigFault::Memory) => Err(AllocError),
         Err(_) => Ok(Vec::new(alloc)),
     }

@@ -3,15 +3,15 @@ ghost use Rattle.std.specs.Prelude.{◌≡◌, IfOk, length};
 
 use crate::small_runs::{served_by, tell_served};
 use crate::wires::{Hasty, OneFrame};
+use interface_workers::Gate;
 use lsr_config::BUILT_IN;
+use lsr_serve::{LinkWire, RunReport};
 use std::alloc::{AllocError, Global};
 use std::sync::Wait;
 use std::sync::atomic::{AtomicBool, Ordering};
 use std::thread;
 use std::thread::Threads;
 use std::time::{Clock, Duration};
-use worker_fixtures::serve::workers::Gate;
-use worker_fixtures::serve::{LinkWire, RunReport};
 use worker_fixtures::{Fault, TEAR_FRAME};
 
 /// How many turns each thread makes: one in which the frame comes, and one in which none comes.

@@ -1,11 +1,11 @@
 //! A journal that is full.
 
 use abstract_paths::Event;
+use interface_workers::{Core, CoreReader, Port};
 use lsr_facts::Refusal;
 use std::alloc::Global;
 use std::sync::Wait;
 use std::sync::ledger::Ledger;
-use worker_fixtures::serve::workers::{Core, CoreReader, Port};
 use worker_fixtures::{Fault, Feed, count_entries, feed_router};
 
 /// How many events are fed.

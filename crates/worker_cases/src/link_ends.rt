@@ -1,10 +1,10 @@
 //! The two ends of one link over sockets of this machine.
 ghost use Rattle.std.specs.Prelude.{◌≡◌};
 
+use lsr_serve::{LinkSockets, ServeFault, UdpWire, open_wires};
 use sorted_rows::Table;
 use std::alloc::{AllocError, Global};
 use std::net::{Net, SocketAddr};
-use worker_fixtures::serve::{LinkSockets, ServeFault, UdpWire, open_wires};
 use worker_fixtures::{Fault, free_links};
 
 /// The number of a link at the router here.

@@ -3,13 +3,13 @@ ghost use Rattle.std.specs.Prelude.{◌≡◌, IfOk, length};
 
 use crate::small_runs::{served_by, tell_served};
 use crate::wires::{Hasty, Silent};
+use interface_workers::OpenGate;
 use lsr_config::BUILT_IN;
+use lsr_serve::LinkWire;
 use std::alloc::{AllocError, Global};
 use std::sync::Wait;
 use std::thread::Threads;
 use worker_fixtures::Fault;
-use worker_fixtures::serve::LinkWire;
-use worker_fixtures::serve::workers::OpenGate;
 
 /// How many moments the clock feeds.
 const TURNS: u32 = 3;

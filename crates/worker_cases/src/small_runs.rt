@@ -1,14 +1,14 @@
 //! Runs of a router as `lsr serve` makes them, over any wires and by any clock.
 ghost use Rattle.std.specs.Prelude.{◌<◌, length};
 
+use interface_workers::{Gate, Wire};
 use lsr_config::Config;
+use lsr_serve::{LinkWire, PortCount, RunReport, serve_on, tell_run};
 use std::alloc::Global;
 use std::sync::Wait;
 use std::thread::Threads;
 use std::time::Clock;
 use worker_fixtures::Fault;
-use worker_fixtures::serve::workers::{Gate, Wire};
-use worker_fixtures::serve::{LinkWire, PortCount, RunReport, serve_on, tell_run};
 
 /// What a run of the router of this configuration leaves over these links, of so many turns.
 pub fn served_by<

@@ -1,9 +1,9 @@
 //! What a configuration says of sockets, and what a word says of turns.
 
+use lsr_serve::{LinkSockets, read_sockets, read_turns};
 use sorted_rows::Table;
 use std::alloc::Global;
 use worker_fixtures::Fault;
-use worker_fixtures::serve::{LinkSockets, read_sockets, read_turns};
 
 /// Two links, the second of which has the lower number.
 const TWO: &str = r#"

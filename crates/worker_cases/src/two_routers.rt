@@ -3,7 +3,9 @@ ghost use Rattle.std.specs.Prelude.{◌≡◌, ◌<◌, ◌^◌, ◌-◌, IfOk, 
 
 use crate::link_ends::{Ends, FAR, NEAR, free_ends, open_last};
 use crate::small_runs::served_by;
+use interface_workers::{Gate, OpenGate, Wire, WireFault, reconcile};
 use lsr_facts::State;
+use lsr_serve::{LinkSockets, LinkWire, RunReport, UdpWire, open_clock_wire};
 use sorted_rows::Table;
 use std::alloc::{AllocError, Global};
 use std::net::Net;
@@ -13,8 +15,6 @@ use std::thread::Threads;
 use std::time::{Clock, Duration};
 use std::{io, thread};
 use worker_fixtures::Fault;
-use worker_fixtures::serve::workers::{Gate, OpenGate, Wire, WireFault, reconcile};
-use worker_fixtures::serve::{LinkSockets, LinkWire, RunReport, UdpWire, open_clock_wire};
 
 /// The router where the tunnel begins. Nothing that it knows expires in the time of [`TURNS`].
 const HEAD: &str = r#"

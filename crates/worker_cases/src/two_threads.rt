@@ -3,6 +3,7 @@ ghost use Rattle.std.specs.Prelude.{◌≡◌};
 
 use crate::wires::Silent;
 use abstract_paths::Event;
+use interface_workers::{Core, OpenGate, Opened, Port, Work, serve_event};
 use lsr_config::BUILT_IN;
 use std::alloc::{AllocError, Global};
 use std::marker::Brand;
@@ -10,7 +11,6 @@ use std::sync::Wait;
 use std::sync::ledger::{Blank, Ledger};
 use std::thread;
 use std::thread::Threads;
-use worker_fixtures::serve::workers::{Core, OpenGate, Opened, Port, Work, serve_event};
 use worker_fixtures::{Fault, Left, open_router};
 
 /// How many threads there are.

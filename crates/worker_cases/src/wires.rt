@@ -1,8 +1,8 @@
 //! Wires in memory, and a clock that never waits.
 
+use interface_workers::{Wire, WireFault};
 use std::io;
 use std::time::{Clock, Duration};
-use worker_fixtures::serve::workers::{Wire, WireFault};
 
 /// A wire on which nothing comes.
 #[derive(Clone, Copy)]

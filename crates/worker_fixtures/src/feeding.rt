@@ -2,8 +2,8 @@
 ghost use Rattle.std.specs.Prelude.{◌≡◌, ◌≤◌};
 
 use crate::fault::Fault;
+use interface_workers::{Core, CoreReader, Opened, Port, open};
 use lsr_config::{BUILT_IN, Config};
-use lsr_serve::workers::{Core, CoreReader, Opened, Port, open};
 use std::alloc::Global;
 use std::marker::Brand;
 use std::sync::Wait;

@@ -1,7 +1,7 @@
 //! What threads leave that feed a router.
 
+use interface_workers::{Core, Receipt, Segment, Work, is_same_state, reconcile};
 use lsr_facts::State;
-use lsr_serve::workers::{Core, Receipt, Segment, Work, is_same_state, reconcile};
 use std::alloc::{AllocError, Global};
 use std::sync::Wait;
 use std::sync::ledger::Ledger;

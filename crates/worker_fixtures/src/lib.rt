@@ -18,7 +18,6 @@ pub use frames::{
     IN_LINK, LABELLED_FRAME, OUT_LINK, PATH_FRAME, RESV_FRAME, TEAR_FRAME, about_tunnel, put_bytes,
 };
 pub use left::{Left, count_entries};
-pub use lsr_serve as serve;
 pub use sockets::free_links;
 pub use timing::per_second;
 pub use words::{BAD_WORDS, DONE, FAILED, count_in, read_words, tell};

@@ -1,7 +1,7 @@
 //! Sockets of this machine that nobody has.
 
 use crate::fault::Fault;
-use lsr_serve::LinkSockets;
+use lsr_config::LinkSockets;
 use sorted_rows::Table;
 use std::alloc::Global;
 use std::net::{Net, SocketAddr, UdpSocket};

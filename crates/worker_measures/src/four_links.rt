@@ -2,11 +2,11 @@
 
 use crate::sending::Sender;
 use lsr_config::BUILT_IN;
+use lsr_serve::LinkSockets;
 use sorted_rows::Table;
 use std::alloc::{AllocError, Global};
 use std::net::{Net, UdpSocket};
 use std::sync::atomic::AtomicU64;
-use worker_fixtures::serve::LinkSockets;
 use worker_fixtures::{Fault, LABELLED_FRAME, OUT_LINK, PATH_FRAME, RESV_FRAME, about_tunnel};
 
 /// How many links the router has.

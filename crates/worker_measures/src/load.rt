@@ -3,6 +3,8 @@ ghost use Rattle.std.specs.Prelude.{◌≡◌};
 
 use crate::four_links::{LINKS, Traffic, four_links, open_senders};
 use crate::sending::{CountedWire, Sender};
+use interface_workers::{Core, CoreReader, OpenGate, Opened, Port, Wire, Work, serve_link};
+use lsr_serve::{LinkSockets, LinkWire, ServeFault, UdpWire, open_wires};
 use sorted_rows::Table;
 use std::alloc::{AllocError, Global};
 use std::marker::Brand;
@@ -13,10 +15,6 @@ use std::sync::ledger::{Blank, Ledger};
 use std::thread;
 use std::thread::Threads;
 use std::time::{Clock, Duration, Instant};
-use worker_fixtures::serve::workers::{
-    Core, CoreReader, OpenGate, Opened, Port, Wire, Work, serve_link,
-};
-use worker_fixtures::serve::{LinkSockets, LinkWire, ServeFault, UdpWire, open_wires};
 use worker_fixtures::{Fault, Left, free_links, open_router, per_second};
 
 /// How many turns a worker makes beyond those in which it takes a frame: it waits 100 milliseconds in each for one that is late.

@@ -1,11 +1,11 @@
 //! A neighbour that sends frames, and the wire that takes them.
 ghost use Rattle.std.specs.Prelude.{◌≡◌};
 
+use interface_workers::{Wire, WireFault};
 use std::net::{SocketAddr, UdpSocket};
 use std::sync::atomic::{AtomicU64, Ordering};
 use std::thread;
 use std::time::{Clock, Duration};
-use worker_fixtures::serve::workers::{Wire, WireFault};
 
 /// How many frames a neighbour sends before the first of them is taken: as many as a socket keeps.
 const WINDOW: u64 = 64;

@@ -1,6 +1,7 @@
 //! Frames that are forwarded while the entry of their label comes and goes.
 ghost use Rattle.std.specs.Prelude.{◌≡◌};
 
+use interface_workers::{Core, CoreReader, Opened, Port};
 use lsr_config::BUILT_IN;
 use lsr_facts::Refusal;
 use std::alloc::Global;
@@ -11,7 +12,6 @@ use std::sync::ledger::{Blank, Ledger};
 use std::thread;
 use std::thread::Threads;
 use std::time::{Clock, Duration, Instant};
-use worker_fixtures::serve::workers::{Core, CoreReader, Opened, Port};
 use worker_fixtures::{
     Fate, Fault, Follower, IN_LINK, LABELLED_FRAME, OUT_LINK, PATH_FRAME, RESV_FRAME, TEAR_FRAME,
     followers, open_router, per_second,
