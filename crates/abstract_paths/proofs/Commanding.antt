@@ -47,16 +47,11 @@ use Rattle.abstract_paths.proofs.TunnelTable.{begun_stands, cancelled_stands, tu
 use Rattle.abstract_paths.specs.Commands.{bypass_by, command, commanded, has_rate, is_bad_request, is_bad_tunnel, masked_prefix, refusal_of, tests_of, tunnel_by, with_cancelled, with_change, with_dropped}
 use Rattle.abstract_paths.specs.Changes.{with_tunnel}
 use Rattle.abstract_paths.specs.Heads.{head_hop, is_full, with_head, with_head_by}
+use Rattle.abstract_paths.specs.Events.{IsCommand}
 use Rattle.abstract_paths.specs.Outcomes.{done, refused}
 use Rattle.abstract_paths.specs.Places.{is_own, place_of}
 use Rattle.abstract_paths.specs.RowLaws.{length-filter_most}
 use Rattle.abstract_paths.specs.Soundness.{IsStanding}
-
--- What a command may ask for: an address of four octets, and a traffic descriptor of 32 bytes.
-abbrev pub MayAsk : Command → Type 0
-MayAsk (AddTunnel t) = IsAddress t.endpoint × (length t.tspec ≡ 32)
-MayAsk (ChangeTunnel c) = length c.tspec ≡ 32
-MayAsk c = Unit {0}
 
 -- where no test of a command holds, each fails
 all_fail : (tests : List (Bool × Refusal)) → option_map (λ test. test.1) (find_first (λ test. test.0) tests) ≡ None → AllByRecursion (λ test. test.0 ≡ false) tests
@@ -150,7 +145,7 @@ module _ (r : Router) (s : Facts) (router : IsRouter r) (runs : s.cold ≡ false
       let good = good_tunnel r s t fail.1.1.0 in
       let new : find nat_cmp t.number s.tunnels ≡ None = none-is _ (not-false _ fail.0) in
       let tunnel = tunnel_by t in
-      let asked : IsTunnelLsp r 1 tunnel.current = record { route = good.request.short; whole_tspec = whole; given = omega arith } in
+      let asked : IsTunnelLsp r 1 tunnel.current = record { route = good.request.short; whole_tspec = whole; numbered = omega arith; given = omega arith } in
       let its : IsTunnel r (t.number, tunnel) = record { endpoint = four; elsewhere = good.elsewhere; current = asked; pending = tt } in
       begun-stands t.number tunnel tunnel.current (tunnels_put_room r t.number tunnel s.tunnels is.tunnels room.0 its) its asked room.1
       (is_head-current r (put nat_cmp t.number tunnel s.tunnels) t.number tunnel (find-put_same nat_cmp nat_cmp_total t.number tunnel s.tunnels))
@@ -215,9 +210,9 @@ module _ (r : Router) (s : Facts) (router : IsRouter r) (runs : s.cold ≡ false
       fail.1.1.1.0)
 
   -- What a command changes that isn't refused.
-  pub commanded-stands : (c : Command) → MayAsk c → refusal_of r s c ≡ None → IsStanding r (commanded r s c)
-  commanded-stands (AddTunnel t) may none = add-stands t may.0 may.1 none
-  commanded-stands (ChangeTunnel c) may none = change-stands c may none
+  pub commanded-stands : (c : Command) → IsCommand c → refusal_of r s c ≡ None → IsStanding r (commanded r s c)
+  commanded-stands (AddTunnel t) may none = add-stands t may.endpoint may.whole_tspec none
+  commanded-stands (ChangeTunnel c) may none = change-stands c may.whole_tspec none
   commanded-stands (CancelChange number) may none = cancel-stands number
   commanded-stands (DropTunnel number) may none = drop-stands number (all_fail (tests_of r s (DropTunnel number)) none).1.0
   commanded-stands (AddBypass b) may none = protect-stands b none
@@ -230,7 +225,7 @@ module _ (r : Router) (s : Facts) (router : IsRouter r) (runs : s.cold ≡ false
       sound_with_heads r s (where_key prefix_cmp (λ k. not (is_eq (prefix_cmp (masked_prefix prefix) k))) s.routes) s.tunnels s.paths runs is (routes_where r (λ k. not (is_eq (prefix_cmp (masked_prefix prefix) k))) s.routes is.routes) is.tunnels is.bypasses is.paths is.heads
 
   -- A command.
-  pub command-stands : (c : Command) → MayAsk c → LeavesStanding r (command r s c)
+  pub command-stands : (c : Command) → IsCommand c → LeavesStanding r (command r s c)
   unfolding command
   command-stands c may = by (refusal_of r s c) refl
     where

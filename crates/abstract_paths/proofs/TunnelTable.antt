@@ -76,8 +76,8 @@ module _ (r : Router) where
   begun_stands number route tspec t is short whole = record {
     endpoint = is.endpoint;
     elsewhere = is.elsewhere;
-    current = record { route = is.current.route; whole_tspec = is.current.whole_tspec; given = omega (arith, is.current.given) };
-    pending = (record { route = short; whole_tspec = whole; given = omega arith }, λ same. omega (arith, same, is.current.given));
+    current = record { route = is.current.route; whole_tspec = is.current.whole_tspec; numbered = is.current.numbered; given = omega (arith, is.current.given) };
+    pending = (record { route = short; whole_tspec = whole; numbered = omega arith; given = omega arith }, λ same. omega (arith, same, is.current.given));
   }
 
   -- It is given up.

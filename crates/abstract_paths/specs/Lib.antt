@@ -3,6 +3,7 @@ pub mod Changes
 pub mod Commanding
 pub mod Commands
 pub mod BackupRoutes
+pub mod Events
 pub mod Heads
 pub mod Links
 pub mod Merging

@@ -5,11 +5,13 @@
 
 mod commands;
 mod events;
+mod laws;
 mod tunnels;
 mod ways;
 
 pub use commands::Command;
 pub use events::{Event, Made, Output, Outputs};
+pub use laws::is_possible;
 pub use link_frames::{Data, Frame, KIND_HOP, Payload, Unread};
 pub use tunnels::{NewBypass, NewTunnel, TunnelChange};
 pub use ways::{ArrivalWay, Arrive, Relay, takes};

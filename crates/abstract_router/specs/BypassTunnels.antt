@@ -1,26 +1,28 @@
 -- Bypasses as a point of local repair sees them: where each ends, and what it runs over (RFC 4090, 3.2).
-use Rattle.std.specs.Prelude.{ℕ, Bool, if◌then◌else◌, List, filter_map, Option, Some, None}
+use Rattle.std.specs.Prelude.{ℕ, if◌then◌else◌, List, filter_map, Option, Some, None}
 use Rattle.std.specs.FinMap.Entries.{find}
 use Rattle.std.specs.Option.{option_and_then, option_map}
 use Rattle.std.specs.Ordering.{nat_cmp}
 use Rattle.lsr_facts.specs.Orders.{key_cmp}
 use Rattle.lsr_facts.specs.Tunnels.{current_key}
 use Rattle.lsr_facts.specs.declared.bypass.Bypass.{Bypass}
+use Rattle.lsr_facts.specs.declared.facts.Facts.{Facts}
+use Rattle.lsr_facts.specs.declared.key.Key.{Key}
 use Rattle.lsr_facts.specs.declared.router.Router.{Router}
 use Rattle.lsr_facts.specs.declared.tunnel.Tunnel.{Tunnel}
 use Rattle.lsr_facts.specs.declared.repair.BypassTunnel.{BypassTunnel}
 use Rattle.lsr_facts.specs.declared.repair.Over.{Over}
 use Rattle.lsr_facts.specs.declared.resv_fact.ResvFact.{ResvFact}
-use Rattle.abstract_paths.specs.Places.{is_up}
+use Rattle.abstract_router.specs.Standing.{stands}
 use Rattle.abstract_router.specs.States.{State}
 
--- by a reservation: its link and label, where the link is up
-abbrev pub over_by : List (ℕ × Bool) → ResvFact → Option Over
-over_by up resv = if is_up up resv.link then Some (record { link = resv.link; label = resv.label }) else None
+-- by an LSP's reservation: its link and label, where the reservation stands
+abbrev pub over_by : Facts → Key → ResvFact → Option Over
+over_by facts key resv = if stands facts (key, resv) then Some (record { link = resv.link; label = resv.label }) else None
 
--- what a tunnel runs over: its current LSP is reserved, over a link that is up
+-- what a tunnel runs over: its current LSP is reserved, and the reservation stands
 abbrev pub over_of : Router → State → ℕ × Tunnel → Option Over
-over_of r s tunnel = option_and_then (over_by s.facts.up) (find key_cmp (current_key r tunnel) s.resvs)
+over_of r s tunnel = option_and_then (over_by s.facts (current_key r tunnel)) (find key_cmp (current_key r tunnel) s.resvs)
 
 -- a bypass that runs in this tunnel
 abbrev pub bypass_tunnel_of : Router → State → Bypass → Tunnel → BypassTunnel

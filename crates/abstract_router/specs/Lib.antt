@@ -15,6 +15,7 @@ pub mod Repairing
 pub mod Reserving
 pub mod Returning
 pub mod Soundness
+pub mod Standing
 pub mod States
 pub mod Steps
 pub mod Tables

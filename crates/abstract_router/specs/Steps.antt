@@ -1,41 +1,31 @@
 -- One step of the abstract router, and runs of steps.
-use Rattle.std.specs.Prelude.{◌≡◌, ◌≢◌, ◌&&◌, ◌++◌, ℕ, true, if◌then◌else◌, Bool, false, List, [], ◌∷◌, filter, length, map}
-use Rattle.std.specs.FinMap.Entries.{find}
+use Rattle.std.specs.Prelude.{◌≡◌, ◌≢◌, ◌++◌, ℕ, true, if◌then◌else◌, Bool, false, List, [], ◌∷◌, filter, map}
 use Rattle.std.specs.List.{AllByRecursion}
 use Rattle.std.specs.Option.{option_map_or}
-use Rattle.rsvp_contents.specs.Picking.{content_in}
-use Rattle.rsvp_contents.specs.Spelling.{IsMessage}
-use Rattle.rsvp_objects.specs.Ranges.{IsAddress}
 use Rattle.rsvp_bodies.specs.declared.prefix.Prefix.{Prefix}
-use Rattle.lsr_facts.specs.Orders.{key_cmp}
 use Rattle.lsr_facts.specs.Tunnels.{current_key, pending_key}
 use Rattle.lsr_facts.specs.declared.bypass.Bypass.{Bypass}
-use Rattle.lsr_facts.specs.declared.facts.Facts.{Facts}
 use Rattle.lsr_facts.specs.declared.key.Key.{Key}
 use Rattle.lsr_facts.specs.declared.path_fact.PathFact.{PathFact}
 use Rattle.lsr_facts.specs.declared.router.Router.{Router}
 use Rattle.lsr_facts.specs.declared.tunnel.Tunnel.{Tunnel}
 use Rattle.lsr_facts.specs.Changes.{switched}
-use Rattle.lsr_facts.specs.declared.resv_fact.ResvFact.{ResvFact}
 use Rattle.lsr_facts.specs.declared.refusal.Refusal.{Refusal}
 use Rattle.lsr_facts.specs.declared.refusal.Refusal.TheVariants.{HopLimit, IsCold}
-use Rattle.abstract_paths.specs.declared.commands.Command.{Command}
-use Rattle.abstract_paths.specs.declared.commands.Command.TheVariants.{AddTunnel, ChangeTunnel, AddRoute}
 use Rattle.abstract_paths.specs.declared.events.Event.TheVariants as events
 use Rattle.abstract_paths.specs.declared.events.Event.{Event}
 use Rattle.abstract_paths.specs.declared.events.Made.{Made}
 use Rattle.abstract_paths.specs.declared.events.Output.{Output}
-use Rattle.link_frames.specs.Payloads.{IsData}
 use Rattle.abstract_paths.specs.Changes.{without_paths}
-use Rattle.abstract_paths.specs.Places.{is_up}
 use Rattle.abstract_paths.specs.Relays.{exceeds_hop_limit}
 use Rattle.abstract_paths.specs.Restarts.{opening_facts}
-use Rattle.abstract_paths.specs.Tears.{leaves_by}
+pub use Rattle.abstract_paths.specs.Events.{IsCommand, IsEvent}
 use Rattle.abstract_router.specs.Arrivals.{outcome}
 use Rattle.abstract_router.specs.Labels.{IsLabelling, labels_after}
 use Rattle.abstract_router.specs.Outcomes.{Outcome}
 use Rattle.abstract_router.specs.Outputs.{item_stamps, outputs_of, upstream_stamps}
 use Rattle.abstract_router.specs.Repairing.{repaired, repairs_left, told_repaired}
+pub use Rattle.abstract_router.specs.Standing.{stands}
 use Rattle.abstract_router.specs.States.{State, bare, is_reserved, with_facts, with_resvs_where}
 
 -- a router as it is opened: nothing is known of LSPs
@@ -61,10 +51,6 @@ taken_over r s = with_facts (without_paths (given_up r s) (record s.facts { tunn
 -- No tunnel's new LSP is reserved. So it is after each step, since the tunnel goes over to it in the step that reserves it.
 abbrev pub AreSettled : Router → State → Type 0
 AreSettled r s = AllByRecursion (λ tunnel. is_ready r s tunnel ≡ false) s.facts.tunnels
-
--- A reservation stands on its path: on the link that this leaves by, which is up.
-abbrev pub stands : Facts → Key × ResvFact → Bool
-stands facts resv = is_up facts.up resv.1.link && option_map_or (leaves_by resv.1.link) (find key_cmp resv.0 facts.paths) false
 
 -- reservations go that stand no more: their path went, or leaves by another link, or ends here now; or their link went
 -- down (RFC 2205, 2.3 and 3.6)
@@ -106,21 +92,6 @@ MayChooseBy false r labels paths chosen = IsLabelling r labels paths chosen
 
 abbrev pub MayChoose : Router → State → Outcome → List (Key × ℕ) → Type 0
 MayChoose r before o chosen = MayChooseBy o.is_silent r before.labels o.after.facts.paths chosen
-
--- A command that can be: its addresses have four octets, its traffic descriptor 32 bytes.
-abbrev pub IsCommand : Command → Type 0
-IsCommand (AddTunnel t) = IsAddress t.endpoint × (length t.tspec ≡ 32)
-IsCommand (ChangeTunnel c) = length c.tspec ≡ 32
-IsCommand (AddRoute prefix link) = IsAddress prefix.address
-IsCommand c = Unit {0}
-
--- An event that can be: its message is one, or it has no more unread bytes than a frame, or its command can be. The types
--- of the program keep that.
-abbrev pub IsEvent : Event → Type 0
-IsEvent (events.Arrive a) = IsMessage (content_in a.reading)
-IsEvent (events.Relay m) = IsData m.message
-IsEvent (events.Command c) = IsCommand c
-IsEvent event = Unit {0}
 
 -- One step, made: what the event does and what follows from it, its answer, and what is sent. While the router is
 -- cold, no event but Start is one; nor is a message for another router whose limit ran out.

@@ -2,9 +2,10 @@
 use Rattle.std.specs.Prelude.{◌≡◌, ℕ, true, false, cond, IfSome, Option, Some, None}
 use Rattle.std.specs.FinMap.Entries.{find}
 use Rattle.std.specs.List.{AllByRecursion}
-use Rattle.std.specs.Option.{option_and_then, option_map}
+use Rattle.std.specs.Option.{option_and_then, option_map, option_map_or}
 use Rattle.std.specs.Ordering.{nat_cmp}
 use Rattle.std.proofs.Common.{refl, subst}
+use Rattle.std.proofs.lemmas.Bool.{and_parts}
 use Rattle.sorted_rows.specs.ListLaws.{all-weaker}
 use Rattle.sorted_rows.specs.RowsLaws.{find-all}
 use Rattle.lsr_facts.specs.Orders.{key_cmp}
@@ -18,8 +19,10 @@ use Rattle.lsr_facts.specs.declared.repair.Over.{Over}
 use Rattle.lsr_facts.specs.declared.resv_fact.ResvFact.{ResvFact}
 use Rattle.forwarding_table.specs.Labels.{is_label}
 use Rattle.abstract_paths.specs.Places.{is_up}
+use Rattle.abstract_paths.specs.Tears.{leaves_by}
 use Rattle.abstract_router.specs.BypassTunnels.{bypass_tunnel_of, bypass_tunnels_of, over_at, over_by, over_of}
 use Rattle.abstract_router.specs.Soundness.{IsResv}
+use Rattle.abstract_router.specs.Standing.{stands}
 use Rattle.abstract_router.specs.States.{State}
 use Rattle.abstract_router.specs.UpstreamLaws.{all-filter_map}
 use Rattle.facility_backup.specs.Asking.{row_by}
@@ -30,21 +33,21 @@ pub record IsOver (s : State) (over : Over) : Type 0 where
   pub up : is_up s.facts.up over.link ≡ true
 
 -- so it is by a reservation
-by_is : (s : State) (resv : ResvFact) → is_label resv.label ≡ true → IfSome (over_by s.facts.up resv) (IsOver s)
-by_is s resv label =
-    elim (is_up s.facts.up resv.link) as (λ b. is_up s.facts.up resv.link ≡ b → IfSome (cond b (Some (record { link = resv.link; label = resv.label })) None) (IsOver s)) [
-      | true ↦ λ up. record { label = label; up = up }
-      | false ↦ λ up. tt
+by_is : (s : State) (key : Key) (resv : ResvFact) → is_label resv.label ≡ true → IfSome (over_by s.facts key resv) (IsOver s)
+by_is s key resv label =
+    elim (stands s.facts (key, resv)) as (λ b. stands s.facts (key, resv) ≡ b → IfSome (cond b (Some (record { link = resv.link; label = resv.label })) None) (IsOver s)) [
+      | true ↦ λ stood. record { label = label; up = (and_parts (is_up s.facts.up resv.link) (option_map_or (leaves_by resv.link) (find key_cmp key s.facts.paths) false) stood).0 }
+      | false ↦ λ falls. tt
     ] refl
 
 -- by one that is found
-found_is : (s : State) (resv : Option ResvFact) → IfSome resv (λ resv. is_label resv.label ≡ true) → IfSome (option_and_then (over_by s.facts.up) resv) (IsOver s)
-found_is s None label = tt
-found_is s (Some resv) label = by_is s resv label
+found_is : (s : State) (key : Key) (resv : Option ResvFact) → IfSome resv (λ resv. is_label resv.label ≡ true) → IfSome (option_and_then (over_by s.facts key) resv) (IsOver s)
+found_is s key None label = tt
+found_is s key (Some resv) label = by_is s key resv label
 
 -- of a tunnel
 of_is : (r : Router) (s : State) (tunnel : ℕ × Tunnel) → AllByRecursion (λ resv. is_label resv.1.label ≡ true) s.resvs → IfSome (over_of r s tunnel) (IsOver s)
-of_is r s tunnel labels = found_is s (find key_cmp (current_key r tunnel) s.resvs) (find-all key_cmp (λ resv. is_label resv.label ≡ true) (current_key r tunnel) s.resvs labels)
+of_is r s tunnel labels = found_is s (current_key r tunnel) (find key_cmp (current_key r tunnel) s.resvs) (find-all key_cmp (λ resv. is_label resv.label ≡ true) (current_key r tunnel) s.resvs labels)
 
 -- of a bypass
 row_is : (r : Router) (s : State) → AllByRecursion (λ resv. is_label resv.1.label ≡ true) s.resvs → (bypass : ℕ × Bypass) → IfSome {T = ℕ × BypassTunnel} (row_by r s bypass) (λ row. IfSome row.1.over (IsOver s))

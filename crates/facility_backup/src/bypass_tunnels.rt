@@ -5,17 +5,17 @@ ghost use Rattle.std.specs.Ordering.{nat_cmp};
 ghost use Rattle.std.specs.Prelude.{◌≡◌};
 ghost use Rattle.abstract_router.specs.BypassTunnels.{bypass_tunnel_by, bypass_tunnels_of, over_at, over_of};
 
+use crate::standing::stands;
 use lsr_facts::{Bypass, BypassTunnel, Over, Tunnel, current_key};
-use message_rules::is_up;
 use state_views::StateView;
 
-/// What the tunnel of a number runs over: its current LSP is reserved, over a link that is up.
+/// What the tunnel of a number runs over: its current LSP is reserved, and the reservation stands.
 fn over_of<V: StateView>(view: &V, number: u16, tunnel: &Tunnel) -> Option<Over>
     ensures { result ≡ over_of (V.router view.now) (V.state view.now) (number, tunnel.now) }
 {
-    let node = view.node();
-    let resv = view.resv(&current_key(node.router, number, tunnel))?;
-    if !is_up(node.up, resv.link) {
+    let key = current_key(view.node().router, number, tunnel);
+    let resv = view.resv(&key)?;
+    if !stands(view, &key, resv) {
         return None;
     }
     Some(Over {

@@ -16,6 +16,6 @@ pub use bypass_tunnels::{bypass_tunnel_at, bypass_tunnel_by, over_at};
 pub use matching::is_for;
 pub use repairs::{Held, Repaired, repair};
 pub use selecting::{own_flags, select};
-pub use standing::{held_of, repair_stands};
+pub use standing::{held_of, repair_stands, stands};
 pub use state_views::{Edits, StateView};
 pub use surroundings::is_same_around;

@@ -228,7 +228,7 @@ new_fits r row first endpoint elsewhere short whole =
     record {
       endpoint = endpoint;
       elsewhere = elsewhere;
-      current = record { route = short; whole_tspec = whole; given = omega (arith, current, last) };
+      current = record { route = short; whole_tspec = whole; numbered = omega (arith, current); given = omega (arith, current, last) };
       pending = subst (IsPendingAs r row.1) (sym none) tt;
     }
 

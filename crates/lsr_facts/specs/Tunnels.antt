@@ -45,10 +45,11 @@ is_head r tunnels key =
 abbrev pub route_from : Router → List Step → List Step
 route_from r route = Ipv4 false (record { address = r.id; length = 32 }) ∷ route
 
--- What a tunnel's LSP is asked to be fits a message, and its ID was given.
+-- What a tunnel's LSP is asked to be fits a message, and its ID was given: the first is 1.
 pub record IsTunnelLsp (r : Router) (last : ℕ) (lsp : TunnelLsp) : Type 0 where
   pub route : IsTrue (is_short_route (route_from r lsp.route))
   pub whole_tspec : length lsp.tspec ≡ 32
+  pub numbered : 1 ≤ lsp.id
   pub given : lsp.id ≤ last
 
 -- The LSP that is to take the place of the tunnel's current one is another.

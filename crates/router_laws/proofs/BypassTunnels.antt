@@ -1,8 +1,8 @@
 -- What bypasses run over: what the current LSPs of their tunnels are reserved over.
-use Rattle.std.specs.Prelude.{◌≡◌, ◌||◌, ℕ, Bool, true, false, cond, T, List, [], ◌∷◌, filter_map, Option, Some, None, is_some}
+use Rattle.std.specs.Prelude.{◌≡◌, ◌&&◌, ◌||◌, ℕ, Bool, true, false, cond, T, List, [], ◌∷◌, filter_map, Option, Some, None, is_some}
 use Rattle.std.specs.FinMap.Entries.{find, is_sorted, put}
 use Rattle.std.specs.List.{list_any}
-use Rattle.std.specs.Option.{option_and_then, option_map}
+use Rattle.std.specs.Option.{option_and_then, option_map, option_map_or}
 use Rattle.std.specs.Ordering.{eq_by_cmp, nat_cmp}
 use Rattle.std.specs.declared.cmp.Ordering.{Ordering}
 use Rattle.std.specs.declared.net.ipv4_addr.Ipv4Addr.{Ipv4Addr}
@@ -18,7 +18,11 @@ use Rattle.lsr_facts.specs.declared.facts.Facts.{Facts}
 use Rattle.lsr_facts.specs.declared.router.Router.{Router}
 use Rattle.lsr_facts.specs.declared.tunnel.Tunnel.{Tunnel}
 use Rattle.lsr_facts.specs.declared.repair.BypassTunnel.{BypassTunnel}
+use Rattle.lsr_facts.specs.declared.repair.Over.{Over}
+use Rattle.lsr_facts.specs.declared.resv_fact.ResvFact.{ResvFact}
 use Rattle.abstract_paths.specs.Changes.{with_tunnel}
+use Rattle.abstract_paths.specs.Places.{is_up}
+use Rattle.abstract_paths.specs.Tears.{leaves_by}
 use Rattle.abstract_paths.specs.TouchedLaws.{find-made}
 use Rattle.abstract_router.specs.BypassTunnels.{bypass_tunnel_by, bypass_tunnel_of, bypass_tunnels_of, over_at, over_by, over_of}
 use Rattle.abstract_router.specs.States.{State, with_facts}
@@ -77,7 +81,7 @@ module _ (r : Router) (s : State) (number : ℕ) (old new : Tunnel) (found : fin
 
   -- a bypass by the end and the current LSP of its tunnel
   abbrev bypass_tunnel : Bypass → Ipv4Addr → ℕ → BypassTunnel
-  bypass_tunnel bypass endpoint id = record { tunnel = bypass.tunnel; protects = bypass.link; ends_at = endpoint; over = option_and_then (over_by s.facts.up) (find key_cmp (head_key r bypass.tunnel endpoint id) s.resvs) }
+  bypass_tunnel bypass endpoint id = record { tunnel = bypass.tunnel; protects = bypass.link; ends_at = endpoint; over = option_and_then (over_by s.facts (head_key r bypass.tunnel endpoint id)) (find key_cmp (head_key r bypass.tunnel endpoint id) s.resvs) }
 
   agree : (bypass : ℕ × Bypass) → bypass_tunnel_by r after bypass ≡ bypass_tunnel_by r s bypass
   agree bypass = elim (cases_eq bypass.1.tunnel number) as (λ c. bypass_tunnel_by r after bypass ≡ bypass_tunnel_by r s bypass) [
@@ -95,19 +99,24 @@ module _ (r : Router) (s : State) (number : ℕ) (old new : Tunnel) (found : fin
   unfolding bypass_tunnels_of
   bypass_tunnels-put = λ i. filter_map (λ (bypass : ℕ × Bypass). option_map {U = ℕ × BypassTunnel} (λ bypass_tunnel. (bypass.0, bypass_tunnel)) (agree bypass i)) s.facts.bypasses
 
--- Its tunnel carries its traffic by the same LSP as before, which has the reservation that it had.
+-- Its tunnel carries its traffic by the same LSP as before, which has the path and the reservation that it had.
 pub record RunsOn (r : Router) (before after : State) (number : ℕ) (was : RunsIn before.facts number) : Type 0 where
   pub tunnel : Tunnel
   pub known : find nat_cmp number after.facts.bypasses ≡ Some was.bypass
   pub runs : find nat_cmp was.bypass.tunnel after.facts.tunnels ≡ Some tunnel
   pub same : IsSameTunnel was.tunnel tunnel
+  pub path : find key_cmp (current_key r (was.bypass.tunnel, was.tunnel)) after.facts.paths ≡ find key_cmp (current_key r (was.bypass.tunnel, was.tunnel)) before.facts.paths
   pub resv : find key_cmp (current_key r (was.bypass.tunnel, was.tunnel)) after.resvs ≡ find key_cmp (current_key r (was.bypass.tunnel, was.tunnel)) before.resvs
   pub up : after.facts.up ≡ before.facts.up
+
+-- what a reservation leads over, where it stands
+abbrev over_where : Bool → ResvFact → Option Over
+over_where stood resv = cond stood (Some (record { link = resv.link; label = resv.label })) None
 
 -- Then the bypass runs over what it ran over.
 pub over_at-same : (r : Router) (before after : State) (number : ℕ) → T (is_sorted nat_cmp before.facts.bypasses) → T (is_sorted nat_cmp after.facts.bypasses) → (was : RunsIn before.facts number) → RunsOn r before after number was → over_at (bypass_tunnels_of r after) number ≡ over_at (bypass_tunnels_of r before) number
 over_at-same r before after number sorted sorted_after was on =
     over_at-is r after number sorted_after (record { bypass = was.bypass; tunnel = on.tunnel; known = on.known; runs = on.runs })
-    ∙ (λ i. option_and_then (over_by (on.up i)) (find key_cmp (head_key r was.bypass.tunnel (on.same.endpoint i) (on.same.current i).id) after.resvs))
-    ∙ ap (option_and_then (over_by before.facts.up)) on.resv
+    ∙ (λ i. over_of r after (was.bypass.tunnel, record on.tunnel { endpoint = on.same.endpoint i; current = on.same.current i }))
+    ∙ (λ i. option_and_then (λ (resv : ResvFact). over_where (is_up (on.up i) resv.link && option_map_or (leaves_by resv.link) (on.path i) false) resv) (on.resv i))
     ∙ sym (over_at-is r before number sorted was)

@@ -490,6 +490,7 @@ module _ (r : Router) (before after : State) (made : Made) (c : Command) (is : I
             known = ap (find nat_cmp repair.bypass) bypasses_then ∙ bypass_then r before.facts c none repair.bypass was.bypass was.known undropped;
             runs = ap (find nat_cmp was.bypass.tunnel) tunnels_then ∙ tunnel.1;
             same = tunnel.2;
+            path = left.paths (current_key r (was.bypass.tunnel, was.tunnel)) (untouched r before is was.bypass.tunnel was.tunnel was.runs c none kept);
             resv = left.resvs (current_key r (was.bypass.tunnel, was.tunnel)) (untouched r before is was.bypass.tunnel was.tunnel was.runs c none kept);
             up = left.up;
           })

@@ -114,6 +114,7 @@ module _ (r : Router) (before after : State) (made : Made) (arrived : Arrive) (i
         known = ap (find nat_cmp number) known_then.0 ∙ was.known;
         runs = known_then.1.1;
         same = known_then.1.2;
+        path = left.paths key apart;
         resv = left.resvs key apart;
         up = left.up;
       })

@@ -19,12 +19,11 @@ use Rattle.lsr_facts.specs.Reservations.{expire_repairs, expire_resvs, resv_live
 use Rattle.lsr_facts.specs.declared.repair.Repair.{Repair}
 use Rattle.lsr_facts.specs.declared.resv_fact.ResvFact.{ResvFact}
 use Rattle.abstract_paths.specs.declared.commands.Command.{Command}
-use Rattle.abstract_paths.specs.declared.commands.Command.TheVariants.{AddTunnel, ChangeTunnel, CancelChange, DropTunnel, AddBypass, DropBypass, AddRoute, DropRoute}
 use Rattle.abstract_paths.specs.declared.ways.Relay.{Relay}
 use Rattle.abstract_paths.specs.declared.events.Event.TheVariants as events
 use Rattle.abstract_paths.specs.declared.events.Event.{Event}
 use Rattle.abstract_paths.proofs.Alongside.{commanded-all, commanded-time, signalled-all, signalled-same}
-use Rattle.abstract_paths.proofs.Commanding.{MayAsk, command-stands}
+use Rattle.abstract_paths.proofs.Commanding.{command-stands}
 use Rattle.abstract_paths.specs.Commands.{begun_by, command, commanded, refusal_of}
 use Rattle.abstract_paths.specs.Heads.{head_path, signalled}
 use Rattle.abstract_paths.proofs.EventStanding.{LeavesStanding, link_change-stands, tick-stands}
@@ -37,7 +36,7 @@ use Rattle.abstract_paths.specs.Restarts.{restarted, started}
 use Rattle.abstract_paths.specs.Soundness.{IsStanding}
 use Rattle.abstract_paths.specs.Relays.{relay, relayed_by}
 use Rattle.abstract_paths.specs.Routing.{route_to}
-use Rattle.abstract_router.specs.Steps.{IsCommand, IsEvent}
+use Rattle.abstract_router.specs.Steps.{IsEvent}
 use Rattle.abstract_paths.specs.Time.{tick}
 use Rattle.router_soundness.proofs.Holding.{held_where, held_with_facts, held_with_repairs}
 use Rattle.router_soundness.proofs.Repairing.{repaired_resvs_where, repaired_where, repaired_with_facts}
@@ -117,17 +116,6 @@ tick-leaves r s n is =
           (all-map (HasLabel s.labels) (lifetimes.with_living n) (filter (lifetimes.lives_on n) s.facts.paths) (all-filter (HasLabel s.labels) (lifetimes.lives_on n) s.facts.paths (labelled r s is))));
     }))
 
--- what a command may ask for that can be
-may_ask : (c : Command) → IsCommand c → MayAsk c
-may_ask (AddTunnel t) can = can
-may_ask (ChangeTunnel c) can = can
-may_ask (CancelChange number) can = tt
-may_ask (DropTunnel number) can = tt
-may_ask (AddBypass bypass) can = tt
-may_ask (DropBypass number) can = tt
-may_ask (AddRoute prefix link) can = tt
-may_ask (DropRoute prefix) can = tt
-
 -- a command
 command-leaves : (r : Router) (s : State) (c : Command) → IsSound r s → LeavesStanding r (command r s.facts c) → Leaves r s (command_comes r s c)
 unfolding command_comes command
@@ -168,7 +156,7 @@ started-sound r s is = sound_cold r s false (sound_started r s.facts is.paths) i
 
 -- Whatever an event does of itself leaves the state so that what follows makes it sound.
 pub outcome-leaves : (r : Router) (s : State) (event : Event) → IsRouter r → IsSound r s → IsEvent event → (s.facts.cold ≡ true → event ≡ events.Start) → Leaves r s (outcome r s event)
-outcome-leaves r s (events.Arrive a) router is possible awake = arrival-leaves r s a router (runs_for s.facts.cold (events.Arrive a) (λ e. cc) awake) is possible
+outcome-leaves r s (events.Arrive a) router is possible awake = arrival-leaves r s a router (runs_for s.facts.cold (events.Arrive a) (λ e. cc) awake) is possible.message
 outcome-leaves r s (events.Relay m) router is possible awake = relay-leaves r s m is
 outcome-leaves r s (events.Tick n) router is possible awake = tick-leaves r s n is (tick-stands r s.facts n router (runs_for s.facts.cold (events.Tick n) (λ e. cc) awake) is.paths)
 outcome-leaves r s (events.LinkUp number) router is possible awake =
@@ -176,6 +164,6 @@ outcome-leaves r s (events.LinkUp number) router is possible awake =
 outcome-leaves r s (events.LinkDown number) router is possible awake =
     of_paths-leaves r s (link_change r s.facts number false) is (link_change-stands r s.facts number false router is.paths) (keeps_link r s.labels s.facts (labelled r s is) number false)
 outcome-leaves r s (events.Command c) router is possible awake =
-    command-leaves r s c is (command-stands r s.facts router (runs_for s.facts.cold (events.Command c) (λ e. cc) awake) is.paths c (may_ask c possible))
+    command-leaves r s c is (command-stands r s.facts router (runs_for s.facts.cold (events.Command c) (λ e. cc) awake) is.paths c possible)
 outcome-leaves r s events.Restart router is possible awake = lost-sound r s is
 outcome-leaves r s events.Start router is possible awake = started-sound r s is

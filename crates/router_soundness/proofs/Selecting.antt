@@ -1,7 +1,7 @@
 -- What a bypass runs over is a link that is up, and the label that the end of a selected one takes can be written.
-use Rattle.std.specs.Prelude.{◌≡◌, ◌%◌, ◌==◌, ◌&&◌, ℕ, not, true, if◌then◌else◌, List, [], ◌∷◌, find as find_first, Option, Some, None, IfSome}
+use Rattle.std.specs.Prelude.{◌≡◌, ◌%◌, ◌==◌, ◌&&◌, ℕ, not, true, false, if◌then◌else◌, List, [], ◌∷◌, find as find_first, Option, Some, None, IfSome}
 use Rattle.std.specs.FinMap.Entries.{find}
-use Rattle.std.specs.Option.{option_and_then, option_map, unwrap_or}
+use Rattle.std.specs.Option.{option_and_then, option_map, option_map_or, unwrap_or}
 use Rattle.std.specs.Ordering.{nat_cmp}
 use Rattle.std.specs.declared.net.ipv4_addr.Ipv4Addr.{Ipv4Addr}
 use Rattle.std.proofs.Common.{subst}
@@ -26,6 +26,8 @@ use Rattle.abstract_paths.specs.RowLaws.{find-holds, option_map-holds, option_or
 use Rattle.abstract_router.specs.BypassTunnels.{bypass_tunnel_by, bypass_tunnel_of, bypass_tunnels_of, over_at, over_by}
 use Rattle.abstract_router.specs.Lsps.{Around}
 use Rattle.abstract_router.specs.Protecting.{candidates_of, ends_at_peer, first_label, is_preferred, is_protected, label_after, leads_around, names_router, selected, selected_by}
+use Rattle.abstract_paths.specs.Tears.{leaves_by}
+use Rattle.abstract_router.specs.Standing.{stands}
 use Rattle.abstract_router.specs.States.{State}
 use Rattle.abstract_router.specs.UpstreamLaws.{all-filter_map}
 
@@ -33,9 +35,11 @@ use Rattle.abstract_router.specs.UpstreamLaws.{all-filter_map}
 
 module _ (r : Router) (s : State) where
   -- what a tunnel runs over is a link that is up
-  over_up : (o : Option ResvFact) → IfSome (option_and_then (over_by s.facts.up) o) (λ over. is_up s.facts.up over.link ≡ true)
-  over_up None = tt
-  over_up (Some resv) = cond_both (is_up s.facts.up resv.link) _ _ (λ (o : Option Over). IfSome o (λ over. is_up s.facts.up over.link ≡ true)) (λ up. up) (λ down. tt)
+  over_up : (key : Key) (o : Option ResvFact) → IfSome (option_and_then (over_by s.facts key) o) (λ over. is_up s.facts.up over.link ≡ true)
+  over_up key None = tt
+  over_up key (Some resv) =
+      cond_both (stands s.facts (key, resv)) _ _ (λ (o : Option Over). IfSome o (λ over. is_up s.facts.up over.link ≡ true))
+      (λ stood. (and_parts (is_up s.facts.up resv.link) (option_map_or (leaves_by resv.link) (find key_cmp key s.facts.paths) false) stood).0) (λ falls. tt)
 
   -- and so is what a bypass runs over
   bypass_tunnel_up : (bypass : ℕ × Bypass) → IfSome (option_map {U = ℕ × BypassTunnel} (λ (bypass_tunnel : BypassTunnel). (bypass.0, bypass_tunnel)) (bypass_tunnel_by r s bypass)) (λ row. IfSome row.1.over (λ over. is_up s.facts.up over.link ≡ true))
@@ -43,7 +47,7 @@ module _ (r : Router) (s : State) where
     where
       by : (o : Option Tunnel) → IfSome (option_map {U = ℕ × BypassTunnel} (λ (bypass_tunnel : BypassTunnel). (bypass.0, bypass_tunnel)) (option_map (bypass_tunnel_of r s bypass.1) o)) (λ row. IfSome row.1.over (λ over. is_up s.facts.up over.link ≡ true))
       by None = tt
-      by (Some tunnel) = over_up (find key_cmp (current_key r (bypass.1.tunnel, tunnel)) s.resvs)
+      by (Some tunnel) = over_up (current_key r (bypass.1.tunnel, tunnel)) (find key_cmp (current_key r (bypass.1.tunnel, tunnel)) s.resvs)
 
   -- What the bypass of a number runs over, if it is up, is a link that is up.
   pub over_at-up : (number : ℕ) (over : Over) → over_at (bypass_tunnels_of r s) number ≡ Some over → is_up s.facts.up over.link ≡ true

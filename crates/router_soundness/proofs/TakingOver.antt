@@ -15,7 +15,7 @@ use Rattle.sorted_rows.specs.RowsLaws.{all_found, find-all_row, is_sorted-both, 
 use Rattle.lsr_facts.specs.Lifetimes.{begins_here}
 use Rattle.lsr_facts.specs.OrderLaws.{key_exact, key_total}
 use Rattle.lsr_facts.specs.Orders.{is_one_of, key_cmp}
-use Rattle.lsr_facts.specs.Tunnels.{AreTunnels, IsPendingAs, IsTunnel, current_key, head_key, heads_of, is_head, pending_key}
+use Rattle.lsr_facts.specs.Tunnels.{AreTunnels, IsTunnel, current_key, head_key, heads_of, is_head, pending_key}
 use Rattle.lsr_facts.specs.declared.key.Key.{Key}
 use Rattle.lsr_facts.specs.declared.path_fact.PathFact.{PathFact}
 use Rattle.lsr_facts.specs.declared.router.Router.{Router}
@@ -24,6 +24,7 @@ use Rattle.lsr_facts.specs.declared.tunnel.TunnelLsp.{TunnelLsp}
 use Rattle.lsr_facts.specs.Changes.{switched, switched_to}
 use Rattle.abstract_paths.proofs.Bypasses.{bypasses_same}
 use Rattle.abstract_paths.proofs.PathTable.{paths_where}
+use Rattle.abstract_paths.proofs.TunnelTable.{switched_stands}
 use Rattle.abstract_paths.specs.Soundness.{IsHeadOf, IsStanding}
 use Rattle.abstract_router.specs.Labels.{labelled_keys}
 use Rattle.abstract_router.specs.States.{State, is_reserved}
@@ -44,13 +45,9 @@ switched-count test [] = refl
 switched-count test (tunnel ∷ tunnels) = omega (arith, switched-count test tunnels)
 
 -- what switches is a tunnel still
-switched_to-is : (r : Router) (number : ℕ) (tunnel : Tunnel) → IsTunnel r (number, tunnel) → (pending : Option TunnelLsp) → IsPendingAs r tunnel pending → IsTunnel r (number, switched_to pending tunnel)
-switched_to-is r number tunnel is None new = is
-switched_to-is r number tunnel is (Some lsp) new = record { endpoint = is.endpoint; elsewhere = is.elsewhere; current = record { route = new.0.route; whole_tspec = new.0.whole_tspec; given = new.0.given }; pending = tt }
-
 switched-is : (r : Router) (test : ℕ × Tunnel → Bool) (tunnel : ℕ × Tunnel) → IsTunnel r tunnel → IsTunnel r (switched_where test tunnel)
 switched-is r test tunnel is =
-    elim (test tunnel) as (λ b. IsTunnel r (if b then (tunnel.0, switched tunnel.1) else tunnel)) [ true ↦ switched_to-is r tunnel.0 tunnel.1 is tunnel.1.pending is.pending | false ↦ is ]
+    elim (test tunnel) as (λ b. IsTunnel r (if b then (tunnel.0, switched tunnel.1) else tunnel)) [ true ↦ switched_stands r tunnel is | false ↦ is ]
 
 switched-all : (r : Router) (test : ℕ × Tunnel → Bool) (tunnels : List (ℕ × Tunnel)) → AreTunnels r tunnels → AreTunnels r (map (switched_where test) tunnels)
 switched-all r test tunnels are = record {
