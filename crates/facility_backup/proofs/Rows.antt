@@ -1,16 +1,25 @@
 -- Bypasses as they are asked for one by one, and all of them.
-use Rattle.std.specs.Prelude.{◌≡◌, ◌+◌, ◌<◌, ◌==◌, ◌&&◌, ◌||◌, ◌++◌, ℕ, Bool, true, false, cond, T, List, [], ◌∷◌, filter_map, find as find_first, is_some, length, Option, Some, None}
+use Rattle.std.specs.Prelude.{◌≡◌, ◌+◌, ◌<◌, ◌==◌, ◌&&◌, ◌||◌, ◌++◌, not, ℕ, Bool, true, false, cond, T, List, [], ◌∷◌, filter_map, find as find_first, is_some, length, Option, Some, None}
 use Rattle.std.specs.FinMap.Entries.{find, is_sorted}
 use Rattle.std.specs.List.{cons_option, list_any}
 use Rattle.std.specs.Option.{option_and_then, option_map, option_map_or, option_or, unwrap_or}
-use Rattle.std.specs.Ordering.{nat_cmp}
+use Rattle.std.specs.Net.Addr.{ipv4_octets}
+use Rattle.std.specs.Ordering.{eq_by_cmp, nat_cmp}
+use Rattle.std.specs.declared.cmp.Ordering.{Ordering}
+use Rattle.std.specs.declared.cmp.Ordering.TheVariants.{Equal}
 use Rattle.std.proofs.Common.{refl, sym, ap, subst, ◌∙◌, get_or, take, arith}
-use Rattle.std.proofs.lemmas.Bool.{eqb-true}
+use Rattle.std.proofs.lemmas.Bool.{eq-eqb, eqb-true}
+use Rattle.std.proofs.lemmas.Cmp.{nat_list_eq_equiv}
 use Rattle.std.proofs.lemmas.List.{take_more}
 use Rattle.std.proofs.lemmas.List.Elements.{filter_map-append}
+use Rattle.std.proofs.lemmas.Map.Lookups.{exact_unsigned}
 use Rattle.sorted_rows.specs.Edits as rows
+use Rattle.sorted_rows.specs.RowsLaws.{ties}
+use Rattle.lsr_facts.specs.OrderLaws.{key_exact}
 use Rattle.lsr_facts.specs.Orders.{key_cmp}
+use Rattle.lsr_facts.specs.Routers.{is_same}
 use Rattle.lsr_facts.specs.Timeless.{timeless_path}
+use Rattle.lsr_facts.specs.Tunnels.{current_key}
 use Rattle.lsr_facts.specs.declared.bypass.Bypass.{Bypass}
 use Rattle.lsr_facts.specs.declared.key.Key.{Key}
 use Rattle.lsr_facts.specs.declared.path_fact.PathFact.{PathFact}
@@ -21,14 +30,16 @@ use Rattle.lsr_facts.specs.declared.repair.BypassTunnel.{BypassTunnel}
 use Rattle.lsr_facts.specs.declared.repair.Repair.{Repair}
 use Rattle.lsr_facts.specs.declared.resv_fact.ResvFact.{ResvFact}
 use Rattle.abstract_paths.specs.StampLaws.{none-is}
-use Rattle.abstract_router.specs.BypassTunnels.{bypass_tunnel_by, bypass_tunnel_of, bypass_tunnels_of}
+use Rattle.abstract_router.specs.BypassTunnels.{bypass_tunnel_by, bypass_tunnel_of, bypass_tunnels_of, over_by, over_of}
 use Rattle.abstract_router.specs.Lsps.{Around, Lsp, around_of, lsp_of}
 use Rattle.abstract_router.specs.Protecting.{candidates_of, is_preferred, is_protected, selected}
 use Rattle.abstract_router.specs.States.{State}
 use Rattle.abstract_router.specs.Upstreams.{flags_ready, own_flags, protection_flags}
+use Rattle.state_views.specs.EditLaws.{neither, row_edited, tunnel_edited}
 use Rattle.state_views.specs.Edits.{edited}
 use Rattle.state_views.specs.declared.edits.Edits.{Edits}
 use Rattle.facility_backup.specs.Asking.{candidate_by, candidates, find-bypass_tunnels, row_by}
+use Rattle.facility_backup.specs.Carrying.{leaves_tunnels, names_tunnel, runs_bypass}
 use Rattle.facility_backup.specs.Choosing.{best, best_of}
 
 -- the bypass of a number, where its row is found
@@ -120,14 +131,61 @@ leaves_more r s t bypasses i d was now more before same after so_far =
     ∙ sym (filter_map-append (row_by r t) (take i bypasses) (one ∷ []))
     ∙ sym (ap (filter_map (row_by r t)) taken)
 
--- edits of neither tunnels nor reservations, and of no links, leave bypasses as they are
-pub untouched : (r : Router) (s : State) (e : Edits) → e.up ≡ None → e.tunnels ≡ [] → e.resvs ≡ []
-    → filter_map (row_by r s) s.facts.bypasses ≡ filter_map (row_by r (edited e s)) s.facts.bypasses
-untouched r s e up tunnels resvs =
-    λ i. filter_map (row_by r (record s {
-      facts = record s.facts { up = unwrap_or (sym up i) s.facts.up; tunnels = rows.edited nat_cmp (sym tunnels i) s.facts.tunnels };
-      resvs = rows.edited key_cmp (sym resvs i) s.resvs;
-    })) s.facts.bypasses
+-- a row isn't found under a key that passes a test, where no row's key does
+none_such : {K E : Type 0} (cmp : K → K → Ordering) (exact : (a b : K) → cmp a b ≡ Equal → a ≡ b) (test : K → Bool) (es : List (K × E)) → list_any (λ e. test e.0) es ≡ false → (q : K) → test q ≡ true → find cmp q es ≡ None
+none_such cmp exact test [] none q passes = refl
+none_such cmp exact test (e ∷ es) none q passes =
+    elim (eq_by_cmp cmp q e.0) as (λ b. eq_by_cmp cmp q e.0 ≡ b → cond b (Some e.1) (find cmp q es) ≡ None) [
+      | true ↦ λ tie. absurd (let f = sym passes ∙ ap test (exact q e.0 (ties _ tie)) ∙ (neither (test e.0) _ none).0 in cc)
+      | false ↦ λ tie. none_such cmp exact test es (neither (test e.0) _ none).1 q passes
+    ] refl
+
+-- a number is the same as itself
+same_number : (n : ℕ) → (n == n) ≡ true
+same_number n = eq-eqb n n refl
+
+-- what one of more passes
+one_of_more : (first rest : Bool) → rest ≡ true → (first || rest) ≡ true
+one_of_more true rest so = refl
+one_of_more false rest so = so
+
+-- An LSP of a tunnel in which one of these runs.
+runs_more : (r : Router) (bypass : ℕ × Bypass) (bypasses : List (ℕ × Bypass)) (key : Key) → runs_bypass r bypasses key ≡ true → runs_bypass r (bypass ∷ bypasses) key ≡ true
+runs_more r bypass bypasses key so = by (is_same key.session.extended r.id) (names_tunnel bypasses key.session.tunnel) so
+  where
+    by : (here named : Bool) → (here && named) ≡ true → (here && ((bypass.1.tunnel == key.session.tunnel) || named)) ≡ true
+    by true named so = one_of_more (bypass.1.tunnel == key.session.tunnel) named so
+    by false named so = so
+
+module _ (r : Router) (s : State) (e : Edits) (up : e.up ≡ None) where
+  -- a tunnel runs over the same, where the reservation of its current LSP isn't edited
+  same_over : (tunnel : ℕ × Tunnel) → find key_cmp (current_key r tunnel) e.resvs ≡ None → over_of r s tunnel ≡ over_of r (edited e s) tunnel
+  same_over tunnel none =
+      let key = current_key r tunnel in
+      let resv = row_edited key e.resvs s.resvs ∙ ap (λ edit. rows.over edit (find key_cmp key s.resvs)) none in
+      λ i. option_and_then (over_by (unwrap_or (sym up i) s.facts.up)) (sym resv i)
+
+  -- a bypass is the same, where its tunnel isn't edited either
+  same_row : (bypass : ℕ × Bypass) → find nat_cmp bypass.1.tunnel e.tunnels ≡ None → ((tunnel : Tunnel) → find key_cmp (current_key r (bypass.1.tunnel, tunnel)) e.resvs ≡ None) → row_by r s bypass ≡ row_by r (edited e s) bypass
+  same_row bypass none none_held =
+      by (find nat_cmp bypass.1.tunnel s.facts.tunnels)
+      ∙ ap (λ tunnel. option_map {U = ℕ × BypassTunnel} (λ bypass_tunnel. (bypass.0, bypass_tunnel)) (option_map (bypass_tunnel_of r (edited e s) bypass.1) tunnel))
+      (sym (tunnel_edited bypass.1.tunnel e.tunnels s.facts.tunnels ∙ ap (λ edit. rows.over edit (find nat_cmp bypass.1.tunnel s.facts.tunnels)) none))
+    where
+      by : (tunnel : Option Tunnel) → option_map {U = ℕ × BypassTunnel} (λ bypass_tunnel. (bypass.0, bypass_tunnel)) (option_map (bypass_tunnel_of r s bypass.1) tunnel) ≡ option_map {U = ℕ × BypassTunnel} (λ bypass_tunnel. (bypass.0, bypass_tunnel)) (option_map (bypass_tunnel_of r (edited e s) bypass.1) tunnel)
+      by None = refl
+      by (Some tunnel) = λ i. Some (bypass.0, record { tunnel = bypass.1.tunnel; protects = bypass.1.link; ends_at = tunnel.endpoint; over = same_over (bypass.1.tunnel, tunnel) (none_held tunnel) i })
+
+  -- So each of these is, where no tunnel is edited in which one runs, nor the reservation of one of its LSPs.
+  same_rows : (bypasses : List (ℕ × Bypass)) → ((number : ℕ) → names_tunnel bypasses number ≡ true → find nat_cmp number e.tunnels ≡ None) → ((key : Key) → runs_bypass r bypasses key ≡ true → find key_cmp key e.resvs ≡ None)
+      → filter_map (row_by r s) bypasses ≡ filter_map (row_by r (edited e s)) bypasses
+  same_rows [] tunnels resvs = refl
+  same_rows (bypass ∷ bypasses) tunnels resvs =
+      let number = bypass.1.tunnel in
+      let named = ap (λ same. same || names_tunnel bypasses number) (same_number number) in
+      let one = same_row bypass (tunnels number named) (λ tunnel. resvs (current_key r (number, tunnel)) ((λ i. nat_list_eq_equiv.refl (ipv4_octets r.id) i && names_tunnel (bypass ∷ bypasses) number) ∙ named)) in
+      let more = same_rows bypasses (λ other so. tunnels other (one_of_more (number == other) _ so)) (λ key so. resvs key (runs_more r bypass bypasses key so)) in
+      λ i. cons_option (one i) (more i)
 
 -- Edits that leave each bypass as it is, and no link or route comes or goes, leave all that LSPs share.
 pub same_around : (r : Router) (s : State) (e : Edits) → e.up ≡ None → e.routes ≡ None → e.bypasses ≡ None
@@ -140,14 +198,23 @@ same_around r s e up routes bypasses same =
       bypass_tunnels = bypass_tunnels i;
     }
 
--- no rows
-none_there : {A : Type 0} (rows : List A) → (length rows == 0) ≡ true → rows ≡ []
-none_there [] is = refl
-none_there (row ∷ rows) is = absurd (omega (arith, eqb-true (length (row ∷ rows)) 0 is))
+-- neither fails
+both_pass : (a b : Bool) → (a && b) ≡ true → (a ≡ true) × (b ≡ true)
+both_pass true b so = (refl, so)
+both_pass false b so = absurd (let f = so in cc)
 
--- So do edits of none of all this.
-pub untouched_around : (r : Router) (s : State) (e : Edits) (tunnels : List (ℕ × Option Tunnel)) (resvs : List (Key × Option ResvFact)) → is_some e.up ≡ false → is_some e.routes ≡ false → is_some e.bypasses ≡ false
-    → tunnels ≡ e.tunnels → (length tunnels == 0) ≡ true → resvs ≡ e.resvs → (length resvs == 0) ≡ true → around_of r s ≡ around_of r (edited e s)
-untouched_around r s e tunnels resvs up routes bypasses are none hold nothing =
+-- what fails to be so
+not_so : (b : Bool) → not b ≡ true → b ≡ false
+not_so true so = absurd (let f = so in cc)
+not_so false so = refl
+
+-- So do edits of no tunnel in which a bypass runs.
+pub untouched_around : (r : Router) (s : State) (e : Edits) (bypasses : List (ℕ × Bypass)) → is_some e.up ≡ false → is_some e.routes ≡ false → is_some e.bypasses ≡ false
+    → bypasses ≡ s.facts.bypasses → leaves_tunnels r bypasses e ≡ true → around_of r s ≡ around_of r (edited e s)
+untouched_around r s e bypasses up routes same are leaves =
     let is_up = none-is e.up up in
-    same_around r s e is_up (none-is e.routes routes) (none-is e.bypasses bypasses) (untouched r s e is_up (sym are ∙ none_there tunnels none) (sym hold ∙ none_there resvs nothing))
+    let known : leaves_tunnels r s.facts.bypasses e ≡ true = subst (λ (all : List (ℕ × Bypass)). leaves_tunnels r all e ≡ true) are leaves in
+    let tunnels = both_pass _ _ known in
+    let resvs = both_pass _ _ tunnels.1 in
+    same_around r s e is_up (none-is e.routes routes) (none-is e.bypasses same)
+    (same_rows r s e is_up s.facts.bypasses (none_such nat_cmp exact_unsigned (names_tunnel s.facts.bypasses) e.tunnels (not_so _ tunnels.0)) (none_such key_cmp key_exact (runs_bypass r s.facts.bypasses) e.resvs (not_so _ resvs.0)))

@@ -1,6 +1,6 @@
 //! Local repair over bypass tunnels: the decisions of a point of local repair with facility backup (RFC 4090, 3.2 and 6),
 //! by what is known of its LSPs, whoever keeps that. An LSP is signalled, held or repaired, and only one that is held can
-//! be repaired. No decision takes memory.
+//! be repaired. No decision takes memory but what a repair keeps.
 #![tactic(auto)]
 
 mod bypass_tunnels;
@@ -14,7 +14,7 @@ mod surroundings;
 
 pub use bypass_tunnels::{bypass_tunnel_at, bypass_tunnel_by, over_at};
 pub use matching::is_for;
-pub use repairs::{Held, Repaired, repair};
+pub use repairs::{Held, held_lsp, repair};
 pub use selecting::{own_flags, select};
 pub use standing::{held_of, repair_stands, stands};
 pub use state_views::{Edits, StateView};

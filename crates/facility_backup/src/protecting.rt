@@ -6,6 +6,7 @@ ghost use Rattle.std.specs.Prelude.{◌≡◌, ◌==◌, []};
 ghost use Rattle.abstract_router.specs.BypassTunnels.{bypass_tunnels_of};
 ghost use Rattle.abstract_router.specs.Lsps.{around_of};
 ghost use Rattle.abstract_router.specs.Protecting.{carries_bypass, ends_at_peer, has_flag, is_preferred, is_protected, label_after, leads_around, selected_by, wants_node_protection, wants_protection};
+ghost use Rattle.facility_backup.specs.Carrying.{names_tunnel};
 
 use crate::labels::label_after;
 use lsr_facts::{Bypass, BypassTunnel, Key, PathFact, ResvFact, Router, Selected, begins_here};
@@ -58,8 +59,8 @@ fn wants_node_protection(path: &PathFact) -> bool
 }
 
 /// Whether one of these bypasses names the tunnel of this number.
-fn names_tunnel(bypasses: &[(u16, Bypass)], number: u16) -> bool
-    ensures { result ≡ list_any (λ bypass. bypass.1.tunnel == number) bypasses.now }
+pub(crate) fn names_tunnel(bypasses: &[(u16, Bypass)], number: u16) -> bool
+    ensures { result ≡ names_tunnel bypasses.now number }
 {
     bypasses.iter().any(|bypass| bypass.1.tunnel == number)
 }

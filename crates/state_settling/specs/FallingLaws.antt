@@ -10,11 +10,13 @@ use Rattle.std.proofs.lemmas.Cmp.{tied_itself}
 use Rattle.std.proofs.lemmas.List.Folds.{list_any-append}
 use Rattle.sorted_rows.specs.ListLaws.{all-weaker, filter_agree_within}
 use Rattle.sorted_rows.specs.RowsLaws.{all_found, find-all_row, ties}
-use Rattle.sorted_rows.specs.EditLaws.{find-edited, is_sorted-edited}
+use Rattle.sorted_rows.specs.EditLaws.{is_sorted-edited}
 use Rattle.sorted_rows.specs.Edits as rows
 use Rattle.lsr_facts.specs.OrderLaws.{key_exact, key_total}
 use Rattle.lsr_facts.specs.Orders.{key_cmp}
 use Rattle.lsr_facts.specs.declared.key.Key.{Key}
+use Rattle.lsr_facts.specs.declared.repair.Repair.{Repair}
+use Rattle.lsr_facts.specs.declared.resv_fact.ResvFact.{ResvFact}
 use Rattle.lsr_facts.specs.declared.router.Router.{Router}
 use Rattle.abstract_paths.specs.Places.{is_up}
 use Rattle.abstract_paths.specs.Tears.{leaves_by}
@@ -23,10 +25,10 @@ use Rattle.abstract_router.specs.Lsps.{around_of}
 use Rattle.abstract_router.specs.Repairing.{repair_stands, repairs_left}
 use Rattle.abstract_router.specs.States.{State, is_one_of}
 use Rattle.abstract_router.specs.Steps.{resvs_left, stands}
-use Rattle.state_views.specs.EditLaws.{rows_without}
+use Rattle.state_views.specs.EditLaws.{row_edited, rows_without}
 use Rattle.state_views.specs.Edits.{edited, without_rows}
 use Rattle.state_views.specs.declared.edits.Edits.{Edits}
-use Rattle.state_settling.specs.Falling.{failing_key, fails_at, fallen_key, has_fallen, has_lapsed, lapsed_key}
+use Rattle.state_settling.specs.Falling.{failing_key, fails_at}
 
 -- keys tie one way round as they do the other
 tie-turned : (a b : Key) → is_eq (key_cmp a b) ≡ is_eq (key_cmp b a)
@@ -91,88 +93,86 @@ known-over p (Some now) was h = refl
 known-over p None None h = h
 known-over p None (Some x) h = refl
 
-module _ {X : Type 0} (test : Key × X → Bool) (es : List (Key × Option X)) (before : List (Key × X)) where
-  -- the rows after edits
-  abbrev after : List (Key × X)
-  after = rows.edited key_cmp es before
-
-  -- Where these are the LSPs whose rows fail the test, those rows are left that pass it.
-  pub rows_left : (gone : List Key) → T (is_sorted key_cmp before) → ((q : Key) → is_one_of gone q ≡ fails_at test after q) → rows.edited key_cmp (without_rows es gone) before ≡ filter test after
-  rows_left gone sorted exactly =
-      rows_without es gone before sorted
-      ∙ filter_agree_within (λ row. not (is_one_of gone row.0)) test after
-      (all-weaker (λ (row : Key × X). find key_cmp row.0 after ≡ Some row.1) (λ row. not (is_one_of gone row.0) ≡ test row)
-      (λ row found. ap not (exactly row.0 ∙ ap (λ o. option_map_or (λ x. not (test (row.0, x))) o false) found) ∙ not_not (test row))
-      after (all_found key_cmp key_total after (is_sorted-edited key_cmp key_total es before sorted)))
-
-  -- What fails among all rows before, and among the edits, is all that fails.
-  pub failing_of_all : (keys : List Key) → keys ≡ filter_map (λ row. failing_key test after row.0) es ++ filter_map (λ row. failing_key test after row.0) before
-      → (q : Key) → is_one_of keys q ≡ fails_at test after q
-  failing_of_all keys are q =
-      ap (λ ks. is_one_of ks q) are
-      ∙ among-both (fails_at test after) q es before (λ h.
-      known-over (λ x. not (test (q, x))) (find key_cmp q es) (find key_cmp q before)
-      (ap (λ o. option_map_or (λ x. not (test (q, x))) o false) (sym (find-edited key_cmp key_total q es before)) ∙ h))
-
-  -- Where the rows before pass the test, but maybe those of other edits, what fails is among these and among the edits.
-  pub failing_of_edits : {E : Type 0} (others : List (Key × E)) (keys : List Key) → ((q : Key) → find key_cmp q others ≡ None → IfSome (find key_cmp q before) (λ x. test (q, x) ≡ true))
-      → keys ≡ filter_map (λ row. failing_key test after row.0) es ++ filter_map (λ row. failing_key test after row.0) others
-      → (q : Key) → is_one_of keys q ≡ fails_at test after q
-  failing_of_edits {E} others keys passes are q =
-      ap (λ ks. is_one_of ks q) are ∙ among-both (fails_at test after) q es others (λ fails. by (find key_cmp q es) (find key_cmp q others) refl refl fails)
-    where
-      passed : (o : Option X) → IfSome o (λ x. test (q, x) ≡ true) → option_map_or (λ x. not (test (q, x))) o false ≡ true → false ≡ true
-      passed None so h = h
-      passed (Some x) so h = ap not (sym so) ∙ h
-
-      by : (edit : Option (Option X)) (other : Option E) → find key_cmp q es ≡ edit → find key_cmp q others ≡ other → fails_at test after q ≡ true → (is_some edit || is_some other) ≡ true
-      by (Some now) other is_edit is_other fails = refl
-      by None (Some e) is_edit is_other fails = refl
-      by None None is_edit is_other fails =
-          passed (find key_cmp q before) (passes q is_other)
-          (ap (λ o. option_map_or (λ x. not (test (q, x))) o false) (sym (find-edited key_cmp key_total q es before ∙ ap (λ edit. rows.over edit (find key_cmp q before)) is_edit)) ∙ fails)
-
 -- what a fact leads to of what there may be
 some-weaker : {X : Type 0} (P Q : X → Type 0) → ((x : X) → P x → Q x) → (o : Option X) → IfSome o P → IfSome o Q
 some-weaker P Q step None p = tt
 some-weaker P Q step (Some x) p = step x p
 
+-- Where these are the LSPs whose rows fail the test after edits, those rows are left that pass it.
+pub rows_left : {X : Type 0} (test : Key × X → Bool) (es : List (Key × Option X)) (before : List (Key × X)) (gone : List Key) → T (is_sorted key_cmp before)
+    → ((q : Key) → is_one_of gone q ≡ fails_at test (rows.edited key_cmp es before) q) → rows.edited key_cmp (without_rows es gone) before ≡ filter test (rows.edited key_cmp es before)
+rows_left {X} test es before gone sorted exactly =
+    let after = rows.edited key_cmp es before in
+    rows_without es gone before sorted
+    ∙ filter_agree_within (λ row. not (is_one_of gone row.0)) test after
+    (all-weaker (λ (row : Key × X). find key_cmp row.0 after ≡ Some row.1) (λ row. not (is_one_of gone row.0) ≡ test row)
+    (λ row found. ap not (exactly row.0 ∙ ap (λ o. option_map_or (λ x. not (test (row.0, x))) o false) found) ∙ not_not (test row))
+    after (all_found key_cmp key_total after (is_sorted-edited key_cmp key_total es before sorted)))
+
+-- The rows after edits, and what of them fails a test.
+module _ {X : Type 0} (test : Key × X → Bool) (es : List (Key × Option X)) (before after : List (Key × X)) (are : after ≡ rows.edited key_cmp es before) where
+  -- whether an LSP's row fails, by its edit and by what it had
+  fails_over : (q : Key) → fails_at test after q ≡ option_map_or (λ x. not (test (q, x))) (rows.over (find key_cmp q es) (find key_cmp q before)) false
+  fails_over q = ap (λ o. option_map_or (λ x. not (test (q, x))) o false) (ap (find key_cmp q) are ∙ row_edited q es before)
+
+  -- What fails among all rows before, and among the edits, is all that fails.
+  pub failing_of_all : (keys : List Key) → keys ≡ filter_map (λ row. failing_key test after row.0) es ++ filter_map (λ row. failing_key test after row.0) before
+      → (q : Key) → is_one_of keys q ≡ fails_at test after q
+  failing_of_all keys all q =
+      ap (λ ks. is_one_of ks q) all
+      ∙ among-both (fails_at test after) q es before (λ fails. known-over (λ x. not (test (q, x))) (find key_cmp q es) (find key_cmp q before) (sym (fails_over q) ∙ fails))
+
+  -- Where the rows before passed another test, and so pass this one, but maybe those of other edits, what fails is among
+  -- these and among the edits.
+  pub failing_of_edits : {E : Type 0} (was : Key × X → Bool) (others : List (Key × E)) (keys : List Key) → AllByRecursion (λ row. was row ≡ true) before
+      → ((q : Key) (x : X) → find key_cmp q others ≡ None → was (q, x) ≡ true → test (q, x) ≡ true)
+      → keys ≡ filter_map (λ row. failing_key test after row.0) es ++ filter_map (λ row. failing_key test after row.0) others
+      → (q : Key) → is_one_of keys q ≡ fails_at test after q
+  failing_of_edits {E} was others keys stood still all q =
+      ap (λ ks. is_one_of ks q) all ∙ among-both (fails_at test after) q es others (λ fails. by (find key_cmp q es) (find key_cmp q others) refl refl (sym (fails_over q) ∙ fails))
+    where
+      passed : (o : Option X) → IfSome o (λ x. test (q, x) ≡ true) → option_map_or (λ x. not (test (q, x))) o false ≡ true → false ≡ true
+      passed None so fails = fails
+      passed (Some x) so fails = ap not (sym so) ∙ fails
+
+      passes : find key_cmp q others ≡ None → IfSome (find key_cmp q before) (λ x. test (q, x) ≡ true)
+      passes none =
+          some-weaker (λ x. was (q, x) ≡ true) (λ x. test (q, x) ≡ true) (λ x so. still q x none so) (find key_cmp q before)
+          (find-all_row key_cmp key_exact (λ row. was row ≡ true) q before stood)
+
+      by : (edit : Option (Option X)) (other : Option E) → find key_cmp q es ≡ edit → find key_cmp q others ≡ other
+          → option_map_or (λ x. not (test (q, x))) (rows.over (find key_cmp q es) (find key_cmp q before)) false ≡ true → (is_some edit || is_some other) ≡ true
+      by (Some now) other is_edit is_other fails = refl
+      by None (Some e) is_edit is_other fails = refl
+      by None None is_edit is_other fails =
+          passed (find key_cmp q before) (passes is_other) (ap (λ edit. option_map_or (λ x. not (test (q, x))) (rows.over edit (find key_cmp q before)) false) (sym is_edit) ∙ fails)
+
 -- a path that isn't edited is as it was
 same_path : (s : State) (e : Edits) (q : Key) → find key_cmp q e.paths ≡ None → find key_cmp q (edited e s).facts.paths ≡ find key_cmp q s.facts.paths
-same_path s e q none = find-edited key_cmp key_total q e.paths s.facts.paths ∙ ap (λ edit. rows.over edit (find key_cmp q s.facts.paths)) none
+same_path s e q none = row_edited q e.paths s.facts.paths ∙ ap (λ edit. rows.over edit (find key_cmp q s.facts.paths)) none
+
+-- Where no link changed, a reservation stands as before whose path isn't edited.
+pub resvs_stand_still : (s : State) (e : Edits) → e.up ≡ None → (q : Key) (resv : ResvFact) → find key_cmp q e.paths ≡ None → stands s.facts (q, resv) ≡ true → stands (edited e s).facts (q, resv) ≡ true
+resvs_stand_still s e same q resv none so =
+    (λ i. is_up (ap (λ up. unwrap_or up s.facts.up) same i) resv.link && option_map_or (leaves_by resv.link) (same_path s e q none i) false) ∙ so
+
+-- Where all bypasses are as they were, a repair stands as before whose path isn't edited.
+pub repairs_stand_still : (r : Router) (s : State) (e : Edits) → around_of r s ≡ around_of r (edited e s) → (q : Key) (repair : Repair) → find key_cmp q e.paths ≡ None → repair_stands r s (q, repair) ≡ true → repair_stands r (edited e s) (q, repair) ≡ true
+repairs_stand_still r s e same q repair none so =
+    (λ i. is_some (over_at (sym same i).bypass_tunnels repair.bypass) && option_map_or (leaves_by repair.resv.link) (same_path s e q none i) false) ∙ so
 
 -- Where these are the LSPs whose reservations stand no more after edits, those are left that stand.
-pub standing_left : (s : State) (e : Edits) (gone : List Key) → T (is_sorted key_cmp s.resvs) → ((q : Key) → is_one_of gone q ≡ has_fallen (edited e s) q)
+pub standing_left : (s : State) (e : Edits) (gone : List Key) → T (is_sorted key_cmp s.resvs) → ((q : Key) → is_one_of gone q ≡ fails_at (stands (edited e s).facts) (edited e s).resvs q)
     → edited (record e { resvs = without_rows e.resvs gone }) s ≡ resvs_left (edited e s)
 standing_left s e gone sorted exactly =
     λ i. record (edited e s) { resvs = rows_left (stands (edited e s).facts) e.resvs s.resvs gone sorted exactly i }
 
--- Where no link changed and all stood, the reservations that fall are among the edits.
-pub fallen_of_edits : (s : State) (e : Edits) (keys : List Key) → AllByRecursion (λ resv. stands s.facts resv ≡ true) s.resvs → e.up ≡ None
-    → keys ≡ filter_map (λ row. fallen_key (edited e s) row.0) e.resvs ++ filter_map (λ row. fallen_key (edited e s) row.0) e.paths
-    → (q : Key) → is_one_of keys q ≡ has_fallen (edited e s) q
-fallen_of_edits s e keys stood same =
-    failing_of_edits (stands (edited e s).facts) e.resvs s.resvs e.paths keys (λ q none.
-    some-weaker (λ resv. stands s.facts (q, resv) ≡ true) (λ resv. stands (edited e s).facts (q, resv) ≡ true) (λ resv so.
-    (λ i. is_up (ap (λ up. unwrap_or up s.facts.up) same i) resv.link && option_map_or (leaves_by resv.link) (same_path s e q none i) false) ∙ so)
-    (find key_cmp q s.resvs) (find-all_row key_cmp key_exact (λ resv. stands s.facts resv ≡ true) q s.resvs stood))
-
--- Where these are the LSPs whose repairs stand no more after edits, those are left that stand.
-pub repairs_standing_left : (r : Router) (s : State) (e : Edits) (gone : List Key) → T (is_sorted key_cmp s.repairs) → ((q : Key) → is_one_of gone q ≡ has_lapsed r (edited e s) q)
+-- And so of repairs.
+pub repairs_standing_left : (r : Router) (s : State) (e : Edits) (gone : List Key) → T (is_sorted key_cmp s.repairs) → ((q : Key) → is_one_of gone q ≡ fails_at (repair_stands r (edited e s)) (edited e s).repairs q)
     → edited (record e { repairs = without_rows e.repairs gone }) s ≡ repairs_left r (edited e s)
 unfolding repairs_left
 repairs_standing_left r s e gone sorted exactly =
     λ i. record (edited e s) { repairs = rows_left (repair_stands r (edited e s)) e.repairs s.repairs gone sorted exactly i }
-
--- Where all bypasses are as they were and all repairs stood, those that lapse are among the edits.
-pub lapsed_of_edits : (r : Router) (s : State) (e : Edits) (keys : List Key) → AllByRecursion (λ repair. repair_stands r s repair ≡ true) s.repairs → around_of r s ≡ around_of r (edited e s)
-    → keys ≡ filter_map (λ row. lapsed_key r (edited e s) row.0) e.repairs ++ filter_map (λ row. lapsed_key r (edited e s) row.0) e.paths
-    → (q : Key) → is_one_of keys q ≡ has_lapsed r (edited e s) q
-lapsed_of_edits r s e keys stood same =
-    failing_of_edits (repair_stands r (edited e s)) e.repairs s.repairs e.paths keys (λ q none.
-    some-weaker (λ repair. repair_stands r s (q, repair) ≡ true) (λ repair. repair_stands r (edited e s) (q, repair) ≡ true) (λ repair so.
-    (λ i. is_some (over_at (sym same i).bypass_tunnels repair.bypass) && option_map_or (leaves_by repair.resv.link) (same_path s e q none i) false) ∙ so)
-    (find key_cmp q s.repairs) (find-all_row key_cmp key_exact (λ repair. repair_stands r s repair ≡ true) q s.repairs stood))
 
 -- Labels stay as they are.
 pub labels-repairs_left : (r : Router) (s : State) → (repairs_left r s).labels ≡ s.labels

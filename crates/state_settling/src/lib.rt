@@ -4,10 +4,9 @@
 
 mod claims;
 mod labels;
-mod lapsing;
 mod repair;
 mod settling;
 mod standing;
 
 pub use claims::bandwidth_edits;
-pub use settling::{Settled, settle};
+pub use settling::{Settled, settle, settle_by};

@@ -10,32 +10,19 @@ ghost use Rattle.abstract_paths.specs.MessageLaws.{LeavesRoom};
 ghost use Rattle.abstract_paths.specs.Outcomes.{found_here, told_upstream};
 ghost use Rattle.abstract_paths.specs.Places.{place_at};
 ghost use Rattle.lsr_facts.specs.Errors.{locally_repaired};
-ghost use Rattle.abstract_router.specs.Protecting.{repair_with};
-ghost use Rattle.abstract_router.specs.Repairing.{new_repairs, put_repair, repair_of, repaired, told_of, told_repaired};
+ghost use Rattle.abstract_router.specs.Repairing.{new_repairs, put_repair, repaired, told_of, told_repaired};
 ghost use Rattle.abstract_router.specs.Steps.{stands};
 ghost use Rattle.state_views.specs.Edits.{edited};
 ghost use Rattle.state_views.specs.Joining.{joined_rows};
 ghost use Rattle.state_settling.specs.Repairs.{repair_at};
 
-use facility_backup::{Held, repair, select};
-use lsr_facts::{Key, Node, PathFact, Repair, ResvFact, RsvpError, Selected};
-use message_rules::{found_here, is_up, leaves_by, told_upstream};
-use sorted_rows::{Table, TryCopy};
+use facility_backup::{held_lsp, repair};
+use lsr_facts::{Key, Node, PathFact, Repair, ResvFact, RsvpError};
+use message_rules::{found_here, told_upstream};
+use sorted_rows::Table;
 use state_views::{Changed, Edits, Outputs, StateView, WholeState, joined_rows, node_of};
 use std::alloc::{AllocError, Global};
 use std::mem;
-
-/// The bypass over which an LSP is repaired that has this reservation: the one that is selected, where its path leaves by
-/// the link of the reservation, which is down.
-fn choice_of<A: StateView>(after: &A, key: &Key, resv: &ResvFact) -> Option<Selected>
-    ensures { option_map (repair_with resv.now) result ≡ repair_of (A.router after.now) (A.state after.now) (key.now, resv.now) }
-{
-    let path = after.path(key)?;
-    if !leaves_by(resv.link, path) || is_up(node_of(after).up, resv.link) {
-        return None;
-    }
-    select(after, key, path, resv)
-}
 
 /// The repair of an LSP, if there is to be one. Takes no memory where there is none; the only error is out of memory.
 fn repair_at<A: StateView>(
@@ -45,17 +32,10 @@ fn repair_at<A: StateView>(
 ) -> Result<Option<Repair>, AllocError>
     ensures { IfOk result (λ found. found ≡ repair_at (A.router after.now) (A.state after.now) key.now) }
 {
-    let Some(resv) = after.resv(key) else {
-        return Ok(None);
-    };
-    let Some(choice) = choice_of(after, key, resv) else {
-        return Ok(None);
-    };
-    let held = Held {
-        key: *key,
-        resv: resv.try_copy(alloc)?,
-    };
-    Ok(Some(repair(held, choice).repair))
+    match held_lsp(after, key) {
+        Some(held) => repair(alloc, after, &held),
+        None => Ok(None),
+    }
 }
 
 /// Repairs, and then that of this LSP, if there is to be one. The only error is out of memory.

@@ -10,9 +10,8 @@ ghost use Rattle.abstract_router.specs.Steps.{settled, taken_over};
 ghost use Rattle.state_views.specs.Edits.{edited};
 
 use crate::labels::{chosen_labels, give_labels};
-use crate::lapsing::take_lapsed;
 use crate::repair::repair_all;
-use crate::standing::take_fallen;
+use crate::standing::{take_repairs, take_resvs};
 use lsr_facts::Key;
 use make_before_break::take_over;
 use sorted_rows::Table;
@@ -31,10 +30,41 @@ pub struct Settled {
 }
 
 /// What follows from an event's own change, in this order: tunnels go over to new LSPs; what a lost link takes away is
-/// repaired; reservations go that stand no more, and then repairs; an LSP that is new gets a label, and the labels of those
-/// that went are free. It asks for a sound state, and for edits that leave the paths as they should be and the labels as they
-/// are, by which no more than one LSP is new that needs a label, and for which a label is free then: so those of each event
-/// are. The only error is out of memory.
+/// repaired; reservations go that stand no more, and then repairs; an LSP that is new has the label that was chosen for it,
+/// and the labels of those that went are free. It asks for a sound state, and for edits that leave the paths as they should
+/// be and the labels as they are; whether the labels may be chosen doesn't matter to it. The only error is out of memory.
+pub fn settle_by<V: WholeState>(
+    alloc: Global,
+    view: &V,
+    chosen: Table<Key, u32>,
+    edits: Edits,
+) -> Result<Settled, AllocError>
+    requires sound { IsSound (V.router view.now) (V.state view.now) }
+    requires paths { ArePaths (V.router view.now) (edited edits (V.state view.now)).facts.moment
+        (edited edits (V.state view.now)).facts.paths }
+    requires labels { (edited edits (V.state view.now)).labels ≡ (V.state view.now).labels }
+    ensures after { IfOk result (λ x. edited x.edits (V.state view.now)
+        ≡ settled (V.router view.now) x.chosen (edited edits (V.state view.now))) }
+    ensures told { IfOk result (λ x. x.told
+        ≡ told_repaired (V.router view.now) (taken_over (V.router view.now) (edited edits (V.state view.now)))) }
+    ensures chosen { IfOk result (λ x. x.chosen ≡ chosen) }
+{
+    let mut edits = edits;
+    take_over(alloc, view, &mut edits)?;
+    let told = repair_all(alloc, view, &mut edits)?;
+    take_resvs(alloc, view, &mut edits)?;
+    take_repairs(alloc, view, &mut edits)?;
+    give_labels(alloc, view, &chosen, &mut edits)?;
+    Ok(Settled {
+        edits,
+        chosen,
+        told,
+    })
+}
+
+/// What follows from an event's own change, with a free label for the LSP that is new. Beside what [`settle_by`] asks for, no
+/// more than one LSP may be new that needs a label, and then one has to be free: so it is after each event. The only error is
+/// out of memory.
 pub fn settle<V: WholeState>(alloc: Global, view: &V, edits: Edits) -> Result<Settled, AllocError>
     requires sound { IsSound (V.router view.now) (V.state view.now) }
     requires paths { ArePaths (V.router view.now) (edited edits (V.state view.now)).facts.moment
@@ -49,16 +79,6 @@ pub fn settle<V: WholeState>(alloc: Global, view: &V, edits: Edits) -> Result<Se
     ensures chosen { IfOk result (λ x. IsLabelling (V.router view.now) (V.state view.now).labels
         (edited edits (V.state view.now)).facts.paths x.chosen) }
 {
-    let mut edits = edits;
     let chosen = chosen_labels(alloc, view, edits.paths.as_slice())?;
-    take_over(alloc, view, &mut edits)?;
-    let told = repair_all(alloc, view, &mut edits)?;
-    take_fallen(alloc, view, &mut edits)?;
-    take_lapsed(alloc, view, &mut edits)?;
-    give_labels(alloc, view, &chosen, &mut edits)?;
-    Ok(Settled {
-        edits,
-        chosen,
-        told,
-    })
+    settle_by(alloc, view, chosen, edits)
 }

@@ -1,111 +1,229 @@
-//! Reservations that stand no more.
+//! What LSPs have that stands no more: reservations, and then repairs.
 
-ghost use Rattle.std.specs.FinMap.Entries.{is_sorted};
+ghost use Rattle.std.specs.FinMap.Entries.{find, is_sorted};
 ghost use Rattle.std.specs.List.{AllByRecursion};
-ghost use Rattle.std.specs.Option.{option_and_then};
-ghost use Rattle.std.specs.Prelude.{◌≡◌, ◌++◌, true, IfOk, OnOk, T, filter_map, slice_get};
+ghost use Rattle.std.specs.Option.{option_and_then, option_copied};
+ghost use Rattle.std.specs.Prelude.{◌≡◌, ◌++◌, None, true, Bool, IfOk, List, OnOk, Option, T, filter_map, length, refl, slice_get};
+ghost use Rattle.sorted_rows.specs.Edits as edit_rows;
 ghost use Rattle.lsr_facts.specs.Orders.{key_cmp};
 ghost use Rattle.lsr_facts.specs.declared.key.Key.{Key};
-ghost use Rattle.abstract_router.specs.States.{is_one_of};
+ghost use Rattle.lsr_facts.specs.declared.router.Router.{Router};
+ghost use Rattle.abstract_router.specs.Repairing.{repair_stands, repairs_left};
+ghost use Rattle.abstract_router.specs.States.{State, is_one_of};
 ghost use Rattle.abstract_router.specs.Steps.{resvs_left, stands};
 ghost use Rattle.state_views.specs.Edits.{edited};
-ghost use Rattle.state_settling.specs.Falling.{fallen_key, has_fallen};
+ghost use Rattle.state_views.specs.declared.edits.Edits.{Edits};
+ghost use Rattle.state_settling.specs.Falling.{failing_key, fails_at};
 
-use lsr_facts::{Key, ResvFact};
+use facility_backup::{is_same_around, repair_stands};
+use lsr_facts::{Key, Repair, ResvFact};
 use message_rules::{is_up, leaves_by};
 use sorted_rows::Table;
 use state_views::{Changed, Edits, StateView, WholeState, node_of, without_rows};
 use std::alloc::{AllocError, Global};
 use std::mem;
 
-/// Whether a reservation stands on its path: on the link that this leaves by, which is up.
-fn stands<V: StateView>(view: &V, key: &Key, resv: &ResvFact) -> bool
-    ensures { result ≡ stands (V.state view.now).facts (key.now, resv.now) }
-{
-    if !is_up(node_of(view).up, resv.link) {
-        return false;
-    }
-    match view.path(key) {
-        Some(path) => leaves_by(resv.link, path),
-        None => false,
-    }
+/// What an LSP has as long as it stands.
+trait Standing {
+    ghost rows: { State → List (Key × Self) };
+
+    ghost row_stands: { Router → State → Key × Self → Bool };
+
+    ghost row_edits: { Edits → List (Key × Option Self) };
+
+    /// That of an LSP.
+    fn row_of<'a, V: StateView>(view: &'a V, key: &Key) -> Option<&'a Self>
+        ensures { option_copied result ≡ find key_cmp key.now (rows (V.state view.now)) };
+
+    /// How many there are.
+    fn row_count<V: WholeState>(view: &V) -> usize
+        ensures { result ≡ length (rows (V.state view.now)) };
+
+    /// The one at a place, in the order of the LSPs; `None` past the last.
+    fn row_at<'a, V: WholeState>(view: &'a V, place: usize) -> Option<&'a (Key, Self)>
+        ensures { option_copied result ≡ slice_get (rows (V.state view.now)) place };
+
+    /// Those that are edited.
+    fn edited_rows(edits: &Edits) -> &[(Key, Option<Self>)]
+        ensures { result.now ≡ row_edits edits.now };
+
+    /// Whether it stands.
+    fn stands<V: StateView>(&self, view: &V, key: &Key) -> bool
+        ensures { result ≡ row_stands (V.router view.now) (V.state view.now) (key.now, self.now) };
+
+    /// Whether after edits each stands that stood, unless the path of its LSP is edited. It says no wherever that isn't plain.
+    fn stand_still<V: StateView>(view: &V, edits: &Edits) -> bool
+        ensures { result ≡ true → (key : Key) (row : Self) → find key_cmp key edits.now.paths ≡ None
+            → row_stands (V.router view.now) (V.state view.now) (key, row) ≡ true
+            → row_stands (V.router view.now) (edited edits.now (V.state view.now)) (key, row) ≡ true };
+
+    ghost rows_edited: { (s : State) (e : Edits) → rows (edited e s) ≡ edit_rows.edited key_cmp (row_edits e) (rows s) };
 }
 
-/// The LSP, where it has a reservation that stands no more.
-fn fallen_key<V: StateView>(view: &V, key: &Key) -> Option<Key>
-    ensures { result ≡ fallen_key (V.state view.now) key.now }
+impl Standing for ResvFact {
+    ghost rows = { λ s. s.resvs };
+
+    ghost row_stands = { λ r s. stands s.facts };
+
+    ghost row_edits = { λ e. e.resvs };
+
+    fn row_of<'a, V: StateView>(view: &'a V, key: &Key) -> Option<&'a ResvFact> {
+        view.resv(key)
+    }
+
+    fn row_count<V: WholeState>(view: &V) -> usize {
+        view.resv_count()
+    }
+
+    fn row_at<'a, V: WholeState>(view: &'a V, place: usize) -> Option<&'a (Key, ResvFact)> {
+        view.resv_at(place)
+    }
+
+    fn edited_rows(edits: &Edits) -> &[(Key, Option<ResvFact>)] {
+        edits.resvs.as_slice()
+    }
+
+    /// It stands on its path: on the link that this leaves by, which is up.
+    fn stands<V: StateView>(&self, view: &V, key: &Key) -> bool {
+        if !is_up(node_of(view).up, self.link) {
+            return false;
+        }
+        match view.path(key) {
+            Some(path) => leaves_by(self.link, path),
+            None => false,
+        }
+    }
+
+    /// No link came up or went down.
+    #[tactic(auto, using(crate::specs::FallingLaws::resvs_stand_still))]
+    fn stand_still<V: StateView>(_view: &V, edits: &Edits) -> bool {
+        edits.up.is_none()
+    }
+
+    ghost rows_edited = { λ s e. refl };
+}
+
+impl Standing for Repair {
+    ghost rows = { λ s. s.repairs };
+
+    ghost row_stands = { repair_stands };
+
+    ghost row_edits = { λ e. e.repairs };
+
+    fn row_of<'a, V: StateView>(view: &'a V, key: &Key) -> Option<&'a Repair> {
+        view.repair(key)
+    }
+
+    fn row_count<V: WholeState>(view: &V) -> usize {
+        view.repair_count()
+    }
+
+    fn row_at<'a, V: WholeState>(view: &'a V, place: usize) -> Option<&'a (Key, Repair)> {
+        view.repair_at(place)
+    }
+
+    fn edited_rows(edits: &Edits) -> &[(Key, Option<Repair>)] {
+        edits.repairs.as_slice()
+    }
+
+    fn stands<V: StateView>(&self, view: &V, key: &Key) -> bool {
+        repair_stands(view, key, self)
+    }
+
+    /// No bypass changed.
+    #[tactic(auto, using(crate::specs::FallingLaws::repairs_stand_still))]
+    fn stand_still<V: StateView>(view: &V, edits: &Edits) -> bool {
+        is_same_around(view, edits)
+    }
+
+    ghost rows_edited = { λ s e. refl };
+}
+
+/// The LSP, where what it has stands no more.
+fn fallen_key<S: Standing, V: StateView>(view: &V, key: &Key) -> Option<Key>
+    ensures { result ≡ failing_key (S.row_stands (V.router view.now) (V.state view.now)) (S.rows (V.state view.now)) key.now }
 {
-    let resv = view.resv(key)?;
-    if stands(view, key, resv) {
+    let row = S::row_of(view, key)?;
+    if row.stands(view, key) {
         None
     } else {
         Some(*key)
     }
 }
 
-/// LSPs, and then those of these rows that have a reservation that stands no more. The only error is out of memory.
-fn with_fallen<A: StateView, E>(
+/// LSPs, and then those of these rows for which what they have stands no more. The only error is out of memory.
+fn with_fallen<S: Standing, A: StateView, E>(
     mut keys: Vec<Key>,
     after: &A,
-    rows: &[(Key, E)],
+    edits: &[(Key, E)],
 ) -> Result<Vec<Key>, AllocError>
-    ensures { IfOk result (λ all. all.items
-        ≡ keys.items ++ filter_map (λ row. fallen_key (A.state after.now) row.0) rows.now) }
+    ensures { IfOk result (λ all. all.items ≡ keys.items
+        ++ filter_map (λ edit. failing_key (S.row_stands (A.router after.now) (A.state after.now)) (S.rows (A.state after.now)) edit.0) edits.now) }
 {
-    for row in rows {
-        if let Some(key) = fallen_key(after, &row.0) {
+    for edit in edits {
+        if let Some(key) = fallen_key::<S, A>(after, &edit.0) {
             keys.push(key)?;
         }
     }
     Ok(keys)
 }
 
-/// The LSP that has the reservation at a place before, where that stands no more after.
-fn fallen_at<V: WholeState, A: StateView>(before: &V, after: &A, place: usize) -> Option<Key>
-    ensures { result ≡ option_and_then (λ resv. fallen_key (A.state after.now) resv.0)
-        (slice_get (V.state before.now).resvs place) }
+/// The LSP that has the one at a place before, where what it has after stands no more.
+fn fallen_at<S: Standing, V: WholeState, A: StateView>(
+    before: &V,
+    after: &A,
+    place: usize,
+) -> Option<Key>
+    ensures { result ≡ option_and_then (λ row. failing_key (S.row_stands (A.router after.now) (A.state after.now)) (S.rows (A.state after.now)) row.0)
+        (slice_get (S.rows (V.state before.now)) place) }
 {
-    let resv = before.resv_at(place)?;
-    fallen_key(after, &resv.0)
+    let row = S::row_at(before, place)?;
+    fallen_key::<S, A>(after, &row.0)
 }
 
-/// LSPs, and then all that had a reservation before and have one after that stands no more. The only error is out of
+/// LSPs, and then all that had one before and for which what they have after stands no more. The only error is out of
 /// memory.
-fn with_all_fallen<V: WholeState, A: StateView>(
+fn with_all_fallen<S: Standing, V: WholeState, A: StateView>(
     mut keys: Vec<Key>,
     before: &V,
     after: &A,
 ) -> Result<Vec<Key>, AllocError>
     ensures { IfOk result (λ all. all.items ≡ keys.items
-        ++ filter_map (λ resv. fallen_key (A.state after.now) resv.0) (V.state before.now).resvs) }
+        ++ filter_map (λ row. failing_key (S.row_stands (A.router after.now) (A.state after.now)) (S.rows (A.state after.now)) row.0)
+        (S.rows (V.state before.now))) }
 {
-    for place in 0..before.resv_count() {
-        if let Some(key) = fallen_at(before, after, place) {
+    for place in 0..S::row_count(before) {
+        if let Some(key) = fallen_at::<S, V, A>(before, after, place) {
             keys.push(key)?;
         }
     }
     Ok(keys)
 }
 
-/// The LSPs that have a reservation after these edits that stands no more. It asks that all there were before stood. It goes
-/// over all of them only where links changed; else over the edits. The only error is out of memory.
-fn fallen<V: WholeState>(alloc: Global, view: &V, edits: &Edits) -> Result<Vec<Key>, AllocError>
-    requires { AllByRecursion (λ resv. stands (V.state view.now).facts resv ≡ true) (V.state view.now).resvs }
+/// The LSPs for which what they have after these edits stands no more. It asks that all there were before stood. It goes over
+/// all of them only where more may have fallen than by their paths; else over the edits. The only error is out of memory.
+fn fallen<S: Standing, V: WholeState>(
+    alloc: Global,
+    view: &V,
+    edits: &Edits,
+) -> Result<Vec<Key>, AllocError>
+    requires { AllByRecursion (λ row. S.row_stands (V.router view.now) (V.state view.now) row ≡ true) (S.rows (V.state view.now)) }
     ensures { IfOk result (λ keys. (key : Key) → is_one_of keys.items key
-        ≡ has_fallen (edited edits.now (V.state view.now)) key) }
+        ≡ fails_at (S.row_stands (V.router view.now) (edited edits.now (V.state view.now))) (S.rows (edited edits.now (V.state view.now))) key) }
 {
     let after = Changed { under: view, edits };
-    let keys = with_fallen(Vec::new(alloc), &after, edits.resvs.as_slice())?;
-    match edits.up {
-        Some(_) => with_all_fallen(keys, view, &after),
-        None => with_fallen(keys, &after, edits.paths.as_slice()),
+    let keys = with_fallen::<S, _, _>(Vec::new(alloc), &after, S::edited_rows(edits))?;
+    if S::stand_still(view, edits) {
+        with_fallen::<S, _, _>(keys, &after, edits.paths.as_slice())
+    } else {
+        with_all_fallen::<S, _, _>(keys, view, &after)
     }
 }
 
 /// Edits, and then those reservations go that stand no more. It asks that all there were before the edits stood. The only
 /// error is out of memory.
 #[tactic(auto, using(crate::specs::FallingLaws::standing_left))]
-pub(crate) fn take_fallen<V: WholeState>(
+pub(crate) fn take_resvs<V: WholeState>(
     alloc: Global,
     view: &V,
     edits: &mut Edits,
@@ -114,11 +232,28 @@ pub(crate) fn take_fallen<V: WholeState>(
     requires stood { AllByRecursion (λ resv. stands (V.state view.now).facts resv ≡ true) (V.state view.now).resvs }
     ensures { OnOk result (edited edits.new (V.state view.now) ≡ resvs_left (edited edits.old (V.state view.now))) }
 {
-    let gone = fallen(alloc, view, edits)?;
-    if gone.is_empty() {
-        return Ok(());
-    }
+    let gone = fallen::<ResvFact, V>(alloc, view, edits)?;
     let resvs = mem::replace(&mut edits.resvs, Table::new(alloc));
     edits.resvs = without_rows(resvs, &gone)?;
+    Ok(())
+}
+
+/// Edits, and then those repairs go that stand no more. It asks that all there were before the edits stood. The only error is
+/// out of memory.
+#[tactic(auto, using(crate::specs::FallingLaws::repairs_standing_left))]
+pub(crate) fn take_repairs<V: WholeState>(
+    alloc: Global,
+    view: &V,
+    edits: &mut Edits,
+) -> Result<(), AllocError>
+    requires order { T (is_sorted key_cmp (V.state view.now).repairs) }
+    requires stood { AllByRecursion (λ repair. repair_stands (V.router view.now) (V.state view.now) repair ≡ true)
+        (V.state view.now).repairs }
+    ensures { OnOk result (edited edits.new (V.state view.now)
+        ≡ repairs_left (V.router view.now) (edited edits.old (V.state view.now))) }
+{
+    let gone = fallen::<Repair, V>(alloc, view, edits)?;
+    let repairs = mem::replace(&mut edits.repairs, Table::new(alloc));
+    edits.repairs = without_rows(repairs, &gone)?;
     Ok(())
 }
