@@ -4,6 +4,7 @@ ghost use Rattle.std.specs.FinMap.Entries.{find, is_sorted, put, where_key};
 ghost use Rattle.std.specs.Option.{option_copied};
 ghost use Rattle.std.specs.Ordering.{is_eq};
 ghost use Rattle.std.specs.Prelude.{◌≡◌, ◌↔◌, ◌^◌, ◌≤◌, T, [], IfOk, IsTrue, Some, length, not};
+ghost use Rattle.lsr_facts.specs.Limits.{max_lsps};
 ghost use Rattle.lsr_facts.specs.Orders.{key_cmp};
 ghost use Rattle.lsr_facts.specs.Admission.{granted};
 ghost use Rattle.lsr_facts.specs.Claims.{reserved_of};
@@ -98,7 +99,7 @@ impl Claims {
         ensures claims { result.now ≡ self.now }
         ensures sorted { T (is_sorted key_cmp result.now) }
         ensures rated { AreRated result.now }
-        ensures few { length result.now ≤ 1024 }
+        ensures few { length result.now ≤ max_lsps }
     {
         self.rows.as_slice()
     }
@@ -121,7 +122,7 @@ impl Claims {
     /// 2^50 bytes per second. Where the LSP takes this already, nothing is done; else it goes over the claims of its
     /// session. Takes no memory.
     pub fn set(&mut self, key: Key, claim: Claim)
-        requires room { length (put key_cmp key claim self.old) ≤ 1024 }
+        requires room { length (put key_cmp key claim self.old) ≤ max_lsps }
         requires most { claim.rate ≤ 2 ^ 50 }
         ensures { self.new ≡ put key_cmp key claim self.old }
     {

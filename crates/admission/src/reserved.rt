@@ -2,6 +2,7 @@
 
 ghost use Rattle.std.specs.FinMap.Entries.{is_sorted, put};
 ghost use Rattle.std.specs.Prelude.{◌≡◌, ◌^◌, ◌≤◌, ◌∷◌, ◌++◌, T, length};
+ghost use Rattle.lsr_facts.specs.Limits.{max_lsps};
 ghost use Rattle.lsr_facts.specs.Orders.{key_cmp};
 ghost use Rattle.lsr_facts.specs.Admission.{granted};
 ghost use Rattle.lsr_facts.specs.Claims.{reserved_of};
@@ -16,7 +17,7 @@ use lsr_facts::{Claim, Key, Request};
 pub fn reserved(claims: &[(Key, Claim)], link: u16, priority: u8) -> u64
     requires sorted { T (is_sorted key_cmp claims.now) }
     requires rated { AreRated claims.now }
-    requires few { length claims.now ≤ 1024 }
+    requires few { length claims.now ≤ max_lsps }
     ensures { result ≡ reserved_of link priority claims.now }
 {
     let mut sum = Sum::new();
@@ -40,7 +41,7 @@ fn around<'a>(claims: &'a [(Key, Claim)], key: &Key) -> (&'a [(Key, Claim)], &'a
 pub fn reserved_with(request: &Request, claims: &[(Key, Claim)], priority: u8) -> u64
     requires sorted { T (is_sorted key_cmp claims.now) }
     requires rated { AreRated claims.now }
-    requires few { length claims.now ≤ 1024 }
+    requires few { length claims.now ≤ max_lsps }
     requires most { request.now.claim.rate ≤ 2 ^ 50 }
     ensures { result ≡ reserved_of request.now.claim.link priority (granted request.now claims.now) }
 {

@@ -4,6 +4,7 @@ ghost use Rattle.std.specs.FinMap.Entries.{find, is_sorted, put, where_key};
 ghost use Rattle.std.specs.Option.{option_copied, option_map};
 ghost use Rattle.std.specs.Ordering.{is_eq};
 ghost use Rattle.std.specs.Prelude.{◌≡◌, ◌≤◌, T, [], IfOk, filter, find as find_first, length, not, slice_get};
+ghost use Rattle.lsr_facts.specs.Limits.{max_lsps};
 ghost use Rattle.lsr_facts.specs.Orders.{key_cmp};
 ghost use Rattle.lsr_facts.specs.Conflicts.{conflicts};
 ghost use Rattle.lsr_facts.specs.Reservations.{expire_resvs, resv_lives_past};
@@ -143,7 +144,7 @@ impl ResvState {
     /// The keys rise, and there are at most 1,024 reservations. It does nothing when it runs.
     pub(crate) fn rows_are_in_order(&self)
         ensures sorted { T (is_sorted key_cmp self.now) }
-        ensures few { length self.now ≤ 1024 }
+        ensures few { length self.now ≤ max_lsps }
     {
         self.rows.rows_are_in_order();
     }
@@ -198,7 +199,7 @@ impl ResvState {
     /// This is known of an LSP's reservation from now on, in place of what was known. It asks that at most 1,024 LSPs
     /// have one then. Takes no memory.
     pub(crate) fn put(&mut self, key: Key, fact: ResvFact)
-        requires { length (put key_cmp key fact self.old) ≤ 1024 }
+        requires { length (put key_cmp key fact self.old) ≤ max_lsps }
         ensures { self.new ≡ put key_cmp key fact self.old }
     {
         self.rows.set(key, fact);
@@ -214,7 +215,7 @@ impl ResvState {
     /// Makes edits: each LSP that they name has this reservation from now on, or none. It asks that at most 1,024 LSPs
     /// have one then. Takes no memory.
     pub(crate) fn edit(&mut self, edits: Table<Key, Option<ResvFact>>)
-        requires { length (edited key_cmp edits self.old) ≤ 1024 }
+        requires { length (edited key_cmp edits self.old) ≤ max_lsps }
         ensures { self.new ≡ edited key_cmp edits self.old }
     {
         self.rows.edit(edits);

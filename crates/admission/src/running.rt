@@ -4,6 +4,7 @@ ghost use Rattle.std.specs.FinMap.Entries.{is_sorted};
 ghost use Rattle.std.specs.List.{AllByRecursion};
 ghost use Rattle.std.specs.Option.{option_map_or};
 ghost use Rattle.std.specs.Prelude.{◌≡◌, ◌≤◌, List, T, [], IfOk, IfSome, OnOk, length, map, true};
+ghost use Rattle.lsr_facts.specs.Limits.{max_lsps};
 ghost use Rattle.lsr_facts.specs.Orders.{key_cmp};
 ghost use Rattle.lsr_facts.specs.declared.key.Key.{Key};
 ghost use Rattle.lsr_facts.specs.Claims.{is_of, reserved_of};
@@ -68,7 +69,7 @@ impl LinkSum {
         requires own { AllByRecursion (λ row. is_of session.now row ≡ true) claims.now }
         requires sorted { T (is_sorted key_cmp claims.now) }
         requires rated { AreRated claims.now }
-        requires few { length claims.now ≤ 1024 }
+        requires few { length claims.now ≤ max_lsps }
         ensures { self.new ≡ less touched.now claims.now self.old }
     {
         if touched.has(self.link) {
@@ -82,7 +83,7 @@ impl LinkSum {
         requires own { AllByRecursion (λ row. is_of session.now row ≡ true) claims.now }
         requires sorted { T (is_sorted key_cmp claims.now) }
         requires rated { AreRated claims.now }
-        requires few { length claims.now ≤ 1024 }
+        requires few { length claims.now ≤ max_lsps }
         ensures { self.new ≡ more touched.now claims.now self.old }
     {
         if touched.has(self.link) {
@@ -102,7 +103,7 @@ pub fn take_off(
     requires own { AllByRecursion (λ row. is_of session.now row ≡ true) claims.now }
     requires sorted { T (is_sorted key_cmp claims.now) }
     requires rated { AreRated claims.now }
-    requires few { length claims.now ≤ 1024 }
+    requires few { length claims.now ≤ max_lsps }
     ensures { sums.new.items ≡ map (less touched.now claims.now) sums.old.items }
 {
     for sum in sums.iter_mut() {
@@ -115,7 +116,7 @@ pub fn add(sums: &mut Vec<LinkSum>, claims: &[(Key, Claim)], session: &Session, 
     requires own { AllByRecursion (λ row. is_of session.now row ≡ true) claims.now }
     requires sorted { T (is_sorted key_cmp claims.now) }
     requires rated { AreRated claims.now }
-    requires few { length claims.now ≤ 1024 }
+    requires few { length claims.now ≤ max_lsps }
     ensures { sums.new.items ≡ map (more touched.now claims.now) sums.old.items }
 {
     for sum in sums.iter_mut() {
@@ -127,7 +128,7 @@ pub fn add(sums: &mut Vec<LinkSum>, claims: &[(Key, Claim)], session: &Session, 
 pub fn add_up(sums: &mut Vec<LinkSum>, claims: &[(Key, Claim)])
     requires sorted { T (is_sorted key_cmp claims.now) }
     requires rated { AreRated claims.now }
-    requires few { length claims.now ≤ 1024 }
+    requires few { length claims.now ≤ max_lsps }
     ensures { sums.new.items ≡ map (anew claims.now) sums.old.items }
 {
     for sum in sums.iter_mut() {

@@ -3,6 +3,7 @@ ghost use Rattle.std.specs.Option.{option_copied, option_map, option_map_or};
 ghost use Rattle.std.specs.Ordering.{nat_cmp};
 ghost use Rattle.std.specs.Prelude.{◌≡◌, ◌^◌, ◌≤◌, T, [], false, IfOk, IsOk, filter, find as find_first, length, not, reverse, slice_get};
 ghost use Rattle.rsvp_bodies.specs.Traffic.{flowspec_rate};
+ghost use Rattle.lsr_facts.specs.Limits.{max_lsps};
 ghost use Rattle.lsr_facts.specs.Orders.{key_cmp};
 ghost use Rattle.lsr_facts.specs.Admission.{fits, victims_of};
 ghost use Rattle.lsr_facts.specs.Claims.{claim_of, reserved_of};
@@ -86,7 +87,7 @@ impl Admission {
     /// it runs.
     pub fn rows_are_in_order(&self)
         ensures sorted { T (is_sorted key_cmp self.now.resvs) }
-        ensures few { length self.now.resvs ≤ 1024 }
+        ensures few { length self.now.resvs ≤ max_lsps }
         ensures matched { AreMatched self.now.resvs self.now.claims }
     {
         self.resvs.rows_are_in_order();
@@ -115,7 +116,7 @@ impl Admission {
         ensures claims { result.now ≡ self.now.claims }
         ensures sorted { T (is_sorted key_cmp result.now) }
         ensures rated { AreRated result.now }
-        ensures few { length result.now ≤ 1024 }
+        ensures few { length result.now ≤ max_lsps }
     {
         self.claims.as_slice()
     }
@@ -145,7 +146,7 @@ impl Admission {
     /// at most 1,024 LSPs have one then, that its rate is defined, and for a priority of 0 to 7. It doesn't ask whether
     /// it fits. Takes no memory.
     pub fn put(&mut self, key: Key, fact: ResvFact, holding: u8)
-        requires room { length (put key_cmp key fact self.old.resvs) ≤ 1024 }
+        requires room { length (put key_cmp key fact self.old.resvs) ≤ max_lsps }
         requires rate { IsOk (flowspec_rate fact.flowspec) }
         requires holding { holding ≤ 7 }
         ensures { self.new ≡ with_resv key fact holding self.old }
@@ -218,7 +219,7 @@ impl Admission {
 
     /// Makes those of the edits that give a reservation, from the last one on. There is room for all at the end.
     fn give(&mut self, mut edits: Vec<(Key, Option<(ResvFact, u8)>)>)
-        requires room { length (in_turn (given key_cmp) (resv_edits (reverse edits.items)) self.old.resvs) ≤ 1024 }
+        requires room { length (in_turn (given key_cmp) (resv_edits (reverse edits.items)) self.old.resvs) ≤ max_lsps }
         requires edits { AreEdits (reverse edits.items) }
         ensures resvs { self.new.resvs ≡ in_turn (given key_cmp) (resv_edits (reverse edits.items)) self.old.resvs }
         ensures claims { self.new.claims ≡ in_turn (given key_cmp) (claim_edits (reverse edits.items)) self.old.claims }
@@ -234,7 +235,7 @@ impl Admission {
     /// Makes edits: each LSP that they name has this reservation from now on, kept at this priority, or none. It asks
     /// that at most 1,024 LSPs have one then, and of each edit what [`Admission::put`] asks. Takes no memory.
     pub fn edit(&mut self, edits: Table<Key, Option<(ResvFact, u8)>>)
-        requires room { length (edited key_cmp (resv_edits edits) self.old.resvs) ≤ 1024 }
+        requires room { length (edited key_cmp (resv_edits edits) self.old.resvs) ≤ max_lsps }
         requires edits { AreEdits edits }
         ensures { self.new ≡ with_edits edits self.old }
     {

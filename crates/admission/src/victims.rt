@@ -3,6 +3,7 @@
 ghost use Rattle.std.specs.FinMap.Entries.{is_sorted, where_key};
 ghost use Rattle.std.specs.Ordering.{is_eq};
 ghost use Rattle.std.specs.Prelude.{◌≡◌, ◌^◌, ◌≤◌, ◌++◌, T, [], All, IfOk, OnOk, false, filter, length, map, not, take};
+ghost use Rattle.lsr_facts.specs.Limits.{max_lsps};
 ghost use Rattle.lsr_facts.specs.Orders.{key_cmp};
 ghost use Rattle.lsr_facts.specs.Admission.{can_give_way, granted, held_at, in_turn, is_enough, shortest, victims_of};
 ghost use Rattle.lsr_facts.specs.Claims.{is_of, reserved_of};
@@ -100,7 +101,7 @@ fn count_needed(
 ) -> Result<usize, AllocError>
     requires sorted { T (is_sorted key_cmp claims.now) }
     requires rated { AreRated claims.now }
-    requires few { length claims.now ≤ 1024 }
+    requires few { length claims.now ≤ max_lsps }
     requires most { request.now.claim.rate ≤ 2 ^ 50 }
     requires apart { All (λ key. is_eq (key_cmp key request.now.key) ≡ false) keys.now }
     requires total { total ≡ reserved_of request.now.claim.link 7 (granted request.now claims.now) }
@@ -130,7 +131,7 @@ pub fn victims_from(
 ) -> Result<Vec<Key>, AllocError>
     requires sorted { T (is_sorted key_cmp claims.now) }
     requires rated { AreRated claims.now }
-    requires few { length claims.now ≤ 1024 }
+    requires few { length claims.now ≤ max_lsps }
     requires most { request.now.claim.rate ≤ 2 ^ 50 }
     requires total { total ≡ reserved_of request.now.claim.link 7 (granted request.now claims.now) }
     ensures { IfOk result (λ keys. keys.items ≡ victims_of limit request.now claims.now) }
@@ -155,7 +156,7 @@ pub fn victims_of(
 ) -> Result<Vec<Key>, AllocError>
     requires sorted { T (is_sorted key_cmp claims.now) }
     requires rated { AreRated claims.now }
-    requires few { length claims.now ≤ 1024 }
+    requires few { length claims.now ≤ max_lsps }
     requires most { request.now.claim.rate ≤ 2 ^ 50 }
     ensures { IfOk result (λ keys. keys.items ≡ victims_of limit request.now claims.now) }
 {

@@ -4,6 +4,8 @@
 
 mod datagram;
 mod reading;
+mod unlabelled;
 
 pub use datagram::{Datagram, Forwards, Passed};
 pub use reading::read_datagram;
+pub use unlabelled::read_unlabelled;

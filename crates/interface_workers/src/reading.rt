@@ -1,12 +1,13 @@
 //! What a datagram is, by what readers of the label table see.
 
-ghost use Rattle.std.specs.Prelude.{◌≡◌, IfSome};
+ghost use Rattle.std.specs.Prelude.{◌≡◌, IfNone, IfSome};
 ghost use Rattle.forwarding_table.specs.Forwarding.{forward_of};
 ghost use Rattle.datagrams.specs.Datagrams.{IsDatagram};
+ghost use Rattle.link_frames.specs.Frames.{kind_of};
 ghost use Rattle.lookup_plane.specs.Changes.{StartsWith, look};
 
 use crate::readers::CoreReader;
-use datagrams::{Datagram, Forwards, read_datagram};
+use datagrams::{Datagram, Forwards, read_datagram, read_unlabelled};
 use forwarding_table::Forwarding;
 use label_stacks::Stack;
 use lookup_plane::Lookups;
@@ -31,9 +32,9 @@ impl<'a> Forwards for Seen<'a> {
     }
 }
 
-/// What a datagram is that came over a link: a labelled frame by the label table that the reader sees, all its labels by one. It
-/// waits for nobody. None where the reader's table isn't shown any more, or not yet what it has learnt. The reader comes back: it has
-/// seen no less.
+/// What a datagram is that came over a link: a labelled frame by the label table that the reader sees, all its labels by one; any
+/// other whatever the reader sees. It waits for nobody. None for a labelled frame where the reader's table isn't shown any more, or
+/// not yet what it has learnt. The reader comes back: it has seen no less.
 pub fn read_by<L: Ledger>(
     alloc: Global,
     router: &Router,
@@ -42,9 +43,13 @@ pub fn read_by<L: Ledger>(
     bytes: &[u8],
 ) -> (Option<Result<Datagram, Refusal>>, CoreReader<L>)
     ensures answer { IfSome result.0 (IsDatagram router.now (forward_of (look result.1.seen)) link bytes.now) }
+    ensures labelled { IfNone result.0 (kind_of bytes.now ≡ 2) }
     ensures later { StartsWith result.1.seen reader.seen }
     ensures learnt { result.1.at_least ≡ reader.at_least }
 {
+    if let Some(answer) = read_unlabelled(alloc, router, link, bytes) {
+        return (Some(answer), reader);
+    }
     match reader.enter() {
         Ok(lookups) => {
             let answer = read_datagram(alloc, router, &Seen { lookups: &lookups }, link, bytes);

@@ -4,6 +4,7 @@ use Rattle.std.specs.FinMap.Entries.{find, put}
 use Rattle.std.specs.declared.cmp.Ordering.{Ordering}
 use Rattle.sorted_rows.specs.Edits.{at_key}
 use Rattle.sorted_rows.specs.InTurn.{given}
+use Rattle.lsr_facts.specs.Limits.{max_lsps}
 use Rattle.lsr_facts.specs.Orders.{key_cmp}
 use Rattle.lsr_facts.specs.declared.key.Key.{Key}
 use Rattle.lsr_facts.specs.declared.router.LabelRange.{LabelRange}
@@ -16,7 +17,7 @@ emptied cmp key now rows = at_key cmp key None rows
 
 -- An LSP may hold this label beside those that are held: there is room for it, it has none, and the label is free.
 pub record MayHold (range : LabelRange) (key : Key) (label : ℕ) (labels : List (Key × ℕ)) : Type 0 where
-  pub room : length (put key_cmp key label labels) ≤ 1024
+  pub room : length (put key_cmp key label labels) ≤ max_lsps
   pub new : find key_cmp key labels ≡ None
   pub own : IsOf range label
   pub free : is_free labels label ≡ true

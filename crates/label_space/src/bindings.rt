@@ -3,6 +3,7 @@
 ghost use Rattle.std.specs.FinMap.Entries.{find, is_sorted, put};
 ghost use Rattle.std.specs.Option.{option_copied};
 ghost use Rattle.std.specs.Prelude.{◌≡◌, ◌≤◌, T, [], IfOk, IfSome, is_some, length, slice_get};
+ghost use Rattle.lsr_facts.specs.Limits.{max_lsps};
 ghost use Rattle.lsr_facts.specs.Orders.{key_cmp};
 ghost use Rattle.lsr_facts.specs.Routers.{AreLabels};
 ghost use Rattle.lsr_facts.specs.declared.router.Router.{Router};
@@ -90,7 +91,7 @@ impl LabelBindings {
     /// nothing when it runs.
     pub fn rows_are_in_order(&self)
         ensures sorted { T (is_sorted key_cmp self.now.labels) }
-        ensures few { length self.now.labels ≤ 1024 }
+        ensures few { length self.now.labels ≤ max_lsps }
         ensures held { AreHeldOf self.now.range self.now.labels }
     {
         self.by_lsp.rows_are_in_order();
@@ -156,7 +157,7 @@ impl LabelBindings {
     /// before the first of them holds another, so a label may go from one of them to another. It asks that at most
     /// 1,024 LSPs hold a label then, each another one, and all of the range. Takes no memory.
     pub fn edit(&mut self, edits: Table<Key, Option<u32>>)
-        requires room { length (edited key_cmp edits self.old.labels) ≤ 1024 }
+        requires room { length (edited key_cmp edits self.old.labels) ≤ max_lsps }
         requires held { AreHeldOf self.old.range (edited key_cmp edits self.old.labels) }
         ensures { self.new ≡ record self.old { labels = edited key_cmp edits self.old.labels } }
     {

@@ -4,6 +4,7 @@ ghost use Rattle.std.specs.Option.{option_copied};
 ghost use Rattle.std.specs.Ordering.{is_eq};
 ghost use Rattle.std.specs.Prelude.{◌≡◌, ◌≤◌, T, [], IfOk, filter, length, not, slice_get};
 ghost use Rattle.lsr_facts.specs.Lifetimes.{expire, expires};
+ghost use Rattle.lsr_facts.specs.Limits.{max_lsps};
 ghost use Rattle.lsr_facts.specs.Orders.{key_cmp};
 ghost use Rattle.lsr_facts.specs.Claims.{is_same_session};
 ghost use Rattle.sorted_rows.specs.Edits.{edited};
@@ -105,7 +106,7 @@ impl PathState {
     /// The keys rise, and there are at most 1,024 paths. It does nothing when it runs.
     pub fn rows_are_in_order(&self)
         ensures sorted { T (is_sorted key_cmp self.now) }
-        ensures few { length self.now ≤ 1024 }
+        ensures few { length self.now ≤ max_lsps }
     {
         self.rows.rows_are_in_order();
     }
@@ -154,7 +155,7 @@ impl PathState {
     /// This is known of an LSP's path from now on, in place of what was known. It asks that at most 1,024 LSPs are
     /// known then. Takes no memory.
     pub fn put(&mut self, key: Key, fact: PathFact)
-        requires { length (put key_cmp key fact self.old) ≤ 1024 }
+        requires { length (put key_cmp key fact self.old) ≤ max_lsps }
         ensures { self.new ≡ put key_cmp key fact self.old }
     {
         self.rows.set(key, fact);
@@ -170,7 +171,7 @@ impl PathState {
     /// Makes edits: of each LSP that they name this is known from now on, or nothing. It asks that at most 1,024 LSPs
     /// are known then. Takes no memory.
     pub fn edit(&mut self, edits: Table<Key, Option<PathFact>>)
-        requires { length (edited key_cmp edits self.old) ≤ 1024 }
+        requires { length (edited key_cmp edits self.old) ≤ max_lsps }
         ensures { self.new ≡ edited key_cmp edits self.old }
     {
         self.rows.edit(edits);

@@ -1,5 +1,8 @@
 -- The rate of a SENDER_TSPEC and of a FLOWSPEC, and the fault of one that has none.
-use Rattle.std.specs.Prelude.{ℕ, ◌==◌, nat_lt, if◌then◌else◌, List, length, Result, Err, ok_or}
+use Rattle.std.specs.Prelude.{ℕ, ◌==◌, nat_lt, if◌then◌else◌, List, drop, length, Result, Err, ok_or}
+use Rattle.std.specs.Option.{unwrap_or}
+use Rattle.byteorder.specs.Endian.{big_number}
+use Rattle.rsvp_bodies.specs.Rates.{rate_of}
 use Rattle.rsvp_bodies.specs.declared.traffic_fault.TrafficFault.{TrafficFault}
 use Rattle.rsvp_bodies.specs.declared.traffic_fault.TrafficFault.TheVariants.{ServiceUnsupported, BadFlowspec, BadTspec}
 use Rattle.rsvp_bodies.specs.TokenBuckets.{service_of, token_rate, with_service}
@@ -20,3 +23,11 @@ flowspec_rate body =
 -- the FLOWSPEC that asks for controlled load for the traffic of a SENDER_TSPEC
 abbrev pub flowspec_of : List ℕ → List ℕ
 flowspec_of tspec = with_service 5 tspec
+
+-- the rate word of a SENDER_TSPEC of 32 bytes, whatever stands beside it (RFC 2210, 3.1)
+abbrev pub rate_word : List ℕ → ℕ
+rate_word tspec = big_number 4 (drop 12 tspec)
+
+-- the rate that it asks for: 0 where its word stands for none
+abbrev pub rate_asked : List ℕ → ℕ
+rate_asked tspec = unwrap_or (rate_of (rate_word tspec)) 0

@@ -1,7 +1,8 @@
 ghost use Rattle.std.specs.Prelude.{◌≡◌, length, OnOk};
-ghost use Rattle.rsvp_bodies.specs.Traffic.{tspec_rate};
+ghost use Rattle.rsvp_bodies.specs.Traffic.{rate_asked, rate_word, tspec_rate};
 
-use crate::{Description, TrafficFault, shape, traffic_numbers};
+use crate::{Description, RateWord, TrafficFault, shape, traffic_numbers};
+use byteorder::{BigEndian, ByteOrder};
 
 /// The side that sends.
 #[derive(Debug, Drop)]
@@ -21,5 +22,25 @@ impl Tspec {
         ensures whole { OnOk result (length self.now ≡ 32) }
     {
         shape::rate(self.as_slice(), traffic_numbers::GENERIC_SERVICE).ok_or(TrafficFault::BadTspec)
+    }
+
+    /// The rate word, whatever stands beside it (RFC 2210, 3.1). It asks for a body of 32 bytes.
+    pub fn rate_word(&self) -> RateWord
+        requires { length self.now ≡ 32 }
+        ensures { result ≡ rate_word self.now }
+    {
+        RateWord::from_bits(BigEndian::read_u32(&self.as_slice()[traffic_numbers::RATE_AT..]))
+    }
+
+    /// The rate that its word asks for, in whole bytes per second, whatever stands beside it: 0 where the word stands for
+    /// none. It asks for a body of 32 bytes.
+    pub fn rate_asked(&self) -> u64
+        requires { length self.now ≡ 32 }
+        ensures { result ≡ rate_asked self.now }
+    {
+        match self.rate_word().whole() {
+            Some(rate) => rate,
+            None => 0,
+        }
     }
 }

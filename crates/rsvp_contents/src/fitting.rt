@@ -33,15 +33,15 @@ fn has_short_record(recorded: &Option<Record>) -> bool
     }
 }
 
-/// Whether each object is an ADSPEC or one that a message of this type passes on.
-fn are_passed_by(kind: u8, objects: &[Opaque]) -> bool
+/// Whether each object is an ADSPEC or one that a message of this type passes on (RFC 2205, 3.10).
+pub fn are_passed_by(kind: u8, objects: &[Opaque]) -> bool
     ensures { result ≡ are_passed_by kind objects.now }
 {
     objects.iter().all(|object| object.class() == CLASS_ADSPEC || passes(kind, object))
 }
 
 /// Whether none but the last is an ADSPEC.
-fn has_adspec_last(objects: &[Opaque]) -> bool
+pub fn has_adspec_last(objects: &[Opaque]) -> bool
     ensures { result ≡ has_adspec_last objects.now }
 {
     match objects {
@@ -51,7 +51,7 @@ fn has_adspec_last(objects: &[Opaque]) -> bool
 }
 
 /// Whether at most one object is of class FAST_REROUTE: the Path's own, or one that is passed on.
-fn has_one_fast_reroute(own: Option<FastReroute>, objects: &[Opaque]) -> bool
+pub fn has_one_fast_reroute(own: Option<FastReroute>, objects: &[Opaque]) -> bool
     ensures { result ≡ has_one_fast_reroute own objects.now }
 {
     let passed = objects

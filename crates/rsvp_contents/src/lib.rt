@@ -23,6 +23,7 @@ pub use descriptors::{
     ErrorDescriptor, ErrorDescriptors, Filters, FlowDescriptor, FlowDescriptors,
 };
 pub use dropped::Dropped;
+pub use fitting::{are_passed_by, has_adspec_last, has_one_fast_reroute};
 pub use flow_fitting::{
     are_errors_within, are_filters_within, are_flows_within, counts_on, fits_style,
 };

@@ -11,3 +11,4 @@ mod routes;
 mod tunnels;
 
 pub use commands::command;
+pub use requests::is_short_from;

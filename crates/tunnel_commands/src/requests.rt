@@ -11,18 +11,14 @@ ghost use Rattle.explicit_routes.specs.Choosing.{choice_of};
 
 use crate::routes::MAX_LENGTH;
 use abstract_paths::NewTunnel;
-use byteorder::{BigEndian, ByteOrder};
 use explicit_routes::{Way, head_way, is_own};
 use lsr_facts::Router;
-use rsvp_bodies::{RateWord, Step, Subobject};
+use rsvp_bodies::{Step, Subobject};
 use rsvp_contents::limits::is_short_route;
 use rsvp_contents::numbers::{MAX_ROUTE_LEN, MAX_STEPS};
 use rsvp_contents::{Prefix, Route, Tspec};
 use state_views::{StateView, node_of};
 use std::net::Ipv4Addr;
-
-/// Where the token bucket rate stands in the body of a traffic descriptor, in bytes (RFC 2210, 3.1).
-const RATE_AT: usize = 12;
 
 /// The least priority has the greatest number: 0 is the best one (RFC 3209, 4.7.1).
 const LEAST_PRIORITY: u8 = 7;
@@ -41,7 +37,7 @@ fn own_step(router: &Router) -> Step
 }
 
 /// Whether a tunnel's route is within the limits of an explicit route, with this router's own step before it.
-fn is_short_from(router: &Router, route: &Route) -> bool
+pub fn is_short_from(router: &Router, route: &Route) -> bool
     ensures { result ≡ is_short_route (route_from router.now route.now) }
 {
     is_short_route(route)
@@ -54,8 +50,7 @@ fn has_rate(tspec: &Tspec) -> bool
     requires { length tspec.now ≡ 32 }
     ensures { result ≡ has_rate tspec.now }
 {
-    let word = BigEndian::read_u32(&tspec.as_slice()[RATE_AT..]);
-    RateWord::from_bits(word).whole().is_some()
+    tspec.rate_word().whole().is_some()
 }
 
 /// The way that an LSP to the endpoint takes, which can be asked for; `None` where it can't: its route is too long, the
