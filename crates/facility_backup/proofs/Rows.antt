@@ -1,5 +1,5 @@
 -- Bypasses as they are asked for one by one, and all of them.
-use Rattle.std.specs.Prelude.{◌≡◌, ◌+◌, ◌<◌, ◌==◌, ◌&&◌, ◌||◌, ◌++◌, not, ℕ, Bool, true, false, cond, T, List, [], ◌∷◌, filter_map, find as find_first, is_some, length, Option, Some, None}
+use Rattle.std.specs.Prelude.{◌≡◌, ◌+◌, ◌<◌, ◌==◌, ◌&&◌, ◌||◌, ◌++◌, not, ℕ, Bool, true, false, cond, if◌then◌else◌, T, List, [], ◌∷◌, filter_map, find as find_first, is_some, length, Option, Some, None}
 use Rattle.std.specs.FinMap.Entries.{find, is_sorted}
 use Rattle.std.specs.List.{cons_option, list_any}
 use Rattle.std.specs.Option.{option_and_then, option_map, option_map_or, option_or, unwrap_or}
@@ -8,7 +8,7 @@ use Rattle.std.specs.Ordering.{eq_by_cmp, nat_cmp}
 use Rattle.std.specs.declared.cmp.Ordering.{Ordering}
 use Rattle.std.specs.declared.cmp.Ordering.TheVariants.{Equal}
 use Rattle.std.proofs.Common.{refl, sym, ap, subst, ◌∙◌, get_or, take, arith}
-use Rattle.std.proofs.lemmas.Bool.{eq-eqb, eqb-true}
+use Rattle.std.proofs.lemmas.Bool.{and_parts, eq-eqb, eqb-true}
 use Rattle.std.proofs.lemmas.Cmp.{nat_list_eq_equiv}
 use Rattle.std.proofs.lemmas.List.{take_more}
 use Rattle.std.proofs.lemmas.List.Elements.{filter_map-append}
@@ -29,8 +29,10 @@ use Rattle.lsr_facts.specs.Reservations.{timeless_resv}
 use Rattle.lsr_facts.specs.declared.repair.BypassTunnel.{BypassTunnel}
 use Rattle.lsr_facts.specs.declared.repair.Repair.{Repair}
 use Rattle.lsr_facts.specs.declared.resv_fact.ResvFact.{ResvFact}
+use Rattle.abstract_paths.specs.Places.{is_up}
 use Rattle.abstract_paths.specs.StampLaws.{none-is}
-use Rattle.abstract_router.specs.BypassTunnels.{bypass_tunnel_by, bypass_tunnel_of, bypass_tunnels_of, over_by, over_of}
+use Rattle.abstract_paths.specs.Tears.{leaves_by}
+use Rattle.abstract_router.specs.BypassTunnels.{bypass_tunnel_by, bypass_tunnel_of, bypass_tunnels_of, over_of}
 use Rattle.abstract_router.specs.Lsps.{Around, Lsp, around_of, lsp_of}
 use Rattle.abstract_router.specs.Protecting.{candidates_of, is_preferred, is_protected, selected}
 use Rattle.abstract_router.specs.States.{State}
@@ -158,33 +160,40 @@ runs_more r bypass bypasses key so = by (is_same key.session.extended r.id) (nam
     by false named so = so
 
 module _ (r : Router) (s : State) (e : Edits) (up : e.up ≡ None) where
-  -- a tunnel runs over the same, where the reservation of its current LSP isn't edited
-  same_over : (tunnel : ℕ × Tunnel) → find key_cmp (current_key r tunnel) e.resvs ≡ None → over_of r s tunnel ≡ over_of r (edited e s) tunnel
+  -- neither path nor reservation of an LSP is edited
+  abbrev IsLeft : Key → Type 0
+  IsLeft key = (find key_cmp key e.paths ≡ None) × (find key_cmp key e.resvs ≡ None)
+
+  -- a tunnel runs over the same, where its current LSP is left
+  same_over : (tunnel : ℕ × Tunnel) → IsLeft (current_key r tunnel) → over_of r s tunnel ≡ over_of r (edited e s) tunnel
   same_over tunnel none =
       let key = current_key r tunnel in
-      let resv = row_edited key e.resvs s.resvs ∙ ap (λ edit. rows.over edit (find key_cmp key s.resvs)) none in
-      λ i. option_and_then (over_by (unwrap_or (sym up i) s.facts.up)) (sym resv i)
+      let path = row_edited key e.paths s.facts.paths ∙ ap (λ edit. rows.over edit (find key_cmp key s.facts.paths)) none.0 in
+      let resv = row_edited key e.resvs s.resvs ∙ ap (λ edit. rows.over edit (find key_cmp key s.resvs)) none.1 in
+      λ i. option_and_then (λ resv.
+      if is_up (unwrap_or (sym up i) s.facts.up) resv.link && option_map_or (leaves_by resv.link) (sym path i) false then Some (record { link = resv.link; label = resv.label }) else None)
+      (sym resv i)
 
   -- a bypass is the same, where its tunnel isn't edited either
-  same_row : (bypass : ℕ × Bypass) → find nat_cmp bypass.1.tunnel e.tunnels ≡ None → ((tunnel : Tunnel) → find key_cmp (current_key r (bypass.1.tunnel, tunnel)) e.resvs ≡ None) → row_by r s bypass ≡ row_by r (edited e s) bypass
-  same_row bypass none none_held =
+  same_row : (bypass : ℕ × Bypass) → find nat_cmp bypass.1.tunnel e.tunnels ≡ None → ((tunnel : Tunnel) → IsLeft (current_key r (bypass.1.tunnel, tunnel))) → row_by r s bypass ≡ row_by r (edited e s) bypass
+  same_row bypass none left =
       by (find nat_cmp bypass.1.tunnel s.facts.tunnels)
       ∙ ap (λ tunnel. option_map {U = ℕ × BypassTunnel} (λ bypass_tunnel. (bypass.0, bypass_tunnel)) (option_map (bypass_tunnel_of r (edited e s) bypass.1) tunnel))
       (sym (tunnel_edited bypass.1.tunnel e.tunnels s.facts.tunnels ∙ ap (λ edit. rows.over edit (find nat_cmp bypass.1.tunnel s.facts.tunnels)) none))
     where
       by : (tunnel : Option Tunnel) → option_map {U = ℕ × BypassTunnel} (λ bypass_tunnel. (bypass.0, bypass_tunnel)) (option_map (bypass_tunnel_of r s bypass.1) tunnel) ≡ option_map {U = ℕ × BypassTunnel} (λ bypass_tunnel. (bypass.0, bypass_tunnel)) (option_map (bypass_tunnel_of r (edited e s) bypass.1) tunnel)
       by None = refl
-      by (Some tunnel) = λ i. Some (bypass.0, record { tunnel = bypass.1.tunnel; protects = bypass.1.link; ends_at = tunnel.endpoint; over = same_over (bypass.1.tunnel, tunnel) (none_held tunnel) i })
+      by (Some tunnel) = λ i. Some (bypass.0, record { tunnel = bypass.1.tunnel; protects = bypass.1.link; ends_at = tunnel.endpoint; over = same_over (bypass.1.tunnel, tunnel) (left tunnel) i })
 
-  -- So each of these is, where no tunnel is edited in which one runs, nor the reservation of one of its LSPs.
-  same_rows : (bypasses : List (ℕ × Bypass)) → ((number : ℕ) → names_tunnel bypasses number ≡ true → find nat_cmp number e.tunnels ≡ None) → ((key : Key) → runs_bypass r bypasses key ≡ true → find key_cmp key e.resvs ≡ None)
+  -- So each of these is, where no tunnel is edited in which one runs, and its LSPs are left.
+  same_rows : (bypasses : List (ℕ × Bypass)) → ((number : ℕ) → names_tunnel bypasses number ≡ true → find nat_cmp number e.tunnels ≡ None) → ((key : Key) → runs_bypass r bypasses key ≡ true → IsLeft key)
       → filter_map (row_by r s) bypasses ≡ filter_map (row_by r (edited e s)) bypasses
-  same_rows [] tunnels resvs = refl
-  same_rows (bypass ∷ bypasses) tunnels resvs =
+  same_rows [] tunnels lsps = refl
+  same_rows (bypass ∷ bypasses) tunnels lsps =
       let number = bypass.1.tunnel in
       let named = ap (λ same. same || names_tunnel bypasses number) (same_number number) in
-      let one = same_row bypass (tunnels number named) (λ tunnel. resvs (current_key r (number, tunnel)) ((λ i. nat_list_eq_equiv.refl (ipv4_octets r.id) i && names_tunnel (bypass ∷ bypasses) number) ∙ named)) in
-      let more = same_rows bypasses (λ other so. tunnels other (one_of_more (number == other) _ so)) (λ key so. resvs key (runs_more r bypass bypasses key so)) in
+      let one = same_row bypass (tunnels number named) (λ tunnel. lsps (current_key r (number, tunnel)) ((λ i. nat_list_eq_equiv.refl (ipv4_octets r.id) i && names_tunnel (bypass ∷ bypasses) number) ∙ named)) in
+      let more = same_rows bypasses (λ other so. tunnels other (one_of_more (number == other) _ so)) (λ key so. lsps key (runs_more r bypass bypasses key so)) in
       λ i. cons_option (one i) (more i)
 
 -- Edits that leave each bypass as it is, and no link or route comes or goes, leave all that LSPs share.
@@ -198,11 +207,6 @@ same_around r s e up routes bypasses same =
       bypass_tunnels = bypass_tunnels i;
     }
 
--- neither fails
-both_pass : (a b : Bool) → (a && b) ≡ true → (a ≡ true) × (b ≡ true)
-both_pass true b so = (refl, so)
-both_pass false b so = absurd (let f = so in cc)
-
 -- what fails to be so
 not_so : (b : Bool) → not b ≡ true → b ≡ false
 not_so true so = absurd (let f = so in cc)
@@ -212,9 +216,10 @@ not_so false so = refl
 pub untouched_around : (r : Router) (s : State) (e : Edits) (bypasses : List (ℕ × Bypass)) → is_some e.up ≡ false → is_some e.routes ≡ false → is_some e.bypasses ≡ false
     → bypasses ≡ s.facts.bypasses → leaves_tunnels r bypasses e ≡ true → around_of r s ≡ around_of r (edited e s)
 untouched_around r s e bypasses up routes same are leaves =
-    let is_up = none-is e.up up in
+    let up_still = none-is e.up up in
     let known : leaves_tunnels r s.facts.bypasses e ≡ true = subst (λ (all : List (ℕ × Bypass)). leaves_tunnels r all e ≡ true) are leaves in
-    let tunnels = both_pass _ _ known in
-    let resvs = both_pass _ _ tunnels.1 in
-    same_around r s e is_up (none-is e.routes routes) (none-is e.bypasses same)
-    (same_rows r s e is_up s.facts.bypasses (none_such nat_cmp exact_unsigned (names_tunnel s.facts.bypasses) e.tunnels (not_so _ tunnels.0)) (none_such key_cmp key_exact (runs_bypass r s.facts.bypasses) e.resvs (not_so _ resvs.0)))
+    let tunnels = and_parts _ _ known in
+    let lsps = and_parts _ _ tunnels.1 in
+    same_around r s e up_still (none-is e.routes routes) (none-is e.bypasses same)
+    (same_rows r s e up_still s.facts.bypasses (none_such nat_cmp exact_unsigned (names_tunnel s.facts.bypasses) e.tunnels (not_so _ tunnels.0)) (λ key runs.
+    (none_such key_cmp key_exact (runs_bypass r s.facts.bypasses) e.paths (not_so _ lsps.1) key runs, none_such key_cmp key_exact (runs_bypass r s.facts.bypasses) e.resvs (not_so _ lsps.0) key runs)))

@@ -56,7 +56,7 @@ fn leaves_path<V: StateView>(view: &V, edits: &Edits, key: &Key) -> bool
     ensures { result ≡ true → option_map timeless_path (find key_cmp key.now (V.state view.now).facts.paths)
         ≡ option_map timeless_path (find key_cmp key.now (edited edits.now (V.state view.now)).facts.paths) }
 {
-    match edits.path(key) {
+    match edits.paths.get(key) {
         Some(edit) => is_same_path(view.path(key), edit.as_ref()),
         None => true,
     }
@@ -68,7 +68,7 @@ fn leaves_resv<V: StateView>(view: &V, edits: &Edits, key: &Key) -> bool
     ensures { result ≡ true → option_map timeless_resv (find key_cmp key.now (V.state view.now).resvs)
         ≡ option_map timeless_resv (find key_cmp key.now (edited edits.now (V.state view.now)).resvs) }
 {
-    match edits.resv(key) {
+    match edits.resvs.get(key) {
         Some(edit) => is_same_resv(view.resv(key), edit.as_ref()),
         None => true,
     }
@@ -80,7 +80,7 @@ fn leaves_repair<V: StateView>(view: &V, edits: &Edits, key: &Key) -> bool
     ensures { result ≡ true → option_map timeless_repair (find key_cmp key.now (V.state view.now).repairs)
         ≡ option_map timeless_repair (find key_cmp key.now (edited edits.now (V.state view.now)).repairs) }
 {
-    match edits.repair(key) {
+    match edits.repairs.get(key) {
         Some(edit) => is_same_repair(view.repair(key), edit.as_ref()),
         None => true,
     }
@@ -92,7 +92,7 @@ fn leaves_label<V: StateView>(view: &V, edits: &Edits, key: &Key) -> bool
     ensures { result ≡ true → find key_cmp key.now (V.state view.now).labels
         ≡ find key_cmp key.now (edited edits.now (V.state view.now)).labels }
 {
-    match edits.label(key) {
+    match edits.labels.get(key) {
         Some(edit) => view.label(key) == *edit,
         None => true,
     }

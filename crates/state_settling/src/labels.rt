@@ -57,7 +57,7 @@ fn one_label(alloc: Global, key: Key, label: u32) -> Result<Table<Key, u32>, All
 
 /// The labels that are chosen for edits of paths: a free one for the LSP that is new, where one is. It asks that no
 /// more than one is new, and that then a label is free. The only error is out of memory.
-pub(crate) fn chosen_labels<V: WholeState>(
+pub fn chosen_labels<V: WholeState>(
     alloc: Global,
     view: &V,
     paths: &[(Key, Option<PathFact>)],

@@ -9,4 +9,5 @@ mod settling;
 mod standing;
 
 pub use claims::bandwidth_edits;
-pub use settling::{Settled, settle, settle_by};
+pub use labels::chosen_labels;
+pub use settling::{Settled, settle_by};

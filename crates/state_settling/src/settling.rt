@@ -2,14 +2,12 @@
 
 ghost use Rattle.std.specs.Prelude.{◌≡◌, IfOk};
 ghost use Rattle.abstract_paths.specs.Soundness.{ArePaths};
-ghost use Rattle.abstract_router.specs.Choosing.{CanLabel};
-ghost use Rattle.abstract_router.specs.Labels.{IsLabelling};
 ghost use Rattle.abstract_router.specs.Repairing.{told_repaired};
 ghost use Rattle.abstract_router.specs.Soundness.{IsSound};
 ghost use Rattle.abstract_router.specs.Steps.{settled, taken_over};
 ghost use Rattle.state_views.specs.Edits.{edited};
 
-use crate::labels::{chosen_labels, give_labels};
+use crate::labels::give_labels;
 use crate::repair::repair_all;
 use crate::standing::{take_repairs, take_resvs};
 use lsr_facts::Key;
@@ -60,25 +58,4 @@ pub fn settle_by<V: WholeState>(
         chosen,
         told,
     })
-}
-
-/// What follows from an event's own change, with a free label for the LSP that is new. Beside what [`settle_by`] asks for, no
-/// more than one LSP may be new that needs a label, and then one has to be free: so it is after each event. The only error is
-/// out of memory.
-pub fn settle<V: WholeState>(alloc: Global, view: &V, edits: Edits) -> Result<Settled, AllocError>
-    requires sound { IsSound (V.router view.now) (V.state view.now) }
-    requires paths { ArePaths (V.router view.now) (edited edits (V.state view.now)).facts.moment
-        (edited edits (V.state view.now)).facts.paths }
-    requires labels { (edited edits (V.state view.now)).labels ≡ (V.state view.now).labels }
-    requires choice { CanLabel (V.router view.now) (V.state view.now).labels
-        (edited edits (V.state view.now)).facts.paths }
-    ensures after { IfOk result (λ x. edited x.edits (V.state view.now)
-        ≡ settled (V.router view.now) x.chosen (edited edits (V.state view.now))) }
-    ensures told { IfOk result (λ x. x.told
-        ≡ told_repaired (V.router view.now) (taken_over (V.router view.now) (edited edits (V.state view.now)))) }
-    ensures chosen { IfOk result (λ x. IsLabelling (V.router view.now) (V.state view.now).labels
-        (edited edits (V.state view.now)).facts.paths x.chosen) }
-{
-    let chosen = chosen_labels(alloc, view, edits.paths.as_slice())?;
-    settle_by(alloc, view, chosen, edits)
 }

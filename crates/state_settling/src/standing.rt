@@ -10,16 +10,16 @@ ghost use Rattle.lsr_facts.specs.declared.key.Key.{Key};
 ghost use Rattle.lsr_facts.specs.declared.router.Router.{Router};
 ghost use Rattle.abstract_router.specs.Repairing.{repair_stands, repairs_left};
 ghost use Rattle.abstract_router.specs.States.{State, is_one_of};
-ghost use Rattle.abstract_router.specs.Steps.{resvs_left, stands};
+ghost use Rattle.abstract_router.specs.Steps.{resvs_left};
+ghost use Rattle.abstract_router.specs.Standing.{stands};
 ghost use Rattle.state_views.specs.Edits.{edited};
 ghost use Rattle.state_views.specs.declared.edits.Edits.{Edits};
 ghost use Rattle.state_settling.specs.Falling.{failing_key, fails_at};
 
-use facility_backup::{is_same_around, repair_stands};
+use facility_backup::{is_same_around, repair_stands, stands};
 use lsr_facts::{Key, Repair, ResvFact};
-use message_rules::{is_up, leaves_by};
 use sorted_rows::Table;
-use state_views::{Changed, Edits, StateView, WholeState, node_of, without_rows};
+use state_views::{Changed, Edits, StateView, WholeState, without_rows};
 use std::alloc::{AllocError, Global};
 use std::mem;
 
@@ -83,15 +83,8 @@ impl Standing for ResvFact {
         edits.resvs.as_slice()
     }
 
-    /// It stands on its path: on the link that this leaves by, which is up.
     fn stands<V: StateView>(&self, view: &V, key: &Key) -> bool {
-        if !is_up(node_of(view).up, self.link) {
-            return false;
-        }
-        match view.path(key) {
-            Some(path) => leaves_by(self.link, path),
-            None => false,
-        }
+        stands(view, key, self)
     }
 
     /// No link came up or went down.

@@ -1,8 +1,5 @@
 //! Edits of what a router knows, and what it knows with edits over it.
 
-ghost use Rattle.std.specs.FinMap.Entries.{find};
-ghost use Rattle.std.specs.Option.{option_copied};
-ghost use Rattle.std.specs.Ordering.{nat_cmp};
 ghost use Rattle.std.specs.Prelude.{◌≡◌, IfOk};
 ghost use Rattle.sorted_rows.specs.Edits as rows;
 ghost use Rattle.lsr_facts.specs.Orders.{key_cmp};
@@ -132,48 +129,6 @@ impl Edits {
             assignments,
         }
     }
-
-    /// The edit of the tunnel of a number, if there is one.
-    pub fn tunnel(&self, number: u16) -> Option<&Option<Tunnel>>
-        ensures { option_copied result ≡ find nat_cmp number self.now.tunnels }
-    {
-        self.tunnels.get(&number)
-    }
-
-    /// The edit of an LSP's path, if there is one.
-    pub fn path(&self, key: &Key) -> Option<&Option<PathFact>>
-        ensures { option_copied result ≡ find key_cmp key.now self.now.paths }
-    {
-        self.paths.get(key)
-    }
-
-    /// The edit of an LSP's reservation, if there is one.
-    pub fn resv(&self, key: &Key) -> Option<&Option<ResvFact>>
-        ensures { option_copied result ≡ find key_cmp key.now self.now.resvs }
-    {
-        self.resvs.get(key)
-    }
-
-    /// The edit of an LSP's repair, if there is one.
-    pub fn repair(&self, key: &Key) -> Option<&Option<Repair>>
-        ensures { option_copied result ≡ find key_cmp key.now self.now.repairs }
-    {
-        self.repairs.get(key)
-    }
-
-    /// The edit of an LSP's label, if there is one.
-    pub fn label(&self, key: &Key) -> Option<&Option<u32>>
-        ensures { option_copied result ≡ find key_cmp key.now self.now.labels }
-    {
-        self.labels.get(key)
-    }
-
-    /// The edit of what an LSP is promised, if there is one.
-    pub fn assignment(&self, key: &Key) -> Option<&Option<Assignment>>
-        ensures { option_copied result ≡ find key_cmp key.now self.now.assignments }
-    {
-        self.assignments.get(key)
-    }
 }
 
 /// Rows of edits with others that are made after them. Where there are none before, the others are all: then no row moves.
@@ -252,7 +207,7 @@ impl<'a, V: StateView> StateView for Changed<'a, V> {
 
     #[tactic(auto, using(crate::specs::EditLaws::tunnel_edited))]
     fn tunnel(&self, number: u16) -> Option<&Tunnel> {
-        match self.edits.tunnel(number) {
+        match self.edits.tunnels.get(&number) {
             Some(edit) => edit.as_ref(),
             None => self.under.tunnel(number),
         }
@@ -267,7 +222,7 @@ impl<'a, V: StateView> StateView for Changed<'a, V> {
 
     #[tactic(auto, using(crate::specs::EditLaws::row_edited))]
     fn path(&self, key: &Key) -> Option<&PathFact> {
-        match self.edits.path(key) {
+        match self.edits.paths.get(key) {
             Some(edit) => edit.as_ref(),
             None => self.under.path(key),
         }
@@ -275,7 +230,7 @@ impl<'a, V: StateView> StateView for Changed<'a, V> {
 
     #[tactic(auto, using(crate::specs::EditLaws::row_edited))]
     fn resv(&self, key: &Key) -> Option<&ResvFact> {
-        match self.edits.resv(key) {
+        match self.edits.resvs.get(key) {
             Some(edit) => edit.as_ref(),
             None => self.under.resv(key),
         }
@@ -283,7 +238,7 @@ impl<'a, V: StateView> StateView for Changed<'a, V> {
 
     #[tactic(auto, using(crate::specs::EditLaws::row_edited))]
     fn repair(&self, key: &Key) -> Option<&Repair> {
-        match self.edits.repair(key) {
+        match self.edits.repairs.get(key) {
             Some(edit) => edit.as_ref(),
             None => self.under.repair(key),
         }
@@ -291,7 +246,7 @@ impl<'a, V: StateView> StateView for Changed<'a, V> {
 
     #[tactic(auto, using(crate::specs::EditLaws::row_edited))]
     fn label(&self, key: &Key) -> Option<u32> {
-        match self.edits.label(key) {
+        match self.edits.labels.get(key) {
             Some(edit) => *edit,
             None => self.under.label(key),
         }
@@ -299,7 +254,7 @@ impl<'a, V: StateView> StateView for Changed<'a, V> {
 
     #[tactic(auto, using(crate::specs::EditLaws::row_edited))]
     fn assignment(&self, key: &Key) -> Option<Assignment> {
-        match self.edits.assignment(key) {
+        match self.edits.assignments.get(key) {
             Some(edit) => *edit,
             None => self.under.assignment(key),
         }
