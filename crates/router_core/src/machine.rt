@@ -411,11 +411,7 @@ impl Machine {
     /// The tables of the router. They say nothing of whether it is cold.
     fn tables(&self) -> &Tables
         ensures router { result.now.router ≡ self.now.router }
-        ensures facts { result.now.state.facts ≡ record self.now.state.facts { cold = false } }
-        ensures resvs { result.now.state.resvs ≡ self.now.state.resvs }
-        ensures repairs { result.now.state.repairs ≡ self.now.state.repairs }
-        ensures labels { result.now.state.labels ≡ self.now.state.labels }
-        ensures upstream { result.now.state.sent_upstream ≡ self.now.state.sent_upstream }
+        ensures state { result.now.state ≡ with_cold false self.now.state }
     {
         let tables = match &self.phase {
             Phase::Running(router) => router.tables(),

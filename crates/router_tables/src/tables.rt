@@ -9,7 +9,7 @@ ghost use Rattle.lsr_facts.specs.Claims.{reserved_of};
 ghost use Rattle.abstract_router.specs.BypassTunnels.{bypass_tunnels_of, over_at};
 ghost use Rattle.abstract_router.specs.Preempting.{claims_of};
 ghost use Rattle.abstract_router.specs.Soundness.{IsSound};
-ghost use Rattle.abstract_router.specs.Tables.{TellsChange, forwarded, look, look_tunnel};
+ghost use Rattle.abstract_router.specs.Tables.{TellsChange, forwarded, look_tunnel};
 ghost use Rattle.label_table.specs.Rows.{IsTableOf};
 ghost use Rattle.router_tables.specs.Changes.{IsChange, changed};
 ghost use Rattle.router_tables.specs.States.{AreOpened, emptied, opened};
@@ -140,13 +140,6 @@ impl Tables {
         ensures { result.now ≡ self.now.router }
     {
         &self.rows.router
-    }
-
-    /// What is done with a frame that comes under this label, or `None` where nothing is.
-    pub fn look(&self, label: u32) -> Option<Action>
-        ensures { result ≡ look self.now.router self.now.state label }
-    {
-        self.rows.table.look(label)
     }
 
     /// What is done with the traffic of the tunnel of this number, or `None` where nothing is.
