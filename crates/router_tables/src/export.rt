@@ -13,21 +13,15 @@ use std::alloc::{AllocError, Global};
 fn facts_of(alloc: Global, rows: &Rows) -> Result<Facts, AllocError>
     ensures { IfOk result (λ facts. facts ≡ (state_of rows.now).facts) }
 {
-    let up = rows.up.try_copy(alloc)?;
-    let routes = rows.routes.try_copy(alloc)?;
-    let bypasses = rows.bypasses.try_copy(alloc)?;
-    let sent = rows.timers.copied(alloc)?;
-    let tunnels = tunnels_copied(alloc, &rows.tunnels)?;
-    let paths = rows.paths.copied(alloc)?;
     Ok(Facts {
         cold: false,
         moment: rows.moment,
-        up,
-        routes,
-        tunnels,
-        bypasses,
-        paths,
-        sent,
+        up: rows.up.try_copy(alloc)?,
+        routes: rows.routes.try_copy(alloc)?,
+        tunnels: tunnels_copied(alloc, &rows.tunnels)?,
+        bypasses: rows.bypasses.try_copy(alloc)?,
+        paths: rows.paths.copied(alloc)?,
+        sent: rows.timers.copied(alloc)?,
     })
 }
 
@@ -35,19 +29,13 @@ fn facts_of(alloc: Global, rows: &Rows) -> Result<Facts, AllocError>
 pub(crate) fn export(alloc: Global, rows: &Rows) -> Result<State, AllocError>
     ensures { IfOk result (λ state. state ≡ state_of rows.now) }
 {
-    let labels = rows.labels.copied(alloc)?;
-    let sent_upstream = rows.upstream.copied(alloc)?;
-    let resvs = rows.bandwidth.resvs_copied(alloc)?;
-    let repairs = rows.repairs.copied(alloc)?;
-    let assignments = rows.assignments.copied(alloc)?;
-    let facts = facts_of(alloc, rows)?;
     Ok(State {
-        facts,
-        resvs,
-        repairs,
-        labels,
-        assignments,
+        facts: facts_of(alloc, rows)?,
+        resvs: rows.bandwidth.resvs_copied(alloc)?,
+        repairs: rows.repairs.copied(alloc)?,
+        labels: rows.labels.copied(alloc)?,
+        assignments: rows.assignments.copied(alloc)?,
         resting: Table::new(alloc),
-        sent_upstream,
+        sent_upstream: rows.upstream.copied(alloc)?,
     })
 }

@@ -21,3 +21,83 @@ use Rattle.router_tables.proofs.Applying.{AreEdited, edited_are}
 use Rattle.router_tables.proofs.Rooms.{few_assignments, few_labels, few_moments, few_paths, few_repairs, few_resvs, few_tunnels, few_upstream}
 use Rattle.router_tables.proofs.rows.apply.Goals as goal
 
+pub make_edits-requires : goal.make_edits-requires
+make_edits-requires c =
+    let t = c.args.rows.now in
+    subst (λ (e : EditParts). length (in_rows.edited nat_cmp e.tunnels t.tunnels) ≤ 256) (sym c.into_parts-edits.ensures)
+    (few_tunnels t.router (changed c.args.change (state_of t)) c.requires.change.sound)
+
+pub edit-requires : goal.edit-requires
+edit-requires c =
+    let t = c.args.rows.now in
+    subst (λ (e : EditParts). length (in_rows.edited key_cmp e.paths t.paths) ≤ 1024) (sym c.into_parts-edits.ensures)
+    (few_paths t.router (changed c.args.change (state_of t)) c.requires.change.sound)
+
+pub edit-requires-2-clause-room : goal.edit-requires-2-clause-room
+edit-requires-2-clause-room c = let t = c.args.rows.now in few_resvs t.router (changed c.args.change (state_of t)) c.requires.change.sound
+
+pub make_edits-requires-2 : goal.make_edits-requires-2
+make_edits-requires-2 c =
+    let t = c.args.rows.now in
+    record {
+      exact = key_exact;
+      room = subst (λ (e : EditParts). length (in_rows.edited key_cmp e.repairs t.repairs) ≤ 1024) (sym c.into_parts-edits.ensures)
+          (few_repairs t.router (changed c.args.change (state_of t)) c.requires.change.sound);
+    }
+
+pub make_edits-requires-3 : goal.make_edits-requires-3
+make_edits-requires-3 c =
+    let t = c.args.rows.now in
+    record {
+      exact = key_exact;
+      room = subst (λ (e : EditParts). length (in_rows.edited key_cmp e.assignments t.assignments) ≤ 1024) (sym c.into_parts-edits.ensures)
+          (few_assignments t.router (changed c.args.change (state_of t)) c.requires.change.sound);
+    }
+
+pub edit-requires-3-clause-room : goal.edit-requires-3-clause-room
+edit-requires-3-clause-room c =
+    let t = c.args.rows.now in
+    subst (λ (e : EditParts). length (in_rows.edited key_cmp e.labels t.labels.labels) ≤ 1024) (sym c.into_parts-edits.ensures)
+    (few_labels t.router (changed c.args.change (state_of t)) c.requires.change.sound)
+
+pub edit-requires-3-clause-held : goal.edit-requires-3-clause-held
+edit-requires-3-clause-held c =
+    let t = c.args.rows.now in
+    let after = changed c.args.change (state_of t) in
+    subst (λ (e : EditParts). AreHeldOf t.labels.range (in_rows.edited key_cmp e.labels t.labels.labels)) (sym c.into_parts-edits.ensures)
+    (subst (λ (range : LabelRange). AreHeldOf range after.labels) (sym c.requires.tables.range) (held-labelled t.router after c.requires.change.sound.labels))
+
+pub edit-requires-4 : goal.edit-requires-4
+edit-requires-4 c =
+    let t = c.args.rows.now in
+    let order = c.items_are_in_order.ensures.order in (
+      omega arith,
+      (subst (λ (cmp : Item → Item → Ordering). (a b : Item) → cmp a b ≡ Equal → a ≡ b) (sym order) item_exact,
+      subst (λ (cmp : Item → Item → Ordering). length (in_rows.edited cmp c.args.change.moments t.timers.sent) ≤ 1024) (sym order) (few_moments t.router (changed c.args.change (state_of t)) c.requires.change.sound)),
+    )
+
+pub edit-requires-5 : goal.edit-requires-5
+edit-requires-5 c = let t = c.args.rows.now in (omega arith, (upstream_exact, few_upstream t.router (changed c.args.change (state_of t)) c.requires.change.sound))
+
+pub edit-requires-6-clause-room : goal.edit-requires-6-clause-room
+edit-requires-6-clause-room c = c.requires.change.table.room c.args.rows.now.table.labels c.rows_are_in_order.ensures.labels_sorted c.requires.tables.table
+
+pub edit_tunnels-requires-clause-room : goal.edit_tunnels-requires-clause-room
+edit_tunnels-requires-clause-room c =
+    let t = c.args.rows.now in
+    let s = changed c.args.change (state_of t) in
+    let table = ap (λ (tunnels : List (ℕ × Action)). in_rows.edited nat_cmp c.args.change.tunnel_table tunnels) c.requires.tables.tunnel_table ∙ c.requires.change.tunnel_table.table in
+    omega (arith, ap length table, length_tunnel_table t.router s, few_tunnels t.router s c.requires.change.sound)
+
+-- each table is edited
+are_edited : (c : goal.After-advance) → AreEdited c.args.change c.args.rows.now c.advance.new.rows
+are_edited c = ?
+
+pub returns-clause-tables : goal.returns-clause-tables
+returns-clause-tables c = edited_are c.args.change c.args.rows.now c.advance.new.rows c.requires.tables c.requires.change (are_edited c)
+
+pub returns-clause-router : goal.returns-clause-router
+returns-clause-router c = (are_edited c).router
+
+pub returns-clause-state : goal.returns-clause-state
+returns-clause-state c = (are_edited c).state
