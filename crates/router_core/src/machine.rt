@@ -367,15 +367,9 @@ impl Machine {
     pub fn export(&self, alloc: Global) -> Result<State, AllocError>
         ensures { IfOk result (λ state. state ≡ self.now.state) }
     {
-        match &self.phase {
-            Phase::Running(router) => router.tables().export(alloc),
-            Phase::Cold(router) => {
-                let mut state = router.tables().export(alloc)?;
-                state.facts.cold = true;
-                Ok(state)
-            }
-            Phase::Between => unreachable!(),
-        }
+        let mut state = self.tables().export(alloc)?;
+        state.facts.cold = self.is_cold();
+        Ok(state)
     }
 
     /// All labels under which frames may come, in their order, and what is done with them: a copy. A cold router has none.

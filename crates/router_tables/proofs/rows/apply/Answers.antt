@@ -1,22 +1,26 @@
 -- A change of a sound router finds room, and leaves the tables of one.
-use Rattle.std.proofs.Common.{◌≤◌, ap, arith, nat_cmp, length, subst, sym, ℕ, List, ◌∙◌}
+use Rattle.std.proofs.Common.{◌≡◌, ◌≤◌, [], ap, arith, nat_cmp, length, subst, sym, ℕ, List, ◌∙◌}
 use Rattle.std.specs.Option.{unwrap_or}
 use Rattle.std.specs.declared.cmp.Ordering.{Ordering}
 use Rattle.std.specs.declared.cmp.Ordering.TheVariants.{Equal}
 use Rattle.sorted_rows.specs.Edits as in_rows
+use Rattle.admission.specs.Bandwidths.{Bandwidth}
+use Rattle.forwarding_table.specs.Actions.{Actions}
 use Rattle.forwarding_table.specs.declared.action.Action.{Action}
 use Rattle.abstract_router.specs.LabelLaws.{held-labelled}
-use Rattle.abstract_router.specs.States.{State}
-use Rattle.label_space.specs.Bindings.{AreHeldOf}
+use Rattle.label_space.specs.Bindings.{AreHeldOf, Bindings}
 use Rattle.label_table.specs.TunnelLaws.{length_tunnel_table}
 use Rattle.lsr_facts.specs.OrderLaws.{item_exact, key_exact}
-use Rattle.lsr_facts.specs.Orders.{item_cmp, key_cmp}
+use Rattle.lsr_facts.specs.Orders.{key_cmp}
 use Rattle.lsr_facts.specs.UpstreamOrder.{upstream_exact}
 use Rattle.lsr_facts.specs.declared.key.Item.{Item}
 use Rattle.lsr_facts.specs.declared.router.LabelRange.{LabelRange}
+use Rattle.lsr_facts.specs.declared.upstream.Upstream.{Upstream}
+use Rattle.refresh_timers.specs.Timers.{Timers}
 use Rattle.state_views.specs.declared.edits.EditParts.{EditParts}
 use Rattle.router_tables.specs.Changes.{changed}
 use Rattle.router_tables.specs.States.{facts_of, state_of}
+use Rattle.router_tables.specs.declared.rows.Rows.{Rows}
 use Rattle.router_tables.proofs.Applying.{AreEdited, edited_are}
 use Rattle.router_tables.proofs.Rooms.{few_assignments, few_labels, few_moments, few_paths, few_repairs, few_resvs, few_tunnels, few_upstream}
 use Rattle.router_tables.proofs.rows.apply.Goals as goal
@@ -91,7 +95,42 @@ edit_tunnels-requires-clause-room c =
 
 -- each table is edited
 are_edited : (c : goal.After-advance) → AreEdited c.args.change c.args.rows.now c.advance.new.rows
-are_edited c = ?
+are_edited c =
+    let t = c.args.rows.now in
+    let change = c.args.change in
+    let parts = c.into_parts-edits.ensures in
+    let last = c.advance.ensures in
+    let sent = ap (λ (timers : Timers Item). timers.sent) c.edit-4.ensures ∙ ap (λ (cmp : Item → Item → Ordering). in_rows.edited cmp change.moments t.timers.sent) c.items_are_in_order.ensures.order in
+    record {
+      router = ap (λ (rows : Rows). rows.router) last;
+      state =
+          ap state_of last
+          ∙ (λ i. record {
+            facts = record (facts_of t) {
+              moment = (c.replace.ensures ∙ ap (λ (e : EditParts). unwrap_or e.moment t.moment) parts) i;
+              up = (c.replace-2.ensures ∙ ap (λ (e : EditParts). unwrap_or e.up t.up) parts) i;
+              routes = (c.replace-3.ensures ∙ ap (λ (e : EditParts). unwrap_or e.routes t.routes) parts) i;
+              bypasses = (c.replace-4.ensures ∙ ap (λ (e : EditParts). unwrap_or e.bypasses t.bypasses) parts) i;
+              tunnels = (c.make_edits.ensures ∙ ap (λ (e : EditParts). in_rows.edited nat_cmp e.tunnels t.tunnels) parts) i;
+              paths = (c.edit.ensures ∙ ap (λ (e : EditParts). in_rows.edited key_cmp e.paths t.paths) parts) i;
+              sent = sent i;
+            };
+            resvs = (c.edit-2.ensures i).resvs;
+            repairs = (c.make_edits-2.ensures ∙ ap (λ (e : EditParts). in_rows.edited key_cmp e.repairs t.repairs) parts) i;
+            assignments = (c.make_edits-3.ensures ∙ ap (λ (e : EditParts). in_rows.edited key_cmp e.assignments t.assignments) parts) i;
+            labels = (ap (λ (b : Bindings). b.labels) c.edit-3.ensures ∙ ap (λ (e : EditParts). in_rows.edited key_cmp e.labels t.labels.labels) parts) i;
+            resting = [];
+            sent_upstream = (c.edit-5.ensures i).sent;
+          });
+      period = ap (λ (rows : Rows). rows.timers.refresh_ms) last ∙ ap (λ (timers : Timers Item). timers.refresh_ms) c.edit-4.ensures;
+      upstream_period = ap (λ (rows : Rows). rows.upstream.refresh_ms) last ∙ ap (λ (timers : Timers Upstream). timers.refresh_ms) c.edit-5.ensures;
+      claims = ap (λ (rows : Rows). rows.bandwidth.claims) last ∙ ap (λ (b : Bandwidth). b.claims) c.edit-2.ensures;
+      range = ap (λ (rows : Rows). rows.labels.range) last ∙ ap (λ (b : Bindings). b.range) c.edit-3.ensures;
+      table = ap (λ (rows : Rows). rows.table.labels) last ∙ ap (λ (a : Actions). a.labels) c.edit_tunnels.ensures ∙ ap (λ (a : Actions). a.labels) c.edit-6.ensures;
+      tunnel_table =
+          ap (λ (rows : Rows). rows.table.tunnels) last ∙ ap (λ (a : Actions). a.tunnels) c.edit_tunnels.ensures
+          ∙ ap (λ (a : Actions). in_rows.edited nat_cmp change.tunnel_table a.tunnels) c.edit-6.ensures;
+    }
 
 pub returns-clause-tables : goal.returns-clause-tables
 returns-clause-tables c = edited_are c.args.change c.args.rows.now c.advance.new.rows c.requires.tables c.requires.change (are_edited c)
