@@ -7,9 +7,10 @@ use Rattle.std.specs.Option.{option_map_or}
 use Rattle.std.specs.Ordering.{is_eq, nat_cmp}
 use Rattle.std.specs.Result.{is_err}
 use Rattle.std.specs.declared.net.ipv4_addr.Ipv4Addr.{Ipv4Addr}
-use Rattle.std.proofs.Common.{refl, subst, ap, arith}
+use Rattle.std.proofs.Common.{refl, sym, subst, ap, arith}
 use Rattle.std.proofs.lemmas.Bool.{leb-false, ltb-false, not-false, not-true, or_parts}
 use Rattle.std.proofs.lemmas.Cmp.{nat_cmp_total}
+use Rattle.std.proofs.lemmas.Option.{same_Some}
 use Rattle.rsvp_objects.specs.Ranges.{IsAddress}
 use Rattle.rsvp_contents.specs.Limits.{is_short_route}
 use Rattle.rsvp_bodies.specs.declared.prefix.Prefix.{Prefix}
@@ -41,6 +42,7 @@ use Rattle.abstract_paths.proofs.Heads.{heads_begun, heads_cancelled, heads_chan
 use Rattle.abstract_paths.proofs.Masked.{masked_past}
 use Rattle.abstract_paths.proofs.NextHops.{Leads}
 use Rattle.abstract_paths.proofs.PathTable.{paths_where}
+use Rattle.abstract_paths.proofs.Pending.{pending_begun, pending_cancelled, pending_dropped}
 use Rattle.abstract_paths.proofs.Primitives.{sound_with_bypasses, sound_with_heads}
 use Rattle.abstract_paths.proofs.Signalling.{HopGoesOn, head-leads, head_put-stands, not_own, route-goes_on}
 use Rattle.abstract_paths.proofs.TunnelTable.{begun_stands, cancelled_stands, tunnel_known, tunnels_put_known, tunnels_put_room, tunnels_where}
@@ -128,14 +130,15 @@ module _ (r : Router) (s : Facts) (router : IsRouter r) (runs : s.cold ≡ false
   begun-stands : (number : ℕ) (tunnel : Tunnel) (lsp : TunnelLsp) → AreTunnels r (put nat_cmp number tunnel s.tunnels) → IsTunnel r (number, tunnel) → IsTunnelLsp r tunnel.last lsp → is_full s ≡ false
       → is_head r (put nat_cmp number tunnel s.tunnels) (head_key r number tunnel.endpoint lsp.id) ≡ true
       → ((q : Key) → is_eq (key_cmp q (head_key r number tunnel.endpoint lsp.id)) ≡ false → is_head r (put nat_cmp number tunnel s.tunnels) q ≡ is_head r s.tunnels q)
-      → is_err (head_hop (place_of r s) lsp.route tunnel.endpoint) ≡ false → IsStanding r (with_tunnel number tunnel (with_head r (number, tunnel) lsp s))
+      → is_err (head_hop (place_of r s) lsp.route tunnel.endpoint) ≡ false → ((pending : TunnelLsp) → tunnel.pending ≡ Some pending → pending ≡ lsp) → IsStanding r (with_tunnel number tunnel (with_head r (number, tunnel) lsp s))
   unfolding with_head
-  begun-stands number tunnel lsp are its asked room head others =
-      by (head_hop (place_of r s) lsp.route tunnel.endpoint) (head-leads r s (number, tunnel) lsp router is asked.route) (route-goes_on (place_of r s) tunnel.endpoint (not_own r (number, tunnel) its) (route_from r lsp.route))
+  begun-stands number tunnel lsp are its asked room head others fine only =
+      by (head_hop (place_of r s) lsp.route tunnel.endpoint) (head-leads r s (number, tunnel) lsp router is asked.route) (route-goes_on (place_of r s) tunnel.endpoint (not_own r (number, tunnel) its) (route_from r lsp.route)) fine
     where
       by : (way : Result Choice RsvpError) → Leads r way → HopGoesOn way → is_err way ≡ false → IsStanding r (with_tunnel number tunnel (with_head_by r (number, tunnel) lsp s way))
       by (Err e) leads goes fine = absurd (let f = fine in cc)
       by (Ok way) leads goes fine = head_put-stands r s runs is room number tunnel lsp tunnel.last (put nat_cmp number tunnel s.tunnels) way are (bypasses_tunnel_put r s.tunnels s.bypasses number tunnel is.bypasses) asked leads goes head others
+          (pending_begun r s.tunnels s.paths is.pending number tunnel lsp way are.in_order only)
 
   -- A tunnel begins.
   add-stands : (t : NewTunnel) → IsAddress t.endpoint → length t.tspec ≡ 32 → refusal_of r s (AddTunnel t) ≡ None → IsStanding r (commanded r s (AddTunnel t))
@@ -151,6 +154,7 @@ module _ (r : Router) (s : Facts) (router : IsRouter r) (runs : s.cold ≡ false
       (is_head-current r (put nat_cmp t.number tunnel s.tunnels) t.number tunnel (find-put_same nat_cmp nat_cmp_total t.number tunnel s.tunnels))
       (λ q apart. heads_begun r t.number s.tunnels tunnel q new refl apart)
       good.request.leads
+      (λ pending some. absurd (let e = some in cc))
 
   -- A change of a tunnel begins.
   change-stands : (c : TunnelChange) → length c.tspec ≡ 32 → refusal_of r s (ChangeTunnel c) ≡ None → IsStanding r (commanded r s (ChangeTunnel c))
@@ -170,6 +174,7 @@ module _ (r : Router) (s : Facts) (router : IsRouter r) (runs : s.cold ≡ false
           (is_head-pending r (put nat_cmp c.number changed s.tunnels) c.number changed lsp (find-put_same nat_cmp nat_cmp_total c.number changed s.tunnels) refl)
           (λ q apart. heads_changed r c.number s.tunnels t found c.route c.tspec q (none-is t.pending (ap not settled)) apart)
           fine.leads
+          (λ pending some. same_Some pending lsp (sym some))
 
   -- A change is given up.
   cancel-stands : (number : ℕ) → IsStanding r (commanded r s (CancelChange number))
@@ -184,6 +189,7 @@ module _ (r : Router) (s : Facts) (router : IsRouter r) (runs : s.cold ≡ false
           (bypasses_tunnel_put r s.tunnels s.bypasses number (cancelled t) is.bypasses)
           (paths_where r s.moment (λ k. not (is_one_of keys k)) s.paths is.paths)
           (heads_where r s.tunnels (put nat_cmp number (cancelled t) s.tunnels) (λ k. not (is_one_of keys k)) s.paths (λ q kept. heads_cancelled r number s.tunnels t found q (not-true _ kept)) is.heads)
+          (pending_cancelled r s.tunnels s.paths is.pending number t (is_sorted-put nat_cmp nat_cmp_total number (cancelled t) s.tunnels is.tunnels.in_order))
 
   -- A tunnel goes that no bypass runs in.
   drop-stands : (number : ℕ) → is_for_bypass s.bypasses number ≡ false → IsStanding r (commanded r s (DropTunnel number))
@@ -199,6 +205,7 @@ module _ (r : Router) (s : Facts) (router : IsRouter r) (runs : s.cold ≡ false
           (bypasses_tunnel_gone r s.tunnels s.bypasses number free is.bypasses)
           (paths_where r s.moment (λ k. not (is_one_of keys k)) s.paths is.paths)
           (heads_where r s.tunnels left (λ k. not (is_one_of keys k)) s.paths (λ q kept. heads_dropped r number s.tunnels t found q (not-true _ kept)) is.heads)
+          (pending_dropped r s.tunnels s.paths is.pending number t (is_sorted-where_key nat_cmp (λ k. not (is_eq (nat_cmp number k))) s.tunnels is.tunnels.in_order))
 
   -- A bypass is added.
   protect-stands : (b : NewBypass) → refusal_of r s (AddBypass b) ≡ None → IsStanding r (commanded r s (AddBypass b))
@@ -220,9 +227,9 @@ module _ (r : Router) (s : Facts) (router : IsRouter r) (runs : s.cold ≡ false
       sound_with_bypasses r s (where_key nat_cmp (λ k. not (is_eq (nat_cmp number k))) s.bypasses) is (bypasses_where r s.tunnels s.bypasses (λ k. not (is_eq (nat_cmp number k))) is.bypasses)
   commanded-stands (AddRoute prefix link) may none =
       let fail = all_fail (tests_of r s (AddRoute prefix link)) none in
-      sound_with_heads r s (put prefix_cmp (masked_prefix prefix) link s.routes) s.tunnels s.paths runs is (routes_put r prefix link s.routes is.routes (ltb-false 32 prefix.length fail.0) (not-false _ fail.1.0) fail.1.1.0) is.tunnels is.bypasses is.paths is.heads
+      sound_with_heads r s (put prefix_cmp (masked_prefix prefix) link s.routes) s.tunnels s.paths runs is (routes_put r prefix link s.routes is.routes (ltb-false 32 prefix.length fail.0) (not-false _ fail.1.0) fail.1.1.0) is.tunnels is.bypasses is.paths is.heads is.pending
   commanded-stands (DropRoute prefix) may none =
-      sound_with_heads r s (where_key prefix_cmp (λ k. not (is_eq (prefix_cmp (masked_prefix prefix) k))) s.routes) s.tunnels s.paths runs is (routes_where r (λ k. not (is_eq (prefix_cmp (masked_prefix prefix) k))) s.routes is.routes) is.tunnels is.bypasses is.paths is.heads
+      sound_with_heads r s (where_key prefix_cmp (λ k. not (is_eq (prefix_cmp (masked_prefix prefix) k))) s.routes) s.tunnels s.paths runs is (routes_where r (λ k. not (is_eq (prefix_cmp (masked_prefix prefix) k))) s.routes is.routes) is.tunnels is.bypasses is.paths is.heads is.pending
 
   -- A command.
   pub command-stands : (c : Command) → IsCommand c → LeavesStanding r (command r s c)

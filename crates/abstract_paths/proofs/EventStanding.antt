@@ -1,17 +1,19 @@
 -- Whatever an event does to paths, links and time leaves them as they should be: each by its few primitives.
 use Rattle.std.proofs.Common.{refl, ap, sym, subst, ◌∙◌, arith}
-use Rattle.std.proofs.lemmas.Bool.{and_parts, cond_both, ltb-false, not-false}
-use Rattle.std.specs.FinMap.Entries.{find, put, where_key}
+use Rattle.std.proofs.lemmas.Bool.{and_parts, both_ways, cond_both, false_from_ne_true, false≢true, ltb-false, not-false}
+use Rattle.std.proofs.lemmas.Cmp.{nat_cmp_total}
+use Rattle.std.specs.FinMap.Entries.{find, is_sorted-put, put, where_key}
 use Rattle.std.specs.Option.{option_map_or}
 use Rattle.std.specs.Ordering.{is_eq, nat_cmp}
-use Rattle.std.specs.Prelude.{◌≡◌, ℕ, ◌≤◌, Bool, true, false, not, ◌&&◌, ◌==◌, nat_le, nat_lt, ◌^◌, IsTrue, List, [], ◌∷◌, filter, length, Option, Some, None, is_none, Result, Ok, Err, IfSome}
+use Rattle.std.specs.Prelude.{◌≡◌, ℕ, ◌≤◌, Bool, true, false, not, ◌&&◌, ◌==◌, nat_le, nat_lt, ◌^◌, IsTrue, List, [], ◌∷◌, filter, length, Option, Some, None, is_none, option_map, Result, Ok, Err, IfSome}
 use Rattle.std.specs.declared.net.ipv4_addr.Ipv4Addr.{Ipv4Addr}
 use Rattle.abstract_paths.proofs.Apart.{apart_put, came-hop, came-left}
 use Rattle.abstract_paths.proofs.Bypasses.{bypasses_tunnel_put}
-use Rattle.abstract_paths.proofs.Merging.{joined-found, joined_apart, joined_sound, stack_path_by, stack_tear_by}
+use Rattle.abstract_paths.proofs.Merging.{came-elsewhere, joined-found, joined_apart, joined_sound, none_of_head, stack_path_by, stack_tear_by}
 use Rattle.abstract_paths.proofs.NextHops.{Leads, IsPlace, next_hop-leads}
-use Rattle.abstract_paths.proofs.Heads.{head_known, heads_noted, heads_same}
+use Rattle.abstract_paths.proofs.Heads.{head_known, heads_noted, heads_same, same_keys}
 use Rattle.abstract_paths.proofs.PathTable.{IsTaken, way_of-leads, path_sound, path_left_sound, path_known, put_few, role_of-elsewhere}
+use Rattle.abstract_paths.proofs.Pending.{pending_same}
 use Rattle.abstract_paths.proofs.Primitives.{sound_with_path, sound_where, sound_expire, sound_with_link}
 use Rattle.abstract_paths.proofs.Signalling.{signalled-stands}
 use Rattle.abstract_paths.proofs.TunnelTable.{noted_stands, tunnel_known, tunnels_put_known}
@@ -25,8 +27,8 @@ use Rattle.abstract_paths.specs.Paths.{key_of, is_same_route, way_of, way_for, p
 use Rattle.abstract_paths.specs.Places.{is_up, place_of}
 use Rattle.abstract_paths.specs.Relays.{relay, relayed_by}
 use Rattle.abstract_paths.specs.Routing.{next_hop, route_to}
-use Rattle.abstract_paths.specs.Soundness.{IsHeadOf, IsPath, IsStanding}
-use Rattle.abstract_paths.specs.Tears.{err_of_path, is_torn_by, leaves_by, left_with, origins_without, torn, path_err_passed_on}
+use Rattle.abstract_paths.specs.Soundness.{IsHeadOf, IsPath, IsStanding, asked_of}
+use Rattle.abstract_paths.specs.Tears.{err_of_path, is_from, is_torn_by, leaves_by, left_with, origins_without, torn, path_err_passed_on}
 use Rattle.abstract_paths.specs.Time.{tick}
 use Rattle.lsr_facts.specs.Errors.{system_error}
 use Rattle.lsr_facts.specs.Lifetimes.{begins_here, expire}
@@ -87,7 +89,8 @@ path_on_its_way-stands r s link p (Ok way) runs is other can leads =
     (path_sound r s.moment known link p way can (path_known r s.moment (key_of p) s.paths is.paths) leads)
     (role_of-elsewhere way ∙ sym other)
     (put_few (key_of p) (path_by s.moment known link p way) s.paths is.paths.in_order is.paths.few room)
-    (apart_put (key_of p) (path_by s.moment known link p way) s.paths (λ message came. came-hop message (key_of p) s.moment known link p way s.paths refl came) is.paths.apart))
+    (apart_put (key_of p) (path_by s.moment known link p way) s.paths (λ message came. came-hop message (key_of p) s.moment known link p way s.paths refl came) is.paths.apart)
+    (λ head. absurd (both_ways _ other head)))
 
 -- a Path that is read whole
 pub path_arrival-stands : (r : Router) (s : Facts) (link : ℕ) (p : Path) → IsRouter r → s.cold ≡ false → IsStanding r s → HasLink r link → IsTrue (fits_path p) → LeavesStanding r (path_arrival r s link p)
@@ -116,10 +119,16 @@ known_few : (r : Router) (s : Facts) (key : Key) (old fact : PathFact) → IsSta
 known_few r s key old fact is found =
     put_few key fact s.paths is.paths.in_order is.paths.few (ap (λ known. is_none known && nat_le 1024 (length s.paths)) found)
 
--- a path that is left with some origins, or with none
-pub left_with-stands : (r : Router) (s : Facts) (key : Key) (fact : PathFact) (p : Ipv4Addr → Bool) (origins : List (Ipv4Addr × Origin)) → s.cold ≡ false → IsStanding r s → IfSome (find key_cmp key s.paths) (λ known. IsPath r s.moment (key, known)) → find key_cmp key s.paths ≡ Some fact → where_key address_cmp p fact.origins ≡ origins → IsStanding r (left_with key fact origins s)
-left_with-stands r s key fact p [] runs is knows found left = sound_where r s (λ k. not (is_eq (key_cmp key k))) is
-left_with-stands r s key fact p (o ∷ os) runs is knows found left =
+-- a path that doesn't begin here is left with some origins, or with none
+pub left_with-stands : (r : Router) (s : Facts) (key : Key) (fact : PathFact) (p : Ipv4Addr → Bool) (origins : List (Ipv4Addr × Origin)) → s.cold ≡ false → IsStanding r s → IfSome (find key_cmp key s.paths) (λ known. IsPath r s.moment (key, known)) → find key_cmp key s.paths ≡ Some fact → begins_here fact.role ≡ false → where_key address_cmp p fact.origins ≡ origins → IsStanding r (left_with key fact origins s)
+left_with-stands r s key fact p [] runs is knows found elsewhere left = sound_where r s (λ k. not (is_eq (key_cmp key k))) is keeps
+  where
+    other : is_head r s.tunnels key ≡ false
+    other = sym (known_begins r s key fact is found) ∙ elsewhere
+
+    keeps : (q : Key) → is_head r s.tunnels q ≡ true → not (is_eq (key_cmp key q)) ≡ true
+    keeps q head = ap not (false_from_ne_true (is_eq (key_cmp key q)) (λ tie. both_ways _ other (ap (is_head r s.tunnels) (same_keys key q tie) ∙ head)))
+left_with-stands r s key fact p (o ∷ os) runs is knows found elsewhere left =
     let path : IsPath r s.moment (key, fact) = subst (λ (known : Option PathFact). IfSome known (λ f. IsPath r s.moment (key, f))) found knows in
     let some : 1 ≤ length (where_key address_cmp p fact.origins) = subst (λ (xs : List (Ipv4Addr × Origin)). 1 ≤ length xs) (sym left) (omega arith) in
     let after : IsPath r s.moment (key, record fact { origins = o ∷ os }) =
@@ -128,6 +137,13 @@ left_with-stands r s key fact p (o ∷ os) runs is knows found left =
     (apart_put key (record fact { origins = o ∷ os }) s.paths
     (λ message came. (fact, found, came-left message key fact (λ origin. p origin.0) path.origins.in_order (subst (λ (xs : List (Ipv4Addr × Origin)). came_through message (key, record fact { origins = xs }) ≡ true) (sym left) came)))
     is.paths.apart)
+    (λ head. sym (ap (option_map asked_of) found))
+
+-- a path of which a PathTear takes an origin doesn't begin here
+torn-elsewhere : (r : Router) (moment : ℕ) (key : Key) (link : ℕ) (t : PathTear) (fact : PathFact) → IsPath r moment (key, fact) → is_torn_by link t fact ≡ true → begins_here fact.role ≡ false
+torn-elsewhere r moment key link t fact is matches =
+    false_from_ne_true (begins_here fact.role) (λ begins.
+    absurd (false≢true (subst (λ (origins : List (Ipv4Addr × Origin)). option_map_or (is_from link t.hop.address) (find address_cmp t.sender.sender origins) false ≡ true) (none_of_head fact.role fact.origins is.origins.count begins) matches)))
 
 -- a PathTear
 pub torn-stands : (r : Router) (s : Facts) (link : ℕ) (t : PathTear) (known : Option PathFact) → s.cold ≡ false → IsStanding r s → find key_cmp (lsp t.session t.sender) s.paths ≡ known → LeavesStanding r (torn s link t known)
@@ -135,7 +151,10 @@ torn-stands r s link t None runs is found = is
 torn-stands r s link t (Some fact) runs is found =
     cond_both (is_torn_by link t fact) _ (refused s NoMatch) (LeavesStanding r)
     (λ matches.
-    left_with-stands r s (lsp t.session t.sender) fact (λ k. not (is_eq (address_cmp t.sender.sender k))) (origins_without t.sender.sender fact) runs is (path_known r s.moment (lsp t.session t.sender) s.paths is.paths) found refl)
+    let knows = path_known r s.moment (lsp t.session t.sender) s.paths is.paths in
+    let path : IsPath r s.moment (lsp t.session t.sender, fact) = subst (λ (known : Option PathFact). IfSome known (λ f. IsPath r s.moment (lsp t.session t.sender, f))) found knows in
+    left_with-stands r s (lsp t.session t.sender) fact (λ k. not (is_eq (address_cmp t.sender.sender k))) (origins_without t.sender.sender fact) runs is knows found
+    (torn-elsewhere r s.moment (lsp t.session t.sender) link t fact path matches) refl)
     (λ other. is)
 
 -- an error that is noted in the tunnel of a number, if there is one
@@ -152,6 +171,7 @@ with_noted-stands r s e number is = by (find nat_cmp number s.tunnels) refl
       bypasses = bypasses_tunnel_put r s.tunnels s.bypasses number (noted e t) is.bypasses;
       paths = is.paths;
       heads = heads_same r s.tunnels (put nat_cmp number (noted e t) s.tunnels) s.paths (heads_noted r number s.tunnels t found e) is.heads;
+      pending = pending_same r s.tunnels s.paths is.pending number t (noted e t) (is_sorted-put nat_cmp nat_cmp_total number (noted e t) s.tunnels is.tunnels.in_order) found refl refl;
       cold = is.cold;
     }
 
@@ -175,6 +195,7 @@ stack_path-stands r s p runs is = stack_path_by (LeavesStanding r) s p is (λ pa
         sound_with_path r s path.0 (with_stack s.moment p path.1) runs is (joined_sound r s.moment s.paths is.paths p path only room) (known_begins r s path.0 path.1 is found)
         (known_few r s path.0 path.1 (with_stack s.moment p path.1) is found)
         (joined_apart r s.moment s.paths is.paths p path only)
+        (λ head. sym (ap (option_map asked_of) found))
 
 -- and one with an error
 pub stack_path_failed-stands : (r : Router) (s : Facts) (p : Path) (e : RsvpError) → IsStanding r s → LeavesStanding r (stack_path_failed r s p e)
@@ -185,7 +206,10 @@ pub stack_tear-stands : (r : Router) (s : Facts) (t : PathTear) → s.cold ≡ f
 stack_tear-stands r s t runs is =
     stack_tear_by (LeavesStanding r) s t is.paths.in_order is
     (λ path found came.
-    left_with-stands r s path.0 path.1 (λ k. not (is_eq (address_cmp t.sender.sender k))) (origins_without t.sender.sender path.1) runs is (path_known r s.moment path.0 s.paths is.paths) found refl)
+    let knows = path_known r s.moment path.0 s.paths is.paths in
+    let its : IsPath r s.moment path = subst (λ (known : Option PathFact). IfSome known (λ f. IsPath r s.moment (path.0, f))) found knows in
+    left_with-stands r s path.0 path.1 (λ k. not (is_eq (address_cmp t.sender.sender k))) (origins_without t.sender.sender path.1) runs is knows found
+    (came-elsewhere r s.moment (lsp t.session t.sender) path its came) refl)
 
 -- a message for another router
 pub relay-stands : (r : Router) (s : Facts) (m : Relay) → IsStanding r s → LeavesStanding r (relay r s m)

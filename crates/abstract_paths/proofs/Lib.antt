@@ -9,6 +9,7 @@ pub mod Masked
 pub mod Merging
 pub mod NextHops
 pub mod PathTable
+pub mod Pending
 pub mod Primitives
 pub mod Refusals
 pub mod Signalling

@@ -66,7 +66,7 @@ stack_tear_by P s t in_order refuses takes =
 -- ---- the path that a message is of
 
 -- a path that begins here has no origins
-none_of_head : (role : Role) (origins : List (Ipv4Addr × Origin)) → IsCountAs role (length origins) → begins_here role ≡ true → origins ≡ []
+pub none_of_head : (role : Role) (origins : List (Ipv4Addr × Origin)) → IsCountAs role (length origins) → begins_here role ≡ true → origins ≡ []
 none_of_head roles.Tail origins counts begins = absurd (false≢true begins)
 none_of_head roles.Transit origins counts begins = absurd (false≢true begins)
 none_of_head roles.Head [] counts begins = refl

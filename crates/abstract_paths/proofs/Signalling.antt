@@ -33,13 +33,14 @@ use Rattle.abstract_paths.proofs.Apart.{apart_put}
 use Rattle.abstract_paths.proofs.Heads.{heads_put, is_head-current}
 use Rattle.abstract_paths.proofs.NextHops.{Leads, LeadsOn, next_hop-leads, room-behind, room-short}
 use Rattle.abstract_paths.proofs.PathTable.{paths_put, put_few}
+use Rattle.abstract_paths.proofs.Pending.{pending_current}
 use Rattle.abstract_paths.proofs.Primitives.{sound_with_heads}
 use Rattle.abstract_paths.specs.Heads.{head_hop, head_path, is_full, signalled, tried, with_head, with_head_by}
 use Rattle.abstract_paths.specs.Merging.{is_beside}
 use Rattle.abstract_paths.specs.Places.{Place, contains, is_here, is_own, neighbour, place_of}
 use Rattle.abstract_paths.specs.RowLaws.{ok_or-holds, option_map-holds}
 use Rattle.abstract_paths.specs.Routing.{hop_by_rest, hop_by_route, hop_to_endpoint, hop_to_step, is_loose, leads_here, next_hop, nodes_of, route_to, with_neighbour}
-use Rattle.abstract_paths.specs.Soundness.{IsPath, IsStanding}
+use Rattle.abstract_paths.specs.Soundness.{IsPath, IsPendingSignalled, IsStanding}
 
 -- a way that goes on
 abbrev pub GoesOn : Choice → Type 0
@@ -148,14 +149,15 @@ module _ (r : Router) (s : Facts) (runs : s.cold ≡ false) (is : IsStanding r s
   -- before.
   pub head_put-stands : (number : ℕ) (tunnel : Tunnel) (lsp : TunnelLsp) (last : ℕ) (after : List (ℕ × Tunnel)) (way : Choice) → AreTunnels r after → AreBypasses r after s.bypasses → IsTunnelLsp r last lsp → LeadsOn r way → GoesOn way
       → is_head r after (head_key r number tunnel.endpoint lsp.id) ≡ true → ((q : Key) → is_eq (key_cmp q (head_key r number tunnel.endpoint lsp.id)) ≡ false → is_head r after q ≡ is_head r s.tunnels q)
+      → AllByRecursion (IsPendingSignalled r (put key_cmp (head_key r number tunnel.endpoint lsp.id) (head_path tunnel lsp way) s.paths)) after
       → IsStanding r (record s { tunnels = after; paths = put key_cmp (head_key r number tunnel.endpoint lsp.id) (head_path tunnel lsp way) s.paths })
-  head_put-stands number tunnel lsp last after way are protect asked leads goes head others =
+  head_put-stands number tunnel lsp last after way are protect asked leads goes head others pending =
       let key = head_key r number tunnel.endpoint lsp.id in
       let fact = head_path tunnel lsp way in
       sound_with_heads r s s.routes after (put key_cmp key fact s.paths) runs is is.routes are protect
       (paths_put r s.moment key fact s.paths is.paths (head_sound r s.moment number tunnel lsp last way asked leads goes) (put_few key fact s.paths is.paths.in_order is.paths.few (room_for s key room))
       (apart_put key fact s.paths (λ message came. absurd (false≢true (and_parts (is_beside message key) false came).1)) is.paths.apart))
-      (heads_put r s.tunnels after key fact s.paths (sym head) others is.paths.in_order is.heads)
+      (heads_put r s.tunnels after key fact s.paths (sym head) others is.paths.in_order is.heads) pending
 
 -- what holds while tunnels are tried, one after the other
 record IsTrying (r : Router) (s : Facts) (x : Facts) : Type 0 where
@@ -181,7 +183,8 @@ module _ (r : Router) (s : Facts) (router : IsRouter r) where
       by room (Err e) leads goes = is
       by room (Ok way) leads goes = record {
         stands = head_put-stands r x is.runs is.stands room tunnel.0 tunnel.1 tunnel.1.current tunnel.1.last x.tunnels way is.stands.tunnels is.stands.bypasses known.asked.current leads goes
-            (is_head-current r x.tunnels tunnel.0 tunnel.1 (ap (find nat_cmp tunnel.0) is.tunnels ∙ known.found)) (λ q apart. refl);
+            (is_head-current r x.tunnels tunnel.0 tunnel.1 (ap (find nat_cmp tunnel.0) is.tunnels ∙ known.found)) (λ q apart. refl)
+            (pending_current r x.tunnels x.paths tunnel way is.stands.tunnels (ap (find nat_cmp tunnel.0) is.tunnels ∙ known.found) is.stands.pending);
         runs = is.runs;
         tunnels = is.tunnels;
       }

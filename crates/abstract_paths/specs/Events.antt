@@ -1,11 +1,19 @@
 -- Events that can be: what the types of the program keep of them.
-use Rattle.std.specs.Prelude.{◌≡◌, ℕ, ◌<◌, ◌^◌, length}
+use Rattle.std.specs.Prelude.{◌≡◌, ℕ, ◌<◌, ◌≤◌, ◌^◌, List, length, IfSome}
+use Rattle.std.specs.List.{AllByRecursion}
 use Rattle.rsvp_contents.specs.Picking.{content_in}
 use Rattle.rsvp_contents.specs.Spelling.{IsMessage}
 use Rattle.rsvp_contents.specs.declared.message.Reading.TheVariants as readings
 use Rattle.rsvp_contents.specs.declared.message.Reading.{Reading}
-use Rattle.rsvp_objects.specs.Ranges.{IsAddress}
+use Rattle.rsvp_objects.specs.Ranges.{IsAddress, IsFastReroute}
+use Rattle.rsvp_objects.specs.declared.values.FastReroute.{FastReroute}
+use Rattle.rsvp_bodies.specs.Attributes.{IsAttr}
+use Rattle.rsvp_bodies.specs.Steps.{route_bytes}
+use Rattle.rsvp_bodies.specs.Subobjects.{IsOtherStep}
+use Rattle.rsvp_bodies.specs.declared.attr.Attr.{Attr}
 use Rattle.rsvp_bodies.specs.declared.prefix.Prefix.{Prefix}
+use Rattle.rsvp_bodies.specs.declared.step.Step.{Step}
+use Rattle.rsvp_bodies.specs.declared.step.Step.TheVariants.{Ipv4, Other}
 use Rattle.link_frames.specs.Payloads.{IsData}
 use Rattle.abstract_paths.specs.declared.commands.Command.{Command}
 use Rattle.abstract_paths.specs.declared.commands.Command.TheVariants.{AddTunnel, ChangeTunnel, CancelChange, DropTunnel, AddBypass, DropBypass, AddRoute, DropRoute}
@@ -21,15 +29,49 @@ use Rattle.abstract_paths.specs.declared.ways.Relay.{Relay}
 abbrev pub IsNumber : ℕ → Type 0
 IsNumber number = number < 2 ^ 16
 
+-- a set of addresses: an address of four octets, and a length of 8 bits
+pub record IsPrefix (prefix : Prefix) : Type 0 where
+  pub address : IsAddress prefix.address
+  pub bits : prefix.length < 2 ^ 8
+
+-- a step: of type IPv4, or kept byte for byte
+abbrev pub IsStep : Step → Type 0
+IsStep (Ipv4 loose prefix) = IsPrefix prefix
+IsStep (Other bytes) = IsOtherStep bytes
+
+-- a route that may be asked for: it fits the body of an EXPLICIT_ROUTE
+pub record IsRoute (route : List Step) : Type 0 where
+  pub fits : length (route_bytes route) ≤ 65528
+  pub each : AllByRecursion IsStep route
+
+-- attributes that may be asked for: those of a SESSION_ATTRIBUTE
+pub record IsAskedAttr (attr : Attr) : Type 0 where
+  pub fits : IsAttr attr
+  pub setup : attr.setup < 2 ^ 8
+  pub hold : attr.hold < 2 ^ 8
+  pub flags : attr.flags < 2 ^ 8
+
+-- protection that may be asked for: that of a FAST_REROUTE
+pub record IsProtection (f : FastReroute) : Type 0 where
+  pub fits : IsFastReroute f
+  pub setup : f.setup < 2 ^ 8
+  pub hold : f.hold < 2 ^ 8
+  pub hop_limit : f.hop_limit < 2 ^ 8
+  pub flags : f.flags < 2 ^ 8
+
 -- a tunnel that may be asked for
 pub record IsNewTunnel (t : NewTunnel) : Type 0 where
   pub number : IsNumber t.number
   pub endpoint : IsAddress t.endpoint
+  pub route : IsRoute t.route
   pub whole_tspec : length t.tspec ≡ 32
+  pub attr : IsAskedAttr t.attr
+  pub protection : IfSome t.fast_reroute IsProtection
 
 -- a change of a tunnel that may be asked for
 pub record IsTunnelChange (c : TunnelChange) : Type 0 where
   pub number : IsNumber c.number
+  pub route : IsRoute c.route
   pub whole_tspec : length c.tspec ≡ 32
 
 -- a bypass that may be asked for
@@ -38,12 +80,7 @@ pub record IsNewBypass (b : NewBypass) : Type 0 where
   pub tunnel : IsNumber b.tunnel
   pub link : IsNumber b.link
 
--- a set of addresses that a static route may be to
-pub record IsTo (prefix : Prefix) : Type 0 where
-  pub address : IsAddress prefix.address
-  pub bits : prefix.length < 2 ^ 8
-
--- A command that can be: its numbers are of 16 bits, its addresses have four octets, its traffic descriptor 32 bytes.
+-- A command that can be: each number is within its width, addresses have four octets, a traffic descriptor has 32 bytes.
 abbrev pub IsCommand : Command → Type 0
 IsCommand (AddTunnel t) = IsNewTunnel t
 IsCommand (ChangeTunnel c) = IsTunnelChange c
@@ -51,8 +88,8 @@ IsCommand (CancelChange number) = IsNumber number
 IsCommand (DropTunnel number) = IsNumber number
 IsCommand (AddBypass b) = IsNewBypass b
 IsCommand (DropBypass number) = IsNumber number
-IsCommand (AddRoute prefix link) = IsTo prefix × IsNumber link
-IsCommand (DropRoute prefix) = IsTo prefix
+IsCommand (AddRoute prefix link) = IsPrefix prefix × IsNumber link
+IsCommand (DropRoute prefix) = IsPrefix prefix
 
 -- the class and the type of an object that isn't known are of 8 bits
 abbrev pub IsUnknown : Reading → Type 0

@@ -1,5 +1,5 @@
 -- What holds of paths, tunnels, bypasses, links, routes and time in every state that a router comes to.
-use Rattle.std.specs.Prelude.{◌≡◌, ℕ, ◌^◌, ◌≤◌, not, Bool, true, false, List, [], ◌∷◌, length, Option, Some, None, IsTrue, T}
+use Rattle.std.specs.Prelude.{◌≡◌, ℕ, ◌^◌, ◌≤◌, not, Bool, true, false, List, [], ◌∷◌, length, Option, Some, None, option_map, IfSome, IsTrue, T}
 use Rattle.std.specs.FinMap.Entries.{find, is_sorted}
 use Rattle.std.specs.List.{AllByRecursion}
 use Rattle.std.specs.Option.{option_map_or}
@@ -14,7 +14,7 @@ use Rattle.lsr_facts.specs.Bypasses.{AreBypasses}
 use Rattle.lsr_facts.specs.Lifetimes.{begins_here}
 use Rattle.lsr_facts.specs.Orders.{address_cmp, key_cmp}
 use Rattle.lsr_facts.specs.Routers.{AreRoutes, HasLink}
-use Rattle.lsr_facts.specs.Tunnels.{AreTunnels, is_head}
+use Rattle.lsr_facts.specs.Tunnels.{AreTunnels, head_key, is_head}
 use Rattle.lsr_facts.specs.declared.facts.Facts.{Facts}
 use Rattle.lsr_facts.specs.declared.key.Key.{Key}
 use Rattle.lsr_facts.specs.declared.path_fact.Origin.{Origin}
@@ -25,6 +25,7 @@ use Rattle.lsr_facts.specs.declared.path_fact.Via.{Via}
 use Rattle.lsr_facts.specs.declared.path_fact.Via.TheVariants as vias
 use Rattle.lsr_facts.specs.declared.router.Router.{Router}
 use Rattle.lsr_facts.specs.declared.tunnel.Tunnel.{Tunnel}
+use Rattle.lsr_facts.specs.declared.tunnel.TunnelLsp.{TunnelLsp}
 use Rattle.abstract_paths.specs.Merging.{came_through, is_stack, stacks_in}
 
 -- The Paths of an origin come over a link of the router, or through a stack of labels.
@@ -106,6 +107,18 @@ pub record ArePaths (r : Router) (moment : ℕ) (paths : List (Key × PathFact))
 abbrev pub IsHeadOf : Router → List (ℕ × Tunnel) → Key × PathFact → Type 0
 IsHeadOf r tunnels path = begins_here path.1.role ≡ is_head r tunnels path.0
 
+-- what a path is asked for: its route, and its traffic
+abbrev pub asked_of : PathFact → Option (List Step) × List ℕ
+asked_of path = (path.given, path.tspec)
+
+-- a tunnel's LSP has a path, which is asked for what the LSP is
+abbrev pub IsSignalled : List (Key × PathFact) → Key → TunnelLsp → Type 0
+IsSignalled paths key lsp = option_map asked_of (find key_cmp key paths) ≡ Some (Some lsp.route, lsp.tspec)
+
+-- the LSP that is to take the place of a tunnel's current one, if there is one, was signalled
+abbrev pub IsPendingSignalled : Router → List (Key × PathFact) → ℕ × Tunnel → Type 0
+IsPendingSignalled r paths tunnel = IfSome tunnel.1.pending (λ lsp. IsSignalled paths (head_key r tunnel.0 tunnel.1.endpoint lsp.id) lsp)
+
 -- What holds in every state. A cold router knows no path.
 pub record IsStanding (r : Router) (s : Facts) : Type 0 where
   pub moment : s.moment ≤ 2 ^ 62
@@ -115,4 +128,5 @@ pub record IsStanding (r : Router) (s : Facts) : Type 0 where
   pub bypasses : AreBypasses r s.tunnels s.bypasses
   pub paths : ArePaths r s.moment s.paths
   pub heads : AllByRecursion (IsHeadOf r s.tunnels) s.paths
+  pub pending : AllByRecursion (IsPendingSignalled r s.paths) s.tunnels
   pub cold : s.cold ≡ true → s.paths ≡ []

@@ -1,25 +1,83 @@
-//! What the types of events keep: laws, each the contract of a function that does nothing when it runs.
+//! What the types of events keep: laws, each the contract of a function that changes nothing. It reads a command's route, and
+//! nothing else of an event.
 
 ghost use Rattle.rsvp_contents.specs.Picking.{content_in};
 ghost use Rattle.rsvp_contents.specs.Spelling.{IsMessage};
-ghost use Rattle.abstract_paths.specs.Events.{IsArrive, IsCommand, IsEvent, IsNewBypass, IsNewTunnel, IsRelay, IsTo, IsTunnelChange, IsUnknown};
+ghost use Rattle.std.specs.List.{AllByRecursion};
+ghost use Rattle.rsvp_bodies.specs.Affinities.{IsAffinities};
+ghost use Rattle.abstract_paths.specs.Events.{IsArrive, IsAskedAttr, IsCommand, IsEvent, IsNewBypass, IsNewTunnel, IsPrefix, IsProtection, IsRelay, IsRoute, IsStep, IsTunnelChange, IsUnknown};
 
 use crate::commands::Command;
 use crate::events::Event;
 use crate::tunnels::{NewBypass, NewTunnel, TunnelChange};
 use crate::ways::{Arrive, Relay};
 use link_frames::Reading;
-use rsvp_contents::Prefix;
+use rsvp_bodies::{Affinities, Attr, Prefix, Route, Step};
+use rsvp_contents::FastReroute;
 
 /// Octets of an address.
 const ADDRESS_LEN: usize = 4;
 
-/// A set of addresses that a static route may be to.
-fn is_to(prefix: &Prefix)
-    ensures { IsTo prefix.now }
+/// A set of addresses that can be.
+fn is_prefix(prefix: &Prefix)
+    ensures { IsPrefix prefix.now }
 {
     let _bits = prefix.length;
     prove!(prefix.address.octets().len() == ADDRESS_LEN);
+}
+
+/// A step that can be.
+fn is_step(step: &Step)
+    ensures { IsStep step.now }
+{
+    match step {
+        Step::Ipv4 { prefix, .. } => is_prefix(prefix),
+        Step::Other(bytes) => {
+            bytes.as_slice();
+        }
+    }
+}
+
+/// Steps that can be.
+fn are_steps(steps: &[Step])
+    ensures { AllByRecursion IsStep steps.now }
+{
+    for step in steps {
+        is_step(step);
+    }
+}
+
+/// A route that may be asked for.
+fn is_route(route: &Route)
+    ensures { IsRoute route.now }
+{
+    are_steps(route.as_slice());
+}
+
+/// Affinities that can be.
+fn is_affinities(_affinities: Affinities)
+    ensures { IsAffinities _affinities }
+{}
+
+/// Attributes that may be asked for.
+fn is_attr(attr: &Attr)
+    ensures { IsAskedAttr attr.now }
+{
+    let _setup = attr.setup;
+    let _hold = attr.hold;
+    let _flags = attr.flags;
+    attr.name.as_slice();
+    if let Some(affinities) = attr.affinities {
+        is_affinities(affinities);
+    }
+}
+
+/// Protection that may be asked for.
+fn is_protection(protection: FastReroute)
+    ensures { IsProtection protection }
+{
+    let _bandwidth = protection.bandwidth.to_bits();
+    is_affinities(protection.affinities);
 }
 
 /// A tunnel that may be asked for.
@@ -28,6 +86,11 @@ fn is_new_tunnel(tunnel: &NewTunnel)
 {
     let _number = tunnel.number;
     prove!(tunnel.endpoint.octets().len() == ADDRESS_LEN);
+    is_route(&tunnel.route);
+    is_attr(&tunnel.attr);
+    if let Some(protection) = tunnel.fast_reroute {
+        is_protection(protection);
+    }
 }
 
 /// A change of a tunnel that may be asked for.
@@ -35,6 +98,7 @@ fn is_tunnel_change(change: &TunnelChange)
     ensures { IsTunnelChange change.now }
 {
     let _number = change.number;
+    is_route(&change.route);
 }
 
 /// A bypass that may be asked for.
@@ -61,10 +125,10 @@ fn is_command(command: &Command)
                 let _number = *number;
             }
         Command::AddRoute(prefix, link) => {
-            is_to(prefix);
+            is_prefix(prefix);
             let _link = *link;
         }
-        Command::DropRoute(prefix) => is_to(prefix),
+        Command::DropRoute(prefix) => is_prefix(prefix),
     }
 }
 
@@ -103,7 +167,7 @@ fn is_relay(relay: &Relay)
     prove!(relay.to.octets().len() == ADDRESS_LEN);
 }
 
-/// Every event that there is can be, by its type. A law: it does nothing when it runs.
+/// Every event that there is can be, by its type. A law: it changes nothing, and takes no memory.
 pub fn is_possible(event: &Event)
     ensures { IsEvent event.now }
 {

@@ -8,14 +8,14 @@ use Rattle.lsr_facts.specs.declared.router.Router.{Router}
 use Rattle.abstract_router.specs.States.{State}
 use Rattle.run_journal.specs.Journals.{Stretch}
 use Rattle.run_journal.specs.Marks.{Counts, counted, counted_all, receipt_of}
-use Rattle.run_journal.specs.declared.entry.Entry.{Entry}
+use Rattle.run_journal.specs.declared.entry.CountedEntry.{CountedEntry}
 use Rattle.run_journal.specs.declared.receipt.Receipt.{Receipt}
 use Rattle.interface_workers.specs.Reconciled.{AreContinued, AreJoined, called_for, counts_at, entries_in, is_of}
 use Rattle.interface_workers.specs.Mismatches.{IsFirstDifference}
 use Rattle.interface_workers.specs.Walks.{called_in, mine}
 
 -- entries call for what some do, and then the others
-pub called_append : (n : Counts) (es more : List Entry) → called_for n (es ++ more) ≡ called_for n es ++ called_for (counted_all n es) more
+pub called_append : (n : Counts) (es more : List CountedEntry) → called_for n (es ++ more) ≡ called_for n es ++ called_for (counted_all n es) more
 called_append n [] more = refl
 called_append n (e ∷ es) more = ap (λ (rs : List Receipt). receipt_of n e ∷ rs) (called_append (counted n e) es more)
 
@@ -38,28 +38,28 @@ joined_called (piece ∷ more) are =
     ∙ ap (λ (rs : List Receipt). called_for piece.from piece.entries ++ rs) (continued_called piece.router piece.end (counted_all piece.from piece.entries) more are.1)
 
 -- an entry of the port calls for one receipt more of its
-pub mine_push : (port : ℕ) (n : Counts) (es : List Entry) (e : Entry) → e.port ≡ port → mine port (called_for n (es ++ e ∷ [])) ≡ mine port (called_for n es) ++ receipt_of (counted_all n es) e ∷ []
+pub mine_push : (port : ℕ) (n : Counts) (es : List CountedEntry) (e : CountedEntry) → e.entry.port ≡ port → mine port (called_for n (es ++ e ∷ [])) ≡ mine port (called_for n es) ++ receipt_of (counted_all n es) e ∷ []
 mine_push port n es e is =
-    let one : mine port (receipt_of (counted_all n es) e ∷ []) ≡ receipt_of (counted_all n es) e ∷ [] = rw (eq-eqb e.port port is) refl in
+    let one : mine port (receipt_of (counted_all n es) e ∷ []) ≡ receipt_of (counted_all n es) e ∷ [] = rw (eq-eqb e.entry.port port is) refl in
     ap (mine port) (called_append n es (e ∷ [])) ∙ mine_append port (called_for n es) (receipt_of (counted_all n es) e ∷ [])
     ∙ ap (λ (rs : List Receipt). mine port (called_for n es) ++ rs) one
 
 -- and an entry of another one for none
-pub mine_skip : (port : ℕ) (n : Counts) (es : List Entry) (e : Entry) → (e.port ≡ port → ⊥) → mine port (called_for n (es ++ e ∷ [])) ≡ mine port (called_for n es)
+pub mine_skip : (port : ℕ) (n : Counts) (es : List CountedEntry) (e : CountedEntry) → (e.entry.port ≡ port → ⊥) → mine port (called_for n (es ++ e ∷ [])) ≡ mine port (called_for n es)
 mine_skip port n es e is =
-    let one : mine port (receipt_of (counted_all n es) e ∷ []) ≡ [] = rw (ne_eqb e.port port is) refl in
+    let one : mine port (receipt_of (counted_all n es) e ∷ []) ≡ [] = rw (ne_eqb e.entry.port port is) refl in
     ap (mine port) (called_append n es (e ∷ [])) ∙ mine_append port (called_for n es) (receipt_of (counted_all n es) e ∷ [])
     ∙ ap (λ (rs : List Receipt). mine port (called_for n es) ++ rs) one ∙ append-nil (mine port (called_for n es))
 
 -- where an entry of the port comes next, its receipt is the first of those that are left
-pub mine_next : (port : ℕ) (n : Counts) (es : List Entry) (i : ℕ) (e : Entry) → i < length es → e ≡ slice_index_or es i e → e.port ≡ port
+pub mine_next : (port : ℕ) (n : Counts) (es : List CountedEntry) (i : ℕ) (e : CountedEntry) → i < length es → e ≡ slice_index_or es i e → e.entry.port ≡ port
     → mine port (called_for n es) ≡ mine port (called_for n (take i es)) ++ receipt_of (counted_all n (take i es)) e ∷ mine port (called_for (counted (counted_all n (take i es)) e) (drop (i + 1) es))
 mine_next port n es i e low is own =
     let m = counted_all n (take i es) in
     let whole : es ≡ take i es ++ e ∷ drop (i + 1) es =
-    sym (take-append-drop i es) ∙ ap (λ (rest : List Entry). take i es ++ rest) (drop_more es i e low ∙ ap (λ (x : Entry). x ∷ drop (i + 1) es) (sym is)) in
-    let one : mine port (called_for m (e ∷ drop (i + 1) es)) ≡ receipt_of m e ∷ mine port (called_for (counted m e) (drop (i + 1) es)) = rw (eq-eqb e.port port own) refl in
-    ap (λ (all : List Entry). mine port (called_for n all)) whole
+    sym (take-append-drop i es) ∙ ap (λ (rest : List CountedEntry). take i es ++ rest) (drop_more es i e low ∙ ap (λ (x : CountedEntry). x ∷ drop (i + 1) es) (sym is)) in
+    let one : mine port (called_for m (e ∷ drop (i + 1) es)) ≡ receipt_of m e ∷ mine port (called_for (counted m e) (drop (i + 1) es)) = rw (eq-eqb e.entry.port port own) refl in
+    ap (λ (all : List CountedEntry). mine port (called_for n all)) whole
     ∙ ap (mine port) (called_append n (take i es) (e ∷ drop (i + 1) es))
     ∙ mine_append port (called_for n (take i es)) (called_for m (e ∷ drop (i + 1) es))
     ∙ ap (λ (rs : List Receipt). mine port (called_for n (take i es)) ++ rs) one

@@ -6,7 +6,7 @@ use Rattle.lsr_facts.specs.declared.router.Router.{Router}
 use Rattle.abstract_router.specs.States.{State}
 use Rattle.run_journal.specs.Journals.{Stretch}
 use Rattle.run_journal.specs.Marks.{Counts, counted, counted_all, first_mark, first_marks, mark_after}
-use Rattle.run_journal.specs.declared.entry.Entry.{Entry}
+use Rattle.run_journal.specs.declared.entry.CountedEntry.{CountedEntry}
 use Rattle.run_journal.specs.declared.mark.Mark.{Mark}
 use Rattle.interface_workers.specs.Mismatches.{IsFirstGap}
 use Rattle.interface_workers.specs.Reconciled.{AreContinued, AreJoined}
@@ -20,37 +20,37 @@ pub says_no : (P : Type 0) → (P → ⊥) → IsTrue false ↔ P
 says_no P never = (λ h. absurd (false≢true h), λ p. absurd (never p))
 
 -- the numbers after one entry more
-pub counted_more : (n : Counts) (es : List Entry) (i : ℕ) (e : Entry) → i < length es → e ≡ slice_index_or es i e → counted_all n (take (i + 1) es) ≡ counted (counted_all n (take i es)) e
+pub counted_more : (n : Counts) (es : List CountedEntry) (i : ℕ) (e : CountedEntry) → i < length es → e ≡ slice_index_or es i e → counted_all n (take (i + 1) es) ≡ counted (counted_all n (take i es)) e
 counted_more n es i e low is =
-    ap (counted_all n) (take_more es i e low ∙ ap (λ (x : Entry). take i es ++ x ∷ []) (sym is)) ∙ counted_push n (take i es) e
+    ap (counted_all n) (take_more es i e low ∙ ap (λ (x : CountedEntry). take i es ++ x ∷ []) (sym is)) ∙ counted_push n (take i es) e
 
 -- the walk comes to them
-pub at_more : (w v : Walk) (n : Counts) (es : List Entry) (i : ℕ) (e : Entry) → i < length es → e ≡ slice_index_or es i e → v ≡ passed w e → IsAt w (counted_all n (take i es)) → IsAt v (counted_all n (take (i + 1) es))
+pub at_more : (w v : Walk) (n : Counts) (es : List CountedEntry) (i : ℕ) (e : CountedEntry) → i < length es → e ≡ slice_index_or es i e → v ≡ passed w e → IsAt w (counted_all n (take i es)) → IsAt v (counted_all n (take (i + 1) es))
 at_more w v n es i e low is same at =
     subst (λ (x : Walk). IsAt x (counted_all n (take (i + 1) es))) (sym same)
     (subst (λ (m : Counts). IsAt (passed w e) m) (sym (counted_more n es i e low is)) (at_passed w (counted_all n (take i es)) e at))
 
 -- there are as many marks as before
-pub counted_length : (n : Counts) (es : List Entry) → length (counted_all n es).marks ≡ length n.marks
+pub counted_length : (n : Counts) (es : List CountedEntry) → length (counted_all n es).marks ≡ length n.marks
 counted_length n [] = refl
-counted_length n (e ∷ es) = counted_length (counted n e) es ∙ length-set n.marks (e.port - 1) (mark_after n e)
+counted_length n (e ∷ es) = counted_length (counted n e) es ∙ length-set n.marks (e.entry.port - 1) (mark_after n e)
 
 -- an entry that moves the mark: the test is of the mark after it
-pub ends_next : (w : Walk) (m after : Counts) (e : Entry) (k : ℕ) (mark : Mark) (b : Bool) → IsAt w m → after ≡ counted m e → w.index ≡ k → e.port - 1 ≡ k → k < length m.marks
+pub ends_next : (w : Walk) (m after : Counts) (e : CountedEntry) (k : ℕ) (mark : Mark) (b : Bool) → IsAt w m → after ≡ counted m e → w.index ≡ k → e.entry.port - 1 ≡ k → k < length m.marks
     → (IsTrue b ↔ IsNext w e mark) → IsTrue b ↔ (mark ≡ slice_index_or after.marks k mark)
 ends_next w m after e k mark b at same index port low test =
     let next = next_is w m e mark at (index ∙ sym port) in
-    let low' : e.port - 1 < length m.marks = omega (arith, port, low) in
+    let low' : e.entry.port - 1 < length m.marks = omega (arith, port, low) in
     let moved : slice_index_or after.marks k mark ≡ mark_after m e =
-    ap (λ (x : Counts). slice_index_or x.marks k mark) same ∙ ap (λ (j : ℕ). slice_index_or (counted m e).marks j mark) (sym port) ∙ get_or-set_same m.marks (e.port - 1) (mark_after m e) mark low' in
+    ap (λ (x : Counts). slice_index_or x.marks k mark) same ∙ ap (λ (j : ℕ). slice_index_or (counted m e).marks j mark) (sym port) ∙ get_or-set_same m.marks (e.entry.port - 1) (mark_after m e) mark low' in
     (λ h. next.0 (test.0 h) ∙ sym moved, λ is. test.1 (next.1 (is ∙ moved)))
 
 -- an entry that doesn't: the mark is as it was
-pub ends_other : (m after : Counts) (e : Entry) (k : ℕ) (mark : Mark) (b : Bool) → after ≡ counted m e → (e.port - 1 ≡ k → ⊥)
+pub ends_other : (m after : Counts) (e : CountedEntry) (k : ℕ) (mark : Mark) (b : Bool) → after ≡ counted m e → (e.entry.port - 1 ≡ k → ⊥)
     → (IsTrue b ↔ (mark ≡ slice_index_or m.marks k mark)) → IsTrue b ↔ (mark ≡ slice_index_or after.marks k mark)
 ends_other m after e k mark b same port test =
     let kept : slice_index_or after.marks k mark ≡ slice_index_or m.marks k mark =
-    ap (λ (x : Counts). slice_index_or x.marks k mark) same ∙ get_or-set_other m.marks (e.port - 1) k (mark_after m e) mark (λ is. port (sym is)) in
+    ap (λ (x : Counts). slice_index_or x.marks k mark) same ∙ get_or-set_other m.marks (e.entry.port - 1) k (mark_after m e) mark (λ is. port (sym is)) in
     (λ h. test.0 h ∙ sym kept, λ is. test.1 (is ∙ kept))
 
 -- so many ports have so many marks

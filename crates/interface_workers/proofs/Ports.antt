@@ -3,7 +3,7 @@ use Rattle.std.proofs.Common.{◌≡◌, ◌<◌, ◌≤◌, ◌++◌, ◌∷◌
 use Rattle.std.proofs.lemmas.Bool.{cases_lt, ne_eqb}
 use Rattle.run_journal.specs.Journals.{Stretch}
 use Rattle.run_journal.specs.Marks.{Counts, counted}
-use Rattle.run_journal.specs.declared.entry.Entry.{Entry}
+use Rattle.run_journal.specs.declared.entry.CountedEntry.{CountedEntry}
 use Rattle.run_journal.specs.declared.receipt.Receipt.{Receipt}
 use Rattle.interface_workers.specs.Mismatches.{IsFirstDifference, IsOdd}
 use Rattle.interface_workers.specs.Reconciled.{AreJoined, IsReconciled, called_for}
@@ -27,12 +27,12 @@ none_mine port greatest (r ∷ rs) far all =
     rw (ne_eqb r.mark.port port other) (none_mine port greatest rs far (All_rest (λ (x : Receipt). x.mark.port ≤ greatest) r rs all))
 
 -- where no entry has so great a port, none calls for one of its
-none_called : (port greatest : ℕ) (n : Counts) (es : List Entry) → greatest < port → All (λ (e : Entry). e.port ≤ greatest) es → mine port (called_for n es) ≡ []
+none_called : (port greatest : ℕ) (n : Counts) (es : List CountedEntry) → greatest < port → All (λ (e : CountedEntry). e.entry.port ≤ greatest) es → mine port (called_for n es) ≡ []
 none_called port greatest n [] far all = refl
 none_called port greatest n (e ∷ es) far all =
-    let low : e.port ≤ greatest = All_first (λ (x : Entry). x.port ≤ greatest) e es all in
-    let other : e.port ≡ port → ⊥ = λ same. omega (arith, same, low, far) in
-    rw (ne_eqb e.port port other) (none_called port greatest (counted n e) es far (All_rest (λ (x : Entry). x.port ≤ greatest) e es all))
+    let low : e.entry.port ≤ greatest = All_first (λ (x : CountedEntry). x.entry.port ≤ greatest) e es all in
+    let other : e.entry.port ≡ port → ⊥ = λ same. omega (arith, same, low, far) in
+    rw (ne_eqb e.entry.port port other) (none_called port greatest (counted n e) es far (All_rest (λ (x : CountedEntry). x.entry.port ≤ greatest) e es all))
 
 -- nor does any of the segments'
 none_called_in : (port greatest : ℕ) (pieces : List Stretch) → greatest < port → All (HasPorts greatest) pieces → mine port (called_in pieces) ≡ []

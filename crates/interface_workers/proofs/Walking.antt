@@ -3,7 +3,7 @@ use Rattle.std.proofs.Common.{◌≡◌, ◌↔◌, ⊎_elim, ◌+◌, ◌-◌, 
 use Rattle.std.proofs.lemmas.Bool.{cases_eq, cases_lt, eq-eqb, ne_eqb, lt-ltb, le-ltb}
 use Rattle.std.proofs.lemmas.List.{length-set, get_or_past, get_or-set_same, get_or-set_other}
 use Rattle.run_journal.specs.Marks.{Counts, counted, first_mark, mark_after, one_if, receipt_of}
-use Rattle.run_journal.specs.declared.entry.Entry.{Entry}
+use Rattle.run_journal.specs.declared.entry.CountedEntry.{CountedEntry}
 use Rattle.run_journal.specs.declared.mark.Mark.{Mark}
 use Rattle.run_journal.specs.declared.receipt.Receipt.{Receipt}
 use Rattle.run_journal.proofs.Following.{mark_is}
@@ -46,26 +46,26 @@ place_moved ms j k m is =
     (cases_lt k (length ms))
 
 -- a walk goes on by an entry as the numbers do
-pub at_passed : (w : Walk) (n : Counts) (e : Entry) → IsAt w n → IsAt (passed w e) (counted n e)
+pub at_passed : (w : Walk) (n : Counts) (e : CountedEntry) → IsAt w n → IsAt (passed w e) (counted n e)
 at_passed w n e is =
-    let moved = place_moved n.marks (e.port - 1) w.index (mark_after n e) (ap (λ (x : ℕ). x + 1) (place_is n.marks (e.port - 1) (first_mark e.port) refl)) in
-    let same : one_if (nat_lt w.index (length n.marks) && (e.port - 1 == w.index)) ≡ one_if (is_moved w e) = ap (λ (b : Bool). one_if (b && (e.port - 1 == w.index))) (sym is.marks) in
+    let moved = place_moved n.marks (e.entry.port - 1) w.index (mark_after n e) (ap (λ (x : ℕ). x + 1) (place_is n.marks (e.entry.port - 1) (first_mark e.entry.port) refl)) in
+    let same : one_if (nat_lt w.index (length n.marks) && (e.entry.port - 1 == w.index)) ≡ one_if (is_moved w e) = ap (λ (b : Bool). one_if (b && (e.entry.port - 1 == w.index))) (sym is.marks) in
     record {
       number = omega (arith, is.number);
       published = omega (arith, is.published);
       place = omega (arith, moved, same, is.place);
-      marks = is.marks ∙ ap (nat_lt w.index) (sym (length-set n.marks (e.port - 1) (mark_after n e)));
+      marks = is.marks ∙ ap (nat_lt w.index) (sym (length-set n.marks (e.entry.port - 1) (mark_after n e)));
     }
 
 -- the place of the mark after an entry, by the walk
-after_place : (w : Walk) (n : Counts) (e : Entry) → IsAt w n → w.index ≡ e.port - 1 → (mark_after n e).place ≡ w.place + (w.moves + 1)
+after_place : (w : Walk) (n : Counts) (e : CountedEntry) → IsAt w n → w.index ≡ e.entry.port - 1 → (mark_after n e).place ≡ w.place + (w.moves + 1)
 after_place w n e is index =
-    let a = place_is n.marks (e.port - 1) (first_mark e.port) refl in
-    let b : place_at n.marks (e.port - 1) ≡ place_at n.marks w.index = ap (place_at n.marks) (sym index) in
+    let a = place_is n.marks (e.entry.port - 1) (first_mark e.entry.port) refl in
+    let b : place_at n.marks (e.entry.port - 1) ≡ place_at n.marks w.index = ap (place_at n.marks) (sym index) in
     omega (arith, a, b, is.place)
 
 -- the mark after the next entry is that which its numbers say
-pub next_is : (w : Walk) (n : Counts) (e : Entry) (m : Mark) → IsAt w n → w.index ≡ e.port - 1 → IsNext w e m ↔ (m ≡ mark_after n e)
+pub next_is : (w : Walk) (n : Counts) (e : CountedEntry) (m : Mark) → IsAt w n → w.index ≡ e.entry.port - 1 → IsNext w e m ↔ (m ≡ mark_after n e)
 next_is w n e m is index =
     let place = after_place w n e is index in (
       λ next. mark_is m (mark_after n e) next.0 (next.1 ∙ sym place) (omega (arith, next.2, is.number)) (omega (arith, next.3, is.published)),
@@ -78,7 +78,7 @@ next_is w n e m is index =
     )
 
 -- and so is the receipt
-pub told_is : (w : Walk) (n : Counts) (e : Entry) (r : Receipt) → IsAt w n → w.index ≡ e.port - 1 → IsTold w e r ↔ (r ≡ receipt_of n e)
+pub told_is : (w : Walk) (n : Counts) (e : CountedEntry) (r : Receipt) → IsAt w n → w.index ≡ e.entry.port - 1 → IsTold w e r ↔ (r ≡ receipt_of n e)
 told_is w n e r is index =
     let next = next_is w n e r.mark is index in (
       λ told. receipt_is r (receipt_of n e) (next.0 told.0) told.1 told.2 told.3,

@@ -4,6 +4,8 @@ use Rattle.lsr_facts.specs.declared.refusal.Refusal.{Refusal}
 use Rattle.run_journal.specs.Marks.{Follows}
 use Rattle.run_journal.specs.declared.mark.Mark.{Mark}
 use Rattle.run_journal.specs.declared.receipt.Receipt.{Receipt}
+use Rattle.interface_workers.specs.declared.handled.Handled.{Handled}
+use Rattle.interface_workers.specs.declared.handled.Handled.TheVariants.{Fed}
 use Rattle.interface_workers.specs.declared.worker.Work.{Work}
 
 -- The receipts follow on the first mark, each on the one before, and the last mark is that of the last of them.
@@ -28,3 +30,8 @@ pub record WorkGoesOn (before : Work) (mark : Mark) (after : Work) (new_mark : M
   pub segments : length after.segments.items ≤ length before.segments.items + 1
   pub receipts_room : vec_capacity after.receipts ≡ vec_capacity before.receipts
   pub segments_room : vec_capacity after.segments ≡ vec_capacity before.segments
+
+-- There is a receipt more where an event was fed, and none more where anything else was done.
+abbrev pub HasReceiptFor : Handled → Work → Work → Type 0
+HasReceiptFor Fed before after = length after.receipts.items ≡ length before.receipts.items + 1
+HasReceiptFor handled before after = after.receipts ≡ before.receipts

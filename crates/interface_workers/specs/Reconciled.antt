@@ -7,11 +7,11 @@ use Rattle.abstract_router.specs.Steps.{Run}
 use Rattle.run_journal.specs.Entries.{AreEntriesOf}
 use Rattle.run_journal.specs.Journals.{IsOpening, Stretch}
 use Rattle.run_journal.specs.Marks.{Counts, counted, counted_all, first_counts, receipt_of}
-use Rattle.run_journal.specs.declared.entry.Entry.{Entry}
+use Rattle.run_journal.specs.declared.entry.CountedEntry.{CountedEntry}
 use Rattle.run_journal.specs.declared.receipt.Receipt.{Receipt}
 
 -- The receipts that entries call for, one each: its port, place and numbers, what happened, what was answered and sent.
-abbrev pub called_for : Counts → List Entry → List Receipt
+abbrev pub called_for : Counts → List CountedEntry → List Receipt
 called_for n [] = []
 called_for n (e ∷ es) = receipt_of n e ∷ called_for (counted n e) es
 
@@ -34,7 +34,7 @@ counts_at [] = first_counts 0
 counts_at (piece ∷ more) = piece.from
 
 -- all their entries
-abbrev pub entries_in : List Stretch → List Entry
+abbrev pub entries_in : List Stretch → List CountedEntry
 entries_in [] = []
 entries_in (piece ∷ more) = piece.entries ++ entries_in more
 

@@ -2,7 +2,7 @@
 use Rattle.std.specs.Prelude.{◌≡◌, ◌+◌, ◌-◌, ◌≤◌, ◌==◌, ◌&&◌, ℕ, Bool, List, [], ◌∷◌, ◌++◌, All, filter, length, nat_lt, slice_index_or}
 use Rattle.run_journal.specs.Journals.{Stretch}
 use Rattle.run_journal.specs.Marks.{Counts, counted_all, first_mark, one_if}
-use Rattle.run_journal.specs.declared.entry.Entry.{Entry}
+use Rattle.run_journal.specs.declared.entry.CountedEntry.{CountedEntry}
 use Rattle.run_journal.specs.declared.mark.Mark.{Mark}
 use Rattle.run_journal.specs.declared.receipt.Receipt.{Receipt}
 use Rattle.interface_workers.specs.Reconciled.{called_for, is_of}
@@ -25,11 +25,11 @@ pub record IsAt (w : Walk) (n : Counts) : Type 0 where
   pub marks : w.is_known ≡ nat_lt w.index (length n.marks)
 
 -- the entry moves the mark
-abbrev pub is_moved : Walk → Entry → Bool
-is_moved w e = w.is_known && (e.port - 1 == w.index)
+abbrev pub is_moved : Walk → CountedEntry → Bool
+is_moved w e = w.is_known && (e.entry.port - 1 == w.index)
 
 -- the walk after an entry
-abbrev pub passed : Walk → Entry → Walk
+abbrev pub passed : Walk → CountedEntry → Walk
 passed w e = record w {
   entries = w.entries + 1;
   changes = w.changes + one_if e.changes_table;
@@ -37,14 +37,14 @@ passed w e = record w {
 }
 
 -- The mark is that after the entry that comes next.
-abbrev pub IsNext : Walk → Entry → Mark → Type 0
+abbrev pub IsNext : Walk → CountedEntry → Mark → Type 0
 IsNext w e m =
-    (m.port ≡ e.port) × (m.place ≡ w.place + (w.moves + 1)) × (m.entry ≡ w.number + (w.entries + 1))
+    (m.port ≡ e.entry.port) × (m.place ≡ w.place + (w.moves + 1)) × (m.entry ≡ w.number + (w.entries + 1))
     × (m.published ≡ w.published + (w.changes + one_if e.changes_table))
 
 -- The receipt is what the port is told of the entry that comes next.
-abbrev pub IsTold : Walk → Entry → Receipt → Type 0
-IsTold w e r = IsNext w e r.mark × (r.event ≡ e.event) × (r.reply ≡ e.reply) × (r.outputs ≡ e.outputs)
+abbrev pub IsTold : Walk → CountedEntry → Receipt → Type 0
+IsTold w e r = IsNext w e r.mark × (r.event ≡ e.entry.event) × (r.reply ≡ e.entry.reply) × (r.outputs ≡ e.entry.outputs)
 
 -- a port's receipts
 abbrev pub mine : ℕ → List Receipt → List Receipt
@@ -57,7 +57,7 @@ called_in (piece ∷ more) = called_for piece.from piece.entries ++ called_in mo
 
 -- no entry of a stretch has a greater port
 abbrev pub HasPorts : ℕ → Stretch → Type 0
-HasPorts greatest piece = All (λ (e : Entry). e.port ≤ greatest) piece.entries
+HasPorts greatest piece = All (λ (e : CountedEntry). e.entry.port ≤ greatest) piece.entries
 
 -- a stretch goes on from the one before: it is of the same router, and begins with what the router knew and what the numbers
 -- were where that ended

@@ -8,8 +8,8 @@ ghost use Rattle.interface_workers.specs.Mismatches.{IsFirstDifference, IsFirstG
 ghost use Rattle.interface_workers.specs.Reconciled.{AreJoined, AreOneRun, IsReconciled, called_for};
 ghost use Rattle.interface_workers.specs.Walks.{GoesOn, HasPorts, IsAt, IsNext, IsTold, IsWithin, called_in, mine, passed, place_at};
 
-use journal_bytes::{is_same_router, is_same_state};
-use run_journal::{Entry, JournalCounts, Mark, Receipt, Segment, WrittenFrame};
+use journal_bytes::{are_same_items, is_same_router, is_same_state};
+use run_journal::{CountedEntry, JournalCounts, Mark, Receipt, Segment};
 use thiserror::Error;
 
 /// Receipts and segments are those of one run.
@@ -95,12 +95,12 @@ impl Walk {
     }
 
     /// Whether this is the mark after the entry.
-    fn is_next(self, mark: Mark, entry: &Entry) -> bool
+    fn is_next(self, mark: Mark, entry: &CountedEntry) -> bool
         requires few { IsWithin self }
         requires room { self.entries < 2 ^ 64 - 1 }
         ensures { IsTrue result ↔ IsNext self entry.now mark }
     {
-        mark.port == entry.port
+        mark.port == entry.entry.port
             && is_sum(mark.place, self.place, self.moves + 1)
             && is_sum(mark.entry, self.number, self.entries + 1)
             && is_sum(
@@ -111,51 +111,29 @@ impl Walk {
     }
 
     /// Goes on by an entry.
-    fn pass(&mut self, entry: &Entry)
+    fn pass(&mut self, entry: &CountedEntry)
         requires few { IsWithin self.old }
         requires room { self.old.entries < 2 ^ 64 - 1 }
         ensures passed { self.new ≡ passed self.old entry.now }
         ensures few { IsWithin self.new }
     {
-        let moves = self.is_known && index_of(entry.port) == self.index;
+        let moves = self.is_known && index_of(entry.entry.port) == self.index;
         self.entries += 1;
         self.changes += u64::from(entry.changes_table);
         self.moves += u64::from(moves);
     }
 }
 
-/// Whether it is the same frame on the same link.
-fn is_same_frame(frame: &WrittenFrame, other: &WrittenFrame) -> bool
-    ensures { IsTrue result ↔ (frame.now ≡ other.now) }
-{
-    frame.link == other.link && frame.bytes == other.bytes
-}
-
-/// Whether these are the same frames.
-fn are_same_frames(frames: &[WrittenFrame], others: &[WrittenFrame]) -> bool
-    ensures { IsTrue result ↔ (frames.now ≡ others.now) }
-{
-    if frames.len() != others.len() {
-        return false;
-    }
-    for i in 0..frames.len() {
-        if !is_same_frame(&frames[i], &others[i]) {
-            return false;
-        }
-    }
-    true
-}
-
 /// Whether the receipt is what the port is told of the entry that comes next.
-fn is_told(receipt: &Receipt, walk: Walk, entry: &Entry) -> bool
+fn is_told(receipt: &Receipt, walk: Walk, entry: &CountedEntry) -> bool
     requires few { IsWithin walk }
     requires room { walk.entries < 2 ^ 64 - 1 }
     ensures { IsTrue result ↔ IsTold walk entry.now receipt.now }
 {
     walk.is_next(receipt.mark(), entry)
-        && receipt.event() == entry.event.as_slice()
-        && receipt.reply() == entry.reply
-        && are_same_frames(receipt.outputs().as_slice(), entry.outputs.as_slice())
+        && receipt.event() == entry.entry.event.as_slice()
+        && receipt.reply() == entry.entry.reply
+        && are_same_items(receipt.outputs().as_slice(), entry.entry.outputs.as_slice())
 }
 
 /// The first receipt of a port, and those after it.
@@ -175,9 +153,9 @@ fn take_told<'a>(
     receipts: &'a [Receipt],
     port: u16,
     walk: Walk,
-    entry: &Entry,
+    entry: &CountedEntry,
 ) -> Option<&'a [Receipt]>
-    requires port { (entry.now.port ≡ port) × (walk.index ≡ port - 1) }
+    requires port { (entry.now.entry.port ≡ port) × (walk.index ≡ port - 1) }
     requires few { IsWithin walk }
     requires room { walk.entries < 2 ^ 64 - 1 }
     ensures { (n : Counts) → IsAt walk n → MatchOption result
@@ -209,7 +187,7 @@ fn match_segment<'a>(
     let mut rest = receipts;
     let mut count: u64 = 0;
     for entry in entries {
-        if entry.port == port {
+        if entry.entry.port == port {
             let Some(more) = take_told(rest, port, walk, entry) else {
                 return Err(count + 1);
             };
@@ -257,13 +235,13 @@ fn greatest_receipt(receipts: &[Receipt]) -> u16
 }
 
 /// A port that no entry's is greater than, and `least` neither.
-fn greatest_entry(entries: &[Entry], least: u16) -> u16
+fn greatest_entry(entries: &[CountedEntry], least: u16) -> u16
     ensures least { least ≤ result }
-    ensures entries { All (λ entry. entry.port ≤ result) entries.now }
+    ensures entries { All (λ entry. entry.entry.port ≤ result) entries.now }
 {
     let mut greatest = least;
     for entry in entries {
-        greatest = greatest.max(entry.port);
+        greatest = greatest.max(entry.entry.port);
     }
     greatest
 }
@@ -289,7 +267,7 @@ fn ends_with(segment: &Segment, index: usize, mark: Mark) -> bool
     let mut walk = Walk::new(segment.from(), index);
     let mut is_same = mark == segment.from().marks()[index];
     for entry in entries {
-        if index_of(entry.port) == index {
+        if index_of(entry.entry.port) == index {
             is_same = walk.is_next(mark, entry);
         }
         walk.pass(entry);

@@ -1,11 +1,12 @@
 //! A worker: it takes frames from a link's wire, feeds the core what they say, and sends what the core answers.
 
 ghost use Rattle.std.specs.Prelude.{◌≡◌, ◌+◌, ◌-◌, ◌^◌, ◌<◌, ◌≤◌, IfOk, length, vec_capacity};
-ghost use Rattle.interface_workers.specs.Chains.{HasRoom, IsChain, IsFed, WorkGoesOn};
+ghost use Rattle.interface_workers.specs.Chains.{HasReceiptFor, HasRoom, IsChain, IsFed, WorkGoesOn};
 ghost use Rattle.lookup_plane.specs.Changes.{StartsWith};
 
 use crate::cores::{Core, Port};
 use crate::gate::Gate;
+use crate::handled::{DatagramCounts, Handled};
 use crate::readers::CoreReader;
 use crate::reading::read_by;
 use crate::wire::Wire;
@@ -20,16 +21,16 @@ use std::sync::ledger::Ledger;
 /// The most bytes of a datagram.
 const BUFFER_LEN: usize = 65_536;
 
-/// What a worker did: the receipts of its entries, the segments that it took where the journal was full, and how many frames it
-/// passed on by their labels.
+/// What a worker did: the receipts of its entries, the segments that it took where the journal was full, and how many of the
+/// datagrams that it took became what else.
 #[derive(Debug, Drop)]
 pub struct Work {
     /// The receipts, in the order of its entries.
     pub receipts: Vec<Receipt>,
     /// The segments, in the order in which it took them.
     pub segments: Vec<Segment>,
-    /// How many frames it passed on by their labels.
-    pub forwarded: u64,
+    /// How many of the datagrams became what, of those that left no receipt.
+    pub datagrams: DatagramCounts,
 }
 
 impl Work {
@@ -41,7 +42,7 @@ impl Work {
         Ok(Work {
             receipts: Vec::with_capacity(alloc, events as usize)?,
             segments: Vec::with_capacity(alloc, events as usize)?,
-            forwarded: 0,
+            datagrams: DatagramCounts::new(),
         })
     }
 }
@@ -55,16 +56,33 @@ fn send_all<W: Wire>(wire: &mut W, frames: &Frames) {
     }
 }
 
-/// Carries a frame that is passed on by its labels, where there is memory for its bytes; else it is lost. Whether it was
-/// carried; a payload that has arrived isn't.
-fn pass_on<W: Wire>(alloc: Global, wire: &mut W, passed: &Passed) -> bool {
+/// Carries a frame that is passed on by its labels, where there is memory for its bytes; else it is lost. A payload that has
+/// arrived goes no further.
+fn pass_on<W: Wire>(alloc: Global, wire: &mut W, passed: &Passed) -> Handled {
     let Passed::Sent { link, frame } = passed else {
-        return false;
+        return Handled::Delivered;
     };
     let Ok(bytes) = frame_bytes(alloc, frame) else {
-        return false;
+        return Handled::Lost;
     };
-    wire.failures() < u64::MAX && wire.send(*link, bytes.as_slice()).is_ok()
+    if wire.failures() < u64::MAX && wire.send(*link, bytes.as_slice()).is_ok() {
+        Handled::Forwarded
+    } else {
+        Handled::Lost
+    }
+}
+
+/// What a turn took from its wire.
+#[derive(Drop)]
+enum Taken {
+    /// Nothing came in the wire's time.
+    Nothing,
+    /// The wire failed, and gave nothing.
+    WireFailed,
+    /// A labelled frame came, and the reader wasn't let in to the label table.
+    NotLetIn,
+    /// A datagram came: what it is, or why it is refused.
+    Came(Result<Datagram, Refusal>),
 }
 
 /// Where a worker stands: the core that it feeds, the gate between them, and what it waits and takes memory by.
@@ -112,65 +130,87 @@ impl<'a, L: Ledger, R: Wait + Drop, T: Wait, G: Gate> Station<'a, L, R, T, G> {
     }
 
     /// Feeds an event, keeps its receipt, and sends what the core answers. What is refused leaves no receipt.
-    fn serve_event<W: Wire>(&self, port: &mut Port<L>, wire: &mut W, work: &mut Work, event: &Event)
+    fn serve_event<W: Wire>(
+        &self,
+        port: &mut Port<L>,
+        wire: &mut W,
+        work: &mut Work,
+        event: &Event,
+    ) -> Handled
         requires { HasRoom work.old }
-        ensures { WorkGoesOn work.old port.old.mark work.new port.new.mark }
+        ensures goes_on { WorkGoesOn work.old port.old.mark work.new port.new.mark }
+        ensures handled { HasReceiptFor result work.old work.new }
     {
-        let answer = self.feed_rotating(port, &mut work.segments, event);
-        if let Ok(receipt) = answer {
-            send_all(wire, receipt.outputs());
-            work.receipts.push_reserved(receipt);
+        match self.feed_rotating(port, &mut work.segments, event) {
+            Ok(receipt) => {
+                send_all(wire, receipt.outputs());
+                work.receipts.push_reserved(receipt);
+                Handled::Fed
+            }
+            Err(refusal) => Handled::Refused(refusal),
         }
     }
 
-    /// Takes at most one frame from the wire: what it is, as one that came over the link. None where none came. The reader comes
-    /// back: it has seen no less.
+    /// Takes at most one frame from the wire: what it is, as one that came over the link. The reader comes back: it has seen no
+    /// less.
     fn receive<W: Wire>(
         &self,
         reader: CoreReader<L>,
         link: u16,
         wire: &mut W,
         buffer: &mut [u8],
-    ) -> (Option<Result<Datagram, Refusal>>, CoreReader<L>)
+    ) -> (Taken, CoreReader<L>)
         requires { W.failed wire.old < 2 ^ 64 - 1 }
         ensures later { StartsWith result.1.seen reader.seen }
         ensures learnt { result.1.at_least ≡ reader.at_least }
     {
-        let Ok(Some(len)) = wire.receive(buffer) else {
-            return (None, reader);
-        };
-        read_by(self.alloc, self.core.router(), reader, link, &buffer[..len])
+        match wire.receive(buffer) {
+            Ok(Some(len)) => self.read(reader, link, &buffer[..len]),
+            Ok(None) => (Taken::Nothing, reader),
+            Err(_) => (Taken::WireFailed, reader),
+        }
     }
 
-    /// Serves what came, if anything did that can be taken: a message is fed, and the reader learns of its receipt; a labelled
-    /// frame is passed on.
+    /// What a frame is that came over the link. The reader comes back: it has seen no less.
+    fn read(&self, reader: CoreReader<L>, link: u16, bytes: &[u8]) -> (Taken, CoreReader<L>)
+        ensures later { StartsWith result.1.seen reader.seen }
+        ensures learnt { result.1.at_least ≡ reader.at_least }
+    {
+        match read_by(self.alloc, self.core.router(), reader, link, bytes) {
+            (Some(answer), reader) => (Taken::Came(answer), reader),
+            (None, reader) => (Taken::NotLetIn, reader),
+        }
+    }
+
+    /// Serves what came, if anything did: a message is fed, and the reader learns of its receipt; a labelled frame is passed on.
     fn serve_datagram<W: Wire>(
         &self,
         port: &mut Port<L>,
         reader: &mut CoreReader<L>,
         wire: &mut W,
         work: &mut Work,
-        came: &Option<Result<Datagram, Refusal>>,
-    )
+        taken: &Taken,
+    ) -> Handled
         requires { HasRoom work.old }
-        ensures { WorkGoesOn work.old port.old.mark work.new port.new.mark }
+        ensures goes_on { WorkGoesOn work.old port.old.mark work.new port.new.mark }
+        ensures handled { HasReceiptFor result work.old work.new }
     {
-        match came {
-            Some(Ok(Datagram::Event(event))) => {
-                self.serve_event(port, wire, work, event);
+        match taken {
+            Taken::Nothing => Handled::Nothing,
+            Taken::WireFailed => Handled::WireFailed,
+            Taken::NotLetIn => Handled::Lost,
+            Taken::Came(Ok(Datagram::Event(event))) => {
+                let handled = self.serve_event(port, wire, work, event);
                 reader.learn(port);
+                handled
             }
-            Some(Ok(Datagram::Passed(passed))) => {
-                if pass_on(self.alloc, wire, passed) {
-                    work.forwarded = work.forwarded.saturating_add(1);
-                }
-            }
-            _ => {}
+            Taken::Came(Ok(Datagram::Passed(passed))) => pass_on(self.alloc, wire, passed),
+            Taken::Came(Err(refusal)) => Handled::Refused(*refusal),
         }
     }
 }
 
-/// Feeds an event, keeps its receipt, and sends what the core answers. What is refused leaves no receipt.
+/// Feeds an event, keeps its receipt, and sends what the core answers. What is refused leaves no receipt, and is counted.
 pub fn serve_event<L: Ledger, R: Wait + Drop, T: Wait, W: Wire, G: Gate>(
     rt: &T,
     alloc: Global,
@@ -180,9 +220,10 @@ pub fn serve_event<L: Ledger, R: Wait + Drop, T: Wait, W: Wire, G: Gate>(
     gate: &G,
     work: &mut Work,
     event: &Event,
-)
+) -> Handled
     requires { HasRoom work.old }
-    ensures { WorkGoesOn work.old port.old.mark work.new port.new.mark }
+    ensures goes_on { WorkGoesOn work.old port.old.mark work.new port.new.mark }
+    ensures handled { HasReceiptFor result work.old work.new }
 {
     let station = Station {
         rt,
@@ -190,7 +231,9 @@ pub fn serve_event<L: Ledger, R: Wait + Drop, T: Wait, W: Wire, G: Gate>(
         core,
         gate,
     };
-    station.serve_event(port, wire, work, event);
+    let handled = station.serve_event(port, wire, work, event);
+    work.datagrams.add(handled);
+    handled
 }
 
 /// A worker's run: so many turns, each of which takes at most one frame from the wire and serves it, as one that came over
@@ -223,8 +266,9 @@ pub fn serve_link<L: Ledger, R: Wait + Drop, T: Wait, W: Wire, G: Gate>(
         if wire.failures() == u64::MAX {
             break;
         }
-        let (came, mut next) = station.receive(reader, link, wire, &mut buffer);
-        station.serve_datagram(port, &mut next, wire, &mut work, &came);
+        let (taken, mut next) = station.receive(reader, link, wire, &mut buffer);
+        let handled = station.serve_datagram(port, &mut next, wire, &mut work, &taken);
+        work.datagrams.add(handled);
         reader = next;
     }
     Ok(work)

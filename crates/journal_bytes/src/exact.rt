@@ -3,7 +3,7 @@ ghost use Rattle.std.specs.Prelude.{◌≡◌, ◌↔◌, IsTrue};
 use std::net::Ipv4Addr;
 
 /// A value that can be told from every other.
-pub(crate) trait Exact {
+pub trait Exact {
     /// Whether it is the same as another value.
     fn is_same(&self, other: &Self) -> bool
         ensures { IsTrue result ↔ (self.now ≡ other.now) };

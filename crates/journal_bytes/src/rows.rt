@@ -3,8 +3,8 @@ ghost use Rattle.std.specs.Prelude.{◌≡◌, ◌↔◌, IsTrue};
 use crate::exact::Exact;
 use sorted_rows::Table;
 
-/// Whether these are the same items in the same order.
-pub(crate) fn are_same_items<T: Exact>(items: &[T], others: &[T]) -> bool
+/// Whether these are the same items in the same order. Takes no memory.
+pub fn are_same_items<T: Exact>(items: &[T], others: &[T]) -> bool
     ensures { IsTrue result ↔ (items.now ≡ others.now) }
 {
     if items.len() != others.len() {

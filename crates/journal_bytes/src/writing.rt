@@ -1,11 +1,13 @@
-ghost use Rattle.std.specs.Prelude.{◌≡◌, ◌++◌, OnOk, OnErr};
+ghost use Rattle.std.specs.Prelude.{◌≡◌, ◌++◌, IfOk, OnOk, OnErr};
 ghost use Rattle.journal_bytes.specs.Events.{event_bytes, event_fields, event_kind};
 
 use crate::commands::put_command;
+use crate::entry::Bytes;
 use crate::messages::{put_arrive, put_relay};
 use crate::numbers::*;
 use abstract_paths::Event;
-use std::alloc::AllocError;
+use rsvp_bodies::Kept;
+use std::alloc::{AllocError, Global};
 
 /// The kind of the event.
 fn event_kind(event: &Event) -> u8
@@ -46,4 +48,13 @@ pub fn write_event(event: &Event, out: &mut Vec<u8>) -> Result<(), AllocError>
     bytes.push(event_kind(event))?;
     put_fields(event, &mut bytes)?;
     out.extend_from_slice(bytes.as_slice())
+}
+
+/// What happened, as an entry keeps it. The only error is out of memory.
+pub fn written_event(alloc: Global, event: &Event) -> Result<Bytes, AllocError>
+    ensures { IfOk result (λ bytes. bytes ≡ event_bytes event.now) }
+{
+    let mut bytes = Vec::new(alloc);
+    write_event(event, &mut bytes)?;
+    Ok(Kept::from_vec(bytes))
 }

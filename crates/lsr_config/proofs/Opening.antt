@@ -26,7 +26,7 @@ use Rattle.lsr_facts.specs.OrderLaws.{prefix_total, prefix_exact}
 use Rattle.lsr_facts.specs.Routers.{AreLabels, AreRoutes, HasLink, IsLink, IsRouter, is_same, link_at, masked, own_addresses}
 use Rattle.lsr_facts.specs.declared.bypass.Bypass.{Bypass}
 use Rattle.lsr_facts.specs.declared.router.LabelRange.{LabelRange}
-use Rattle.lsr_facts.specs.Tunnels.{AreTunnels, IsPendingAs, IsTunnel, route_from}
+use Rattle.lsr_facts.specs.Tunnels.{AreTunnels, AreUnchanging, IsPendingAs, IsTunnel, route_from}
 use Rattle.lsr_facts.specs.declared.router.Link.{Link}
 use Rattle.lsr_facts.specs.declared.router.Router.{Router}
 use Rattle.lsr_facts.specs.declared.tunnel.Tunnel.{Tunnel}
@@ -326,6 +326,14 @@ module _ (d : Data) (c : Setup) (kept : AllByRecursion Holds (rules_of d)) (says
             (all_in_order nat_cmp nat_cmp_total exact_unsigned (IsTunnel c.router) rows (all_rows SaysTunnel (tunnel_rules d) (IsTunnel c.router) tunnel_opens [] (records key.Tunnel d) rows (tunnels_kept d kept) each));
       }
 
+  -- no tunnel is being changed
+  tunnels_rest : AreUnchanging c.tunnels
+  tunnels_rest =
+      let rows = says.tunnels.0 in
+      subst AreUnchanging (sym says.tunnels.2)
+      (all_in_order nat_cmp nat_cmp_total exact_unsigned (λ (row : ℕ × Tunnel). row.1.pending ≡ None) rows
+      (all_rows SaysTunnel (tunnel_rules d) (λ row. row.1.pending ≡ None) (λ before tunnel row held this. ap (λ (t : Tunnel). t.pending) this.first) [] (records key.Tunnel d) rows (tunnels_kept d kept) says.tunnels.1))
+
   bypass_opens : (before : List Data) (bypass : Data) (row : ℕ × Bypass) → AllByRecursion Holds (bypass_rules d before bypass) → SaysBypass bypass row → IsBypass c.router c.tunnels row
   bypass_opens before bypass row held this = record {
     protects = link_there row.1.link (for_a_link d before bypass held row.1.link this.link);
@@ -346,7 +354,7 @@ module _ (d : Data) (c : Setup) (kept : AllByRecursion Holds (rules_of d)) (says
       }
 
   pub opens : IsConfig c
-  opens = record { router = router_opens; routes = routes_open; tunnels = tunnels_open; bypasses = bypasses_open }
+  opens = record { router = router_opens; routes = routes_open; tunnels = tunnels_open; unchanging = tunnels_rest; bypasses = bypasses_open }
 
 -- A document whose parts were judged one after the other: its rules are kept, it says the configuration of these parts, and a router can be opened with that.
 pub parts_open : (d : Data) (c : Setup) (links : List (ℕ × Link)) (routes : List (Prefix × ℕ)) (tunnels : List (ℕ × Tunnel)) (bypasses : List (ℕ × Bypass))

@@ -6,7 +6,7 @@ use Rattle.lsr_facts.specs.declared.router.Router.{Router}
 use Rattle.lsr_facts.specs.declared.tunnel.Tunnel.{Tunnel}
 use Rattle.lsr_facts.specs.Bypasses.{AreBypasses}
 use Rattle.lsr_facts.specs.Routers.{AreRoutes, IsRouter}
-use Rattle.lsr_facts.specs.Tunnels.{AreTunnels}
+use Rattle.lsr_facts.specs.Tunnels.{AreTunnels, AreUnchanging}
 
 -- a router, its static routes, the tunnels that begin at it, and the bypasses of its links
 pub record Setup : Type 0 where
@@ -23,4 +23,5 @@ pub record IsConfig (c : Setup) : Type 0 where
   pub router : IsRouter c.router
   pub routes : AreRoutes c.router c.routes
   pub tunnels : AreTunnels c.router c.tunnels
+  pub unchanging : AreUnchanging c.tunnels
   pub bypasses : AreBypasses c.router c.tunnels c.bypasses

@@ -69,3 +69,7 @@ pub record AreTunnels (r : Router) (tunnels : List (ℕ × Tunnel)) : Type 0 whe
   pub in_order : T (rows.is_sorted nat_cmp tunnels)
   pub few : length tunnels ≤ max_tunnels
   pub each : AllByRecursion (IsTunnel r) tunnels
+
+-- no tunnel is being changed
+abbrev pub AreUnchanging : List (ℕ × Tunnel) → Type 0
+AreUnchanging tunnels = AllByRecursion (λ tunnel. tunnel.1.pending ≡ None) tunnels

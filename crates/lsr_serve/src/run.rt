@@ -4,8 +4,8 @@ ghost use Rattle.std.specs.Prelude.{◌≡◌, ◌+◌, ◌<◌, ◌≤◌, leng
 use crate::udp_wire::LinkWire;
 use abstract_paths::Event;
 use interface_workers::{
-    Core, CoreReader, Gate, OpenFault, Opened, Port, Receipt, Segment, Wire, Work, open,
-    serve_event, serve_link,
+    Core, CoreReader, DatagramCounts, Gate, OpenFault, Opened, Port, Receipt, Segment, Wire, Work,
+    open, serve_event, serve_link,
 };
 use lsr_config::Config;
 use std::alloc::{AllocError, Global};
@@ -24,8 +24,8 @@ pub const TICK_MS: u64 = 100;
 pub struct PortCount {
     /// How many receipts it has.
     pub receipts: usize,
-    /// How many frames it passed on by their labels.
-    pub forwarded: u64,
+    /// How many of the datagrams became what that it took, of those that left no receipt.
+    pub datagrams: DatagramCounts,
 }
 
 /// What a run leaves.
@@ -133,11 +133,11 @@ fn add_work(served: &mut RunReport, work: Work) -> Result<(), AllocError> {
     let Work {
         mut receipts,
         mut segments,
-        forwarded,
+        datagrams,
     } = work;
     served.ports.push(PortCount {
         receipts: receipts.len(),
-        forwarded,
+        datagrams,
     })?;
     served.receipts.append(&mut receipts)?;
     served.segments.append(&mut segments)?;

@@ -28,7 +28,9 @@ fn tell_ports<L: Log>(log: &L, ports: &[PortCount]) {
     for (before, count) in ports.iter().enumerate() {
         let port = before.saturating_add(1);
         info!(log; "port {port}: {} receipts", count.receipts);
-        info!(log; "port {port}: {} frames forwarded", count.forwarded);
+        info!(log; "port {port}: {} frames forwarded", count.datagrams.forwarded);
+        info!(log; "port {port}: {} datagrams refused", count.datagrams.refused);
+        info!(log; "port {port}: {} frames lost", count.datagrams.lost);
     }
 }
 

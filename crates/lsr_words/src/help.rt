@@ -362,11 +362,15 @@ What is printed in the end:
   mismatch PORT PLACE      they aren't: the first port, and the place among its receipts. The
                            status is 1 then
 
-On standard error, in lines of a log, a pair for each port, and one for the router:
+On standard error, in lines of a log, four for each port, and one for the router:
   port P: M receipts
   port P: K frames forwarded
                            how many events it fed, and how many frames it passed on by their
                            labels
+  port P: J datagrams refused
+  port P: I frames lost
+                           how many datagrams or their events were refused, and how many labelled
+                           frames were lost: their bytes had no memory, or nothing carried them
   router: A paths, B reservations, C repairs
                            what it knows at the end
 

@@ -62,7 +62,8 @@ use Rattle.abstract_router.specs.Steps.{AreSettled, Step, given_up, is_ready, kn
 use Rattle.abstract_router.specs.Tables.{look_tunnel, push_by, push_of, push_through}
 use Rattle.router_laws.specs.Words.{where_up}
 use Rattle.router_laws.proofs.BypassTunnels.{RunsIn, found-any, over_at-same, runs-up}
-use Rattle.router_laws.proofs.GoingOver.{new_id, tunnels_in_order}
+use Rattle.router_soundness.proofs.TakingOver.{new_id}
+use Rattle.router_laws.proofs.GoingOver.{tunnels_in_order}
 use Rattle.router_laws.proofs.Led.{led}
 use Rattle.router_laws.proofs.NoneRepaired.{over-up, repaired-same}
 use Rattle.router_laws.proofs.Pushing.{look_tunnel-is}

@@ -1,20 +1,18 @@
 -- How a tunnel goes over to its new LSP: in the step in which that LSP is reserved.
-use Rattle.std.specs.Prelude.{◌≡◌, ◌≢◌, ◌⊎◌, ◌&&◌, ◌||◌, ℕ, not, Bool, true, false, cond, if◌then◌else◌, T, List, [], ◌∷◌, filter, map, Option, Some, None, is_some, option_map}
+use Rattle.std.specs.Prelude.{◌≡◌, ◌≢◌, ◌⊎◌, ◌&&◌, ℕ, not, Bool, true, false, cond, if◌then◌else◌, T, List, [], ◌∷◌, filter, map, Option, Some, None, is_some, option_map}
 use Rattle.std.specs.FinMap.Entries.{find, find-where_key, is_sorted}
 use Rattle.std.specs.List.{AllByRecursion}
 use Rattle.std.specs.Option.{option_map_or}
-use Rattle.std.specs.Ordering.{eq_by_cmp, is_eq, nat_cmp}
+use Rattle.std.specs.Ordering.{eq_by_cmp, nat_cmp}
 use Rattle.std.proofs.Common.{refl, sym, ap, subst, ◌∙◌, inl, inr}
-use Rattle.std.proofs.lemmas.Bool.{false_from_ne_true}
-use Rattle.std.proofs.lemmas.Cmp.{nat_cmp_total}
 use Rattle.std.proofs.lemmas.Map.Lookups.{exact_unsigned}
 use Rattle.std.proofs.lemmas.Option.{same_Some}
 use Rattle.sorted_rows.specs.ListLaws.{all-weaker}
-use Rattle.sorted_rows.specs.RowsLaws.{all_found, ties}
+use Rattle.sorted_rows.specs.RowsLaws.{ties}
 use Rattle.lsr_facts.specs.OrderLaws.{key_exact}
 use Rattle.lsr_facts.specs.Orders.{is_one_of, key_cmp}
 use Rattle.lsr_facts.specs.Routers.{IsRouter}
-use Rattle.lsr_facts.specs.Tunnels.{AreTunnels, IsPendingAs, current_key, head_key}
+use Rattle.lsr_facts.specs.Tunnels.{AreTunnels, current_key, head_key}
 use Rattle.lsr_facts.specs.declared.facts.Facts.{Facts}
 use Rattle.lsr_facts.specs.declared.key.Key.{Key}
 use Rattle.lsr_facts.specs.declared.router.Router.{Router}
@@ -26,8 +24,7 @@ use Rattle.lsr_facts.specs.declared.repair.Repair.{Repair}
 use Rattle.lsr_facts.specs.declared.resv_fact.ResvFact.{ResvFact}
 use Rattle.forwarding_table.specs.declared.action.Action.TheVariants.{PushHead}
 use Rattle.abstract_paths.specs.declared.events.Made.{Made}
-use Rattle.abstract_paths.proofs.Heads.{is_one_of-first, is_one_of-later, same_keys}
-use Rattle.abstract_paths.proofs.TunnelTable.{tunnel_known}
+use Rattle.abstract_paths.proofs.Heads.{is_one_of-first, is_one_of-later}
 use Rattle.abstract_paths.specs.Places.{is_up}
 use Rattle.abstract_paths.specs.Soundness.{IsStanding}
 use Rattle.abstract_paths.specs.Tears.{leaves_by}
@@ -40,23 +37,11 @@ use Rattle.abstract_router.specs.States.{State, is_reserved}
 use Rattle.abstract_router.specs.Steps.{AreSettled, Step, given_up, is_ready, resvs_left, settled, stands, switched_where, taken_over, with_moments}
 use Rattle.abstract_router.specs.Tables.{look_tunnel}
 use Rattle.router_soundness.proofs.Running.{sound_step}
-use Rattle.router_soundness.proofs.TakingOver.{standing_taken}
+use Rattle.router_soundness.proofs.TakingOver.{found_switched, new_id, new_kept, standing_taken}
 use Rattle.router_laws.proofs.GivenUp.{path_left}
 use Rattle.router_laws.proofs.Pushing.{entry_is, entry_repaired}
 use Rattle.router_laws.proofs.Settled.{taken_over-same}
 use Rattle.router_laws.proofs.TunnelEvents.{IsReserving, IsSameTunnel, Moves, event_moves}
-
--- The tunnel that is found of a number once tunnels have gone over.
-pub found_switched : (test : ℕ × Tunnel → Bool) (number : ℕ) (tunnels : List (ℕ × Tunnel)) → find nat_cmp number (map (switched_where test) tunnels) ≡ option_map (λ tunnel. (switched_where test (number, tunnel)).1) (find nat_cmp number tunnels)
-found_switched test number [] = refl
-found_switched test number (tunnel ∷ tunnels) =
-    let rest = found_switched test number tunnels in
-    subst (λ n. cond (eq_by_cmp nat_cmp number n) (Some (switched_where test tunnel).1) (find nat_cmp number (map (switched_where test) tunnels)) ≡ option_map (λ t. (switched_where test (number, t)).1) (cond (eq_by_cmp nat_cmp number tunnel.0) (Some tunnel.1) (find nat_cmp number tunnels)))
-    (sym (elim (test tunnel) as (λ b. (if b then (tunnel.0, switched tunnel.1) else tunnel).0 ≡ tunnel.0) [ true ↦ refl | false ↦ refl ]))
-    (elim (eq_by_cmp nat_cmp number tunnel.0) as (λ b. eq_by_cmp nat_cmp number tunnel.0 ≡ b → cond b (Some (switched_where test tunnel).1) (find nat_cmp number (map (switched_where test) tunnels)) ≡ option_map (λ t. (switched_where test (number, t)).1) (cond b (Some tunnel.1) (find nat_cmp number tunnels))) [
-      | true ↦ λ own. ap (λ n. Some (switched_where test (n, tunnel.1)).1) (sym (exact_unsigned number tunnel.0 (ties _ own)))
-      | false ↦ λ other. rest
-    ] refl)
 
 -- where each row of a key passes a test, what is found of it is found among those that pass
 found_left : (test : Key × ResvFact → Bool) (key : Key) (rows : List (Key × ResvFact)) → AllByRecursion (λ row. key ≡ row.0 → test row ≡ true) rows → find key_cmp key (filter test rows) ≡ find key_cmp key rows
@@ -101,36 +86,6 @@ ready_given_up r ready number old (tunnel ∷ tunnels) found goes =
     later : (b : Bool) → is_one_of (map (current_key r) (filter ready tunnels)) (current_key r (number, old)) ≡ true → is_one_of (map (current_key r) (cond b (tunnel ∷ filter ready tunnels) (filter ready tunnels))) (current_key r (number, old)) ≡ true
     later true there = is_one_of-later (current_key r tunnel) (current_key r (number, old)) (map (current_key r) (filter ready tunnels)) there
     later false there = there
-
--- no key of these is the one, of tunnels of which none that is ready has it
-none_given_up : (r : Router) (ready : ℕ × Tunnel → Bool) (key : Key) (tunnels : List (ℕ × Tunnel)) → AllByRecursion (λ tunnel. current_key r tunnel ≢ key) tunnels → is_one_of (map (current_key r) (filter ready tunnels)) key ≡ false
-none_given_up r ready key [] apart = refl
-none_given_up r ready key (tunnel ∷ tunnels) apart =
-    let rest = none_given_up r ready key tunnels apart.1 in
-    elim (ready tunnel) as (λ b. is_one_of (map (current_key r) (cond b (tunnel ∷ filter ready tunnels) (filter ready tunnels))) key ≡ false) [
-      | true ↦ ap (λ b. b || is_one_of (map (current_key r) (filter ready tunnels)) key) (false_from_ne_true (is_eq (key_cmp (current_key r tunnel) key)) (λ tie. apart.0 (same_keys (current_key r tunnel) key tie))) ∙ rest
-      | false ↦ rest
-    ]
-
--- a tunnel and the LSP that is to take its current one's place
-module _ (r : Router) (s : State) (are : AreTunnels r s.facts.tunnels) (number : ℕ) (old : Tunnel) (lsp : TunnelLsp) (found : find nat_cmp number s.facts.tunnels ≡ Some old) (pending : old.pending ≡ Some lsp) where
-  abbrev new_key : Key
-  new_key = head_key r number old.endpoint lsp.id
-
-  -- That isn't the current one.
-  pub new_id : lsp.id ≢ old.current.id
-  new_id = (subst (IsPendingAs r old) pending (tunnel_known r number old s.facts.tunnels are found).pending).1
-
-  -- so no tunnel gives it up
-  new_kept : is_one_of (given_up r s) new_key ≡ false
-  new_kept =
-      none_given_up r (is_ready r s) new_key s.facts.tunnels
-      (all-weaker (λ tunnel. find nat_cmp tunnel.0 s.facts.tunnels ≡ Some tunnel.1) (λ tunnel. current_key r tunnel ≢ new_key) apart s.facts.tunnels (all_found nat_cmp nat_cmp_total s.facts.tunnels are.in_order))
-    where
-      apart : (tunnel : ℕ × Tunnel) → find nat_cmp tunnel.0 s.facts.tunnels ≡ Some tunnel.1 → current_key r tunnel ≢ new_key
-      apart tunnel its same =
-          let own : tunnel.1 ≡ old = same_Some tunnel.1 old (sym its ∙ ap (λ (k : Key). find nat_cmp k.session.tunnel s.facts.tunnels) same ∙ found) in
-          new_id (sym (ap (λ (k : Key). k.sender.lsp) same) ∙ ap (λ (t : Tunnel). t.current.id) own)
 
 -- nothing stands whose path went
 none_stands : (b : Bool) → (b && false) ≡ false

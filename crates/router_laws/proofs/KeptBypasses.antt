@@ -30,7 +30,8 @@ use Rattle.abstract_router.specs.Steps.{Step, given_up, is_ready, settled, switc
 use Rattle.router_laws.specs.TouchedBy.{touched_by, touched_by_way}
 use Rattle.router_laws.proofs.Arriving.{arrival_leaves}
 use Rattle.router_laws.proofs.BypassTunnels.{RunsIn, over_at-same}
-use Rattle.router_laws.proofs.GoingOver.{found_switched, ready_given_up}
+use Rattle.router_soundness.proofs.TakingOver.{found_switched}
+use Rattle.router_laws.proofs.GoingOver.{ready_given_up}
 use Rattle.router_laws.proofs.Led.{led}
 use Rattle.router_laws.proofs.Touching.{left-message, neither}
 use Rattle.router_laws.proofs.TunnelEvents.{IsSameTunnel, IsTunnelThen, then_known}

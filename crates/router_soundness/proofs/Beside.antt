@@ -1,6 +1,6 @@
 -- A state stays sound where what changes is beside its LSPs: tunnels, by which bypasses run over what they ran over; and whether
 -- the router is cold.
-use Rattle.std.specs.Prelude.{◌≡◌, ◌&&◌, ℕ, Bool, false, true, List, is_some}
+use Rattle.std.specs.Prelude.{◌≡◌, ◌&&◌, ℕ, Bool, false, true, List, [], is_some}
 use Rattle.std.specs.FinMap.Entries.{find}
 use Rattle.std.specs.List.{AllByRecursion, flat_map}
 use Rattle.std.specs.Option.{option_map_or}
@@ -9,6 +9,7 @@ use Rattle.sorted_rows.specs.Rows.{keys_of}
 use Rattle.lsr_facts.specs.Orders.{key_cmp}
 use Rattle.lsr_facts.specs.declared.router.Router.{Router}
 use Rattle.lsr_facts.specs.declared.tunnel.Tunnel.{Tunnel}
+use Rattle.abstract_paths.proofs.Primitives as paths
 use Rattle.abstract_paths.specs.Places.{place_of}
 use Rattle.abstract_paths.specs.Soundness.{IsStanding}
 use Rattle.abstract_paths.specs.Tears.{leaves_by}
@@ -51,3 +52,7 @@ module _ (r : Router) (s : State) (cold : Bool) (tunnels : List (ℕ × Tunnel))
 pub sound_cold : (r : Router) (s : State) (cold : Bool) → IsStanding r (record s.facts { cold = cold }) → IsSound r s → IsSound r (with_facts (record s.facts { cold = cold }) s)
 unfolding bypass_tunnels_of
 sound_cold r s cold standing is = sound_beside r s cold s.facts.tunnels refl standing is
+
+-- It is cold from now on, where it knows no path.
+pub sound_stopped : (r : Router) (s : State) → s.facts.paths ≡ [] → IsSound r s → IsSound r (with_facts (record s.facts { cold = true }) s)
+sound_stopped r s none is = sound_cold r s true (paths.sound_stopped r s.facts none is.paths) is

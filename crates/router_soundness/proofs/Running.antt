@@ -4,7 +4,7 @@ use Rattle.std.proofs.Common.{sym, subst}
 use Rattle.rsvp_bodies.specs.declared.prefix.Prefix.{Prefix}
 use Rattle.lsr_facts.specs.Bypasses.{AreBypasses}
 use Rattle.lsr_facts.specs.Routers.{AreRoutes, IsRouter}
-use Rattle.lsr_facts.specs.Tunnels.{AreTunnels}
+use Rattle.lsr_facts.specs.Tunnels.{AreTunnels, AreUnchanging}
 use Rattle.lsr_facts.specs.declared.bypass.Bypass.{Bypass}
 use Rattle.lsr_facts.specs.declared.router.Router.{Router}
 use Rattle.lsr_facts.specs.declared.tunnel.Tunnel.{Tunnel}
@@ -20,9 +20,9 @@ use Rattle.abstract_router.specs.States.{State}
 use Rattle.abstract_router.specs.Steps.{Run, Step, opening}
 
 -- A router is opened sound.
-pub sound_opening : (r : Router) (routes : List (Prefix × ℕ)) (tunnels : List (ℕ × Tunnel)) (bypasses : List (ℕ × Bypass)) → IsRouter r → AreRoutes r routes → AreTunnels r tunnels → AreBypasses r tunnels bypasses → IsSound r (opening r routes tunnels bypasses)
-sound_opening r routes tunnels bypasses router are begin protect =
-    sound_bare r (opening_facts r routes tunnels bypasses) (opening_stands r routes tunnels bypasses are begin protect)
+pub sound_opening : (r : Router) (routes : List (Prefix × ℕ)) (tunnels : List (ℕ × Tunnel)) (bypasses : List (ℕ × Bypass)) → IsRouter r → AreRoutes r routes → AreTunnels r tunnels → AreUnchanging tunnels → AreBypasses r tunnels bypasses → IsSound r (opening r routes tunnels bypasses)
+sound_opening r routes tunnels bypasses router are begin unchanging protect =
+    sound_bare r (opening_facts r routes tunnels bypasses) (opening_stands r routes tunnels bypasses are begin unchanging protect)
 
 -- A step keeps it so.
 pub sound_step : (r : Router) (before : State) (made : Made) (after : State) → IsRouter r → IsSound r before → Step r before made after → IsSound r after

@@ -5,7 +5,7 @@ use Rattle.std.proofs.lemmas.List.Elements.{All-get_or}
 use Rattle.std.proofs.lemmas.Option.{slice_get_within, get_or_from_slice_get}
 use Rattle.std.specs.Option.{option_map_or}
 use Rattle.run_journal.specs.Marks.{Counts, Follows, IsWithin, first_mark, is_known, is_same_mark, mark_after, mark_of, receipt_of}
-use Rattle.run_journal.specs.declared.entry.Entry.{Entry}
+use Rattle.run_journal.specs.declared.entry.CountedEntry.{CountedEntry}
 use Rattle.run_journal.specs.declared.mark.Mark.{Mark}
 use Rattle.run_journal.proofs.Marking.{left, right, one_if-le}
 
@@ -38,11 +38,11 @@ known_is n m is =
     get_or_from_slice_get n.marks (m.port - 1) found.0 (first_mark m.port) found.1 ∙ sym (same_mark m found.0 found.2)
 
 -- The receipt of an entry of its port follows on it.
-pub known_follows : (n : Counts) (m : Mark) (e : Entry) → is_known n m ≡ true → e.port ≡ m.port → All (IsWithin n) n.marks → Follows m (receipt_of n e)
+pub known_follows : (n : Counts) (m : Mark) (e : CountedEntry) → is_known n m ≡ true → e.entry.port ≡ m.port → All (IsWithin n) n.marks → Follows m (receipt_of n e)
 known_follows n m e is port within =
     let known : mark_of n m.port ≡ m = known_is n m is in
     let low : IsWithin n m = subst (IsWithin n) known (All-get_or (IsWithin n) n.marks (m.port - 1) (first_mark m.port) (known_port n m is) within) in
-    let place : mark_of n e.port ≡ m = subst (λ p. mark_of n p ≡ m) (sym port) known in
+    let place : mark_of n e.entry.port ≡ m = subst (λ p. mark_of n p ≡ m) (sym port) known in
     record {
       port = port;
       place = ap (λ (x : Mark). x.place + 1) place;

@@ -10,14 +10,14 @@ use Rattle.run_journal.specs.Entries.{AreRecorded, Recorded}
 use Rattle.lookup_plane.specs.declared.change.TableChange.{TableChange}
 use Rattle.run_journal.specs.Journals.{IsKept, IsOpening, IsSegment, Journal, LeadToTable, rotated, stretch_of}
 use Rattle.run_journal.specs.Marks.{Counts, IsWithin, counted, counted_all, first_counts, first_mark, first_marks, one_if}
-use Rattle.run_journal.specs.declared.entry.Entry.{Entry}
+use Rattle.run_journal.specs.declared.entry.CountedEntry.{CountedEntry}
 use Rattle.run_journal.specs.declared.mark.Mark.{Mark}
 use Rattle.run_journal.proofs.Announcing.{lead_opening}
 use Rattle.run_journal.proofs.Marking.{counted_push, one_if-le, within_counted}
 use Rattle.run_journal.proofs.Running.{recorded_push}
 
 -- each entry adds one to their number
-counted-number : (n : Counts) (es : List Entry) → (counted_all n es).number ≡ n.number + length es
+counted-number : (n : Counts) (es : List CountedEntry) → (counted_all n es).number ≡ n.number + length es
 counted-number n [] = omega arith
 counted-number n (e ∷ es) = let more = counted-number (counted n e) es in omega (arith, more)
 
@@ -47,7 +47,7 @@ kept_opened r s ports is_router sound begun = record {
 }
 
 -- after an entry more
-pub kept_push : (j : Journal) (e : Entry) (after : State) (shown : List TableChange) → IsKept j → length j.entries < 4096 → j.counts.number < 2 ^ 62 → e.port - 1 < length j.counts.marks → Recorded j.router j.state e after → IsSound j.router after
+pub kept_push : (j : Journal) (e : CountedEntry) (after : State) (shown : List TableChange) → IsKept j → length j.entries < 4096 → j.counts.number < 2 ^ 62 → e.entry.port - 1 < length j.counts.marks → Recorded j.router j.state e after → IsSound j.router after
     → length shown ≡ j.counts.published + one_if e.changes_table → LeadToTable j.router after shown
     → IsKept (record j { entries = j.entries ++ e ∷ []; state = after; counts = counted j.counts e; shown = shown })
 kept_push j e after shown is room low port recorded sound many lead = record {
@@ -66,7 +66,7 @@ kept_push j e after shown is room low port recorded sound many lead = record {
 }
 
 -- where there is no entry yet, the router is as it was opened
-begun_now : (r : Router) (base state : State) (from counts : Counts) (es : List Entry) → (from.number ≡ 0 → IsOpening r base) → AreRecorded r base es state → counts ≡ counted_all from es → counts.number ≡ 0 → IsOpening r state
+begun_now : (r : Router) (base state : State) (from counts : Counts) (es : List CountedEntry) → (from.number ≡ 0 → IsOpening r base) → AreRecorded r base es state → counts ≡ counted_all from es → counts.number ≡ 0 → IsOpening r state
 begun_now r base state from counts [] begun run is none =
     subst (IsOpening r) (sym run) (begun (ap (λ (n : Counts). n.number) (sym is) ∙ none))
 begun_now r base state from counts (e ∷ es) begun run is none =

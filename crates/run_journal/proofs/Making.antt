@@ -10,7 +10,7 @@ use Rattle.router_core.specs.declared.ready.Ready.{Ready}
 use Rattle.router_core.specs.declared.ready.Ready.TheVariants as readies
 use Rattle.run_journal.specs.Entries.{Recorded}
 use Rattle.run_journal.specs.Journals.{IsEntryFor}
-use Rattle.run_journal.specs.declared.entry.Entry.{Entry}
+use Rattle.run_journal.specs.declared.entry.CountedEntry.{CountedEntry}
 
 -- it is a step of the event
 pub made-event : (event : Event) (ready : Ready) → (made_of event ready).event ≡ event
@@ -18,11 +18,14 @@ made-event event (readies.Plan plan) = refl
 made-event event readies.Start = refl
 made-event event (readies.Restart changes) = refl
 
-pub recorded_made : (s t : RouterState) (event : Event) (ready : Ready) (e : Entry) → IsReady s event ready → IsEntryFor e.port event ready e
-    → t ≡ record s { state = after_ready ready s.state } → Step s.router s.state (made_of event ready) t.state → Recorded s.router s.state e t.state
-recorded_made s t event ready e is its after step = record {
-  made = made_of event ready;
-  step = step;
-  entry = its.entry;
-  told = subst (λ (x : State). TellsChange e.changes_table s.router s.state x) (sym (ap (λ (x : RouterState). x.state) after)) (its.told s is);
-}
+pub recorded_made : (s t : RouterState) (event : Event) (ready : Ready) (e : CountedEntry) → IsReady s event ready → IsEntryFor e.entry.port event ready e
+    → t ≡ record s { state = after_ready ready s.state } → Step s.router s.state (made_of event ready) t.state → (is : Recorded s.router s.state e t.state) × (is.made.event ≡ event)
+recorded_made s t event ready e is its after step = (
+  record {
+    made = made_of event ready;
+    step = step;
+    entry = its.entry;
+    told = subst (λ (x : State). TellsChange e.changes_table s.router s.state x) (sym (ap (λ (x : RouterState). x.state) after)) (its.told s is);
+  },
+  made-event event ready,
+)

@@ -17,13 +17,14 @@ use Rattle.abstract_router.specs.Tables.{TellsChange, look, look_tunnel}
 use Rattle.lookup_plane.specs.Changes as planes
 use Rattle.lookup_plane.specs.Changes.{Changes, IsChangeOf}
 use Rattle.lookup_plane.specs.declared.change.TableChange.{TableChange}
+use Rattle.journal_bytes.specs.Entries.{IsEntryOf}
 use Rattle.journal_bytes.specs.Events.{event_bytes}
 use Rattle.router_core.specs.States.{RouterState}
 use Rattle.router_core.specs.Readies.{IsReady, after_ready, made_of}
 use Rattle.router_core.specs.declared.ready.Ready.{Ready}
-use Rattle.run_journal.specs.Entries.{AreRecorded, IsEntryOf, Recorded}
+use Rattle.run_journal.specs.Entries.{AreRecorded, Recorded}
 use Rattle.run_journal.specs.Marks.{Counts, IsWithin, counted, counted_all, is_known, receipt_of}
-use Rattle.run_journal.specs.declared.entry.Entry.{Entry}
+use Rattle.run_journal.specs.declared.entry.CountedEntry.{CountedEntry}
 use Rattle.run_journal.specs.declared.mark.Mark.{Mark}
 use Rattle.run_journal.specs.declared.receipt.Receipt.{Receipt}
 
@@ -33,10 +34,23 @@ pub record Journal : Type 0 where
   pub router : Router
   pub base : State
   pub from : Counts
-  pub entries : List Entry
+  pub entries : List CountedEntry
   pub state : State
   pub counts : Counts
   pub shown : List TableChange
+
+-- What is under the lock by its parts: the router and what it knows, what it knew and what the numbers were at the base, the entries
+-- since, what the numbers are now, and the plane.
+abbrev pub journal_of : RouterState → State → Counts → List CountedEntry → Counts → Changes → Journal
+journal_of s base from entries counts plane = record {
+  router = s.router;
+  base = base;
+  from = from;
+  entries = entries;
+  state = s.state;
+  counts = counts;
+  shown = plane.published;
+}
 
 -- the router, and what it knows now
 abbrev pub router_in : Journal → RouterState
@@ -96,9 +110,9 @@ IsRefused None j event refusal = IsRefusedLate j event refusal
 
 -- The entry is that of a port's event and of its step that is made ready: whatever the router knows for which it was made
 -- ready, it tells whether what is forwarded changes then.
-pub record IsEntryFor (port : ℕ) (event : Event) (ready : Ready) (e : Entry) : Type 0 where
-  pub port_is : e.port ≡ port
-  pub entry : IsEntryOf (made_of event ready) e
+pub record IsEntryFor (port : ℕ) (event : Event) (ready : Ready) (e : CountedEntry) : Type 0 where
+  pub port_is : e.entry.port ≡ port
+  pub entry : IsEntryOf (made_of event ready) e.entry
   pub told : (s : RouterState) → IsReady s event ready → TellsChange e.changes_table s.router s.state (after_ready ready s.state)
 
 -- The change is that of a step that is made ready: whatever the router knows for which it was made ready, and whatever changes lead to its
@@ -124,9 +138,11 @@ pub record IsPlaneOf (r : Router) (p : Changes) : Type 0 where
   pub last : p.last_label ≡ r.labels.last
   pub settled : p.pending ≡ []
 
--- An entry is put to the others: it records a step, the numbers go on by it, and readers are shown what it changes.
-pub record IsEntered (old : Journal) (entry : Entry) (new : Journal) : Type 0 where
+-- An entry of an event is put to the others: it records a step of this event itself, and not of one with the same bytes; the numbers go
+-- on by it, and readers are shown what it changes.
+pub record IsEntered (old : Journal) (event : Event) (entry : CountedEntry) (new : Journal) : Type 0 where
   pub recorded : Recorded old.router old.state entry new.state
+  pub event_is : recorded.made.event ≡ event
   pub entries : new.entries ≡ old.entries ++ entry ∷ []
   pub counts : new.counts ≡ counted old.counts entry
   pub shown : IsShownMore entry.changes_table old.shown new.shown
@@ -136,11 +152,11 @@ pub record IsEntered (old : Journal) (entry : Entry) (new : Journal) : Type 0 wh
 
 -- An event of a port is applied: an entry of it is put to the others, and the receipt is that entry's.
 pub record IsApplied (old : Journal) (port : ℕ) (event : Event) (receipt : Receipt) (new : Journal) : Type 0 where
-  pub entry : Entry
-  pub port_is : entry.port ≡ port
-  pub event_is : entry.event ≡ event_bytes event
+  pub entry : CountedEntry
+  pub port_is : entry.entry.port ≡ port
+  pub event_is : entry.entry.event ≡ event_bytes event
   pub receipt_is : receipt ≡ receipt_of old.counts entry
-  pub entered : IsEntered old entry new
+  pub entered : IsEntered old event entry new
 
 -- What an event at a port is answered: it is applied where nothing refuses it before it is looked at; else it is refused, and
 -- nothing changed.
@@ -154,7 +170,7 @@ pub record Stretch : Type 0 where
   pub router : Router
   pub base : State
   pub from : Counts
-  pub entries : List Entry
+  pub entries : List CountedEntry
   pub end : State
 
 -- Its entries record a run from its base to its end, and both are sound. Where no entry was made before them, the base is the

@@ -1,7 +1,7 @@
 -- The numbers of a journal: how many entries there were, how many changed what is forwarded, and each port's mark.
 use Rattle.std.specs.Prelude.{◌≡◌, ◌<◌, ◌≤◌, ◌+◌, ◌-◌, ◌==◌, ◌&&◌, ℕ, suc, zero, Bool, false, true, List, [], ◌∷◌, ◌++◌, slice_get, slice_index_or, slice_set}
 use Rattle.std.specs.Option.{option_map_or}
-use Rattle.run_journal.specs.declared.entry.Entry.{Entry}
+use Rattle.run_journal.specs.declared.entry.CountedEntry.{CountedEntry}
 use Rattle.run_journal.specs.declared.mark.Mark.{Mark}
 use Rattle.run_journal.specs.declared.receipt.Receipt.{Receipt}
 
@@ -35,30 +35,30 @@ one_if false = 0
 
 -- The mark of an entry's port after it: the port's next place, the number of the entry, and of those that changed what is
 -- forwarded.
-abbrev pub mark_after : Counts → Entry → Mark
+abbrev pub mark_after : Counts → CountedEntry → Mark
 mark_after n e = record {
-  port = e.port;
-  place = (mark_of n e.port).place + 1;
+  port = e.entry.port;
+  place = (mark_of n e.entry.port).place + 1;
   entry = n.number + 1;
   published = n.published + one_if e.changes_table;
 }
 
 -- the numbers after an entry: one mark moves, that of its port
-abbrev pub counted : Counts → Entry → Counts
+abbrev pub counted : Counts → CountedEntry → Counts
 counted n e = record {
   number = n.number + 1;
   published = n.published + one_if e.changes_table;
-  marks = slice_set n.marks (e.port - 1) (mark_after n e);
+  marks = slice_set n.marks (e.entry.port - 1) (mark_after n e);
 }
 
 -- and after several, one after the other
-abbrev pub counted_all : Counts → List Entry → Counts
+abbrev pub counted_all : Counts → List CountedEntry → Counts
 counted_all n [] = n
 counted_all n (e ∷ es) = counted_all (counted n e) es
 
 -- what the port is told of its entry
-abbrev pub receipt_of : Counts → Entry → Receipt
-receipt_of n e = record { mark = mark_after n e; event = e.event; reply = e.reply; outputs = e.outputs }
+abbrev pub receipt_of : Counts → CountedEntry → Receipt
+receipt_of n e = record { mark = mark_after n e; event = e.entry.event; reply = e.entry.reply; outputs = e.entry.outputs }
 
 -- all numbers of both are the same
 abbrev pub is_same_mark : Mark → Mark → Bool

@@ -3,7 +3,7 @@
 ghost use Rattle.std.specs.Prelude.{◌≡◌, ◌<◌, ◌≤◌, ◌-◌, ◌^◌, All, IfOk, length};
 ghost use Rattle.run_journal.specs.Marks.{Counts, IsWithin, counted, first_counts, first_marks, is_known, mark_after, receipt_of};
 
-use crate::entry::Entry;
+use crate::entry::CountedEntry;
 use crate::mark::Mark;
 use crate::receipt::Receipt;
 use sorted_rows::TryCopy;
@@ -86,16 +86,16 @@ impl JournalCounts {
     }
 
     /// The mark of an entry's port after it.
-    fn mark_after(&self, entry: &Entry) -> Mark
-        requires port { entry.now.port - 1 < length self.now.marks }
+    fn mark_after(&self, entry: &CountedEntry) -> Mark
+        requires port { entry.now.entry.port - 1 < length self.now.marks }
         requires low { self.now.number < 2 ^ 62 }
         requires published { self.now.published ≤ self.now.number }
         requires within { All (IsWithin self.now) self.now.marks }
         ensures { result ≡ mark_after self.now entry.now }
     {
-        let known = self.marks[index_of(entry.port)];
+        let known = self.marks[index_of(entry.entry.port)];
         Mark {
-            port: entry.port,
+            port: entry.entry.port,
             place: known.place + 1,
             entry: self.number + 1,
             published: self.published + u64::from(entry.changes_table),
@@ -103,8 +103,8 @@ impl JournalCounts {
     }
 
     /// What an entry's port is told of it. The only error is out of memory.
-    pub(crate) fn receipt(&self, alloc: Global, entry: &Entry) -> Result<Receipt, AllocError>
-        requires port { entry.now.port - 1 < length self.now.marks }
+    pub(crate) fn receipt(&self, alloc: Global, entry: &CountedEntry) -> Result<Receipt, AllocError>
+        requires port { entry.now.entry.port - 1 < length self.now.marks }
         requires low { self.now.number < 2 ^ 62 }
         requires published { self.now.published ≤ self.now.number }
         requires within { All (IsWithin self.now) self.now.marks }
@@ -112,15 +112,15 @@ impl JournalCounts {
     {
         Ok(Receipt {
             mark: self.mark_after(entry),
-            event: entry.event.clone()?,
-            reply: entry.reply,
-            outputs: entry.outputs.try_copy(alloc)?,
+            event: entry.entry.event.clone()?,
+            reply: entry.entry.reply,
+            outputs: entry.entry.outputs.try_copy(alloc)?,
         })
     }
 
     /// Counts an entry.
-    pub(crate) fn count(&mut self, entry: &Entry)
-        requires port { entry.now.port - 1 < length self.old.marks }
+    pub(crate) fn count(&mut self, entry: &CountedEntry)
+        requires port { entry.now.entry.port - 1 < length self.old.marks }
         requires low { self.old.number < 2 ^ 62 }
         requires published { self.old.published ≤ self.old.number }
         requires within { All (IsWithin self.old) self.old.marks }
@@ -129,7 +129,7 @@ impl JournalCounts {
         let mark = self.mark_after(entry);
         self.number = mark.entry;
         self.published = mark.published;
-        self.marks[index_of(entry.port)] = mark;
+        self.marks[index_of(entry.entry.port)] = mark;
     }
 }
 

@@ -8,16 +8,15 @@ mod locked;
 mod mark;
 mod receipt;
 mod segment;
-mod writing;
 
 pub use counts::JournalCounts;
-pub use entry::{AnyRule, Bytes, ChosenLabels, Entry, Frames, Listed, WrittenFrame};
+pub use entry::CountedEntry;
+pub use journal_bytes::{Entry, Frames};
 pub use locked::Locked;
 pub use mark::Mark;
 pub use receipt::Receipt;
 pub use router_core::{Datagram, Passed};
 pub use segment::Segment;
-pub use writing::{written_event, written_frames};
 
 /// The most ports of a router.
 pub const MAX_PORTS: u16 = 64;

@@ -9,13 +9,13 @@ ghost use Rattle.run_journal.specs.Journals.{IsAnnounced, IsAnswered, IsChangeFo
 ghost use Rattle.run_journal.specs.Marks.{Follows, first_counts};
 
 use crate::counts::JournalCounts;
-use crate::entry::{Entry, Listed};
+use crate::entry::CountedEntry;
 use crate::mark::Mark;
 use crate::receipt::Receipt;
 use crate::segment::Segment;
-use crate::writing::{written_event, written_frames};
 use crate::{MAX_ENTRIES, MAX_NUMBER};
 use abstract_paths::Event;
+use journal_bytes::{Entry, Listed, written_event, written_frames};
 use lookup_plane::{LookupReader, OpenFault, Plane, TableChange};
 use lsr_config::Config;
 use lsr_facts::{Refusal, Router, State};
@@ -33,7 +33,7 @@ pub struct Locked<R: Wait + Drop> {
     machine: Machine,
     base: State,
     from: JournalCounts,
-    entries: Vec<Entry>,
+    entries: Vec<CountedEntry>,
     counts: JournalCounts,
     plane: Plane<R>,
 }
@@ -54,41 +54,28 @@ impl<R: Wait + Drop> Drop for Locked<R> {
 
 impl<R: Wait + Drop> Model for Locked<R> {
     ghost use Rattle.std.specs.Prelude.{◌≤◌, vec_capacity};
-    ghost use Rattle.run_journal.specs.Journals.{IsKept, IsPlaneOf, Journal};
+    ghost use Rattle.run_journal.specs.Journals.{IsKept, IsPlaneOf, Journal, journal_of};
 
     ghost Value = { Journal };
 
-    ghost view = { λ l. record {
-      router = l.machine.router;
-      base = l.base;
-      from = l.from;
-      entries = l.entries.items;
-      state = l.machine.state;
-      counts = l.counts;
-      shown = l.plane.published;
-    } };
+    ghost view = { λ l. journal_of l.machine l.base l.from l.entries.items l.counts l.plane };
 
-    ghost invariant = { λ l. IsKept (record {
-      router = l.machine.router;
-      base = l.base;
-      from = l.from;
-      entries = l.entries.items;
-      state = l.machine.state;
-      counts = l.counts;
-      shown = l.plane.published;
-    }) × (4096 ≤ vec_capacity l.entries) × IsPlaneOf l.machine.router l.plane };
+    ghost invariant = { λ l.
+        IsKept (journal_of l.machine l.base l.from l.entries.items l.counts l.plane) × (4096 ≤ vec_capacity l.entries) × IsPlaneOf l.machine.router l.plane };
 }
 
 /// The entry of a step that is made ready. The only error is out of memory.
-fn entry_of(alloc: Global, port: u16, event: &Event, ready: &Ready) -> Result<Entry, AllocError>
+fn entry_of(alloc: Global, port: u16, event: &Event, ready: &Ready) -> Result<CountedEntry, AllocError>
     ensures { IfOk result (IsEntryFor port event.now ready.now) }
 {
-    Ok(Entry {
-        port,
-        event: written_event(alloc, event)?,
-        chosen: Listed::from_vec(Vec::from_slice(alloc, ready.chosen())?),
-        reply: ready.reply(),
-        outputs: written_frames(alloc, ready.outputs())?,
+    Ok(CountedEntry {
+        entry: Entry {
+            port,
+            event: written_event(alloc, event)?,
+            chosen: Listed::from_vec(Vec::from_slice(alloc, ready.chosen())?),
+            reply: ready.reply(),
+            outputs: written_frames(alloc, ready.outputs())?,
+        },
         changes_table: ready.changes_table(),
     })
 }
@@ -228,14 +215,14 @@ impl<R: Wait + Drop> Locked<R> {
         alloc: Global,
         event: &Event,
         ready: Ready,
-        entry: Entry,
+        entry: CountedEntry,
     ) -> Result<(), AllocError>
         requires ready { IsReady (router_in self.old) event.now ready }
-        requires entry { IsEntryFor entry.port event.now ready entry }
-        requires port { entry.port - 1 < length self.old.counts.marks }
+        requires entry { IsEntryFor entry.entry.port event.now ready entry }
+        requires port { entry.entry.port - 1 < length self.old.counts.marks }
         requires room { length self.old.entries < 4096 }
         requires low { self.old.counts.number < 2 ^ 62 }
-        ensures entered { OnOk result (IsEntered self.old entry self.new) }
+        ensures entered { OnOk result (IsEntered self.old event.now entry self.new) }
         ensures kept { OnErr result (self.new ≡ self.old) }
     {
         self.soundness();

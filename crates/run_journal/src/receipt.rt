@@ -2,8 +2,8 @@
 
 ghost use Rattle.std.specs.Prelude.{◌≡◌};
 
-use crate::entry::{Bytes, Frames};
 use crate::mark::Mark;
+use journal_bytes::{Bytes, Frames};
 use lsr_facts::Reply;
 
 /// What a port is told of its entry.

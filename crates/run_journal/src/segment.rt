@@ -7,7 +7,7 @@ ghost use Rattle.run_journal.specs.Entries.{AreEntriesOf};
 ghost use Rattle.run_journal.specs.Journals.{IsSegment};
 
 use crate::counts::JournalCounts;
-use crate::entry::Entry;
+use crate::entry::CountedEntry;
 use lsr_facts::{Router, State};
 use std::marker::Model;
 
@@ -18,7 +18,7 @@ pub struct Segment {
     pub(crate) router: Router,
     pub(crate) base: State,
     pub(crate) from: JournalCounts,
-    pub(crate) entries: Vec<Entry>,
+    pub(crate) entries: Vec<CountedEntry>,
     pub(crate) end: State,
 }
 
@@ -68,7 +68,7 @@ impl Segment {
     }
 
     /// The entries.
-    pub fn entries(&self) -> &[Entry]
+    pub fn entries(&self) -> &[CountedEntry]
         ensures { result.now ≡ self.now.entries }
     {
         self.entries.as_slice()

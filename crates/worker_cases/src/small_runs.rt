@@ -42,7 +42,7 @@ fn tell_ports<R: Print>(rt: &R, of: &str, ports: &[PortCount]) -> Result<(), Fau
     for (before, count) in ports.iter().enumerate() {
         let port = before.saturating_add(1);
         let receipts = count.receipts;
-        let forwarded = count.forwarded;
+        let forwarded = count.datagrams.forwarded;
         println!(rt; "{of}: port {port}: {receipts} receipts, {forwarded} frames forwarded")?;
     }
     Ok(())

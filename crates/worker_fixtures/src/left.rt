@@ -44,9 +44,9 @@ impl Left {
         let Work {
             mut receipts,
             mut segments,
-            forwarded,
+            datagrams,
         } = work;
-        self.forwarded = self.forwarded.saturating_add(forwarded);
+        self.forwarded = self.forwarded.saturating_add(datagrams.forwarded);
         self.receipts.append(&mut receipts)?;
         self.segments.append(&mut segments)?;
         Ok(())

@@ -7,4 +7,4 @@ pub returns-then-leaves_tunnels : goal.returns-then-leaves_tunnels
 returns-then-leaves_tunnels g c said =
     untouched_around (g.V.StateView.router c.args.view.now) (g.V.StateView.state c.args.view.now) c.args.edits.now _
     (sym c.is_some.ensures ∙ c.if-is_some.false) (sym c.is_some-else-is_some.ensures ∙ c.if-is_some-2.false) (sym c.is_some-else-is_some-2.ensures ∙ c.if-is_some-3.false)
-    (c.as_slice.ensures.rows ∙ c.bypasses.ensures.bypasses) (sym c.leaves_tunnels.ensures ∙ c.if-leaves_tunnels.true)
+    (c.as_slice-bypasses.ensures.rows ∙ c.bypasses.ensures.bypasses) (sym c.leaves_tunnels.ensures ∙ c.if-leaves_tunnels.true)

@@ -2,7 +2,7 @@
 use Rattle.std.proofs.Common.{◌≡◌, ◌+◌, ◌-◌, ◌++◌, ◌∷◌, [], ℕ, List, Bor, length, take, drop, arith, sym, ap, subst, ◌∙◌}
 use Rattle.std.proofs.lemmas.List.{append_assoc, length-append, take_more}
 use Rattle.run_journal.specs.Marks.{Counts, counted, counted_all, receipt_of}
-use Rattle.run_journal.specs.declared.entry.Entry.{Entry}
+use Rattle.run_journal.specs.declared.entry.CountedEntry.{CountedEntry}
 use Rattle.run_journal.specs.declared.receipt.Receipt.{Receipt}
 use Rattle.interface_workers.specs.Reconciled.{called_for}
 use Rattle.interface_workers.specs.Mismatches.{IsFirstDifference}
@@ -18,15 +18,15 @@ pub returns-in_default-clause-place : goal.returns-in_default-clause-place
 returns-in_default-clause-place c more =
     let n : Counts = c.args.segment.now.from in
     let i = c.loop-entry.entry-index in
-    let es : List Entry = c.entries-entries.result.now in
-    let e : Entry = c.entry-item.result in
+    let es : List CountedEntry = c.entries-entries.result.now in
+    let e : CountedEntry = c.entry-item.result in
     let port = c.args.port in
     let m = counted_all n (take i es) in
     let inv = c.loop-entry.invariant in
     let before = mine port (called_for n (take i es)) in
     let behind = mine port (called_for (counted m e) (drop (i + 1) es)) in
     let called : mine port (called_for n c.args.segment.now.entries) ≡ before ++ receipt_of m e ∷ behind =
-    ap (λ (all : List Entry). mine port (called_for n all)) (sym c.entries-entries.ensures) ∙ mine_next port n es i e c.loop-entry-test.true c.entry-item.is c.if-entry-port.true in
+    ap (λ (all : List CountedEntry). mine port (called_for n all)) (sym c.entries-entries.ensures) ∙ mine_next port n es i e c.loop-entry-test.true c.entry-item.is c.if-entry-port.true in
     let all : mine port (called_for n c.args.segment.now.entries) ++ more ≡ before ++ (receipt_of m e ∷ (behind ++ more)) =
     ap (λ (rs : List Receipt). rs ++ more) called ∙ append_assoc before (receipt_of m e ∷ behind) more in
     let place : c.loop-entry.count + 1 ≡ length before + 1 = omega (arith, inv.counted) in
@@ -39,13 +39,13 @@ pub loop-entry-preserved : goal.loop-entry-preserved
 loop-entry-preserved c =
     let n : Counts = c.args.segment.now.from in
     let i = c.loop-entry.entry-index in
-    let es : List Entry = c.entries-entries.result.now in
-    let e : Entry = c.entry-item.result in
+    let es : List CountedEntry = c.entries-entries.result.now in
+    let e : CountedEntry = c.entry-item.result in
     let port = c.args.port in
     let m = counted_all n (take i es) in
     let inv = c.loop-entry.invariant in
     let before = mine port (called_for n (take i es)) in
-    let step : take (i + 1) es ≡ take i es ++ e ∷ [] = take_more es i e c.loop-entry-test.true ∙ ap (λ (x : Entry). take i es ++ x ∷ []) (sym c.entry-item.is) in
+    let step : take (i + 1) es ≡ take i es ++ e ∷ [] = take_more es i e c.loop-entry-test.true ∙ ap (λ (x : CountedEntry). take i es ++ x ∷ []) (sym c.entry-item.is) in
     let now : counted_all n (take (i + 1) es) ≡ counted m e = ap (counted_all n) step ∙ counted_push n (take i es) e in
     let at : IsAt c.pass.new.self (counted_all n (take (i + 1) es)) =
     subst (λ (w : Walk). IsAt w (counted_all n (take (i + 1) es))) (sym c.pass.ensures.passed)
@@ -55,7 +55,7 @@ loop-entry-preserved c =
     elim c.if-entry-port.branch [
       | then-entry-port+in-Some w ↦
           let pushed : mine port (called_for n (take (i + 1) es)) ≡ before ++ receipt_of m e ∷ [] =
-          ap (λ (all : List Entry). mine port (called_for n all)) step ∙ mine_push port n (take i es) e w.if-entry-port.true in
+          ap (λ (all : List CountedEntry). mine port (called_for n all)) step ∙ mine_push port n (take i es) e w.if-entry-port.true in
           record {
             at = at;
             index = index;
@@ -71,7 +71,7 @@ loop-entry-preserved c =
           }
       | else-entry-port w ↦
           let pushed : mine port (called_for n (take (i + 1) es)) ≡ before =
-          ap (λ (all : List Entry). mine port (called_for n all)) step ∙ mine_skip port n (take i es) e w.if-entry-port.false in
+          ap (λ (all : List CountedEntry). mine port (called_for n all)) step ∙ mine_skip port n (take i es) e w.if-entry-port.false in
           record {
             at = at;
             index = index;

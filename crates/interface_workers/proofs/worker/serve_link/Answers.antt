@@ -4,7 +4,7 @@ use Rattle.interface_workers.proofs.worker.serve_link.Goals as goal
 
 pub loop-turn-preserved : goal.loop-turn-preserved
 loop-turn-preserved g c =
-    let turn = c.serve_datagram.ensures in
+    let turn = c.serve_datagram.ensures.goes_on in
     let before = c.loop-turn.invariant in
     record {
       chain = turn.chain _ before.chain;

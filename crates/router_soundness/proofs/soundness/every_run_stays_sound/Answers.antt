@@ -10,4 +10,4 @@ pub returns-clause-step : goal.returns-clause-step
 returns-clause-step c = sound_step
 
 pub returns-clause-run : goal.returns-clause-run
-returns-clause-run c = λ r routes tunnels bypasses run after router are begin protect ran. sound_run r (opening r routes tunnels bypasses) run after router (sound_opening r routes tunnels bypasses router are begin protect) ran
+returns-clause-run c = λ r routes tunnels bypasses run after router are begin unchanging protect ran. sound_run r (opening r routes tunnels bypasses) run after router (sound_opening r routes tunnels bypasses router are begin unchanging protect) ran

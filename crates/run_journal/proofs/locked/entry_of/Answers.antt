@@ -2,7 +2,7 @@
 use Rattle.std.proofs.Common.{rules, ap, sym, ◌∙◌}
 use Rattle.abstract_paths.specs.declared.events.Event.{Event}
 use Rattle.journal_bytes.specs.Events.{event_bytes}
-use Rattle.run_journal.specs.Entries.{written_frame}
+use Rattle.journal_bytes.specs.Entries.{written_frame}
 use Rattle.std.proofs.Common.{map, refl}
 use Rattle.run_journal.proofs.Making.{made-event}
 use Rattle.run_journal.proofs.locked.entry_of.Goals as goal

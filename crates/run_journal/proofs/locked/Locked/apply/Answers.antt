@@ -6,7 +6,6 @@ use Rattle.router_core.specs.Readies.{IsReady}
 use Rattle.journal_bytes.specs.Events.{event_bytes}
 use Rattle.run_journal.specs.Journals.{IsEntryFor, IsRefusedLate, Journal, router_in}
 use Rattle.run_journal.specs.Marks.{Follows, receipt_of}
-use Rattle.run_journal.specs.declared.entry.Entry.{Entry}
 use Rattle.run_journal.specs.declared.receipt.Receipt.{Receipt}
 use Rattle.run_journal.proofs.Answering.{is_taken, left_late}
 use Rattle.run_journal.proofs.Making.{made-event}
@@ -20,7 +19,7 @@ receipt-requires-clause-low g c =
 
 pub receipt-requires-clause-port : goal.receipt-requires-clause-port
 receipt-requires-clause-port g c =
-    subst (λ (j : Journal). c.in_ok-entry.entry.port - 1 < length j.counts.marks) (sym c.self.view_is)
+    subst (λ (j : Journal). c.in_ok-entry.entry.entry.port - 1 < length j.counts.marks) (sym c.self.view_is)
     (subst (λ (port : ℕ). port - 1 < length c.args.self.now.counts.marks) (sym c.in_ok-entry.ensures.port_is)
     (known_port c.args.self.now.counts c.args.mark (is_taken c.args.self.now c.args.mark c.args.event.now (sym c.early_refusal.ensures ∙ c.in_default.is)).known))
 

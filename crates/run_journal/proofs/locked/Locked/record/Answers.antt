@@ -6,7 +6,7 @@ use Rattle.abstract_router.specs.Soundness.{IsSound}
 use Rattle.router_core.specs.Readies.{IsReady, after_ready}
 use Rattle.router_core.specs.States.{RouterState}
 use Rattle.run_journal.specs.Entries.{Recorded}
-use Rattle.run_journal.specs.Journals.{IsEntered, IsKept, IsPlaneOf, IsShownMore, Journal, LeadToTable, router_in}
+use Rattle.run_journal.specs.Journals.{IsEntered, IsKept, IsPlaneOf, IsShownMore, Journal, LeadToTable, journal_of, router_in}
 use Rattle.run_journal.specs.Marks.{counted, one_if}
 use Rattle.lookup_plane.specs.Changes.{Changes, IsChangeOf}
 use Rattle.lookup_plane.specs.declared.change.TableChange.{TableChange}
@@ -18,17 +18,9 @@ use Rattle.run_journal.proofs.locked.Locked.record.Goals as goal
 
 -- what was under the lock before
 was : (g : Over) → goal.After-push_reserved g → Journal
-was g c = record {
-  router = c.self.inside.machine.router;
-  base = c.self.inside.base;
-  from = c.self.inside.from;
-  entries = c.self.inside.entries.items;
-  state = c.self.inside.machine.state;
-  counts = c.self.inside.counts;
-  shown = c.self.inside.plane.published;
-}
+was g c = journal_of c.self.inside.machine c.self.inside.base c.self.inside.from c.self.inside.entries.items c.self.inside.counts c.self.inside.plane
 
-recorded : (g : Over) (c : goal.After-push_reserved g) → Recorded c.self.inside.machine.router c.self.inside.machine.state c.args.entry c.make.new.self.state
+recorded : (g : Over) (c : goal.After-push_reserved g) → (is : Recorded c.self.inside.machine.router c.self.inside.machine.state c.args.entry c.make.new.self.state) × (is.made.event ≡ c.args.event.now)
 unfolding was
 recorded g c =
     let ready : IsReady (router_in (was g c)) c.args.event.now c.args.ready = subst (λ (j : Journal). IsReady (router_in j) c.args.event.now c.args.ready) (sym c.self.view_is) c.requires.ready in
@@ -59,15 +51,7 @@ leads g c =
 
 -- what is under the lock now
 now : (g : Over) → goal.After-push_reserved g → Journal
-now g c = record {
-  router = c.make.new.self.router;
-  base = c.self.inside.base;
-  from = c.self.inside.from;
-  entries = c.push_reserved.new.self.items;
-  state = c.make.new.self.state;
-  counts = c.count.new.self;
-  shown = c.show.new.plane.published;
-}
+now g c = journal_of c.make.new.self c.self.inside.base c.self.inside.from c.push_reserved.new.self.items c.count.new.self c.show.new.plane
 
 now_is : (g : Over) (c : goal.After-push_reserved g) → now g c ≡ record (was g c) { entries = (was g c).entries ++ c.args.entry ∷ []; state = after_ready c.args.ready (was g c).state; counts = counted (was g c).counts c.args.entry; shown = (was g c).shown ++ c.announce.new.plane.pending }
 unfolding was now
@@ -81,10 +65,11 @@ now_is g c = λ i. record {
   shown = shown_is g c i;
 }
 
-entered : (g : Over) (c : goal.After-push_reserved g) → IsEntered (was g c) c.args.entry (now g c)
+entered : (g : Over) (c : goal.After-push_reserved g) → IsEntered (was g c) c.args.event.now c.args.entry (now g c)
 unfolding was now
 entered g c = record {
-  recorded = recorded g c;
+  recorded = (recorded g c).0;
+  event_is = (recorded g c).1;
   entries = ap (λ (j : Journal). j.entries) (now_is g c);
   counts = ap (λ (j : Journal). j.counts) (now_is g c);
   shown = subst (IsShownMore c.args.entry.changes_table c.self.inside.plane.published) (sym (shown_is g c)) (leads g c).2;
@@ -103,8 +88,8 @@ invariant_of-self-2 g c =
     let kept = kept_push (was g c) c.args.entry (after_ready c.args.ready c.self.inside.machine.state) (c.self.inside.plane.published ++ c.announce.new.plane.pending) c.self.invariant.0
     (subst (λ (j : Journal). length j.entries < 4096) (sym c.self.view_is) c.requires.room)
     (subst (λ (j : Journal). j.counts.number < 2 ^ 62) (sym c.self.view_is) c.requires.low)
-    (subst (λ (j : Journal). c.args.entry.port - 1 < length j.counts.marks) (sym c.self.view_is) c.requires.port)
-    (subst (Recorded c.self.inside.machine.router c.self.inside.machine.state c.args.entry) state (recorded g c)) sound
+    (subst (λ (j : Journal). c.args.entry.entry.port - 1 < length j.counts.marks) (sym c.self.view_is) c.requires.port)
+    (subst (Recorded c.self.inside.machine.router c.self.inside.machine.state c.args.entry) state (recorded g c).0) sound
     (omega (arith, (leads g c).1, c.self.invariant.0.shown)) (leads g c).0 in
     let parts = announced_parts c.args.entry.changes_table c.args.ready c.self.inside.plane c.announce.new.plane c.in_ok-announce.ensures c.self.invariant.2.settled in (
       subst IsKept (sym (now_is g c)) kept,
@@ -149,41 +134,14 @@ show-requires-clause-none g c =
 pub returns-in_err-announce : goal.returns-in_err-announce
 returns-in_err-announce g c =
     let p = err_from_is_err_and c.from_residual.result c.from_residual.ensures.1 in
-    let now : Journal = record {
-      router = c.self.inside.machine.router;
-      base = c.self.inside.base;
-      from = c.self.inside.from;
-      entries = c.self.inside.entries.items;
-      state = c.self.inside.machine.state;
-      counts = c.self.inside.counts;
-      shown = c.announce.new.plane.published;
-    } in
-    rw p.1 (record {
-      entered = tt;
-      kept = subst (λ (j : Journal). now ≡ j) c.self.view_is (λ i. record {
-        router = c.self.inside.machine.router;
-        base = c.self.inside.base;
-        from = c.self.inside.from;
-        entries = c.self.inside.entries.items;
-        state = c.self.inside.machine.state;
-        counts = c.self.inside.counts;
-        shown = (c.in_err-announce.ensures i).published;
-      });
-    })
+    let with_plane : Changes → Journal = journal_of c.self.inside.machine c.self.inside.base c.self.inside.from c.self.inside.entries.items c.self.inside.counts in
+    rw p.1 (record { entered = tt; kept = subst (λ (j : Journal). with_plane c.announce.new.plane ≡ j) c.self.view_is (ap with_plane c.in_err-announce.ensures) })
 
 pub invariant_of-self : goal.invariant_of-self
 invariant_of-self g c =
-    let kept : Changes → Type 0 = λ p. IsKept (record {
-      router = c.self.inside.machine.router;
-      base = c.self.inside.base;
-      from = c.self.inside.from;
-      entries = c.self.inside.entries.items;
-      state = c.self.inside.machine.state;
-      counts = c.self.inside.counts;
-      shown = p.published;
-    }) in
+    let kept : Changes → Type 0 = λ p. IsKept (journal_of c.self.inside.machine c.self.inside.base c.self.inside.from c.self.inside.entries.items c.self.inside.counts p) in
     (subst kept (sym c.in_err-announce.ensures) c.self.invariant.0, c.self.invariant.1, subst (IsPlaneOf c.self.inside.machine.router) (sym c.in_err-announce.ensures) c.self.invariant.2)
 
 pub returns : goal.returns
 unfolding was now
-returns g c = record { entered = subst (λ (j : Journal). IsEntered j c.args.entry (now g c)) c.self.view_is (entered g c); kept = tt }
+returns g c = record { entered = subst (λ (j : Journal). IsEntered j c.args.event.now c.args.entry (now g c)) c.self.view_is (entered g c); kept = tt }

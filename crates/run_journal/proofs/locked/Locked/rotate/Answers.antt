@@ -1,7 +1,7 @@
 -- The entries are taken away as they stood, and what holds of a journal still holds.
 use Rattle.std.proofs.Common.{◌≡◌, ◌≤◌, [], Vec, arith, ap, refl, subst, sym, vec_capacity, ◌∙◌}
 use Rattle.abstract_router.specs.States.{State}
-use Rattle.run_journal.specs.Journals.{IsKept, IsSegment, Journal, Stretch, rotated, stretch_of}
+use Rattle.run_journal.specs.Journals.{IsKept, IsSegment, Journal, Stretch, journal_of, rotated, stretch_of}
 use Rattle.run_journal.specs.Marks.{Counts}
 use Rattle.run_journal.proofs.Keeping.{kept_rotated, kept_segment}
 use Rattle.run_journal.proofs.locked.Locked.rotate.Given.{Over}
@@ -9,27 +9,11 @@ use Rattle.run_journal.proofs.locked.Locked.rotate.Goals as goal
 
 -- what was under the lock before
 was : (g : Over) → goal.After-replace-3 g → Journal
-was g c = record {
-  router = c.self.inside.machine.router;
-  base = c.self.inside.base;
-  from = c.self.inside.from;
-  entries = c.self.inside.entries.items;
-  state = c.self.inside.machine.state;
-  counts = c.self.inside.counts;
-  shown = c.self.inside.plane.published;
-}
+was g c = journal_of c.self.inside.machine c.self.inside.base c.self.inside.from c.self.inside.entries.items c.self.inside.counts c.self.inside.plane
 
 -- what is under it now
 now : (g : Over) → goal.After-replace-3 g → Journal
-now g c = record {
-  router = c.self.inside.machine.router;
-  base = c.replace.new.dest;
-  from = c.replace-2.new.dest;
-  entries = c.replace-3.new.dest.items;
-  state = c.self.inside.machine.state;
-  counts = c.self.inside.counts;
-  shown = c.self.inside.plane.published;
-}
+now g c = journal_of c.self.inside.machine c.replace.new.dest c.replace-2.new.dest c.replace-3.new.dest.items c.self.inside.counts c.self.inside.plane
 
 now_is : (g : Over) (c : goal.After-replace-3 g) → now g c ≡ rotated (was g c)
 unfolding was now
@@ -37,7 +21,7 @@ now_is g c =
     let base : c.replace.new.dest ≡ c.self.inside.machine.state = c.replace.ensures.after ∙ c.in_ok-base.ensures ∙ c.in_ok-end.ensures in
     let from : c.replace-2.new.dest ≡ c.self.inside.counts = c.replace-2.ensures.after ∙ c.in_ok-from.ensures in
     let entries : c.replace-3.new.dest.items ≡ [] = ap (λ v. v.items) c.replace-3.ensures.after ∙ c.in_ok-entries.ensures.items in
-    λ i. record { router = c.self.inside.machine.router; base = base i; from = from i; entries = entries i; state = c.self.inside.machine.state; counts = c.self.inside.counts; shown = c.self.inside.plane.published }
+    λ i. journal_of c.self.inside.machine (base i) (from i) (entries i) c.self.inside.counts c.self.inside.plane
 
 -- what was taken away
 taken : (g : Over) → goal.After-replace-3 g → Stretch

@@ -1,6 +1,6 @@
 use Rattle.std.proofs.Common.{◌≡◌, map, take}
-use Rattle.run_journal.specs.Entries.{written_frame}
-use Rattle.run_journal.proofs.writing.written_frames.Given as goal
+use Rattle.journal_bytes.specs.Entries.{written_frame}
+use Rattle.journal_bytes.proofs.frames.written_frames.Given as goal
 
 -- so many are written
 abbrev pub invariant-loop-output : goal.invariant-loop-output

@@ -1,5 +1,5 @@
 use Rattle.std.proofs.Common.{◌≡◌, take}
-use Rattle.run_journal.proofs.entry.ListedWrittenFrameTryCopy.try_copy.Given as goal
+use Rattle.journal_bytes.proofs.entry.ListedWrittenFrameTryCopy.try_copy.Given as goal
 
 -- so many are copied
 abbrev pub invariant-loop-frame : goal.invariant-loop-frame
