@@ -11,7 +11,7 @@ ghost use Rattle.state_views.specs.Edits.{edited};
 use crate::bypass_tunnels::bypass_tunnel_by;
 use crate::protecting::names_tunnel;
 use lsr_facts::{Bypass, BypassTunnel, Key, Router};
-use state_views::{Changed, Edits, StateView, node_of};
+use state_views::{Changed, Edits, StateView};
 
 /// Whether an LSP is one of a tunnel that begins here, in which one of these bypasses runs.
 fn runs_bypass(router: &Router, bypasses: &[(u16, Bypass)], key: &Key) -> bool
@@ -24,8 +24,7 @@ fn runs_bypass(router: &Router, bypasses: &[(u16, Bypass)], key: &Key) -> bool
 fn any_runs_bypass<E>(router: &Router, bypasses: &[(u16, Bypass)], lsps: &[(Key, E)]) -> bool
     ensures { result ≡ list_any (λ lsp. runs_bypass router.now bypasses.now lsp.0) lsps.now }
 {
-    lsps.iter()
-        .any(|lsp| runs_bypass(router, bypasses, &lsp.0))
+    lsps.iter().any(|lsp| runs_bypass(router, bypasses, &lsp.0))
 }
 
 /// Whether one of these tunnels is one in which a bypass runs.
@@ -84,7 +83,7 @@ pub fn is_same_around<V: StateView>(view: &V, edits: &Edits) -> bool
         return false;
     }
     let bypasses = view.bypasses().as_slice();
-    if leaves_tunnels(node_of(view).router, bypasses, edits) {
+    if leaves_tunnels(view.node().router, bypasses, edits) {
         return true;
     }
     leaves_each(view, edits, bypasses)
