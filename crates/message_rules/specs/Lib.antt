@@ -1,4 +1,3 @@
 pub use Rattle.explicit_routes.specs.Choosing
 pub use Rattle.explicit_routes.specs.declared.fault.RouteFault
-pub mod Conflicts
 pub mod Rooms

@@ -1,16 +1,14 @@
-//! The rules of messages: what a step asks of a message, of a path or a reservation that is known, of what goes on of it,
-//! and of what is claimed of a link; the errors that it tells, and to whom; the message that ends what another set up, and
-//! whether one that is wanted rests. Each function computes one definition of the abstract router. What next hops are is
+//! The rules of messages: what a step asks of a message, of a path or a reservation that is known, and of what goes on of
+//! it; the errors that it tells, and to whom; the message that ends what another set up, and whether one that is wanted
+//! rests. Each function computes one definition of the abstract router. What next hops are is
 //! passed on with them.
 #![tactic(auto)]
 
-mod descriptors;
 mod errors;
 mod frames;
 mod merging;
 mod messages;
 mod paths;
-mod requests;
 mod resting;
 mod spelling;
 mod tears;
@@ -19,7 +17,6 @@ mod told;
 mod upstream;
 mod wanted;
 
-pub use descriptors::{key_in, named, resv_by};
 pub use errors::{reservation_error, traffic_error};
 pub use explicit_routes::{
     Frame, Output, Outputs, RouteError, RouteFault, Way, head_way, is_up, link_at, route_to,
@@ -33,7 +30,6 @@ pub use paths::{
     ETHERTYPE_IPV4, carries_ipv4, drops_record, has_been_here, has_no_rate, knows_record, lifetime,
     link_of, origins_of, rest_of, role_of, unknown_object, way_for,
 };
-pub use requests::{conflicting_style, limit_of, request_of};
 pub use resting::rests;
 pub use tears::{is_from, is_torn_by, leaves_by, origins_without};
 pub use through::{head_through, hop_through, labelled_by, stack_under};

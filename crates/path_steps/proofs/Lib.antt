@@ -1,5 +1,6 @@
 pub mod Counting
 pub mod Joining
+pub mod Labelling
 pub mod Places
 pub mod Putting
 pub mod Trying

@@ -1,2 +1,3 @@
+pub mod Labelled
 pub mod Signalling
 pub mod SilenceLaws

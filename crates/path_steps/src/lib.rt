@@ -15,10 +15,9 @@ pub use heads::{head_of, is_head};
 pub use merging::{
     path_through, stack_path_arrival, stack_tear_arrival, unknown_stack_path_arrival,
 };
-pub use message_rules::{current_key, head_key, leaves_by, pending_key};
-pub use path::{path_arrival, unknown_path_arrival};
+pub use message_rules::leaves_by;
+pub use path::{labelled_path_arrival, unknown_path_arrival};
 pub use path_err::{err_of_path, path_err_arrival};
 pub use path_tear::path_tear_arrival;
 pub use relays::{exceeds_hop_limit, relay};
 pub use signals::signalled;
-pub use told::failed;

@@ -2,16 +2,19 @@
 
 ghost use Rattle.std.specs.FinMap.Entries.{put};
 ghost use Rattle.std.specs.Option.{option_copied};
-ghost use Rattle.std.specs.Prelude.{◌≡◌, ◌≤◌, ◌^◌, ◌&&◌, ◌∷◌, [], IfOk, IsTrue, Ok, OnErr, false, is_none, is_some, length, nat_le};
+ghost use Rattle.std.specs.Prelude.{◌≡◌, ◌≤◌, ◌^◌, ◌&&◌, ◌∷◌, [], IfOk, IsTrue, Ok, OnErr, false, is_none, is_some, length, nat_le, not};
 ghost use Rattle.lsr_facts.specs.Orders.{address_cmp};
 ghost use Rattle.rsvp_contents.specs.Spelling.{IsMessage};
 ghost use Rattle.rsvp_contents.specs.declared.messages.Content.TheVariants as contents;
 ghost use Rattle.rsvp_bodies.specs.TokenBuckets.{token_rate};
-ghost use Rattle.abstract_paths.specs.Paths.{failed, origin_of, origins_of, path_arrival, path_by, path_on_its_way, taken, unknown_object, way_for};
+ghost use Rattle.abstract_paths.specs.Paths.{failed, origin_of, origins_of, path_by, path_on_its_way, taken, unknown_object, way_for};
 ghost use Rattle.abstract_paths.specs.Places.{place_of};
+ghost use Rattle.abstract_router.specs.Arrivals.{labelled_path_arrival};
+ghost use Rattle.abstract_router.specs.Labels.{has_free_label};
 ghost use Rattle.abstract_router.specs.Outcomes.{of_paths};
 ghost use Rattle.state_views.specs.Drafts.{IsDraft};
 ghost use Rattle.state_views.specs.Edits.{unedited};
+ghost use Rattle.path_steps.specs.Labelled.{labelled};
 
 use crate::heads::is_head;
 use crate::told::{failed, record_errors};
@@ -133,7 +136,18 @@ fn is_full<V: WholeState>(view: &V, known: Option<&PathFact>) -> bool
     }
 }
 
-/// A Path whose way is known: it is taken, if there is room for its LSP.
+/// Whether the path is new, and no label is free for it.
+fn lacks_label<V: WholeState>(view: &V, known: Option<&PathFact>) -> bool
+    ensures { result ≡ (is_none (option_copied known.entry)
+        && not (has_free_label (V.router view.now) (V.state view.now).labels)) }
+{
+    match known {
+        Some(_) => false,
+        None => view.free_label().is_none(),
+    }
+}
+
+/// A Path whose way is known: it is taken, if there is room for its LSP, and a label (RFC 3209, 4.2.4 and 7.3).
 #[tactic(auto, unfolding(abstract_paths::specs::Paths::path_on_its_way))]
 fn path_with_way<V: WholeState>(
     alloc: Global,
@@ -146,12 +160,16 @@ fn path_with_way<V: WholeState>(
     requires moment { (V.state view.now).facts.moment ≤ 2 ^ 62 }
     requires message { IsMessage (contents.Path path.now) }
     requires rate { IsTrue (is_some (token_rate 1 path.now.tspec)) }
-    ensures { IfOk result (λ draft. IsDraft draft (of_paths (V.state view.now)
+    ensures { IfOk result (λ draft. IsDraft draft
+        (labelled (V.router view.now) (V.state view.now) (option_copied known.entry) link path.now
         (path_on_its_way (V.router view.now) (V.state view.now).facts (option_copied known.entry) link path.now
         (Ok way))) (V.router view.now) (V.state view.now)) }
 {
     if is_full(view, known) {
         return failed(alloc, view, link, path, RsvpError::SYSTEM_ERROR);
+    }
+    if lacks_label(view, known) {
+        return failed(alloc, view, link, path, RsvpError::NO_LABEL);
     }
     taken(alloc, view, known, link, path, way)
 }
@@ -167,7 +185,8 @@ fn path_on_its_way<V: WholeState>(
     requires moment { (V.state view.now).facts.moment ≤ 2 ^ 62 }
     requires message { IsMessage (contents.Path path.now) }
     requires rate { IsTrue (is_some (token_rate 1 path.now.tspec)) }
-    ensures { IfOk result (λ draft. IsDraft draft (of_paths (V.state view.now)
+    ensures { IfOk result (λ draft. IsDraft draft
+        (labelled (V.router view.now) (V.state view.now) (option_copied known.entry) link path.now
         (path_on_its_way (V.router view.now) (V.state view.now).facts (option_copied known.entry) link path.now
         (way_for (place_of (V.router view.now) (V.state view.now).facts) (option_copied known.entry) path.now)))
         (V.router view.now) (V.state view.now)) }
@@ -179,9 +198,12 @@ fn path_on_its_way<V: WholeState>(
     }
 }
 
-/// What a Path does that is read whole. The only error is out of memory, and it comes for none that is refused.
-#[tactic(auto, unfolding(abstract_paths::specs::Paths::path_arrival))]
-pub fn path_arrival<V: WholeState>(
+/// What a Path does that is read whole: the first of these tests that it fails, and else it is taken. Its LSP doesn't
+/// begin here; it is to carry IPv4; its rate is defined; it hasn't been here before; a way leads on; there is room for its
+/// LSP; and where that is new, a label is free for it. The only error is out of memory, and it comes for none that is
+/// refused.
+#[tactic(auto, unfolding(abstract_paths::specs::Paths::path_arrival, abstract_router::specs::Arrivals::labelled_path_arrival))]
+pub fn labelled_path_arrival<V: WholeState>(
     alloc: Global,
     view: &V,
     link: u16,
@@ -189,11 +211,11 @@ pub fn path_arrival<V: WholeState>(
 ) -> Result<Draft, AllocError>
     requires moment { (V.state view.now).facts.moment ≤ 2 ^ 62 }
     requires message { IsMessage (contents.Path path.now) }
-    ensures draft { IfOk result (λ draft. IsDraft draft (of_paths (V.state view.now)
-        (path_arrival (V.router view.now) (V.state view.now).facts link path.now))
+    ensures draft { IfOk result (λ draft. IsDraft draft
+        (labelled_path_arrival (V.router view.now) (V.state view.now) link path.now)
         (V.router view.now) (V.state view.now)) }
-    ensures memory { OnErr result
-        ((path_arrival (V.router view.now) (V.state view.now).facts link path.now).is_silent ≡ false) }
+    ensures memory { OnErr result ((labelled_path_arrival (V.router view.now)
+        (V.state view.now) link path.now).is_silent ≡ false) }
 {
     let key = lsp(path.session, path.sender);
     if is_head(view, &key) {

@@ -65,7 +65,7 @@ fn answer<V: StateView>(
 
 /// A Path that meets an error: it is told to the neighbour that sent it, and changes nothing. The only error is out of
 /// memory.
-pub fn failed<V: StateView>(
+pub(crate) fn failed<V: StateView>(
     alloc: Global,
     view: &V,
     link: u16,

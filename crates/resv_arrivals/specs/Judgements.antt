@@ -3,8 +3,8 @@ use Rattle.std.specs.Prelude.{◌≡◌, Ok}
 use Rattle.rsvp_bodies.specs.Traffic.{flowspec_rate}
 use Rattle.lsr_facts.specs.declared.resv_fact.ResvFact.{ResvFact}
 use Rattle.abstract_router.specs.Reserving as reserving
-use Rattle.resv_arrivals.specs.declared.judgement.Judgement.{Judgement}
-use Rattle.resv_arrivals.specs.declared.judgement.Judgement.TheVariants as judgements
+use Rattle.resv_arrivals.specs.declared.verdicts.Judgement.{Judgement}
+use Rattle.resv_arrivals.specs.declared.verdicts.Judgement.TheVariants as judgements
 
 -- The judgement on what asks for this reservation is this verdict; what is granted has the rate.
 abbrev pub IsJudgement : ResvFact → Judgement → reserving.Verdict → Type 0

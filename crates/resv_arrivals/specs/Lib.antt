@@ -1,3 +1,4 @@
 pub mod Below
+pub mod Conflicts
 pub mod Judgements
 pub mod Progresses

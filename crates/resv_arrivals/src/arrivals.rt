@@ -15,14 +15,13 @@ ghost use Rattle.state_views.specs.Drafts.{IsDraft};
 ghost use Rattle.resv_arrivals.specs.Progresses.{is_heard, reached};
 
 use crate::asked::Asked;
+use crate::descriptors::{key_in, named};
 use crate::granting::next_descriptor;
 use crate::progress::Progress;
 use crate::replies::{resv_replied, with_told};
 use abstract_paths::Outputs;
 use lsr_facts::{Key, Reply, ResvStyle, RsvpError};
-use message_rules::{
-    key_in, named, reservation_error, resv_leaves_room, told_downstream, unknown_object,
-};
+use message_rules::{reservation_error, resv_leaves_room, told_downstream, unknown_object};
 use rsvp_contents::{ErrorDescriptor, Resv};
 use state_views::{Draft, Edits, StateView, WholeState};
 use std::alloc::{AllocError, Global};

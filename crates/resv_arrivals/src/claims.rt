@@ -16,9 +16,9 @@ ghost use Rattle.resv_arrivals.specs.Progresses.{AreClaimed, IsReached, claims_a
 
 use crate::asked::Asked;
 use crate::progress::{Progress, resv_now};
+use crate::requests::{conflicting_style, limit_of};
 use admission::{reserved_with, victims_of};
 use lsr_facts::{Claim, Key, Request, ResvFact, ResvStyle, is_same_style};
-use message_rules::{conflicting_style, limit_of};
 use sorted_rows::Table;
 use state_views::WholeState;
 use std::alloc::{AllocError, Global};

@@ -15,13 +15,14 @@ ghost use Rattle.resv_arrivals.specs.Progresses.{IsOwn, IsReached, IsRenewed, fa
 
 use crate::asked::Asked;
 use crate::claims::{claims_for_next, giving_way};
+use crate::descriptors::{named, resv_by};
 use crate::edits::edits_with;
 use crate::progress::{Progress, is_held_now, resv_now};
 use crate::replies::with_told;
 use crate::verdicts::{Verdict, verdict_of};
 use abstract_paths::{Output, Outputs};
 use lsr_facts::{Key, Request, ResvFact, RsvpError};
-use message_rules::{named, reservation_error, resv_by, told_downstream, told_preempted};
+use message_rules::{reservation_error, told_downstream, told_preempted};
 use sorted_rows::Table;
 use state_views::{StateView, WholeState};
 use std::alloc::{AllocError, Global};

@@ -5,15 +5,17 @@
 mod arrivals;
 mod asked;
 mod claims;
+mod descriptors;
 mod edits;
 mod granting;
-mod judgement;
 mod progress;
 mod replies;
+mod requests;
 mod verdicts;
 
 pub use arrivals::{resv_arrival, unknown_resv};
 pub use asked::Asked;
-pub use judgement::{Judgement, judge_beside};
+pub use descriptors::{key_in, named, resv_by};
 pub use message_rules::{resv_err_leaves_room, told_downstream};
 pub use replies::{resv_replied, with_told};
+pub use verdicts::{Judgement, judge_beside};

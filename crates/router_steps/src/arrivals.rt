@@ -7,7 +7,6 @@ ghost use Rattle.abstract_router.specs.Soundness.{IsSound};
 ghost use Rattle.abstract_paths.specs.declared.events.Event.TheVariants as events;
 ghost use Rattle.state_views.specs.Drafts.{IsDraft};
 
-use crate::labelled_path::labelled_path_arrival;
 use crate::links::link_change;
 use crate::resv_err::resv_err_arrival;
 use crate::resv_tear::resv_tear_arrival;
@@ -16,7 +15,9 @@ use crate::ways::{routed_arrival, stack_arrival, unknown_routed_arrival, unknown
 use abstract_paths::{ArrivalWay, Arrive, Event, Outputs};
 use lsr_facts::{Refusal, Reply};
 use message_rules::{is_up, link_at};
-use path_steps::{path_err_arrival, path_tear_arrival, relay, unknown_path_arrival};
+use path_steps::{
+    labelled_path_arrival, path_err_arrival, path_tear_arrival, relay, unknown_path_arrival,
+};
 use resv_arrivals::{resv_arrival, unknown_resv};
 use rsvp_contents::{Content, Reading};
 use state_views::{Draft, Edits, WholeState, refused};

@@ -3,7 +3,6 @@
 #![tactic(auto)]
 
 mod arrivals;
-mod labelled_path;
 mod links;
 mod resv_err;
 mod resv_tear;

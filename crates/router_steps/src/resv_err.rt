@@ -1,8 +1,8 @@
 //! What a ResvErr does (RFC 2205, 3.1.8; RFC 4090, 6.4.3 and 7.1).
 
 ghost use Rattle.std.specs.List.{flat_map, list_any};
-ghost use Rattle.std.specs.Option.{option_map, option_to_list};
-ghost use Rattle.std.specs.Prelude.{◌≡◌, ◌∷◌, [], IfOk, OnErr, false, filter_map, is_some, map, true};
+ghost use Rattle.std.specs.Option.{option_to_list};
+ghost use Rattle.std.specs.Prelude.{◌≡◌, ◌∷◌, [], IfOk, OnErr, Some, false, filter_map, is_some, map, true};
 ghost use Rattle.rsvp_contents.specs.Spelling.{IsMessage};
 ghost use Rattle.rsvp_contents.specs.declared.messages.Content.TheVariants as contents;
 ghost use Rattle.resv_arrivals.specs.Below.rules.Rooms.{HaveRoom};
@@ -11,7 +11,7 @@ ghost use Rattle.abstract_router.specs.Soundness.{AreHeld};
 ghost use Rattle.abstract_router.specs.Tearing.{err_onward, err_to, is_from_origin, resv_err_arrival, stack_err_arrival, stack_err_onward};
 ghost use Rattle.abstract_router.specs.Through.{err_through};
 ghost use Rattle.state_views.specs.Drafts.{IsDraft};
-ghost use Rattle.router_steps.specs.Onward.{err_by, passed_on};
+ghost use Rattle.router_steps.specs.Onward.{err_by, passed_on, told_of};
 
 use abstract_paths::{Output, Outputs};
 use lsr_facts::{Key, PathFact, Refusal, Repair, Reply};
@@ -23,6 +23,27 @@ use rsvp_contents::{ErrorDescriptor, ErrorDescriptors, ResvErr};
 use rsvp_objects::Template;
 use state_views::{Draft, Edits, StateView, WholeState, refused};
 use std::alloc::{AllocError, Global};
+
+/// What becomes of a descriptor of a ResvErr.
+#[derive(Debug, Drop)]
+enum Onward {
+    /// It matches nothing here.
+    NoMatch,
+    /// Its LSP is known, and nothing goes on.
+    Ends,
+    /// This goes on for its LSP.
+    GoesOn(Output),
+}
+
+/// What becomes of a descriptor of which this goes on, if anything does.
+fn onward_of(told: Option<Output>) -> Onward
+    ensures { told_of result ≡ Some (option_to_list told) }
+{
+    match told {
+        Some(output) => Onward::GoesOn(output),
+        None => Onward::Ends,
+    }
+}
 
 /// Whether the path came from the neighbour that sent the ResvErr over a link. The interface handle doesn't count.
 fn is_from_origin(link: u16, error: &ResvErr, path: &PathFact) -> bool
@@ -92,7 +113,7 @@ fn err_through<V: StateView>(
 }
 
 /// Where a ResvErr goes on to, for an LSP that doesn't end here, its error and style unchanged, under this filter: the next
-/// hop where the LSP is reserved, the bypass's end where it is repaired; `None` where it is neither.
+/// hop where the LSP is reserved, the bypass's end where it is repaired. It matches nothing where the LSP is neither.
 fn err_to<V: StateView>(
     alloc: Global,
     view: &V,
@@ -100,10 +121,10 @@ fn err_to<V: StateView>(
     descriptor: &ErrorDescriptor,
     filter: Template,
     key: &Key,
-) -> Result<Option<Option<Output>>, AllocError>
+) -> Result<Onward, AllocError>
     requires held { AreHeld (V.router view.now) (V.state view.now) }
     requires room { HaveRoom (descriptor.now ∷ []) }
-    ensures told { IfOk result (λ told. option_map option_to_list told ≡ err_to (V.router view.now)
+    ensures told { IfOk result (λ told. told_of told ≡ err_to (V.router view.now)
         (V.state view.now) error.now (record descriptor.now { filter = filter }) key.now) }
     ensures memory { OnErr result (is_some (err_to (V.router view.now)
         (V.state view.now) error.now (record descriptor.now { filter = filter }) key.now) ≡ true) }
@@ -119,81 +140,80 @@ fn err_to<V: StateView>(
             error.style,
             Some(renamed(descriptor, filter)?),
         )?;
-        return Ok(Some(told));
+        return Ok(onward_of(told));
     }
     match view.repair(key) {
         Some(repair) => {
             let told = err_through(alloc, view, repair, error, descriptor, filter)?;
-            Ok(Some(told))
+            Ok(onward_of(told))
         }
-        None => Ok(None),
+        None => Ok(Onward::NoMatch),
     }
 }
 
-/// What comes of a descriptor of a ResvErr: `None` where it matches nothing here; else the ResvErr that goes on for its
-/// LSP, if one does.
+/// What becomes of a descriptor of a ResvErr that came over a link.
 fn err_onward<V: StateView>(
     alloc: Global,
     view: &V,
     link: u16,
     error: &ResvErr,
     descriptor: &ErrorDescriptor,
-) -> Result<Option<Option<Output>>, AllocError>
+) -> Result<Onward, AllocError>
     requires held { AreHeld (V.router view.now) (V.state view.now) }
     requires room { HaveRoom (descriptor.now ∷ []) }
-    ensures told { IfOk result (λ told. option_map option_to_list told ≡ err_onward (V.router view.now)
+    ensures told { IfOk result (λ told. told_of told ≡ err_onward (V.router view.now)
         (V.state view.now) link error.now descriptor.now) }
     ensures memory { OnErr result (is_some (err_onward (V.router view.now)
         (V.state view.now) link error.now descriptor.now) ≡ true) }
 {
     let key = lsp(error.session, descriptor.filter);
     let Some(path) = view.path(&key) else {
-        return Ok(None);
+        return Ok(Onward::NoMatch);
     };
     if !is_from_origin(link, error, path) {
-        return Ok(None);
+        return Ok(Onward::NoMatch);
     }
     if !goes_on(path.role) {
-        return Ok(Some(None));
+        return Ok(Onward::Ends);
     }
     err_to(alloc, view, error, descriptor, descriptor.filter, &key)
 }
 
-/// What comes of a descriptor of a ResvErr that came through a stack of labels, and so names the sender of an origin: as of
+/// What becomes of a descriptor of a ResvErr that came through a stack of labels, and so names the sender of an origin: as of
 /// any, but that it goes on under the LSP's own sender (RFC 4090, 7.1).
 fn stack_err_onward<V: WholeState>(
     alloc: Global,
     view: &V,
     error: &ResvErr,
     descriptor: &ErrorDescriptor,
-) -> Result<Option<Option<Output>>, AllocError>
+) -> Result<Onward, AllocError>
     requires held { AreHeld (V.router view.now) (V.state view.now) }
     requires room { HaveRoom (descriptor.now ∷ []) }
-    ensures told { IfOk result (λ told. option_map option_to_list told ≡ stack_err_onward (V.router view.now)
+    ensures told { IfOk result (λ told. told_of told ≡ stack_err_onward (V.router view.now)
         (V.state view.now) error.now descriptor.now) }
     ensures memory { OnErr result (is_some (stack_err_onward (V.router view.now)
         (V.state view.now) error.now descriptor.now) ≡ true) }
 {
     let Some(path) = path_through(view, &lsp(error.session, descriptor.filter)) else {
-        return Ok(None);
+        return Ok(Onward::NoMatch);
     };
     if !goes_on(path.1.role) {
-        return Ok(Some(None));
+        return Ok(Onward::Ends);
     }
     err_to(alloc, view, error, descriptor, path.0.sender, &path.0)
 }
 
-/// What comes of a descriptor of a ResvErr that came over a link, or through a stack of labels.
+/// What becomes of a descriptor of a ResvErr that came over a link, or through a stack of labels.
 fn err_by<V: WholeState>(
     alloc: Global,
     view: &V,
     over: Option<u16>,
     error: &ResvErr,
     descriptor: &ErrorDescriptor,
-) -> Result<Option<Option<Output>>, AllocError>
+) -> Result<Onward, AllocError>
     requires held { AreHeld (V.router view.now) (V.state view.now) }
     requires room { HaveRoom (descriptor.now ∷ []) }
-    ensures told { IfOk result (λ told. option_map option_to_list told ≡ err_by (V.router view.now)
+    ensures told { IfOk result (λ told. told_of told ≡ err_by (V.router view.now)
         (V.state view.now) over error.now descriptor.now) }
     ensures memory { OnErr result (is_some (err_by (V.router view.now)
         (V.state view.now) over error.now descriptor.now) ≡ true) }
@@ -204,7 +224,7 @@ fn err_by<V: WholeState>(
     }
 }
 
-/// What comes of the descriptors of a ResvErr, of each that matches something here.
+/// What goes on of the descriptors of a ResvErr, of each that matches something here.
 fn errs_onward<V: WholeState>(
     alloc: Global,
     view: &V,
@@ -221,8 +241,10 @@ fn errs_onward<V: WholeState>(
     resv_err_leaves_room(error);
     let mut onward = Vec::new(alloc);
     for descriptor in error.descriptors.as_slice() {
-        if let Some(told) = err_by(alloc, view, over, error, descriptor)? {
-            onward.push(told)?;
+        match err_by(alloc, view, over, error, descriptor)? {
+            Onward::NoMatch => {}
+            Onward::Ends => onward.push(None)?,
+            Onward::GoesOn(output) => onward.push(Some(output))?,
         }
     }
     Ok(onward)

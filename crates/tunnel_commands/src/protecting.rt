@@ -6,8 +6,8 @@ ghost use Rattle.abstract_paths.specs.Commands.{is_onto_its_link, runs_over};
 ghost use Rattle.explicit_routes.specs.Choosing.{choice_of};
 
 use explicit_routes::Way;
-use lsr_facts::{Bypass, Tunnel};
-use path_steps::{current_key, leaves_by};
+use lsr_facts::{Bypass, Tunnel, current_key};
+use path_steps::leaves_by;
 use sorted_rows::Table;
 use state_views::StateView;
 

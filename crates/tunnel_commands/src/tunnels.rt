@@ -16,8 +16,8 @@ ghost use Rattle.path_steps.specs.Signalling.{with_some};
 
 use abstract_paths::{NewTunnel, TunnelChange};
 use lsr_facts::changes::{begin, cancel};
-use lsr_facts::{Key, PathFact, Router, Tunnel, TunnelLsp};
-use path_steps::{current_key, head_key, head_of, pending_key};
+use lsr_facts::{Key, PathFact, Router, Tunnel, TunnelLsp, current_key, head_key, pending_key};
+use path_steps::head_of;
 use sorted_rows::{Table, TryCopy};
 use state_views::{Edits, StateView, without_rows};
 use std::alloc::{AllocError, Global};

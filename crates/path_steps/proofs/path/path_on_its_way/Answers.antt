@@ -7,8 +7,8 @@ use Rattle.abstract_paths.specs.Places.{Place}
 use Rattle.message_rules.specs.Choosing.{IsChosen, error_of}
 use Rattle.abstract_paths.specs.Places.{place_at}
 use Rattle.message_rules.specs.RouteFault.{RouteFault}
-use Rattle.abstract_router.specs.Outcomes.{of_paths}
 use Rattle.state_views.specs.Drafts.{IsDraft}
+use Rattle.path_steps.specs.Labelled.{labelled}
 use Rattle.path_steps.proofs.path.path_on_its_way.Goals as goal
 
 pub returns-in-Err-Error : goal.returns-in-Err-Error
@@ -21,5 +21,5 @@ returns-in-Err-Error g c =
     let there = place_at c.node_of.result in
     let chosen : way there ≡ Err (error_of c.in-Err-Error.error) =
     subst (λ (fault : RouteFault). IsChosen (way there) (Err fault)) c.in-Err-Error.field-0-is c.in-Err-Error.ensures in
-    subst (λ (found : Result Choice RsvpError). IfOk c.failed.result (λ draft. IsDraft draft (of_paths s (path_on_its_way r s.facts known c.args.link c.args.path.now found)) r s))
+    subst (λ (found : Result Choice RsvpError). IfOk c.failed.result (λ draft. IsDraft draft (labelled r s known c.args.link c.args.path.now (path_on_its_way r s.facts known c.args.link c.args.path.now found)) r s))
     (sym (sym (ap way c.node_of.ensures) ∙ chosen ∙ ap Err (sym c.error.ensures))) c.failed.ensures

@@ -3,7 +3,7 @@ use Rattle.std.specs.Option.{option_map}
 use Rattle.std.specs.Prelude.{find}
 use Rattle.lsr_facts.specs.declared.key.Key.{Key}
 use Rattle.lsr_facts.specs.declared.claim.Claim.{Claim}
-use Rattle.message_rules.specs.Conflicts.{conflicting_style, conflicts}
+use Rattle.resv_arrivals.specs.Conflicts.{conflicting_style, conflicts}
 use Rattle.resv_arrivals.specs.Progresses.{resvs_at}
 use Rattle.resv_arrivals.proofs.claims.style_in_conflict.Goals as goal
 

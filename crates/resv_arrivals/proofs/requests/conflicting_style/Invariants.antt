@@ -1,7 +1,7 @@
 use Rattle.std.proofs.Common.{◌≡◌, drop}
 use Rattle.std.specs.Prelude.{find}
-use Rattle.message_rules.specs.Conflicts.{conflicts}
-use Rattle.message_rules.proofs.requests.conflicting_style.Given as goal
+use Rattle.resv_arrivals.specs.Conflicts.{conflicts}
+use Rattle.resv_arrivals.proofs.requests.conflicting_style.Given as goal
 
 -- the first of those from here on is the first of all
 abbrev pub invariant-loop-row : goal.invariant-loop-row

@@ -3,9 +3,8 @@
 ghost use Rattle.std.specs.Prelude.{◌≡◌, ◌^◌, ◌≤◌, IfOk};
 ghost use Rattle.abstract_router.specs.Reserving.{key_in, named, resv_by};
 
-use crate::messages::lsp;
-use crate::paths::lifetime;
 use lsr_facts::{Key, ResvFact, ResvStyle};
+use message_rules::{lifetime, lsp};
 use rsvp_contents::{ErrorDescriptor, FlowDescriptor, Resv};
 use std::alloc::AllocError;
 

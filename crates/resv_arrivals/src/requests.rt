@@ -4,12 +4,12 @@ ghost use Rattle.std.specs.Option.{option_copied, option_map};
 ghost use Rattle.std.specs.Prelude.{◌≡◌, ◌≤◌, find};
 ghost use Rattle.abstract_router.specs.Preempting.{limit_of};
 ghost use Rattle.lsr_facts.specs.Priorities.{holding_of, setup_of};
-ghost use Rattle.message_rules.specs.Conflicts.{conflicts};
+ghost use Rattle.resv_arrivals.specs.Conflicts.{conflicts};
 
-use explicit_routes::link_at;
 use lsr_facts::{
     Claim, Key, Request, ResvStyle, Router, holding_of, is_same_session, is_same_style, setup_of,
 };
+use message_rules::link_at;
 use rsvp_objects::Attr;
 
 /// How much of a link may be reserved, in bytes per second: nothing of a link that the router doesn't have.
