@@ -57,7 +57,7 @@ module _ (r : Router) (s : State) (e : StepEdits) (is : AreStepEdits r s e) wher
     alike = record { resvs = sym resvs; repairs = refl; labels = refl }
 
     bypass_tunnels : bypass_tunnels_of r x ≡ bypass_tunnels_of r (changed change s)
-    bypass_tunnels = bypass_tunnels-alike r x (changed change s) refl refl refl (sym resvs)
+    bypass_tunnels = bypass_tunnels-alike r x (changed change s) refl refl refl refl (sym resvs)
 
     -- labels have the same actions after both
     looks : (label : ℕ) → look r x label ≡ look r (changed change s) label

@@ -26,7 +26,7 @@ lsps_running s t runs = record { resvs = ap (λ (x : State). x.resvs) runs; repa
 -- bypasses run over the same
 pub bypass_tunnels_running : (r : Router) (s t : State) → IsAsRunning s t → bypass_tunnels_of r s ≡ bypass_tunnels_of r t
 bypass_tunnels_running r s t runs =
-    bypass_tunnels-alike r s t (ap (λ (x : State). x.facts.up) runs) (ap (λ (x : State). x.facts.tunnels) runs) (ap (λ (x : State). x.facts.bypasses) runs) (ap (λ (x : State). x.resvs) runs)
+    bypass_tunnels-alike r s t (ap (λ (x : State). x.facts.up) runs) (ap (λ (x : State). x.facts.tunnels) runs) (ap (λ (x : State). x.facts.bypasses) runs) (ap (λ (x : State). x.facts.paths) runs) (ap (λ (x : State). x.resvs) runs)
 
 -- What a datagram is for a router that runs, it is for the same router while that is cold.
 pub datagram_alike : (q r : Router) (s t : State) (link : ℕ) (bytes : List ℕ) (answer : Result Datagram Refusal) → q ≡ r → IsAsRunning s t
