@@ -2,6 +2,7 @@
 use Rattle.std.specs.Prelude.{◌≡◌, true, false, []}
 use Rattle.std.proofs.Common.{refl, sym, ◌∙◌}
 use Rattle.lsr_facts.specs.declared.router.Router.{Router}
+use Rattle.abstract_paths.proofs.Primitives as paths
 use Rattle.abstract_paths.specs.declared.events.Event.TheVariants as events
 use Rattle.abstract_router.specs.Soundness.{IsSound}
 use Rattle.abstract_router.specs.States.{State, emptied}
@@ -11,9 +12,7 @@ use Rattle.router_core.specs.Plans.{quiet}
 
 -- what a router knows that has no path is sound, also while it is cold
 pub sound_stopped : (r : Router) (s : State) → s.facts.paths ≡ [] → IsSound r s → IsSound r (record s { facts = record s.facts { cold = true } })
-sound_stopped r s none is =
-    let p = is.paths in
-    sound_cold r s true (record { moment = p.moment; links = p.links; routes = p.routes; tunnels = p.tunnels; bypasses = p.bypasses; paths = p.paths; heads = p.heads; cold = λ cold. none }) is
+sound_stopped r s none is = sound_cold r s true (paths.sound_stopped r s.facts none is.paths) is
 
 -- a running router is restarted by one step
 pub restarts : (r : Router) (s : State) → s.facts.cold ≡ false → Step r s (quiet events.Restart) (record (emptied s) { facts = record (emptied s).facts { cold = true } })

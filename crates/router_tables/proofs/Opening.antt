@@ -26,7 +26,7 @@ opened_tables c t is =
     let first : State = opening c.router c.routes c.tunnels c.bypasses in
     let state : state_of t ≡ first = ap (λ (s : RouterState). s.state) is.is in
     let actions : IsTableOf c.router first t.table.labels = subst (λ (rows : List (ℕ × Action)). IsTableOf c.router first rows) (sym (ap (λ (x : Actions). x.labels) is.table)) (table-no_path c.router first refl) in
-    let sound : IsSound c.router first = sound_opening c.router c.routes c.tunnels c.bypasses is.config.router is.config.routes is.config.tunnels is.config.bypasses in
+    let sound : IsSound c.router first = sound_opening c.router c.routes c.tunnels c.bypasses is.config.router is.config.routes is.config.tunnels is.config.unchanging is.config.bypasses in
     record {
       router = subst IsRouter (sym router) is.config.router;
       sound = subst (λ (s : RouterState). IsSound s.router s.state) (sym is.is) sound;

@@ -7,8 +7,8 @@ use crate::repairs::expiring;
 use crate::tables::Tables;
 use explicit_routes::link_at;
 use lsr_facts::{
-    Assignment, Bypass, Claim, Item, Key, Node, PathFact, Repair, Request, ResvFact, ResvStyle, Tunnel,
-    Upstream,
+    Assignment, Bypass, Claim, Item, Key, Node, PathFact, Repair, Request, ResvFact, ResvStyle,
+    Tunnel, Upstream,
 };
 use rsvp_objects::Session;
 use sorted_rows::Table;

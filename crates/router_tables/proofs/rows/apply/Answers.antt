@@ -25,8 +25,8 @@ use Rattle.router_tables.proofs.Applying.{AreEdited, edited_are}
 use Rattle.router_tables.proofs.Rooms.{few_assignments, few_labels, few_moments, few_paths, few_repairs, few_resvs, few_tunnels, few_upstream}
 use Rattle.router_tables.proofs.rows.apply.Goals as goal
 
-pub make_edits-requires : goal.make_edits-requires
-make_edits-requires c =
+pub make_edits-requires-clause-room : goal.make_edits-requires-clause-room
+make_edits-requires-clause-room c =
     let t = c.args.rows.now in
     subst (λ (e : EditParts). length (in_rows.edited nat_cmp e.tunnels t.tunnels) ≤ 256) (sym c.into_parts-edits.ensures)
     (few_tunnels t.router (changed c.args.change (state_of t)) c.requires.change.sound)
@@ -76,8 +76,10 @@ edit-requires-4 c =
     let t = c.args.rows.now in
     let order = c.items_are_in_order.ensures.order in (
       omega arith,
-      (subst (λ (cmp : Item → Item → Ordering). (a b : Item) → cmp a b ≡ Equal → a ≡ b) (sym order) item_exact,
-      subst (λ (cmp : Item → Item → Ordering). length (in_rows.edited cmp c.args.change.moments t.timers.sent) ≤ 1024) (sym order) (few_moments t.router (changed c.args.change (state_of t)) c.requires.change.sound)),
+      (
+        subst (λ (cmp : Item → Item → Ordering). (a b : Item) → cmp a b ≡ Equal → a ≡ b) (sym order) item_exact,
+        subst (λ (cmp : Item → Item → Ordering). length (in_rows.edited cmp c.args.change.moments t.timers.sent) ≤ 1024) (sym order) (few_moments t.router (changed c.args.change (state_of t)) c.requires.change.sound),
+      ),
     )
 
 pub edit-requires-5 : goal.edit-requires-5
@@ -90,11 +92,14 @@ pub edit_tunnels-requires-clause-room : goal.edit_tunnels-requires-clause-room
 edit_tunnels-requires-clause-room c =
     let t = c.args.rows.now in
     let s = changed c.args.change (state_of t) in
-    let table = ap (λ (tunnels : List (ℕ × Action)). in_rows.edited nat_cmp c.args.change.tunnel_table tunnels) c.requires.tables.tunnel_table ∙ c.requires.change.tunnel_table.table in
+    let edits = c.args.change.tunnel_table in
+    let table =
+    ap (λ (a : Actions). in_rows.edited nat_cmp edits a.tunnels) c.edit-6.ensures ∙ ap (λ (tunnels : List (ℕ × Action)). in_rows.edited nat_cmp edits tunnels) c.requires.tables.tunnel_table
+    ∙ c.requires.change.tunnel_table.table in
     omega (arith, ap length table, length_tunnel_table t.router s, few_tunnels t.router s c.requires.change.sound)
 
 -- each table is edited
-are_edited : (c : goal.After-advance) → AreEdited c.args.change c.args.rows.now c.advance.new.rows
+are_edited : (c : goal.After-drop-edits) → AreEdited c.args.change c.args.rows.now c.advance.new.rows
 are_edited c =
     let t = c.args.rows.now in
     let change = c.args.change in

@@ -33,7 +33,7 @@ returns-clause-tables c =
     } in
     record {
       router = c.requires.router;
-      sound = subst (IsSound t.router) (sym state) (sound_emptied t.router (state_of t) refl c.requires.sound);
+      sound = subst (IsSound t.router) (sym state) (sound_emptied t.router (state_of t) c.requires.sound);
       period = ap (λ (timers : Timers Item). timers.refresh_ms) c.clear_all.ensures ∙ c.requires.period;
       upstream_period = ap (λ (timers : Timers Upstream). timers.refresh_ms) c.clear_all-2.ensures ∙ c.requires.upstream_period;
       claims = ap (λ (b : Bandwidth). b.claims) c.clear-2.ensures ∙ sym (λ i. claims_of (c.clear.ensures i) (c.clear-2.ensures i).resvs);
