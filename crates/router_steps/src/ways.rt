@@ -81,7 +81,9 @@ pub(crate) fn routed_arrival<V: WholeState>(
         Content::Resv(resv) => returned_resv(alloc, view, resv),
         Content::ResvTear(tear) => returned_tear(alloc, view, tear),
         Content::PathErr(error) => returned_err(alloc, view, error),
-        _ => Ok(refused(alloc, view, Refusal::NoMatch)),
+        Content::Path(_) | Content::PathTear(_) | Content::ResvErr(_) => {
+            Ok(refused(alloc, view, Refusal::NoMatch))
+        }
     }
 }
 
