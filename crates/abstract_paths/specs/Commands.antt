@@ -11,6 +11,7 @@ use Rattle.rsvp_bodies.specs.declared.prefix.Prefix.{Prefix}
 use Rattle.rsvp_bodies.specs.declared.step.Step.{Step}
 use Rattle.rsvp_bodies.specs.Rates.{rate_of}
 use Rattle.lsr_facts.specs.Bypasses.{is_for_bypass, is_to_protect}
+use Rattle.lsr_facts.specs.Limits.{max_bypasses, max_routes, max_tunnels}
 use Rattle.lsr_facts.specs.Orders.{key_cmp, prefix_cmp}
 use Rattle.lsr_facts.specs.Routers.{link_at, masked}
 use Rattle.lsr_facts.specs.Tunnels.{current_key, head_key, heads_of, pending_key, route_from}
@@ -83,7 +84,7 @@ has_route s prefix = is_some (find prefix_cmp (masked_prefix prefix) s.routes)
 abbrev pub tests_of : Router → Facts → Command → List (Bool × Refusal)
 tests_of r s (AddTunnel t) =
     (not (is_unknown s t.number), TunnelExists)
-    ∷ (nat_le 256 (length s.tunnels) || is_full s, Full)
+    ∷ (nat_le max_tunnels (length s.tunnels) || is_full s, Full)
     ∷ (is_bad_tunnel r s t, BadRoute)
     ∷ []
 tests_of r s (ChangeTunnel c) =
@@ -99,14 +100,14 @@ tests_of r s (AddBypass b) =
     (is_none (link_at r b.link), UnknownLink)
     ∷ (is_unknown s b.tunnel, UnknownTunnel)
     ∷ (is_some (find nat_cmp b.number s.bypasses), BypassExists)
-    ∷ (nat_le 64 (length s.bypasses), Full)
+    ∷ (nat_le max_bypasses (length s.bypasses), Full)
     ∷ (is_tunnel_such (λ tunnel. runs_over r s b.link (b.tunnel, tunnel)) s b.tunnel, BypassOnItsLink)
     ∷ []
 tests_of r s (DropBypass number) = (is_none (find nat_cmp number s.bypasses), UnknownTunnel) ∷ []
 tests_of r s (AddRoute prefix link) =
     (nat_lt 32 prefix.length, BadRoute)
     ∷ (is_none (link_at r link), UnknownLink)
-    ∷ (not (has_route s prefix) && nat_le 256 (length s.routes), Full)
+    ∷ (not (has_route s prefix) && nat_le max_routes (length s.routes), Full)
     ∷ []
 tests_of r s (DropRoute prefix) = (nat_lt 32 prefix.length || not (has_route s prefix), BadRoute) ∷ []
 

@@ -6,6 +6,7 @@ use Rattle.std.specs.Ordering.{nat_cmp}
 use Rattle.std.specs.declared.net.ipv4_addr.Ipv4Addr.{Ipv4Addr}
 use Rattle.rsvp_objects.specs.declared.values.ErrorSpec.{ErrorSpec}
 use Rattle.rsvp_bodies.specs.declared.step.Step.{Step}
+use Rattle.lsr_facts.specs.Limits.{max_lsps}
 use Rattle.lsr_facts.specs.Orders.{key_cmp}
 use Rattle.lsr_facts.specs.Tunnels.{current_key, head_key, route_from}
 use Rattle.lsr_facts.specs.declared.choice.Choice.{Choice}
@@ -53,7 +54,7 @@ with_head r tunnel lsp s = with_head_by r tunnel lsp s (head_hop (place_of r s) 
 
 -- there is no room for another LSP
 abbrev pub is_full : Facts → Bool
-is_full s = nat_le 1024 (length s.paths)
+is_full s = nat_le max_lsps (length s.paths)
 
 -- A tunnel whose current LSP has no path is tried, where there is room.
 abbrev pub tried : Router → Facts → ℕ × Tunnel → Facts

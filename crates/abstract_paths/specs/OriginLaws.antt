@@ -9,6 +9,7 @@ use Rattle.std.proofs.lemmas.Cmp.{tied_itself}
 use Rattle.std.proofs.lemmas.List.Filters.{length-filter_both}
 use Rattle.sorted_rows.specs.ListLaws.{all-both, all-filter, all-filter_passes}
 use Rattle.sorted_rows.specs.RowsLaws.{all-below, find-all_row, is_sorted-filter, ties}
+use Rattle.lsr_facts.specs.Limits.{max_origins}
 use Rattle.lsr_facts.specs.OrderLaws.{address_exact, address_total}
 use Rattle.lsr_facts.specs.Orders.{address_cmp}
 use Rattle.lsr_facts.specs.declared.key.Key.{Key}
@@ -48,13 +49,13 @@ stacks_but_one key origins in_order senders =
     )
 
 -- as many as there may be by a role are at most four
-count_few : (role : Role) (n : ℕ) → IsCountAs role n → n ≤ 4
+count_few : (role : Role) (n : ℕ) → IsCountAs role n → n ≤ max_origins
 count_few roles.Tail n counts = counts.1
 count_few roles.Transit n counts = counts.1
 count_few roles.Head n counts = omega (arith, counts)
 
 -- A path has at most four origins.
-pub few_origins : (r : Router) (moment : ℕ) (path : Key × PathFact) → IsPath r moment path → length path.1.origins ≤ 4
+pub few_origins : (r : Router) (moment : ℕ) (path : Key × PathFact) → IsPath r moment path → length path.1.origins ≤ max_origins
 few_origins r moment path is = count_few path.1.role (length path.1.origins) is.origins.count
 
 -- The origin that is found under a sender comes over a link where that is the LSP's own, and through a stack where not.

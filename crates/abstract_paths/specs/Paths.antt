@@ -18,6 +18,7 @@ use Rattle.rsvp_bodies.specs.TokenBuckets.{token_rate}
 use Rattle.rsvp_contents.specs.Limits.{is_short_record}
 use Rattle.rsvp_contents.specs.declared.messages.Path.{Path}
 use Rattle.lsr_facts.specs.Errors.{bad_tspec, system_error, routing_loop, unsupported_l3pid, record_too_long}
+use Rattle.lsr_facts.specs.Limits.{max_lsps}
 use Rattle.lsr_facts.specs.Orders.{address_cmp, key_cmp}
 use Rattle.lsr_facts.specs.Tunnels.{is_head}
 use Rattle.lsr_facts.specs.declared.choice.Choice.{Choice}
@@ -165,7 +166,7 @@ taken r s known link p way =
 unfoldable pub path_on_its_way : Router → Facts → Option PathFact → ℕ → Path → Result Choice RsvpError → PathOutcome
 path_on_its_way r s known link p (Err e) = failed r s link p e
 path_on_its_way r s known link p (Ok way) =
-    if is_none known && nat_le 1024 (length s.paths) then failed r s link p system_error else taken r s known link p way
+    if is_none known && nat_le max_lsps (length s.paths) then failed r s link p system_error else taken r s known link p way
 
 -- A Path that is read whole: the first of these that holds (the type of what it is to carry: RFC 3209, 4.2.4; its Tspec:
 -- RFC 2210, 3.1; its record: RFC 3209, 4.4.4). One of an LSP that begins here is refused first: no neighbour sends it.

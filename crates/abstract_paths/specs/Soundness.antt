@@ -12,6 +12,7 @@ use Rattle.rsvp_contents.specs.Limits.{is_short_route, is_short_record, is_short
 use Rattle.sorted_rows.specs.Rows.{keys_of}
 use Rattle.lsr_facts.specs.Bypasses.{AreBypasses}
 use Rattle.lsr_facts.specs.Lifetimes.{begins_here}
+use Rattle.lsr_facts.specs.Limits.{max_lsps, max_origins}
 use Rattle.lsr_facts.specs.Orders.{address_cmp, key_cmp}
 use Rattle.lsr_facts.specs.Routers.{AreRoutes, HasLink}
 use Rattle.lsr_facts.specs.Tunnels.{AreTunnels, head_key, is_head}
@@ -41,7 +42,7 @@ pub record IsOrigin (r : Router) (moment : ℕ) (origin : Origin) : Type 0 where
 -- How many origins a path has, by its role: one that begins here has none, any other one to four.
 abbrev pub IsCountAs : Role → ℕ → Type 0
 IsCountAs roles.Head count = count ≡ 0
-IsCountAs role count = (1 ≤ count) × (count ≤ 4)
+IsCountAs role count = (1 ≤ count) × (count ≤ max_origins)
 
 -- a neighbour's Paths name the LSP's own sender, those that come through a stack another one
 abbrev pub IsSenderAs : Key → Ipv4Addr × Origin → Type 0
@@ -100,7 +101,7 @@ AreApart paths =
 pub record ArePaths (r : Router) (moment : ℕ) (paths : List (Key × PathFact)) : Type 0 where
   pub apart : AreApart paths
   pub in_order : T (is_sorted key_cmp paths)
-  pub few : length paths ≤ 1024
+  pub few : length paths ≤ max_lsps
   pub each : AllByRecursion (IsPath r moment) paths
 
 -- a path begins here exactly where its LSP is one of a tunnel's

@@ -88,10 +88,10 @@ impl ForwardingTable {
     /// actions write for labels are labels. It does nothing when it runs.
     pub fn rows_are_in_order(&self)
         ensures labels_sorted { T (is_sorted nat_cmp self.now.labels) }
-        ensures few_labels { length self.now.labels ≤ 1024 }
+        ensures few_labels { length self.now.labels ≤ MAX_LABEL_ROWS }
         ensures labels { AllWriteLabels self.now.labels }
         ensures tunnels_sorted { T (is_sorted nat_cmp self.now.tunnels) }
-        ensures few_tunnels { length self.now.tunnels ≤ 256 }
+        ensures few_tunnels { length self.now.tunnels ≤ MAX_TUNNEL_ROWS }
         ensures tunnels { AllWriteLabels self.now.tunnels }
     {
         self.labels.rows_are_in_order();
@@ -118,7 +118,7 @@ impl ForwardingTable {
     /// and that at most [`MAX_LABEL_ROWS`] labels have one then. Takes no memory.
     pub fn change(&mut self, label: u32, action: Option<Action>)
         requires labels { IfSome action WritesLabels }
-        requires room { IfSome action (λ now. length (put nat_cmp label now self.old.labels) ≤ 1024) }
+        requires room { IfSome action (λ now. length (put nat_cmp label now self.old.labels) ≤ MAX_LABEL_ROWS) }
         ensures { self.new ≡ record self.old { labels = at_key nat_cmp label action self.old.labels } }
     {
         match action {
@@ -131,7 +131,7 @@ impl ForwardingTable {
     /// and that at most [`MAX_TUNNEL_ROWS`] tunnels have one then. Takes no memory.
     pub fn change_tunnel(&mut self, tunnel: u16, action: Option<Action>)
         requires labels { IfSome action WritesLabels }
-        requires room { IfSome action (λ now. length (put nat_cmp tunnel now self.old.tunnels) ≤ 256) }
+        requires room { IfSome action (λ now. length (put nat_cmp tunnel now self.old.tunnels) ≤ MAX_TUNNEL_ROWS) }
         ensures { self.new ≡ record self.old { tunnels = at_key nat_cmp tunnel action self.old.tunnels } }
     {
         match action {
@@ -144,7 +144,7 @@ impl ForwardingTable {
     /// write for labels are labels, and that at most [`MAX_LABEL_ROWS`] labels have one then. Takes no memory.
     pub fn edit(&mut self, edits: Table<u32, Option<Action>>)
         requires labels { All (λ edit. IfSome edit.1 WritesLabels) edits }
-        requires room { length (edited nat_cmp edits self.old.labels) ≤ 1024 }
+        requires room { length (edited nat_cmp edits self.old.labels) ≤ MAX_LABEL_ROWS }
         ensures { self.new ≡ record self.old { labels = edited nat_cmp edits self.old.labels } }
     {
         make_edits(&mut self.labels, edits);
@@ -154,7 +154,7 @@ impl ForwardingTable {
     /// write for labels are labels, and that at most [`MAX_TUNNEL_ROWS`] tunnels have one then. Takes no memory.
     pub fn edit_tunnels(&mut self, edits: Table<u16, Option<Action>>)
         requires labels { All (λ edit. IfSome edit.1 WritesLabels) edits }
-        requires room { length (edited nat_cmp edits self.old.tunnels) ≤ 256 }
+        requires room { length (edited nat_cmp edits self.old.tunnels) ≤ MAX_TUNNEL_ROWS }
         ensures { self.new ≡ record self.old { tunnels = edited nat_cmp edits self.old.tunnels } }
     {
         make_edits(&mut self.tunnels, edits);

@@ -11,6 +11,7 @@ use Rattle.sorted_rows.specs.EditLaws.{find-edited, is_sorted-edited}
 use Rattle.sorted_rows.specs.Edits.{edited, over}
 use Rattle.sorted_rows.specs.RowsLaws.{all-from_find, find-all, find-filter, is_some-find_both}
 use Rattle.lsr_facts.specs.Lifetimes.{begins_here}
+use Rattle.lsr_facts.specs.Limits.{max_lsps}
 use Rattle.lsr_facts.specs.OrderLaws.{key_total}
 use Rattle.lsr_facts.specs.Orders.{key_cmp}
 use Rattle.lsr_facts.specs.declared.key.Key.{Key}
@@ -199,7 +200,7 @@ module _ (r : Router) (before after : State) (keys touched : List (Key × Unit {
 
   module _ (resvs : AllByRecursion (IsResv after.facts.moment) after.resvs) (repairs : AllByRecursion (λ (repair : Key × Repair). IsResv after.facts.moment (repair.0, repair.1.resv)) after.repairs) where
     -- So they are edits of the table.
-    are_edits : length after.facts.paths ≤ 1024 → AreTableEdits r before after all
+    are_edits : length after.facts.paths ≤ max_lsps → AreTableEdits r before after all
     are_edits few = record {
       table = table_made;
       room = λ rows h is. omega (arith, table_few r after (edited nat_cmp all rows) (is_sorted-edited nat_cmp nat_cmp_total all rows h) (table_made rows is), few);
@@ -211,7 +212,7 @@ module _ (r : Router) (before after : State) (keys touched : List (Key × Unit {
     }
 
     -- They are where they were made of the rows before and after.
-    pub changes_edit : length after.facts.paths ≤ 1024 → (before_lsps after_lsps : List (Key × Unit {0})) → before_lsps ≡ touched → after_lsps ≡ touched → (before_rows after_rows : List (ℕ × Action)) → before_rows ≡ rows_of r before before_lsps → after_rows ≡ rows_of r after after_lsps
+    pub changes_edit : length after.facts.paths ≤ max_lsps → (before_lsps after_lsps : List (Key × Unit {0})) → before_lsps ≡ touched → after_lsps ≡ touched → (before_rows after_rows : List (ℕ × Action)) → before_rows ≡ rows_of r before before_lsps → after_rows ≡ rows_of r after after_lsps
         → (asked more : List (ℕ × Action)) → asked ≡ before_rows → more ≡ after_rows → (none first edits : List Edit) → none ≡ [] → first ≡ put_each (change_at before_rows after_rows) asked none → edits ≡ put_each (change_at before_rows after_rows) more first → AreTableEdits r before after edits
     changes_edit few before_lsps after_lsps of_before of_after before_rows after_rows made_before made_after asked more is_asked is_more none first edits is_none is_first is_edits =
         let is_was = made_before ∙ ap (λ (lsps : List (Key × Unit {0})). rows_of r before lsps) of_before in

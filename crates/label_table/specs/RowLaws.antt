@@ -118,11 +118,11 @@ pub table-no_path : (r : Router) (s : State) → s.facts.paths ≡ [] → IsTabl
 unfolding look table_of lsps_of
 table-no_path r s none label = sym (ap (λ paths. first_of label (entries r s label paths)) none)
 
--- What bypasses run over stands on the links that are up, on tunnels, on bypasses and on reservations alone.
-pub bypass_tunnels-alike : (r : Router) (s t : State) → s.facts.up ≡ t.facts.up → s.facts.tunnels ≡ t.facts.tunnels → s.facts.bypasses ≡ t.facts.bypasses → s.resvs ≡ t.resvs → bypass_tunnels_of r s ≡ bypass_tunnels_of r t
+-- What bypasses run over stands on the links that are up, on tunnels, on bypasses, on paths and on reservations alone.
+pub bypass_tunnels-alike : (r : Router) (s t : State) → s.facts.up ≡ t.facts.up → s.facts.tunnels ≡ t.facts.tunnels → s.facts.bypasses ≡ t.facts.bypasses → s.facts.paths ≡ t.facts.paths → s.resvs ≡ t.resvs → bypass_tunnels_of r s ≡ bypass_tunnels_of r t
 unfolding bypass_tunnels_of
-bypass_tunnels-alike r s t up tunnels bypasses resvs =
-    λ i. bypass_tunnels_of r (record s { facts = record s.facts { up = up i; tunnels = tunnels i; bypasses = bypasses i }; resvs = resvs i })
+bypass_tunnels-alike r s t up tunnels bypasses paths resvs =
+    λ i. bypass_tunnels_of r (record s { facts = record s.facts { up = up i; tunnels = tunnels i; bypasses = bypasses i; paths = paths i }; resvs = resvs i })
 
 -- The label table stands on paths, on reservations, repairs and labels, and on what bypasses run over alone.
 pub table-alike : (r : Router) (s t : State) (rows : List (ℕ × Action)) → bypass_tunnels_of r s ≡ bypass_tunnels_of r t → s.facts.paths ≡ t.facts.paths → AreAlike s t → IsTableOf r s rows → IsTableOf r t rows

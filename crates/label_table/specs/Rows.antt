@@ -6,6 +6,7 @@ use Rattle.std.specs.Ordering.{nat_cmp}
 use Rattle.sorted_rows.specs.Edits.{edited}
 use Rattle.forwarding_table.specs.Actions.{WritesLabels}
 use Rattle.forwarding_table.specs.declared.action.Action.{Action}
+use Rattle.lsr_facts.specs.Limits.{max_lsps}
 use Rattle.lsr_facts.specs.declared.key.Key.{Key}
 use Rattle.lsr_facts.specs.declared.router.Router.{Router}
 use Rattle.abstract_router.specs.Lsps.{around_of, lsp_at}
@@ -25,7 +26,7 @@ IsTableOf r s rows = (label : ℕ) → find nat_cmp label rows ≡ look r s labe
 -- is none.
 pub record AreTableEdits (r : Router) (before after : State) (edits : List (ℕ × Option Action)) : Type 0 where
   pub table : (rows : List (ℕ × Action)) → IsTableOf r before rows → IsTableOf r after (edited nat_cmp edits rows)
-  pub room : (rows : List (ℕ × Action)) → T (is_sorted nat_cmp rows) → IsTableOf r before rows → length (edited nat_cmp edits rows) ≤ 1024
+  pub room : (rows : List (ℕ × Action)) → T (is_sorted nat_cmp rows) → IsTableOf r before rows → length (edited nat_cmp edits rows) ≤ max_lsps
   pub labels : All (λ edit. IfSome edit.1 WritesLabels) edits
   pub changes : All (λ edit. look r before edit.0 ≢ look r after edit.0) edits
   pub none : ((label : ℕ) → look r before label ≡ look r after label) → edits ≡ []

@@ -1,16 +1,16 @@
 //! What becomes of the actions of labels between two states.
 
-ghost use Rattle.std.specs.List.{AllByRecursion};
 ghost use Rattle.std.specs.Option.{option_map};
 ghost use Rattle.std.specs.Prelude.{◌≡◌, IfOk, OnOk};
 ghost use Rattle.lsr_facts.specs.Orders.{key_cmp};
 ghost use Rattle.abstract_paths.specs.Soundness.{ArePaths};
 ghost use Rattle.abstract_paths.specs.Touched.{is_among};
 ghost use Rattle.abstract_router.specs.BypassTunnels.{bypass_tunnels_of};
-ghost use Rattle.abstract_router.specs.Soundness.{AreLabelled, IsResv};
+ghost use Rattle.abstract_router.specs.Soundness.{AreLabelled};
 ghost use Rattle.abstract_router.specs.Tables.{swap_through};
 ghost use Rattle.abstract_router.specs.Touched.{LeavesOtherLsps};
 ghost use Rattle.state_views.specs.Edits.{edited};
+ghost use Rattle.state_views.specs.KnownLsps.{AreLsps};
 ghost use Rattle.label_table.specs.Rows.{AreTableEdits, action_at};
 ghost use Rattle.label_table.specs.Turns.{change, change_at, is_same, onward_at, put_each, put_row, row_at, rows_of};
 
@@ -143,16 +143,10 @@ pub fn table_edits<V: WholeState>(
     edits: &Edits,
     changed: Table<Key, ()>,
 ) -> Result<Table<u32, Option<Action>>, AllocError>
-    requires paths_before { ArePaths (V.router view.now) (V.state view.now).facts.moment (V.state view.now).facts.paths }
-    requires paths_after { ArePaths (V.router view.now) (edited edits.now (V.state view.now)).facts.moment
-        (edited edits.now (V.state view.now)).facts.paths }
+    requires before { ArePaths (V.router view.now) (V.state view.now).facts.moment (V.state view.now).facts.paths }
     requires labels_before { AreLabelled (V.router view.now) (V.state view.now) }
+    requires after { AreLsps (V.router view.now) (edited edits.now (V.state view.now)) }
     requires labels_after { AreLabelled (V.router view.now) (edited edits.now (V.state view.now)) }
-    requires resvs_after { AllByRecursion (IsResv (edited edits.now (V.state view.now)).facts.moment)
-        (edited edits.now (V.state view.now)).resvs }
-    requires repairs_after { AllByRecursion
-        (λ repair. IsResv (edited edits.now (V.state view.now)).facts.moment (repair.0, repair.1.resv))
-        (edited edits.now (V.state view.now)).repairs }
     requires elsewhere { LeavesOtherLsps (is_among key_cmp changed)
         (V.state view.now) (edited edits.now (V.state view.now)) }
     ensures { IfOk result (AreTableEdits (V.router view.now) (V.state view.now)

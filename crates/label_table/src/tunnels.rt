@@ -1,13 +1,12 @@
 //! What becomes of the actions of tunnels that begin here between two states.
 
 ghost use Rattle.std.specs.FinMap.Entries.{is_sorted};
-ghost use Rattle.std.specs.List.{AllByRecursion};
 ghost use Rattle.std.specs.Ordering.{nat_cmp};
 ghost use Rattle.std.specs.Prelude.{◌≡◌, IfOk, OnOk, T};
 ghost use Rattle.abstract_router.specs.BypassTunnels.{bypass_tunnels_of};
-ghost use Rattle.abstract_router.specs.Soundness.{IsResv};
 ghost use Rattle.abstract_router.specs.Tables.{push_through};
 ghost use Rattle.state_views.specs.Edits.{edited};
+ghost use Rattle.state_views.specs.KnownLsps.{AreLsps};
 ghost use Rattle.label_table.specs.TunnelRows.{AreTunnelEdits, push_at};
 ghost use Rattle.label_table.specs.Turns.{push_change, push_change_of, put_each, put_row};
 
@@ -114,11 +113,7 @@ pub fn tunnel_edits<V: WholeState>(
     edits: &Edits,
 ) -> Result<Table<u16, Option<Action>>, AllocError>
     requires tunnels { T (is_sorted nat_cmp (V.state view.now).facts.tunnels) }
-    requires resvs { AllByRecursion (IsResv (edited edits.now (V.state view.now)).facts.moment)
-        (edited edits.now (V.state view.now)).resvs }
-    requires repairs { AllByRecursion
-        (λ repair. IsResv (edited edits.now (V.state view.now)).facts.moment (repair.0, repair.1.resv))
-        (edited edits.now (V.state view.now)).repairs }
+    requires after { AreLsps (V.router view.now) (edited edits.now (V.state view.now)) }
     ensures { IfOk result (AreTunnelEdits (V.router view.now) (V.state view.now)
         (edited edits.now (V.state view.now))) }
 {

@@ -61,12 +61,10 @@ fn read_bypass(
     let link = number_at(table, Key::Link, FIRST_LINK)?;
     check_named(link, Key::Link, links)?;
     check_count(Key::Bypass, MAX_BYPASSES, before.len())?;
-    Ok((
-        number,
-        Bypass {
-            tunnel,
-            link,
-            capacity: 0,
-        },
-    ))
+    let bypass = Bypass {
+        tunnel,
+        link,
+        capacity: 0,
+    };
+    Ok((number, bypass))
 }

@@ -89,7 +89,7 @@ fn read_top(document: &Value) -> Result<Top, ConfigFault>
 }
 
 /// The rows, each put in its place in the order of the keys.
-fn table_of<K: Ord + Drop, V: Drop>(
+pub fn table_of<K: Ord + Drop, V: Drop>(
     alloc: Global,
     rows: Vec<(K, V)>,
 ) -> Result<Table<K, V>, AllocError>

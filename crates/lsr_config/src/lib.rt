@@ -17,6 +17,7 @@ mod unknown_name;
 mod values;
 
 pub use config::{BUILT_IN, Config};
+pub use document::table_of;
 pub use fault::ConfigFault;
 pub use key::Key;
 pub use links::FIRST_LINK;

@@ -51,14 +51,7 @@ pub(crate) fn whole_in(value: &Value, least: u64, most: u64) -> Option<u64>
 fn natural_in(value: &Value) -> Option<u64>
     ensures { Finds (λ n. view value.now ≡ integer (pos n)) result }
 {
-    natural_of(value.as_integer()?)
-}
-
-/// The number, where it isn't below 0.
-fn natural_of(number: i64) -> Option<u64>
-    ensures { Finds (λ n. number ≡ pos n) result }
-{
-    u64::try_from(number).ok()
+    u64::try_from(value.as_integer()?).ok()
 }
 
 /// The truth value that the value is.
@@ -136,9 +129,16 @@ fn only_tables(values: &[Value]) -> Option<&[Value]>
         (list_all (λ value. is_some (as_table (view value))) values.now ≡ false)
         (λ tables. (list_all (λ value. is_some (as_table (view value))) values.now ≡ true) × (tables.now ≡ values.now)) }
 {
-    if values.iter().all(|value| value.is_table()) {
+    if are_tables(values) {
         Some(values)
     } else {
         None
     }
+}
+
+/// Whether the values are all tables.
+fn are_tables(values: &[Value]) -> bool
+    ensures { result ≡ list_all (λ value. is_some (as_table (view value))) values.now }
+{
+    values.iter().all(|value| value.is_table())
 }

@@ -6,6 +6,7 @@ use Rattle.std.proofs.lemmas.Bool.{cond_both}
 use Rattle.rsvp_contents.specs.declared.messages.Path.{Path}
 use Rattle.rsvp_bodies.specs.TokenBuckets.{token_rate}
 use Rattle.lsr_facts.specs.Errors.{bad_tspec, routing_loop, unsupported_l3pid}
+use Rattle.lsr_facts.specs.Limits.{max_lsps}
 use Rattle.lsr_facts.specs.Orders.{key_cmp}
 use Rattle.lsr_facts.specs.Tunnels.{is_head}
 use Rattle.lsr_facts.specs.declared.choice.Choice.{Choice}
@@ -26,7 +27,7 @@ Speaks o = o.is_silent ≡ false
 way_speaks : (r : Router) (s : Facts) (known : Option PathFact) (link : ℕ) (p : Path) (way : Result Choice RsvpError) → Speaks (path_on_its_way r s known link p way)
 unfolding path_on_its_way
 way_speaks r s known link p (Err e) = refl
-way_speaks r s known link p (Ok way) = cond_both (is_none known && nat_le 1024 (length s.paths)) _ _ Speaks (λ full. refl) (λ room. refl)
+way_speaks r s known link p (Ok way) = cond_both (is_none known && nat_le max_lsps (length s.paths)) _ _ Speaks (λ full. refl) (λ room. refl)
 
 -- what a Path does whose LSP doesn't begin here
 abbrev from_elsewhere : Router → Facts → ℕ → Path → PathOutcome

@@ -3,6 +3,7 @@
 ghost use Rattle.std.specs.FinMap.Entries.{put};
 ghost use Rattle.std.specs.Option.{option_copied};
 ghost use Rattle.std.specs.Prelude.{◌≡◌, ◌≤◌, ◌^◌, ◌&&◌, ◌∷◌, [], IfOk, IsTrue, Ok, OnErr, false, is_none, is_some, length, nat_le, not};
+ghost use Rattle.lsr_facts.specs.Limits.{max_lsps};
 ghost use Rattle.lsr_facts.specs.Orders.{address_cmp};
 ghost use Rattle.rsvp_contents.specs.Spelling.{IsMessage};
 ghost use Rattle.rsvp_contents.specs.declared.messages.Content.TheVariants as contents;
@@ -136,7 +137,7 @@ fn taken<V: StateView>(
 /// Whether the path is new, and there is no room for another.
 fn is_full<V: WholeState>(view: &V, known: Option<&PathFact>) -> bool
     ensures { result ≡ (is_none (option_copied known.entry)
-        && nat_le 1024 (length (V.state view.now).facts.paths)) }
+        && nat_le max_lsps (length (V.state view.now).facts.paths)) }
 {
     match known {
         Some(_) => false,

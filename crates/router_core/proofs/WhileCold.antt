@@ -4,7 +4,6 @@ use Rattle.std.proofs.Common.{ap, subst}
 use Rattle.label_stacks.specs.declared.entry.StackEntry.{StackEntry}
 use Rattle.forwarding_table.specs.Forwarding.{forward_of}
 use Rattle.forwarding_table.specs.declared.forwarding.Forwarding.{Forwarding}
-use Rattle.lsr_facts.specs.declared.facts.Facts.{Facts}
 use Rattle.lsr_facts.specs.declared.refusal.Refusal.{Refusal}
 use Rattle.lsr_facts.specs.declared.router.Router.{Router}
 use Rattle.abstract_router.specs.BypassTunnels.{bypass_tunnels_of}
@@ -14,20 +13,24 @@ use Rattle.abstract_router.specs.Tables.{forwarded}
 use Rattle.datagrams.specs.Datagrams.{IsDatagram}
 use Rattle.datagrams.specs.declared.datagram.Datagram.{Datagram}
 use Rattle.router_core.specs.Below.labels.RowLaws.{bypass_tunnels-alike}
+use Rattle.router_core.specs.Readies.{with_cold}
 
 -- a router knows this, and its tables say it as if it ran
-pub record IsAsRunning (s t : State) : Type 0 where
-  pub facts : s.facts ≡ record t.facts { cold = false }
-  pub lsps : AreAlike s t
+abbrev pub IsAsRunning : State → State → Type 0
+IsAsRunning s t = s ≡ with_cold false t
+
+-- the same is known of LSPs
+pub lsps_running : (s t : State) → IsAsRunning s t → AreAlike s t
+lsps_running s t runs = record { resvs = ap (λ (x : State). x.resvs) runs; repairs = ap (λ (x : State). x.repairs) runs; labels = ap (λ (x : State). x.labels) runs }
 
 -- bypasses run over the same
 pub bypass_tunnels_running : (r : Router) (s t : State) → IsAsRunning s t → bypass_tunnels_of r s ≡ bypass_tunnels_of r t
 bypass_tunnels_running r s t runs =
-    bypass_tunnels-alike r s t (ap (λ (f : Facts). f.up) runs.facts) (ap (λ (f : Facts). f.tunnels) runs.facts) (ap (λ (f : Facts). f.bypasses) runs.facts) runs.lsps.resvs
+    bypass_tunnels-alike r s t (ap (λ (x : State). x.facts.up) runs) (ap (λ (x : State). x.facts.tunnels) runs) (ap (λ (x : State). x.facts.bypasses) runs) (ap (λ (x : State). x.facts.paths) runs) (ap (λ (x : State). x.resvs) runs)
 
 -- What a datagram is for a router that runs, it is for the same router while that is cold.
 pub datagram_alike : (q r : Router) (s t : State) (link : ℕ) (bytes : List ℕ) (answer : Result Datagram Refusal) → q ≡ r → IsAsRunning s t
     → IsDatagram q (forwarded q s) link bytes answer → IsDatagram r (forwarded r t) link bytes answer
 datagram_alike q r s t link bytes answer router runs is =
-    let forwards : forwarded q s ≡ forwarded q t = λ i stack. forward_of (λ label. look-alike q s t label (bypass_tunnels_running q s t runs) (ap (λ (f : Facts). f.paths) runs.facts) runs.lsps i) stack in
+    let forwards : forwarded q s ≡ forwarded q t = λ i stack. forward_of (λ label. look-alike q s t label (bypass_tunnels_running q s t runs) (ap (λ (x : State). x.facts.paths) runs) (lsps_running s t runs) i) stack in
     subst (λ (p : Router). IsDatagram p (forwarded p t) link bytes answer) router (subst (λ (f : List StackEntry → Forwarding). IsDatagram q f link bytes answer) forwards is)

@@ -7,7 +7,7 @@ use Rattle.abstract_paths.specs.Arrivals.{takes_memory}
 use Rattle.abstract_paths.specs.declared.events.Event.{Event}
 use Rattle.abstract_paths.specs.declared.events.Made.{Made}
 use Rattle.abstract_router.specs.Arrivals.{outcome}
-use Rattle.abstract_router.specs.States.{State}
+use Rattle.abstract_router.specs.States.{State, bare}
 use Rattle.abstract_router.specs.Steps.{IsNoStep, Step}
 use Rattle.abstract_router.specs.Tables.{forwarded}
 use Rattle.datagrams.specs.Datagrams.{IsDatagram}
@@ -24,14 +24,8 @@ use Rattle.router_core.specs.declared.machine.Phase.TheVariants as phases
 -- What stands for a router that is out: it is no router, and no machine is this between two calls.
 unfoldable pub no_router : RouterState
 no_router = record {
-  router = record { id = record { octets = [] }; refresh_ms = 0; labels = record { first = 0; last = 0 }; links = [] };
-  state = record {
-    facts = record { cold = true; moment = 0; up = []; routes = []; tunnels = []; bypasses = []; paths = []; sent = [] };
-    resvs = [];
-    repairs = [];
-    labels = [];
-    sent_upstream = [];
-  };
+  router = record { id = record { octets = [] }; refresh_ms = 0; labels = record { first = 0; last = 0 }; label_rest_ms = 0; links = [] };
+  state = bare (record { cold = true; moment = 0; up = []; routes = []; tunnels = []; bypasses = []; paths = []; sent = [] });
 }
 
 -- what a router is and knows, cold or running

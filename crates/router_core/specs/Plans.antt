@@ -1,23 +1,15 @@
 -- The plan of a step.
-use Rattle.std.specs.Prelude.{◌≡◌, ◌++◌, true, false, [], IfSome}
+use Rattle.std.specs.Prelude.{◌≡◌, true, false, [], IfSome}
 use Rattle.std.specs.Option.{option_map_or}
 use Rattle.lsr_facts.specs.declared.refusal.Refusal.{Refusal}
 use Rattle.lsr_facts.specs.declared.refusal.Refusal.TheVariants.{HopLimit, NoMemory}
 use Rattle.lsr_facts.specs.declared.reply.Reply.TheVariants as replies
-use Rattle.lsr_facts.specs.declared.router.Router.{Router}
 use Rattle.abstract_paths.specs.declared.events.Event.{Event}
 use Rattle.abstract_paths.specs.declared.events.Made.{Made}
 use Rattle.abstract_paths.specs.Relays.{exceeds_hop_limit}
 use Rattle.abstract_router.specs.Arrivals.{outcome}
-use Rattle.abstract_router.specs.Labels.{IsLabelling}
-use Rattle.abstract_router.specs.Outcomes.{Outcome}
-use Rattle.abstract_router.specs.Outputs.{outputs_of}
 use Rattle.abstract_router.specs.States.{State}
-use Rattle.abstract_router.specs.Repairing.{told_repaired}
-use Rattle.abstract_router.specs.Steps.{Step, settled, taken_over, with_moments}
-use Rattle.router_tables.specs.Below.views.Drafts.{due_by, upstream_due_by}
-use Rattle.router_tables.specs.Below.views.Edits.{edited}
-use Rattle.router_tables.specs.Below.views.declared.draft.Draft.{Draft}
+use Rattle.abstract_router.specs.Steps.{Step}
 use Rattle.router_tables.specs.Changes.{IsChange, changed}
 use Rattle.router_tables.specs.States.{RouterState}
 use Rattle.router_core.specs.declared.plan.Plan.{Plan}
@@ -46,23 +38,3 @@ after_plan plan s = option_map_or (λ change. changed change.value s) plan.chang
 pub record IsPlanOf (s : RouterState) (event : Event) (plan : Plan) : Type 0 where
   pub step : Step s.router s.state (made_by event plan) (after_plan plan s.state)
   pub change : IfSome plan.change (λ change. IsChange s.router s.state change.value)
-
--- what a draft says that an event does of itself
-abbrev pub drafted : Draft → Router → State → Outcome
-drafted draft r s = record {
-  reply = draft.reply;
-  errors = draft.errors;
-  due = due_by draft.due r s;
-  upstream_due = upstream_due_by draft.due r s;
-  after = edited draft.edits s;
-  is_silent = draft.is_silent;
-}
-
--- The plan is that of what an event does of itself, where that isn't silent: with labels that may be chosen, with what
--- follows from it, and with what is sent.
-pub record IsSendingPlan (r : Router) (s : State) (o : Outcome) (plan : Plan) : Type 0 where
-  pub chosen : IsLabelling r s.labels o.after.facts.paths plan.chosen
-  pub replied : plan.reply ≡ o.reply
-  pub changed : after_plan plan s ≡ with_moments r s o (settled r plan.chosen o.after)
-  pub sent : plan.outputs ≡ outputs_of r s (o.errors ++ told_repaired r (taken_over r o.after)) o.due o.upstream_due (after_plan plan s)
-  pub change : IfSome plan.change (λ change. IsChange r s change.value)

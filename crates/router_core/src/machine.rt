@@ -367,15 +367,9 @@ impl Machine {
     pub fn export(&self, alloc: Global) -> Result<State, AllocError>
         ensures { IfOk result (λ state. state ≡ self.now.state) }
     {
-        match &self.phase {
-            Phase::Running(router) => router.tables().export(alloc),
-            Phase::Cold(router) => {
-                let mut state = router.tables().export(alloc)?;
-                state.facts.cold = true;
-                Ok(state)
-            }
-            Phase::Between => unreachable!(),
-        }
+        let mut state = self.tables().export(alloc)?;
+        state.facts.cold = self.is_cold();
+        Ok(state)
     }
 
     /// All labels under which frames may come, in their order, and what is done with them: a copy. A cold router has none.
@@ -411,11 +405,7 @@ impl Machine {
     /// The tables of the router. They say nothing of whether it is cold.
     fn tables(&self) -> &Tables
         ensures router { result.now.router ≡ self.now.router }
-        ensures facts { result.now.state.facts ≡ record self.now.state.facts { cold = false } }
-        ensures resvs { result.now.state.resvs ≡ self.now.state.resvs }
-        ensures repairs { result.now.state.repairs ≡ self.now.state.repairs }
-        ensures labels { result.now.state.labels ≡ self.now.state.labels }
-        ensures upstream { result.now.state.sent_upstream ≡ self.now.state.sent_upstream }
+        ensures state { result.now.state ≡ with_cold false self.now.state }
     {
         let tables = match &self.phase {
             Phase::Running(router) => router.tables(),

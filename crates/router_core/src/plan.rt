@@ -1,41 +1,31 @@
 //! A step that is made ready.
 
-ghost use Rattle.std.specs.Prelude.{◌≡◌, ◌≢◌, ◌||◌, Bool, Err, IfErr, IfOk, MatchOption, OnErr, false, true};
-ghost use Rattle.lsr_facts.specs.Orders.{key_cmp};
-ghost use Rattle.lsr_facts.specs.declared.key.Key.{Key};
+ghost use Rattle.std.specs.Option.{option_map_or};
+ghost use Rattle.std.specs.Prelude.{◌≡◌, ◌≢◌, Err, IfErr, IfOk, IfSome, MatchOption, OnErr, false, is_none, true};
+ghost use Rattle.lsr_facts.specs.declared.refusal.Refusal.TheVariants.{HopLimit};
 ghost use Rattle.abstract_paths.specs.declared.events.Event.{Event};
 ghost use Rattle.abstract_paths.specs.declared.events.Event.TheVariants as events;
-ghost use Rattle.lsr_facts.specs.declared.refusal.Refusal.TheVariants.{HopLimit};
 ghost use Rattle.abstract_paths.specs.Relays.{exceeds_hop_limit};
-ghost use Rattle.abstract_paths.specs.Soundness.{ArePaths};
-ghost use Rattle.abstract_paths.specs.Touched.{is_among};
 ghost use Rattle.abstract_router.specs.Arrivals.{outcome};
-ghost use Rattle.abstract_router.specs.Soundness.{AreLabelled, IsResv, IsSound};
-ghost use Rattle.abstract_router.specs.Steps.{IsCommand, IsEvent};
+ghost use Rattle.abstract_router.specs.Soundness.{IsSound};
 ghost use Rattle.abstract_router.specs.Tables.{TellsChange};
-ghost use Rattle.abstract_router.specs.Touched.{LeavesOtherLsps};
-ghost use Rattle.router_soundness.specs.Drafted.{IsDrafted};
-ghost use Rattle.router_tables.specs.Below.views.Edits.{edited};
-ghost use Rattle.std.specs.List.{AllByRecursion};
+ghost use Rattle.event_steps.specs.EventSteps.{AreStepEdits, after_edits};
 ghost use Rattle.router_tables.specs.Below.labels.Rows.{AreTableEdits};
 ghost use Rattle.router_tables.specs.Below.labels.TunnelRows.{AreTunnelEdits};
-ghost use Rattle.router_core.specs.Plans.{IsOutFor, IsPlanOf, IsSendingPlan, after_plan, drafted};
+ghost use Rattle.router_tables.specs.Changes.{IsChange, changed};
+ghost use Rattle.router_core.specs.Plans.{IsOutFor, IsPlanOf, after_plan};
 ghost use Rattle.router_core.specs.States.{RouterState};
 
-use abstract_paths::{Command, Event, Outputs};
+use abstract_paths::{Event, Outputs};
+use event_steps::{StepEdits, step_of};
 use forwarding_table::Action;
-use lsr_facts::{Item, Key, Refusal, Reply, ResvFact, Upstream};
-use router_steps::{draft_of, exceeds_hop_limit};
-use router_tables::{Change, Draft, Edits, Tables, table_edits, tunnel_edits};
-use rsvp_contents::Reading;
+use lsr_facts::{Key, Refusal, Reply};
+use router_steps::exceeds_hop_limit;
+use router_tables::{Change, Tables, table_edits, tunnel_edits};
 use sorted_rows::Table;
-use state_sends::{appended, sends_of};
-use state_settling::{bandwidth_edits, settle};
+use state_settling::bandwidth_edits;
 use std::alloc::{AllocError, Global};
 use std::mem;
-
-/// Octets of an address.
-const ADDRESS_LEN: usize = 4;
 
 /// A step that is made ready, with all the memory that it takes, and hasn't happened yet. It is of use once, on
 /// the router that it was made for, as that stood then: [`crate::Running::commit`] takes it.
@@ -125,138 +115,50 @@ impl Plan {
     }
 }
 
-/// Every command that there is can be: its address has four octets, its traffic descriptor 32 bytes, by their types. A law:
-/// it does nothing when it runs.
-fn is_command(command: &Command)
-    ensures { IsCommand command.now }
-{
-    match command {
-        Command::AddTunnel(tunnel) => prove!(tunnel.endpoint.octets().len() == ADDRESS_LEN),
-        Command::AddRoute(prefix, _) => prove!(prefix.address.octets().len() == ADDRESS_LEN),
-        _ => {}
-    }
-}
-
-/// Every event that there is can be: its message is one, its unread bytes are few enough, and its command can be, by their
-/// types. A law: it does nothing when it runs.
-fn is_possible(event: &Event)
-    ensures { IsEvent event.now }
-{
-    match event {
-        Event::Arrive(arrive) => match &arrive.reading {
-            Reading::Whole(message) => {
-                message.content();
-            }
-            Reading::Unknown(message, ..) => {
-                message.content();
-            }
-        },
-        Event::Relay(relay) => {
-            relay.message.as_slice();
-        }
-        Event::Command(command) => is_command(command),
-        _ => {}
-    }
-}
-
-/// What becomes of the actions of labels by edits, where these LSPs change. The only error is out of memory.
-fn table_of(
-    alloc: Global,
-    tables: &Tables,
-    edits: &Edits,
-    changed: Table<Key, ()>,
-) -> Result<Table<u32, Option<Action>>, AllocError>
-    requires paths { ArePaths tables.now.router (edited edits.now tables.now.state).facts.moment
-        (edited edits.now tables.now.state).facts.paths }
-    requires labels { AreLabelled tables.now.router (edited edits.now tables.now.state) }
-    requires resvs { AllByRecursion (IsResv (edited edits.now tables.now.state).facts.moment)
-        (edited edits.now tables.now.state).resvs }
-    requires repairs { AllByRecursion
-        (λ repair. IsResv (edited edits.now tables.now.state).facts.moment (repair.0, repair.1.resv))
-        (edited edits.now tables.now.state).repairs }
-    requires changed { LeavesOtherLsps (is_among key_cmp changed) tables.now.state
-        (edited edits.now tables.now.state) }
-    ensures { IfOk result (AreTableEdits tables.now.router tables.now.state (edited edits.now tables.now.state)) }
+/// The change of a router's tables by the edits of a step. The only error is out of memory.
+fn change_of(alloc: Global, tables: &Tables, step: StepEdits) -> Result<Change, AllocError>
+    requires { AreStepEdits tables.now.router tables.now.state step }
+    ensures is { IfOk result (IsChange tables.now.router tables.now.state) }
+    ensures after { IfOk result (λ change. changed change tables.now.state ≡ after_edits step tables.now.state) }
 {
     tables.soundness();
-    table_edits(alloc, tables, edits, changed)
-}
-
-/// The change of edits, in which these edits of bandwidth stand for those of reservations, with when messages were sent, and with
-/// what becomes of the label table and of the table of tunnels.
-fn change_of(
-    alloc: Global,
-    edits: Edits,
-    bandwidth: Table<Key, Option<(ResvFact, u8)>>,
-    moments: Table<Item, Option<u64>>,
-    upstream: Table<Upstream, Option<u64>>,
-    table: Table<u32, Option<Action>>,
-    tunnel_table: Table<u16, Option<Action>>,
-) -> Change
-    ensures { result ≡ record {
-      moment = edits.moment;
-      up = edits.up;
-      routes = edits.routes;
-      tunnels = edits.tunnels;
-      bypasses = edits.bypasses;
-      paths = edits.paths;
-      bandwidth = bandwidth;
-      repairs = edits.repairs;
-      labels = edits.labels;
-      moments = moments;
-      upstream = upstream;
-      table = table;
-      tunnel_table = tunnel_table;
-    } }
-{
-    let mut edits = edits;
-    Change {
-        moment: edits.moment,
-        up: edits.up.take(),
-        routes: edits.routes.take(),
-        tunnels: mem::replace(&mut edits.tunnels, Table::new(alloc)),
-        bypasses: edits.bypasses.take(),
-        paths: mem::replace(&mut edits.paths, Table::new(alloc)),
+    let StepEdits {
+        mut edits,
+        moments,
+        upstream,
+        changed,
+    } = step;
+    let table = table_edits(alloc, tables, &edits, changed)?;
+    let tunnel_table = tunnel_edits(alloc, tables, &edits)?;
+    let resvs = mem::replace(&mut edits.resvs, Table::new(alloc));
+    let bandwidth = bandwidth_edits(alloc, tables, &edits.paths, resvs)?;
+    Ok(Change {
+        edits,
         bandwidth,
-        repairs: mem::replace(&mut edits.repairs, Table::new(alloc)),
-        labels: mem::replace(&mut edits.labels, Table::new(alloc)),
         moments,
         upstream,
         table,
         tunnel_table,
-    }
+    })
 }
 
-/// The plan of the step of a draft that isn't silent: with all that follows from its own change, with what is sent, and
-/// with what becomes of the label table and of the table of tunnels. The only error is out of memory.
-fn sending_plan(alloc: Global, tables: &Tables, draft: Draft) -> Result<Plan, AllocError>
-    requires { IsDrafted tables.now.router tables.now.state (edited draft.edits tables.now.state) }
-    ensures { IfOk result (IsSendingPlan tables.now.router tables.now.state (drafted draft tables.now.router tables.now.state)) }
+/// The change of a router's tables by the edits of a step, where there are any. It is boxed. The only error is out of memory, and
+/// none comes where there are none.
+fn change_by(
+    alloc: Global,
+    tables: &Tables,
+    step: Option<StepEdits>,
+) -> Result<Option<Box<Change>>, AllocError>
+    requires { IfSome step (AreStepEdits tables.now.router tables.now.state) }
+    ensures change { IfOk result (λ boxed. IfSome boxed (λ change. IsChange tables.now.router tables.now.state change.value)) }
+    ensures after { IfOk result (λ boxed. option_map_or (λ change. changed change.value tables.now.state) boxed tables.now.state
+        ≡ option_map_or (λ edits. after_edits edits tables.now.state) step tables.now.state) }
+    ensures memory { OnErr result (is_none step ≡ false) }
 {
-    tables.soundness();
-    let settled = settle(alloc, tables, draft.edits)?;
-    let errors = appended(draft.errors, settled.told)?;
-    let sends = sends_of(alloc, tables, &settled.edits, draft.due, errors)?;
-    let table = table_of(alloc, tables, &settled.edits, sends.changed)?;
-    let tunnel_table = tunnel_edits(alloc, tables, &settled.edits)?;
-    let mut edits = settled.edits;
-    let resvs = mem::replace(&mut edits.resvs, Table::new(alloc));
-    let bandwidth = bandwidth_edits(alloc, tables, &edits.paths, resvs)?;
-    let change = change_of(
-        alloc,
-        edits,
-        bandwidth,
-        sends.moments,
-        sends.upstream,
-        table,
-        tunnel_table,
-    );
-    Ok(Plan {
-        reply: draft.reply,
-        outputs: sends.outputs,
-        chosen: settled.chosen,
-        change: Some(Box::new(alloc, change)?),
-    })
+    match step {
+        Some(edits) => Ok(Some(Box::new(alloc, change_of(alloc, tables, edits)?)?)),
+        None => Ok(None),
+    }
 }
 
 /// The plan of the step of an event that has one. The only error is out of memory, and it comes for no event that is
@@ -268,17 +170,13 @@ fn plan_of_step(alloc: Global, tables: &Tables, event: &Event) -> Result<Plan, A
     ensures memory { OnErr result ((outcome tables.now.router tables.now.state event.now).is_silent ≡ false) }
 {
     tables.soundness();
-    is_possible(event);
-    let draft = draft_of(alloc, tables, event)?;
-    if draft.is_silent {
-        return Ok(Plan {
-            reply: draft.reply,
-            outputs: Outputs::new(alloc),
-            chosen: Table::new(alloc),
-            change: None,
-        });
-    }
-    sending_plan(alloc, tables, draft)
+    let step = step_of(alloc, tables, event)?;
+    Ok(Plan {
+        reply: step.reply,
+        outputs: step.outputs,
+        chosen: step.chosen,
+        change: change_by(alloc, tables, step.edits)?,
+    })
 }
 
 /// The plan of an event's step. A message for another router whose limit ran out has none ([`Refusal::HopLimit`]); else

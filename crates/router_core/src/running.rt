@@ -1,22 +1,19 @@
 //! A router, cold or running.
 
-ghost use Rattle.std.specs.Prelude.{◌≡◌, ◌≢◌, Err, IfErr, IfOk, OnErr, false, true};
+ghost use Rattle.std.specs.Prelude.{◌≡◌, ◌≢◌, Err, IfErr, IfOk, false, true};
 ghost use Rattle.lsr_facts.specs.Routers.{IsRouter};
 ghost use Rattle.abstract_paths.specs.declared.events.Event.{Event};
 ghost use Rattle.abstract_paths.specs.declared.events.Event.TheVariants as events;
-ghost use Rattle.lsr_facts.specs.Claims.{reserved_of};
 ghost use Rattle.lsr_facts.specs.declared.refusal.Refusal.TheVariants.{HopLimit};
 ghost use Rattle.abstract_paths.specs.Relays.{exceeds_hop_limit};
-ghost use Rattle.abstract_router.specs.Preempting.{claims_of};
 ghost use Rattle.abstract_router.specs.Soundness.{IsSound};
 ghost use Rattle.abstract_router.specs.Steps.{Step};
-ghost use Rattle.abstract_router.specs.Tables.{TellsChange, look, look_tunnel};
+ghost use Rattle.abstract_router.specs.Tables.{TellsChange};
 ghost use Rattle.router_core.specs.Plans.{IsOutFor, IsPlanOf, after_plan, made_by, quiet};
 ghost use Rattle.router_core.specs.States.{IsEmpty, cold, emptied, opened};
 
 use crate::plan::{Plan, plan_of};
-use abstract_paths::{Event, Made, Outputs};
-use forwarding_table::Action;
+use abstract_paths::{Event, Outputs};
 use lsr_config::Config;
 use lsr_facts::{Key, Refusal};
 use router_tables::Tables;
@@ -127,28 +124,6 @@ impl Running {
         (chosen, outputs)
     }
 
-    /// Serves an event: the step as it was made, with what the event is answered and what is sent. It asks for an
-    /// event that is no restart ([`Running::restart`]). What has no step is refused as [`Running::plan`] refuses it, and
-    /// then nothing changed.
-    pub fn serve_event(&mut self, alloc: Global, event: Event) -> Result<Made, Refusal>
-        requires { event ≢ events.Restart }
-        ensures event { IfOk result (λ made. made.event ≡ event) }
-        ensures step { IfOk result (λ made. Step self.old.router self.old.state made self.new.state) }
-        ensures router { self.new.router ≡ self.old.router }
-        ensures out { IfErr result (IsOutFor self.old event) }
-        ensures kept { OnErr result (self.new ≡ self.old) }
-    {
-        let plan = self.plan(alloc, &event)?;
-        let reply = plan.reply;
-        let (labels, outputs) = self.commit(plan);
-        Ok(Made {
-            event,
-            labels,
-            reply,
-            outputs,
-        })
-    }
-
     /// The router loses what messages had set up in it, and is cold until it is started: links, static routes, tunnels and
     /// the moment stay, but changes of tunnels that aren't over are given up. Takes no memory, and sends nothing.
     pub fn restart(self) -> Cold
@@ -159,27 +134,6 @@ impl Running {
         tables.soundness();
         tables.forget();
         Cold { tables }
-    }
-
-    /// How much of a link is reserved at this priority, 0 (best) to 7, or a better one, in bytes per second.
-    pub fn reserved(&self, link: u16, priority: u8) -> u64
-        ensures { result ≡ reserved_of link priority (claims_of self.now.state.facts.paths self.now.state.resvs) }
-    {
-        self.tables.reserved(link, priority)
-    }
-
-    /// What is done with a frame that comes under this label, or `None` where nothing is (RFC 3031, 3.10).
-    pub fn look(&self, label: u32) -> Option<Action>
-        ensures { result ≡ look self.now.router self.now.state label }
-    {
-        self.tables.look(label)
-    }
-
-    /// What is done with the traffic of the tunnel of this number, or `None` where nothing is (RFC 3031, 3.12).
-    pub fn look_tunnel(&self, number: u16) -> Option<Action>
-        ensures { result ≡ look_tunnel self.now.router self.now.state number }
-    {
-        self.tables.look_tunnel(number)
     }
 
     /// Whether anything is forwarded: by a label, or of a tunnel's traffic. A restart ends that.

@@ -1,82 +1,49 @@
--- The rows of all tables once a change is made, and that they are those of a sound router.
+-- The rows of all tables once a change is made are those of a sound router.
 use Rattle.std.specs.Prelude.{◌≡◌}
-use Rattle.std.specs.Option.{unwrap_or}
 use Rattle.std.specs.Ordering.{nat_cmp}
-use Rattle.std.proofs.Common.{ap, ◌∙◌}
-use Rattle.sorted_rows.specs.Edits as in_rows
-use Rattle.admission.specs.Bandwidths.{claim_edits, with_edits}
-use Rattle.lsr_facts.specs.Orders.{item_cmp, key_cmp}
-use Rattle.lsr_facts.specs.Upstreams.{upstream_cmp}
-use Rattle.router_tables.specs.Changes.{IsChange}
+use Rattle.std.proofs.Common.{ap, subst, sym, ◌∙◌}
+use Rattle.sorted_rows.specs.Edits as rows
+use Rattle.abstract_router.specs.Preempting.{claims_of}
+use Rattle.abstract_router.specs.Soundness.{IsSound}
+use Rattle.abstract_router.specs.States.{State}
+use Rattle.abstract_router.specs.Tables.{tunnel_table_of}
+use Rattle.admission.specs.Bandwidths.{claim_edits}
+use Rattle.label_table.specs.Rows.{IsTableOf}
+use Rattle.lsr_facts.specs.Orders.{key_cmp}
+use Rattle.lsr_facts.specs.Routers.{IsRouter}
+use Rattle.lsr_facts.specs.declared.router.Router.{Router}
+use Rattle.router_tables.specs.Changes.{IsChange, changed}
 use Rattle.router_tables.specs.States.{AreTables, state_of}
 use Rattle.router_tables.specs.declared.change.Change.{Change}
 use Rattle.router_tables.specs.declared.rows.Rows.{Rows}
 
--- the moment, links, routes and bypasses are edited
-abbrev pub place_made : Change → Rows → Rows
-place_made c t = record t {
-  moment = unwrap_or c.moment t.moment;
-  up = unwrap_or c.up t.up;
-  routes = unwrap_or c.routes t.routes;
-  bypasses = unwrap_or c.bypasses t.bypasses;
-}
+-- Rows say what is known after a change, of the same router, and their claims and actions are edited.
+pub record AreEdited (c : Change) (was is : Rows) : Type 0 where
+  pub router : is.router ≡ was.router
+  pub state : state_of is ≡ changed c (state_of was)
+  pub period : is.timers.refresh_ms ≡ was.timers.refresh_ms
+  pub upstream_period : is.upstream.refresh_ms ≡ was.upstream.refresh_ms
+  pub claims : is.bandwidth.claims ≡ rows.edited key_cmp (claim_edits c.bandwidth) was.bandwidth.claims
+  pub range : is.labels.range ≡ was.labels.range
+  pub table : is.table.labels ≡ rows.edited nat_cmp c.table was.table.labels
+  pub tunnel_table : is.table.tunnels ≡ rows.edited nat_cmp c.tunnel_table was.table.tunnels
 
--- then tunnels and paths
-abbrev pub paths_made : Change → Rows → Rows
-paths_made c t = record t {
-  tunnels = in_rows.edited nat_cmp c.tunnels t.tunnels;
-  paths = in_rows.edited key_cmp c.paths t.paths;
-}
-
--- then reservations, repairs and labels
-abbrev pub held_made : Change → Rows → Rows
-held_made c t = record t {
-  bandwidth = with_edits c.bandwidth t.bandwidth;
-  repairs = in_rows.edited key_cmp c.repairs t.repairs;
-  labels = record t.labels { labels = in_rows.edited key_cmp c.labels t.labels.labels };
-}
-
--- then the moments at which messages were sent
-abbrev pub moments_made : Change → Rows → Rows
-moments_made c t = record t {
-  timers = record t.timers { sent = in_rows.edited item_cmp c.moments t.timers.sent };
-  upstream = record t.upstream { sent = in_rows.edited upstream_cmp c.upstream t.upstream.sent };
-}
-
--- and then the actions of labels and of tunnels
-abbrev pub actions_made : Change → Rows → Rows
-actions_made c t = record t {
-  table = record {
-    labels = in_rows.edited nat_cmp c.table t.table.labels;
-    tunnels = in_rows.edited nat_cmp c.tunnel_table t.table.tunnels;
-  };
-}
-
-abbrev pub applied : Change → Rows → Rows
-applied c t = actions_made c (moments_made c (held_made c (paths_made c (place_made c t))))
-
--- the rows that are made so in turn
-pub two_made : (c : Change) (t one two : Rows) → one ≡ place_made c t → two ≡ paths_made c one → two ≡ paths_made c (place_made c t)
-two_made c t one two first second = second ∙ ap (λ rows. paths_made c rows) first
-
-pub three_made : (c : Change) (t one two three : Rows) → one ≡ place_made c t → two ≡ paths_made c one → three ≡ held_made c two → three ≡ held_made c (paths_made c (place_made c t))
-three_made c t one two three first second third = third ∙ ap (λ rows. held_made c rows) (two_made c t one two first second)
-
-pub four_made : (c : Change) (t one two three four : Rows) → one ≡ place_made c t → two ≡ paths_made c one → three ≡ held_made c two → four ≡ moments_made c three → four ≡ moments_made c (held_made c (paths_made c (place_made c t)))
-four_made c t one two three four first second third fourth = fourth ∙ ap (λ rows. moments_made c rows) (three_made c t one two three first second third)
-
-pub all_made : (c : Change) (t one two three four five : Rows) → one ≡ place_made c t → two ≡ paths_made c one → three ≡ held_made c two → four ≡ moments_made c three → five ≡ actions_made c four → five ≡ applied c t
-all_made c t one two three four five first second third fourth fifth = fifth ∙ ap (λ rows. actions_made c rows) (four_made c t one two three four first second third fourth)
-
--- They are the tables of the router after the change.
-pub applied_are : (c : Change) (t : Rows) → AreTables t → IsChange t.router (state_of t) c → AreTables (applied c t)
-applied_are c t are change = record {
-  router = are.router;
-  sound = change.sound;
-  period = are.period;
-  upstream_period = are.upstream_period;
-  claims = ap (λ claims. in_rows.edited key_cmp (claim_edits c.bandwidth) claims) are.claims ∙ change.claims;
-  range = are.range;
-  table = change.table.table t.table.labels are.table;
-  tunnel_table = ap (λ tunnels. in_rows.edited nat_cmp c.tunnel_table tunnels) are.tunnel_table ∙ change.tunnel_table.table;
-}
+-- So they are those of a sound router.
+pub edited_are : (c : Change) (was is : Rows) → AreTables was → IsChange was.router (state_of was) c → AreEdited c was is → AreTables is
+edited_are c was is are change edit =
+    let router = sym edit.router in
+    let after = changed c (state_of was) in
+    record {
+      router = subst IsRouter router are.router;
+      sound = subst (λ (r : Router). IsSound r (state_of is)) router (subst (IsSound was.router) (sym edit.state) change.sound);
+      period = edit.period ∙ are.period ∙ ap (λ (r : Router). r.refresh_ms) router;
+      upstream_period = edit.upstream_period ∙ are.upstream_period ∙ ap (λ (r : Router). r.refresh_ms) router;
+      claims = edit.claims ∙ ap (rows.edited key_cmp (claim_edits c.bandwidth)) are.claims ∙ change.claims ∙ ap (λ (s : State). claims_of s.facts.paths s.resvs) (sym edit.state);
+      range = edit.range ∙ are.range ∙ ap (λ (r : Router). r.labels) router;
+      table =
+          subst (λ (r : Router). IsTableOf r (state_of is) is.table.labels) router
+          (subst (λ (s : State). IsTableOf was.router s is.table.labels) (sym edit.state) (subst (IsTableOf was.router after) (sym edit.table) (change.table.table was.table.labels are.table)));
+      tunnel_table =
+          edit.tunnel_table ∙ ap (rows.edited nat_cmp c.tunnel_table) are.tunnel_table ∙ change.tunnel_table.table
+          ∙ ap (tunnel_table_of was.router) (sym edit.state) ∙ ap (λ (r : Router). tunnel_table_of r (state_of is)) router;
+    }

@@ -6,6 +6,7 @@ use Rattle.std.specs.Option.{option_and_then, option_map, option_map_or}
 use Rattle.std.proofs.Common.{refl, ap, arith, ◌∙◌, inl, inr}
 use Rattle.std.proofs.lemmas.List.{length-append, length-map}
 use Rattle.sorted_rows.specs.RowsLaws.{find-all_row}
+use Rattle.lsr_facts.specs.Limits.{max_lsps, max_tunnels}
 use Rattle.lsr_facts.specs.OrderLaws.{key_exact, key_total}
 use Rattle.lsr_facts.specs.Orders.{key_cmp}
 use Rattle.lsr_facts.specs.declared.key.Item.{Item}
@@ -92,28 +93,31 @@ one_wanted a lsp = by lsp.1.repair refl
     by (Some repair) some = inl (unless _ _ (ap (λ o. goes_on lsp.1.path.role && is_none o && is_up a.place.up lsp.1.path.out_link) some ∙ not_repaired (goes_on lsp.1.path.role) (is_up a.place.up lsp.1.path.out_link)))
 
 module _ (r : Router) (s : State) (is : IsSound r s) where
-  pub few_paths : length s.facts.paths ≤ 1024
+  pub few_paths : length s.facts.paths ≤ max_lsps
   few_paths = is.paths.paths.few
 
-  pub few_tunnels : length s.facts.tunnels ≤ 256
+  pub few_tunnels : length s.facts.tunnels ≤ max_tunnels
   few_tunnels = is.paths.tunnels.few
 
-  pub few_resvs : length s.resvs ≤ 1024
+  pub few_resvs : length s.resvs ≤ max_lsps
   few_resvs =
       let standing = λ (key : Key). find-all_row key_cmp key_exact (λ resv. stands s.facts resv ≡ true) key s.resvs is.standing in
       let known = λ (key : Key). all_known (λ (resv : ResvFact). leaves_by resv.link) (λ resv. is_up s.facts.up resv.link) (find key_cmp key s.facts.paths) (find key_cmp key s.resvs) (standing key) in
       omega (arith, few_rows s.facts.paths is.paths.paths.in_order s.resvs is.held.in_order known, few_paths)
 
-  pub few_repairs : length s.repairs ≤ 1024
+  pub few_repairs : length s.repairs ≤ max_lsps
   few_repairs =
       let standing = λ (key : Key). find-all_row key_cmp key_exact (λ repair. repair_stands r s repair ≡ true) key s.repairs is.repairs_standing in
       let known = λ (key : Key). all_known (λ (repair : Repair). leaves_by repair.resv.link) (λ repair. is_some (over_at (bypass_tunnels_of r s) repair.bypass)) (find key_cmp key s.facts.paths) (find key_cmp key s.repairs) (standing key) in
       omega (arith, few_rows s.facts.paths is.paths.paths.in_order s.repairs is.repaired.in_order known, few_paths)
 
-  pub few_labels : length s.labels ≤ 1024
+  pub few_labels : length s.labels ≤ max_lsps
   few_labels = omega (arith, length-labelled r s is.labels, few_paths)
 
-  pub few_moments : length s.facts.sent ≤ 1024
+  pub few_assignments : length s.assignments ≤ max_lsps
+  few_assignments = omega (arith, ap length is.no_assignments)
+
+  pub few_moments : length s.facts.sent ≤ max_lsps
   unfolding items_of lsps_of
   few_moments =
       let as_many = length-map s.facts.sent (λ (row : Item × ℕ). row.0) in

@@ -1,7 +1,5 @@
 -- What a change makes of what a router knows.
 use Rattle.std.specs.Prelude.{◌≡◌}
-use Rattle.std.specs.Option.{unwrap_or}
-use Rattle.std.specs.Ordering.{nat_cmp}
 use Rattle.sorted_rows.specs.Edits as rows
 use Rattle.lsr_facts.specs.Orders.{item_cmp, key_cmp}
 use Rattle.lsr_facts.specs.declared.router.Router.{Router}
@@ -12,23 +10,15 @@ use Rattle.abstract_router.specs.States.{State}
 use Rattle.admission.specs.Bandwidths.{AreEdits, claim_edits, resv_edits}
 use Rattle.label_table.specs.Rows.{AreTableEdits}
 use Rattle.label_table.specs.TunnelRows.{AreTunnelEdits}
+use Rattle.state_views.specs.Edits.{edited}
 use Rattle.router_tables.specs.declared.change.Change.{Change}
 
--- what is known after a change
+-- what is known after a change: after its edits, with the reservations that it keeps, and with the moments at which messages were
+-- sent
 abbrev pub changed : Change → State → State
-changed c s = record {
-  facts = record s.facts {
-    moment = unwrap_or c.moment s.facts.moment;
-    up = unwrap_or c.up s.facts.up;
-    routes = unwrap_or c.routes s.facts.routes;
-    tunnels = rows.edited nat_cmp c.tunnels s.facts.tunnels;
-    bypasses = unwrap_or c.bypasses s.facts.bypasses;
-    paths = rows.edited key_cmp c.paths s.facts.paths;
-    sent = rows.edited item_cmp c.moments s.facts.sent;
-  };
+changed c s = record (edited c.edits s) {
+  facts = record (edited c.edits s).facts { sent = rows.edited item_cmp c.moments s.facts.sent };
   resvs = rows.edited key_cmp (resv_edits c.bandwidth) s.resvs;
-  repairs = rows.edited key_cmp c.repairs s.repairs;
-  labels = rows.edited key_cmp c.labels s.labels;
   sent_upstream = rows.edited upstream_cmp c.upstream s.sent_upstream;
 }
 

@@ -1,22 +1,16 @@
 -- What a router is and knows, and the rows that say so.
-use Rattle.std.specs.Prelude.{◌≡◌, false, [], map}
+use Rattle.std.specs.Prelude.{◌≡◌, false, []}
 use Rattle.lsr_config.specs.Configs.{IsConfig, Setup}
 use Rattle.lsr_facts.specs.Routers.{IsRouter}
 use Rattle.lsr_facts.specs.declared.facts.Facts.{Facts}
-use Rattle.lsr_facts.specs.declared.router.Router.{Router}
-use Rattle.abstract_paths.specs.Restarts.{all_cancelled}
 use Rattle.abstract_router.specs.Preempting.{claims_of}
 use Rattle.abstract_router.specs.Soundness.{IsSound}
-use Rattle.abstract_router.specs.States.{State}
+pub use Rattle.abstract_router.specs.States.{RouterState, emptied}
+use Rattle.abstract_router.specs.States.{State, bare}
 use Rattle.abstract_router.specs.Steps.{opening}
 use Rattle.abstract_router.specs.Tables.{tunnel_table_of}
 use Rattle.label_table.specs.Rows.{IsTableOf}
 use Rattle.router_tables.specs.declared.rows.Rows.{Rows}
-
--- a router: what never changes of it, and what it knows
-pub record RouterState : Type 0 where
-  pub router : Router
-  pub state : State
 
 -- what the rows of a running router say of links, tunnels and paths
 abbrev pub facts_of : Rows → Facts
@@ -33,7 +27,13 @@ facts_of t = record {
 
 -- and all that they say
 abbrev pub state_of : Rows → State
-state_of t = record { facts = facts_of t; resvs = t.bandwidth.resvs; repairs = t.repairs; labels = t.labels.labels; sent_upstream = t.upstream.sent }
+state_of t = record (bare (facts_of t)) {
+  resvs = t.bandwidth.resvs;
+  repairs = t.repairs;
+  labels = t.labels.labels;
+  assignments = t.assignments;
+  sent_upstream = t.upstream.sent;
+}
 
 abbrev pub router_state_of : Rows → RouterState
 router_state_of t = record { router = t.router; state = state_of t }
@@ -54,31 +54,12 @@ pub record AreTables (t : Rows) : Type 0 where
 abbrev pub opened : Setup → RouterState
 opened c = record { router = c.router; state = opening c.router c.routes c.tunnels c.bypasses }
 
--- what is left where all is lost that messages set up: the moment, links, static routes, tunnels and bypasses, but no change of a
--- tunnel
-abbrev pub emptied : State → State
-emptied s = record {
-  facts = record s.facts { tunnels = all_cancelled s.facts.tunnels; paths = []; sent = [] };
-  resvs = [];
-  repairs = [];
-  labels = [];
-  sent_upstream = [];
-}
-
--- The rows of a router of a configuration as it is opened: nothing is known of LSPs, and all that there may ever be has room.
+-- The rows of a router of a configuration as it is opened: they say what is known then, and nothing is claimed or forwarded.
 pub record AreOpened (c : Setup) (t : Rows) : Type 0 where
   pub config : IsConfig c
-  pub router : t.router ≡ c.router
-  pub moment : t.moment ≡ 0
-  pub up : t.up ≡ map (λ l. (l.0, l.1.up)) c.router.links
-  pub routes : t.routes ≡ c.routes
-  pub tunnels : t.tunnels ≡ c.tunnels
-  pub bypasses : t.bypasses ≡ c.bypasses
-  pub paths : t.paths ≡ []
-  pub timers : t.timers ≡ record { refresh_ms = c.router.refresh_ms; sent = [] }
-  pub resvs : t.bandwidth.resvs ≡ []
+  pub is : router_state_of t ≡ opened c
+  pub period : t.timers.refresh_ms ≡ c.router.refresh_ms
+  pub upstream_period : t.upstream.refresh_ms ≡ c.router.refresh_ms
   pub claims : t.bandwidth.claims ≡ []
-  pub repairs : t.repairs ≡ []
-  pub labels : t.labels ≡ record { range = c.router.labels; labels = [] }
-  pub upstream : t.upstream ≡ record { refresh_ms = c.router.refresh_ms; sent = [] }
+  pub range : t.labels.range ≡ c.router.labels
   pub table : t.table ≡ record { labels = []; tunnels = [] }

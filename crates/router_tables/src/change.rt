@@ -7,9 +7,9 @@ ghost use Rattle.abstract_router.specs.Tables.{TellsChange};
 ghost use Rattle.router_tables.specs.Changes.{IsChange, changed};
 
 use forwarding_table::Action;
-use lsr_facts::{Bypass, Item, Key, PathFact, Repair, ResvFact, Tunnel, Upstream};
-use rsvp_bodies::Prefix;
+use lsr_facts::{Item, Key, ResvFact, Upstream};
 use sorted_rows::Table;
+use state_views::Edits;
 
 /// Edits of what LSPs have: from now on this reservation, kept at this priority, or none.
 pub type BandwidthEdits = Table<Key, Option<(ResvFact, u8)>>;
@@ -17,24 +17,10 @@ pub type BandwidthEdits = Table<Key, Option<(ResvFact, u8)>>;
 /// All that a step changes, with all the memory that this takes. Where a row of a table is `None`, it goes.
 #[derive(Debug, Drop)]
 pub struct Change {
-    /// The moment from now on, in milliseconds, where one came.
-    pub moment: Option<u64>,
-    /// Of each link whether it is up from now on, where a link came up or went down.
-    pub up: Option<Table<u16, bool>>,
-    /// The static routes from now on, where one came or went.
-    pub routes: Option<Table<Prefix, u16>>,
-    /// What is known of tunnels that begin here from now on, by number.
-    pub tunnels: Table<u16, Option<Tunnel>>,
-    /// The bypasses from now on, by number, where one came or went.
-    pub bypasses: Option<Table<u16, Bypass>>,
-    /// Of LSPs what is known of their paths from now on.
-    pub paths: Table<Key, Option<PathFact>>,
+    /// What becomes known. What becomes of reservations is told beside it.
+    pub edits: Edits,
     /// Of LSPs the reservation that each has from now on, and the priority at which it is kept.
     pub bandwidth: BandwidthEdits,
-    /// Of LSPs the repair that each has from now on.
-    pub repairs: Table<Key, Option<Repair>>,
-    /// Of LSPs the label that each has from now on.
-    pub labels: Table<Key, Option<u32>>,
     /// When Paths were sent last that are kept alive at a neighbour, in milliseconds.
     pub moments: Table<Item, Option<u64>>,
     /// When Resvs were sent last that are kept alive at a neighbour, in milliseconds.

@@ -12,5 +12,5 @@ mod views;
 
 pub use change::Change;
 pub use label_table::{table_edits, tunnel_edits};
-pub use state_views::{Changed, Draft, Edits, StateView, WholeState};
+pub use state_views::{StateView, WholeState};
 pub use tables::Tables;

@@ -1,30 +1,23 @@
 //! The rows of all tables, and what is made of them.
 
 ghost use Rattle.std.specs.Option.{unwrap_or};
-ghost use Rattle.std.specs.Ordering.{nat_cmp};
-ghost use Rattle.std.specs.Prelude.{◌≡◌, ◌≤◌, [], All, IfSome, length};
-ghost use Rattle.forwarding_table.specs.Actions.{WritesLabels};
-ghost use Rattle.sorted_rows.specs.Edits as in_rows;
-ghost use Rattle.lsr_facts.specs.Orders.{item_cmp, key_cmp};
-ghost use Rattle.lsr_facts.specs.Upstreams.{upstream_cmp};
-ghost use Rattle.admission.specs.Bandwidths.{AreEdits, resv_edits, with_edits};
-ghost use Rattle.label_space.specs.Bindings.{AreHeldOf};
+ghost use Rattle.std.specs.Prelude.{◌≡◌};
 ghost use Rattle.router_tables.specs.Changes.{IsChange, changed};
 ghost use Rattle.router_tables.specs.States.{AreTables, emptied, state_of};
 
-use crate::change::{BandwidthEdits, Change};
+use crate::change::Change;
 use crate::repairs::Repairs;
 use crate::tunnels::{Tunnels, cancel_all};
 use admission::Admission;
-use forwarding_table::{Action, ForwardingTable};
+use forwarding_table::ForwardingTable;
 use label_space::LabelBindings;
 use lsr_facts::laws::items_are_in_order;
 use lsr_facts::limits::MAX_LSPS;
-use lsr_facts::{Bypass, Item, Key, PathFact, Repair, Router, Tunnel, Upstream};
+use lsr_facts::{Assignment, Bypass, Item, Key, KeyNumber, Router, Upstream};
 use path_state::PathState;
 use refresh_timers::RefreshTimers;
 use rsvp_bodies::Prefix;
-use slot_rows::make_edits;
+use slot_rows::{SlotTable, make_edits};
 use sorted_rows::Table;
 
 /// Resvs that a router keeps alive upstream: one for each of the four origins of each of 1,024 LSPs.
@@ -53,6 +46,8 @@ pub(crate) struct Rows {
     pub(crate) bandwidth: Admission,
     /// The repairs.
     pub(crate) repairs: Repairs,
+    /// What LSPs are promised of the bandwidth of bypasses.
+    pub(crate) assignments: SlotTable<Key, Assignment, KeyNumber, MAX_LSPS>,
     /// The labels that LSPs hold, and those that are free.
     pub(crate) labels: LabelBindings,
     /// When each Resv was sent last that is kept alive upstream.
@@ -61,113 +56,13 @@ pub(crate) struct Rows {
     pub(crate) table: ForwardingTable,
 }
 
-/// Makes edits of the moment, of links, of routes and of bypasses.
-fn edit_place(
-    rows: &mut Rows,
-    moment: Option<u64>,
-    up: Option<Table<u16, bool>>,
-    routes: Option<Table<Prefix, u16>>,
-    bypasses: Option<Table<u16, Bypass>>,
-)
-    ensures rows { rows.new ≡ record rows.old {
-      moment = unwrap_or moment rows.old.moment;
-      up = unwrap_or up rows.old.up;
-      routes = unwrap_or routes rows.old.routes;
-      bypasses = unwrap_or bypasses rows.old.bypasses;
-    } }
+/// What there is, replaced where there is something in its place.
+fn replace<T: Drop>(was: &mut T, now: Option<T>)
+    ensures { was.new ≡ unwrap_or now was.old }
 {
-    if let Some(moment) = moment {
-        rows.moment = moment;
+    if let Some(now) = now {
+        *was = now;
     }
-    if let Some(up) = up {
-        rows.up = up;
-    }
-    if let Some(routes) = routes {
-        rows.routes = routes;
-    }
-    if let Some(bypasses) = bypasses {
-        rows.bypasses = bypasses;
-    }
-}
-
-/// Makes edits of tunnels and of paths.
-fn edit_paths(
-    rows: &mut Rows,
-    tunnels: Table<u16, Option<Tunnel>>,
-    paths: Table<Key, Option<PathFact>>,
-)
-    requires room { length (in_rows.edited nat_cmp tunnels rows.old.tunnels) ≤ 256 }
-    requires few { length (in_rows.edited key_cmp paths rows.old.paths) ≤ 1024 }
-    ensures rows { rows.new ≡ record rows.old {
-      tunnels = in_rows.edited nat_cmp tunnels rows.old.tunnels;
-      paths = in_rows.edited key_cmp paths rows.old.paths;
-    } }
-{
-    make_edits(&mut rows.tunnels, tunnels);
-    rows.paths.edit(paths);
-}
-
-/// Makes edits of reservations, repairs and labels.
-fn edit_held(
-    rows: &mut Rows,
-    bandwidth: BandwidthEdits,
-    repairs: Table<Key, Option<Repair>>,
-    labels: Table<Key, Option<u32>>,
-)
-    requires room { length (in_rows.edited key_cmp (resv_edits bandwidth) rows.old.bandwidth.resvs) ≤ 1024 }
-    requires edits { AreEdits bandwidth }
-    requires repairs { length (in_rows.edited key_cmp repairs rows.old.repairs) ≤ 1024 }
-    requires few { length (in_rows.edited key_cmp labels rows.old.labels.labels) ≤ 1024 }
-    requires held { AreHeldOf rows.old.labels.range (in_rows.edited key_cmp labels rows.old.labels.labels) }
-    ensures rows { rows.new ≡ record rows.old {
-      bandwidth = with_edits bandwidth rows.old.bandwidth;
-      repairs = in_rows.edited key_cmp repairs rows.old.repairs;
-      labels = record rows.old.labels { labels = in_rows.edited key_cmp labels rows.old.labels.labels };
-    } }
-{
-    rows.bandwidth.edit(bandwidth);
-    make_edits(&mut rows.repairs, repairs);
-    rows.labels.edit(labels);
-}
-
-/// Makes edits of the moments at which messages were sent.
-fn edit_moments(
-    rows: &mut Rows,
-    moments: Table<Item, Option<u64>>,
-    upstream: Table<Upstream, Option<u64>>,
-)
-    requires room { length (in_rows.edited item_cmp moments rows.old.timers.sent) ≤ 1024 }
-    requires few { length (in_rows.edited upstream_cmp upstream rows.old.upstream.sent) ≤ 4096 }
-    ensures rows { rows.new ≡ record rows.old {
-      timers = record rows.old.timers { sent = in_rows.edited item_cmp moments rows.old.timers.sent };
-      upstream = record rows.old.upstream { sent = in_rows.edited upstream_cmp upstream rows.old.upstream.sent };
-    } }
-{
-    // That items are compared by the order that their rows stand in.
-    items_are_in_order();
-    rows.timers.edit(moments);
-    rows.upstream.edit(upstream);
-}
-
-/// Makes edits of what is done with labels, and with the traffic of tunnels.
-fn edit_actions(
-    rows: &mut Rows,
-    labels: Table<u32, Option<Action>>,
-    tunnels: Table<u16, Option<Action>>,
-)
-    requires labels { All (λ edit. IfSome edit.1 WritesLabels) labels }
-    requires room { length (in_rows.edited nat_cmp labels rows.old.table.labels) ≤ 1024 }
-    requires tunnels { All (λ edit. IfSome edit.1 WritesLabels) tunnels }
-    requires few { length (in_rows.edited nat_cmp tunnels rows.old.table.tunnels) ≤ 256 }
-    ensures rows { rows.new ≡ record rows.old {
-      table = record {
-        labels = in_rows.edited nat_cmp labels rows.old.table.labels;
-        tunnels = in_rows.edited nat_cmp tunnels rows.old.table.tunnels;
-      };
-    } }
-{
-    rows.table.edit(labels);
-    rows.table.edit_tunnels(tunnels);
 }
 
 /// Lets the wheels of all that expires or is to be sent again come up to the moment that the router was told last.
@@ -190,28 +85,32 @@ pub(crate) fn apply(rows: &mut Rows, change: Change)
     ensures state { state_of rows.new ≡ changed change (state_of rows.old) }
 {
     let Change {
-        moment,
-        up,
-        routes,
-        tunnels,
-        bypasses,
-        paths,
+        edits,
         bandwidth,
-        repairs,
-        labels,
         moments,
         upstream,
         table,
         tunnel_table,
     } = change;
+    let edits = edits.into_parts();
 
-    // That the rows of the label table are in order.
+    // That items are compared by the order that their rows stand in, and that the rows of the label table are in order.
+    items_are_in_order();
     rows.table.rows_are_in_order();
-    edit_place(rows, moment, up, routes, bypasses);
-    edit_paths(rows, tunnels, paths);
-    edit_held(rows, bandwidth, repairs, labels);
-    edit_moments(rows, moments, upstream);
-    edit_actions(rows, table, tunnel_table);
+    replace(&mut rows.moment, edits.moment);
+    replace(&mut rows.up, edits.up);
+    replace(&mut rows.routes, edits.routes);
+    replace(&mut rows.bypasses, edits.bypasses);
+    make_edits(&mut rows.tunnels, edits.tunnels);
+    rows.paths.edit(edits.paths);
+    rows.bandwidth.edit(bandwidth);
+    make_edits(&mut rows.repairs, edits.repairs);
+    make_edits(&mut rows.assignments, edits.assignments);
+    rows.labels.edit(edits.labels);
+    rows.timers.edit(moments);
+    rows.upstream.edit(upstream);
+    rows.table.edit(table);
+    rows.table.edit_tunnels(tunnel_table);
     advance(rows);
 }
 
@@ -227,6 +126,7 @@ pub(crate) fn forget(rows: &mut Rows)
     rows.timers.clear_all();
     rows.bandwidth.clear();
     rows.repairs.clear();
+    rows.assignments.clear();
     rows.labels.clear();
     rows.upstream.clear_all();
     rows.table.clear();

@@ -9,7 +9,7 @@ ghost use Rattle.lsr_facts.specs.Claims.{reserved_of};
 ghost use Rattle.abstract_router.specs.BypassTunnels.{bypass_tunnels_of, over_at};
 ghost use Rattle.abstract_router.specs.Preempting.{claims_of};
 ghost use Rattle.abstract_router.specs.Soundness.{IsSound};
-ghost use Rattle.abstract_router.specs.Tables.{TellsChange, forwarded, look, look_tunnel};
+ghost use Rattle.abstract_router.specs.Tables.{TellsChange, forwarded, look_tunnel};
 ghost use Rattle.label_table.specs.Rows.{IsTableOf};
 ghost use Rattle.router_tables.specs.Changes.{IsChange, changed};
 ghost use Rattle.router_tables.specs.States.{AreOpened, emptied, opened};
@@ -30,6 +30,7 @@ use lsr_facts::{Bypass, Item, Link, Over, Router, State, Upstream};
 use path_state::PathState;
 use refresh_timers::RefreshTimers;
 use rsvp_bodies::Prefix;
+use slot_rows::SlotTable;
 use sorted_rows::Table;
 use std::alloc::{AllocError, Global};
 use std::marker::Model;
@@ -75,129 +76,10 @@ fn limits_of(alloc: Global, links: &[(u16, Link)]) -> Result<Vec<(u16, u64)>, Al
         .collect(alloc)
 }
 
-/// Tables of LSPs, with the memory of all that there may ever be.
-#[derive(Drop)]
-struct LspTables {
-    /// Their paths.
-    paths: PathState,
-    /// Their repairs.
-    repairs: Repairs,
-    /// What is done with their labels, and with the traffic of tunnels.
-    table: ForwardingTable,
-}
-
-/// The tables of LSPs of a router that knows none. The only error is out of memory.
-fn lsp_tables(alloc: Global) -> Result<LspTables, AllocError>
-    ensures { IfOk result (λ t. t ≡ record { paths = []; repairs = []; table = record { labels = []; tunnels = [] } }) }
-{
-    Ok(LspTables {
-        paths: PathState::new(alloc)?,
-        repairs: Repairs::new(alloc)?,
-        table: ForwardingTable::new(alloc)?,
-    })
-}
-
-/// What is known of links, and what is reserved on them.
-#[derive(Drop)]
-struct LinkTables {
-    /// Of each link whether it is up.
-    up: Table<u16, bool>,
-    /// The reservations, and what they claim.
-    bandwidth: Admission,
-}
-
-/// The tables of links of a router that is opened: nothing is reserved. The only error is out of memory.
-fn link_tables(alloc: Global, router: &Router) -> Result<LinkTables, AllocError>
-    requires { T (is_sorted nat_cmp router.now.links) }
-    ensures up { IfOk result (λ t. t.up ≡ map (λ l. (l.0, l.1.up)) router.now.links) }
-    ensures resvs { IfOk result (λ t. t.bandwidth.resvs ≡ []) }
-    ensures claims { IfOk result (λ t. t.bandwidth.claims ≡ []) }
-{
-    let up = links_up(alloc, router.links.as_slice())?;
-    let limits = limits_of(alloc, router.links.as_slice())?;
-    Ok(LinkTables {
-        up: Table::from_rows(up),
-        bandwidth: Admission::new(alloc, Table::from_rows(limits))?,
-    })
-}
-
-/// What is kept of labels, and of when messages were sent.
-#[derive(Drop)]
-struct KeptTables {
-    /// When each Path was sent last that is kept alive.
-    timers: RefreshTimers<Item, MAX_LSPS>,
-    /// When each Resv was sent last that is kept alive.
-    upstream: RefreshTimers<Upstream, MAX_UPSTREAM>,
-    /// The labels.
-    labels: LabelBindings,
-}
-
-/// Such tables of a router that is opened: no label is held, and nothing was sent. The only error is out of memory.
-fn kept_tables(alloc: Global, router: &Router) -> Result<KeptTables, AllocError>
-    requires { IsRouter router.now }
-    ensures timers { IfOk result (λ t. t.timers ≡ record { refresh_ms = router.now.refresh_ms; sent = [] }) }
-    ensures upstream { IfOk result (λ t. t.upstream ≡ record { refresh_ms = router.now.refresh_ms; sent = [] }) }
-    ensures labels { IfOk result (λ t. t.labels ≡ record { range = router.now.labels; labels = [] }) }
-{
-    Ok(KeptTables {
-        timers: RefreshTimers::new(alloc, router.refresh_ms)?,
-        upstream: RefreshTimers::new(alloc, router.refresh_ms)?,
-        labels: LabelBindings::new(alloc, router.labels)?,
-    })
-}
-
-/// The rows of a router of which nothing is known but its configuration.
-fn rows_of(config: Opened, links: LinkTables, kept: KeptTables, lsps: LspTables) -> Rows
-    ensures { result ≡ record {
-      router = config.router;
-      moment = 0;
-      up = links.up;
-      routes = config.routes;
-      tunnels = config.tunnels;
-      bypasses = config.bypasses;
-      paths = lsps.paths;
-      timers = kept.timers;
-      bandwidth = links.bandwidth;
-      repairs = lsps.repairs;
-      labels = kept.labels;
-      upstream = kept.upstream;
-      table = lsps.table;
-    } }
-{
-    Rows {
-        router: config.router,
-        moment: 0,
-        up: links.up,
-        routes: config.routes,
-        tunnels: config.tunnels,
-        bypasses: config.bypasses,
-        paths: lsps.paths,
-        timers: kept.timers,
-        bandwidth: links.bandwidth,
-        repairs: lsps.repairs,
-        labels: kept.labels,
-        upstream: kept.upstream,
-        table: lsps.table,
-    }
-}
-
-/// What a configuration gives, with room for all tunnels that there may ever be.
-#[derive(Drop)]
-struct Opened {
-    /// The router.
-    router: Router,
-    /// The static routes.
-    routes: Table<Prefix, u16>,
-    /// The tunnels.
-    tunnels: Tunnels,
-    /// The bypasses.
-    bypasses: Table<u16, Bypass>,
-}
-
-/// What the configuration gives, with room for all tunnels that there may ever be. The only error is out of memory.
-fn opened_of(alloc: Global, config: Config) -> Result<Opened, AllocError>
-    ensures config { IfOk result (λ _. IsConfig config) }
-    ensures opened { IfOk result (λ opened. opened ≡ record { router = config.router; routes = config.routes; tunnels = config.tunnels; bypasses = config.bypasses }) }
+/// The rows of the router of a configuration as it is opened, with the memory of all that there may ever be. The only error is
+/// that there is too little.
+fn rows_of(alloc: Global, config: Config) -> Result<Rows, AllocError>
+    ensures { IfOk result (AreOpened config) }
 {
     let Config {
         router,
@@ -205,12 +87,23 @@ fn opened_of(alloc: Global, config: Config) -> Result<Opened, AllocError>
         tunnels,
         bypasses,
     } = config;
-    let tunnels = with_room(alloc, tunnels)?;
-    Ok(Opened {
-        router,
+    let up = links_up(alloc, router.links.as_slice())?;
+    let limits = limits_of(alloc, router.links.as_slice())?;
+    Ok(Rows {
+        moment: 0,
+        up: Table::from_rows(up),
         routes,
-        tunnels,
+        tunnels: with_room(alloc, tunnels)?,
         bypasses,
+        paths: PathState::new(alloc)?,
+        timers: RefreshTimers::new(alloc, router.refresh_ms)?,
+        bandwidth: Admission::new(alloc, Table::from_rows(limits))?,
+        repairs: Repairs::new(alloc)?,
+        assignments: SlotTable::new(alloc)?,
+        labels: LabelBindings::new(alloc, router.labels)?,
+        upstream: RefreshTimers::new(alloc, router.refresh_ms)?,
+        table: ForwardingTable::new(alloc)?,
+        router,
     })
 }
 
@@ -221,12 +114,8 @@ impl Tables {
     pub fn new(alloc: Global, config: Config) -> Result<Tables, AllocError>
         ensures { IfOk result (λ tables. tables ≡ opened config) }
     {
-        let opened = opened_of(alloc, config)?;
-        let links = link_tables(alloc, &opened.router)?;
-        let kept = kept_tables(alloc, &opened.router)?;
-        let lsps = lsp_tables(alloc)?;
         Ok(Tables {
-            rows: rows_of(opened, links, kept, lsps),
+            rows: rows_of(alloc, config)?,
         })
     }
 
@@ -251,13 +140,6 @@ impl Tables {
         ensures { result.now ≡ self.now.router }
     {
         &self.rows.router
-    }
-
-    /// What is done with a frame that comes under this label, or `None` where nothing is.
-    pub fn look(&self, label: u32) -> Option<Action>
-        ensures { result ≡ look self.now.router self.now.state label }
-    {
-        self.rows.table.look(label)
     }
 
     /// What is done with the traffic of the tunnel of this number, or `None` where nothing is.

@@ -2,6 +2,7 @@
 
 ghost use Rattle.std.specs.Prelude.{◌≡◌, ◌≤◌, IfOk, length, true};
 ghost use Rattle.lsr_facts.specs.Changes.{cancelled};
+ghost use Rattle.lsr_facts.specs.Limits.{max_tunnels};
 ghost use Rattle.abstract_paths.specs.Restarts.{all_cancelled};
 
 use lsr_facts::Tunnel;
@@ -16,7 +17,7 @@ pub(crate) type Tunnels = ReservedTable<u16, Tunnel, MAX_TUNNELS>;
 /// The tunnels of a table, with the memory of all that there may ever be. It asks that they are not more; the only error is
 /// that there is too little memory.
 pub(crate) fn with_room(alloc: Global, tunnels: Table<u16, Tunnel>) -> Result<Tunnels, AllocError>
-    requires { length tunnels ≤ 256 }
+    requires { length tunnels ≤ max_tunnels }
     ensures { IfOk result (λ all. all ≡ tunnels) }
 {
     let mut all = Tunnels::new(alloc)?;

@@ -7,8 +7,8 @@ use crate::repairs::expiring;
 use crate::tables::Tables;
 use explicit_routes::link_at;
 use lsr_facts::{
-    Bypass, Claim, Item, Key, Node, PathFact, Repair, Request, ResvFact, ResvStyle, Tunnel,
-    Upstream,
+    Assignment, Bypass, Claim, Item, Key, Node, PathFact, Repair, Request, ResvFact, ResvStyle,
+    Tunnel, Upstream,
 };
 use rsvp_objects::Session;
 use sorted_rows::Table;
@@ -58,6 +58,10 @@ impl StateView for Tables {
 
     fn label(&self, key: &Key) -> Option<u32> {
         self.rows.labels.get(key)
+    }
+
+    fn assignment(&self, key: &Key) -> Option<Assignment> {
+        self.rows.assignments.get(key).copied()
     }
 }
 

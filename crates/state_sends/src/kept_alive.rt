@@ -1,7 +1,6 @@
 //! What is kept alive at neighbours and at the ends of bypasses, as Paths and Resvs are: each for one LSP.
 
 ghost use Rattle.std.specs.FinMap.Entries.{is_sorted, where_key};
-ghost use Rattle.std.specs.List.{AllByRecursion};
 ghost use Rattle.std.specs.Prelude.{◌≡◌, [], Bool, IfOk, List, T, true};
 ghost use Rattle.std.specs.Cmp.{IsTotalOrder};
 ghost use Rattle.std.specs.declared.cmp.Ordering.{Ordering};
@@ -13,9 +12,9 @@ ghost use Rattle.abstract_paths.specs.declared.events.Output.{Output};
 ghost use Rattle.abstract_paths.specs.Soundness.{ArePaths};
 ghost use Rattle.abstract_paths.specs.Touched.{is_among};
 ghost use Rattle.abstract_router.specs.Lsps.{Around, Lsp, around_of, lsps_of};
-ghost use Rattle.abstract_router.specs.Soundness.{IsResv};
 ghost use Rattle.abstract_router.specs.States.{State};
 ghost use Rattle.state_views.specs.Edits.{edited};
+ghost use Rattle.state_views.specs.KnownLsps.{AreLsps};
 ghost use Rattle.state_sends.specs.KeptAlive.{all_said};
 ghost use Rattle.state_sends.specs.Touching.{IsSaidAgain};
 
@@ -61,10 +60,7 @@ pub(crate) trait KeptAlive: Ord + Copy + Drop {
         view: &V,
         lsps: &Lsps,
     ) -> Result<Vec<(Self, Output)>, AllocError>
-        requires paths { ArePaths (V.router view.now) (V.state view.now).facts.moment (V.state view.now).facts.paths }
-        requires resvs { AllByRecursion (IsResv (V.state view.now).facts.moment) (V.state view.now).resvs }
-        requires repairs { AllByRecursion (λ repair. IsResv (V.state view.now).facts.moment (repair.0, repair.1.resv))
-            (V.state view.now).repairs }
+        requires lsps { AreLsps (V.router view.now) (V.state view.now) }
         ensures rows { IfOk result (λ wanted. wanted.items ≡ rows (around_of (V.router view.now) (V.state view.now))
             (where_key key_cmp (is_among key_cmp lsps.now) (lsps_of (V.state view.now)))) };
 

@@ -1,6 +1,5 @@
 //! What a step sends that edits what is known, and what becomes of the moments at which messages were sent.
 
-ghost use Rattle.std.specs.List.{AllByRecursion};
 ghost use Rattle.std.specs.List.Sorted.{IsSorted};
 ghost use Rattle.std.specs.Prelude.{◌≡◌, ◌++◌, [], ℕ, IfOk, List, false, true};
 ghost use Rattle.sorted_rows.specs.Edits as rows;
@@ -9,15 +8,15 @@ ghost use Rattle.lsr_facts.specs.Orders.{item_cmp, key_cmp};
 ghost use Rattle.lsr_facts.specs.declared.key.Key.{Key};
 ghost use Rattle.lsr_facts.specs.Upstreams.{upstream_cmp};
 ghost use Rattle.abstract_paths.specs.Outputs.{between, send_for, tear_for};
-ghost use Rattle.abstract_paths.specs.Soundness.{ArePaths};
 ghost use Rattle.abstract_paths.specs.Stamps.{stamps};
 ghost use Rattle.abstract_paths.specs.Touched.{is_among};
 ghost use Rattle.abstract_router.specs.Lsps.{around_of, lsps_of};
 ghost use Rattle.abstract_router.specs.Outputs.{item_stamps, outputs_of, upstream_stamps};
-ghost use Rattle.abstract_router.specs.Soundness.{IsResv, IsSound};
+ghost use Rattle.abstract_router.specs.Soundness.{IsSound};
 ghost use Rattle.abstract_router.specs.Touched.{LeavesOtherLsps};
 ghost use Rattle.state_views.specs.Drafts.{due_by, upstream_due_by};
 ghost use Rattle.state_views.specs.Edits.{edited};
+ghost use Rattle.state_views.specs.KnownLsps.{AreLsps};
 ghost use Rattle.state_sends.specs.Touching.{AreAllSharing, LeavesOthersSaid};
 
 use crate::kept_alive::KeptAlive;
@@ -111,15 +110,7 @@ fn sends_at<I: KeptAlive, V: WholeState>(
     requires sharing { AreAllSharing (V.router view.now) (V.state view.now) edits.now sharing.now }
     requires due { IsSorted I.order due.now }
     requires before { IsSound (V.router view.now) (V.state view.now) }
-    requires paths { ArePaths (V.router view.now)
-        (edited edits.now (V.state view.now)).facts.moment
-        (edited edits.now (V.state view.now)).facts.paths }
-    requires resvs { AllByRecursion
-        (IsResv (edited edits.now (V.state view.now)).facts.moment)
-        (edited edits.now (V.state view.now)).resvs }
-    requires repairs { AllByRecursion
-        (λ repair. IsResv (edited edits.now (V.state view.now)).facts.moment (repair.0, repair.1.resv))
-        (edited edits.now (V.state view.now)).repairs }
+    requires after { AreLsps (V.router view.now) (edited edits.now (V.state view.now)) }
     ensures tears { IfOk result (λ sends. sends.tears
         ≡ between I.order (tear_for (edited edits.now (V.state view.now)).facts.up)
         (I.rows (around_of (V.router view.now) (V.state view.now)) (lsps_of (V.state view.now)))
@@ -179,15 +170,7 @@ pub fn sends_of<V: WholeState>(
     errors: Outputs,
 ) -> Result<StateSends, AllocError>
     requires before { IsSound (V.router view.now) (V.state view.now) }
-    requires paths { ArePaths (V.router view.now)
-        (edited edits.now (V.state view.now)).facts.moment
-        (edited edits.now (V.state view.now)).facts.paths }
-    requires resvs { AllByRecursion
-        (IsResv (edited edits.now (V.state view.now)).facts.moment)
-        (edited edits.now (V.state view.now)).resvs }
-    requires repairs { AllByRecursion
-        (λ repair. IsResv (edited edits.now (V.state view.now)).facts.moment (repair.0, repair.1.resv))
-        (edited edits.now (V.state view.now)).repairs }
+    requires after { AreLsps (V.router view.now) (edited edits.now (V.state view.now)) }
     ensures outputs { IfOk result (λ sends. sends.outputs
         ≡ outputs_of (V.router view.now) (V.state view.now) errors
         (due_by due (V.router view.now) (V.state view.now))

@@ -5,11 +5,11 @@ ghost use Rattle.std.specs.FinMap.Entries.{is_sorted};
 ghost use Rattle.std.specs.List.{AllByRecursion, flat_map};
 ghost use Rattle.std.specs.Prelude.{◌≡◌, IfOk, T, filter_map, length};
 ghost use Rattle.lsr_facts.specs.Orders.{key_cmp};
-ghost use Rattle.abstract_paths.specs.Soundness.{ArePaths};
 ghost use Rattle.abstract_paths.specs.Touched.{is_among};
 ghost use Rattle.abstract_router.specs.Lsps.{around_of, lsp_of};
 ghost use Rattle.abstract_router.specs.Soundness.{IsResv};
 ghost use Rattle.abstract_router.specs.Upstreams.{upstream_at, upstream_at_key, upstream_row, upstream_rows};
+ghost use Rattle.state_views.specs.KnownLsps.{AreLsps};
 ghost use Rattle.wanted_messages.specs.Fitting.{IsFitting};
 ghost use Rattle.wanted_messages.specs.Telling.{said};
 
@@ -83,10 +83,7 @@ fn upstream_at_key<V: StateView>(
     view: &V,
     key: &Key,
 ) -> Result<Vec<WantedUpstream>, AllocError>
-    requires paths { ArePaths (V.router view.now) (V.state view.now).facts.moment (V.state view.now).facts.paths }
-    requires resvs { AllByRecursion (IsResv (V.state view.now).facts.moment) (V.state view.now).resvs }
-    requires repairs { AllByRecursion (λ repair. IsResv (V.state view.now).facts.moment (repair.0, repair.1.resv))
-        (V.state view.now).repairs }
+    requires lsps { AreLsps (V.router view.now) (V.state view.now) }
     ensures rows { IfOk result (λ rows. rows.items
         ≡ upstream_at_key (V.router view.now) (V.state view.now) key.now) }
 {
@@ -102,10 +99,7 @@ fn asked_in_turn<V: StateView, E>(
     view: &V,
     touched: &[(Key, E)],
 ) -> Result<Vec<WantedUpstream>, AllocError>
-    requires paths { ArePaths (V.router view.now) (V.state view.now).facts.moment (V.state view.now).facts.paths }
-    requires resvs { AllByRecursion (IsResv (V.state view.now).facts.moment) (V.state view.now).resvs }
-    requires repairs { AllByRecursion (λ repair. IsResv (V.state view.now).facts.moment (repair.0, repair.1.resv))
-        (V.state view.now).repairs }
+    requires lsps { AreLsps (V.router view.now) (V.state view.now) }
     ensures rows { IfOk result (λ rows. rows.items ≡ flat_map
         (λ e. upstream_at_key (V.router view.now) (V.state view.now) e.0) touched.now) }
 {
@@ -126,10 +120,7 @@ pub fn upstream_at_keys<V: StateView, E>(
     view: &V,
     touched: &[(Key, E)],
 ) -> Result<Vec<WantedUpstream>, AllocError>
-    requires paths { ArePaths (V.router view.now) (V.state view.now).facts.moment (V.state view.now).facts.paths }
-    requires resvs { AllByRecursion (IsResv (V.state view.now).facts.moment) (V.state view.now).resvs }
-    requires repairs { AllByRecursion (λ repair. IsResv (V.state view.now).facts.moment (repair.0, repair.1.resv))
-        (V.state view.now).repairs }
+    requires lsps { AreLsps (V.router view.now) (V.state view.now) }
     requires order { T (is_sorted key_cmp touched.now) }
     ensures rows { IfOk result (λ rows. rows.items
         ≡ upstream_at (V.router view.now) (V.state view.now) (is_among key_cmp touched.now)) }

@@ -1,98 +1,147 @@
 -- A change of a sound router finds room, and leaves the tables of one.
-use Rattle.std.proofs.Common.{◌≤◌, ap, arith, nat_cmp, length, subst, sym, ℕ, List, ◌∙◌}
+use Rattle.std.proofs.Common.{◌≡◌, ◌≤◌, [], ap, arith, nat_cmp, length, subst, sym, ℕ, List, ◌∙◌}
+use Rattle.std.specs.Option.{unwrap_or}
+use Rattle.std.specs.declared.cmp.Ordering.{Ordering}
+use Rattle.std.specs.declared.cmp.Ordering.TheVariants.{Equal}
 use Rattle.sorted_rows.specs.Edits as in_rows
-use Rattle.admission.specs.Bandwidths.{resv_edits}
+use Rattle.admission.specs.Bandwidths.{Bandwidth}
+use Rattle.forwarding_table.specs.Actions.{Actions}
 use Rattle.forwarding_table.specs.declared.action.Action.{Action}
 use Rattle.abstract_router.specs.LabelLaws.{held-labelled}
-use Rattle.label_space.specs.Bindings.{AreHeldOf}
+use Rattle.label_space.specs.Bindings.{AreHeldOf, Bindings}
 use Rattle.label_table.specs.TunnelLaws.{length_tunnel_table}
-use Rattle.lsr_facts.specs.Orders.{item_cmp, key_cmp}
+use Rattle.lsr_facts.specs.OrderLaws.{item_exact, key_exact}
+use Rattle.lsr_facts.specs.Orders.{key_cmp}
+use Rattle.lsr_facts.specs.UpstreamOrder.{upstream_exact}
+use Rattle.lsr_facts.specs.declared.key.Item.{Item}
 use Rattle.lsr_facts.specs.declared.router.LabelRange.{LabelRange}
-use Rattle.lsr_facts.specs.Upstreams.{upstream_cmp}
+use Rattle.lsr_facts.specs.declared.upstream.Upstream.{Upstream}
+use Rattle.refresh_timers.specs.Timers.{Timers}
+use Rattle.state_views.specs.declared.edits.EditParts.{EditParts}
 use Rattle.router_tables.specs.Changes.{changed}
-use Rattle.router_tables.specs.States.{AreTables, state_of}
+use Rattle.router_tables.specs.States.{facts_of, state_of}
 use Rattle.router_tables.specs.declared.rows.Rows.{Rows}
-use Rattle.router_tables.proofs.Applying.{all_made, applied_are, four_made, three_made, two_made}
-use Rattle.router_tables.proofs.Rooms.{few_labels, few_moments, few_paths, few_repairs, few_resvs, few_tunnels, few_upstream}
+use Rattle.router_tables.proofs.Applying.{AreEdited, edited_are}
+use Rattle.router_tables.proofs.Rooms.{few_assignments, few_labels, few_moments, few_paths, few_repairs, few_resvs, few_tunnels, few_upstream}
 use Rattle.router_tables.proofs.rows.apply.Goals as goal
 
-pub edit_paths-requires-clause-room : goal.edit_paths-requires-clause-room
-edit_paths-requires-clause-room c =
+pub make_edits-requires-clause-room : goal.make_edits-requires-clause-room
+make_edits-requires-clause-room c =
     let t = c.args.rows.now in
-    subst (λ (rows : Rows). length (in_rows.edited nat_cmp c.args.change.tunnels rows.tunnels) ≤ 256) (sym c.edit_place.ensures.rows)
+    subst (λ (e : EditParts). length (in_rows.edited nat_cmp e.tunnels t.tunnels) ≤ 256) (sym c.into_parts-edits.ensures)
     (few_tunnels t.router (changed c.args.change (state_of t)) c.requires.change.sound)
 
-pub edit_paths-requires-clause-few : goal.edit_paths-requires-clause-few
-edit_paths-requires-clause-few c =
+pub edit-requires : goal.edit-requires
+edit-requires c =
     let t = c.args.rows.now in
-    subst (λ (rows : Rows). length (in_rows.edited key_cmp c.args.change.paths rows.paths) ≤ 1024) (sym c.edit_place.ensures.rows)
+    subst (λ (e : EditParts). length (in_rows.edited key_cmp e.paths t.paths) ≤ 1024) (sym c.into_parts-edits.ensures)
     (few_paths t.router (changed c.args.change (state_of t)) c.requires.change.sound)
 
-pub edit_held-requires-clause-room : goal.edit_held-requires-clause-room
-edit_held-requires-clause-room c =
-    let t = c.args.rows.now in
-    let rows = two_made c.args.change t c.edit_place.new.rows c.edit_paths.new.rows c.edit_place.ensures.rows c.edit_paths.ensures.rows in
-    subst (λ (rows : Rows). length (in_rows.edited key_cmp (resv_edits c.args.change.bandwidth) rows.bandwidth.resvs) ≤ 1024) (sym rows)
-    (few_resvs t.router (changed c.args.change (state_of t)) c.requires.change.sound)
+pub edit-requires-2-clause-room : goal.edit-requires-2-clause-room
+edit-requires-2-clause-room c = let t = c.args.rows.now in few_resvs t.router (changed c.args.change (state_of t)) c.requires.change.sound
 
-pub edit_held-requires-clause-repairs : goal.edit_held-requires-clause-repairs
-edit_held-requires-clause-repairs c =
+pub make_edits-requires-2 : goal.make_edits-requires-2
+make_edits-requires-2 c =
     let t = c.args.rows.now in
-    let rows = two_made c.args.change t c.edit_place.new.rows c.edit_paths.new.rows c.edit_place.ensures.rows c.edit_paths.ensures.rows in
-    subst (λ (rows : Rows). length (in_rows.edited key_cmp c.args.change.repairs rows.repairs) ≤ 1024) (sym rows)
-    (few_repairs t.router (changed c.args.change (state_of t)) c.requires.change.sound)
+    record {
+      exact = key_exact;
+      room = subst (λ (e : EditParts). length (in_rows.edited key_cmp e.repairs t.repairs) ≤ 1024) (sym c.into_parts-edits.ensures)
+          (few_repairs t.router (changed c.args.change (state_of t)) c.requires.change.sound);
+    }
 
-pub edit_held-requires-clause-few : goal.edit_held-requires-clause-few
-edit_held-requires-clause-few c =
+pub make_edits-requires-3 : goal.make_edits-requires-3
+make_edits-requires-3 c =
     let t = c.args.rows.now in
-    let rows = two_made c.args.change t c.edit_place.new.rows c.edit_paths.new.rows c.edit_place.ensures.rows c.edit_paths.ensures.rows in
-    subst (λ (rows : Rows). length (in_rows.edited key_cmp c.args.change.labels rows.labels.labels) ≤ 1024) (sym rows)
+    record {
+      exact = key_exact;
+      room = subst (λ (e : EditParts). length (in_rows.edited key_cmp e.assignments t.assignments) ≤ 1024) (sym c.into_parts-edits.ensures)
+          (few_assignments t.router (changed c.args.change (state_of t)) c.requires.change.sound);
+    }
+
+pub edit-requires-3-clause-room : goal.edit-requires-3-clause-room
+edit-requires-3-clause-room c =
+    let t = c.args.rows.now in
+    subst (λ (e : EditParts). length (in_rows.edited key_cmp e.labels t.labels.labels) ≤ 1024) (sym c.into_parts-edits.ensures)
     (few_labels t.router (changed c.args.change (state_of t)) c.requires.change.sound)
 
-pub edit_held-requires-clause-held : goal.edit_held-requires-clause-held
-edit_held-requires-clause-held c =
+pub edit-requires-3-clause-held : goal.edit-requires-3-clause-held
+edit-requires-3-clause-held c =
     let t = c.args.rows.now in
-    let rows = two_made c.args.change t c.edit_place.new.rows c.edit_paths.new.rows c.edit_place.ensures.rows c.edit_paths.ensures.rows in
-    subst (λ (rows : Rows). AreHeldOf rows.labels.range (in_rows.edited key_cmp c.args.change.labels rows.labels.labels)) (sym rows)
-    (subst (λ (range : LabelRange). AreHeldOf range (changed c.args.change (state_of t)).labels) (sym c.requires.tables.range) (held-labelled t.router (changed c.args.change (state_of t)) c.requires.change.sound.labels))
+    let after = changed c.args.change (state_of t) in
+    subst (λ (e : EditParts). AreHeldOf t.labels.range (in_rows.edited key_cmp e.labels t.labels.labels)) (sym c.into_parts-edits.ensures)
+    (subst (λ (range : LabelRange). AreHeldOf range after.labels) (sym c.requires.tables.range) (held-labelled t.router after c.requires.change.sound.labels))
 
-pub edit_moments-requires-clause-room : goal.edit_moments-requires-clause-room
-edit_moments-requires-clause-room c =
+pub edit-requires-4 : goal.edit-requires-4
+edit-requires-4 c =
     let t = c.args.rows.now in
-    let rows = three_made c.args.change t c.edit_place.new.rows c.edit_paths.new.rows c.edit_held.new.rows c.edit_place.ensures.rows c.edit_paths.ensures.rows c.edit_held.ensures.rows in
-    subst (λ (rows : Rows). length (in_rows.edited item_cmp c.args.change.moments rows.timers.sent) ≤ 1024) (sym rows)
-    (few_moments t.router (changed c.args.change (state_of t)) c.requires.change.sound)
+    let order = c.items_are_in_order.ensures.order in (
+      omega arith,
+      (
+        subst (λ (cmp : Item → Item → Ordering). (a b : Item) → cmp a b ≡ Equal → a ≡ b) (sym order) item_exact,
+        subst (λ (cmp : Item → Item → Ordering). length (in_rows.edited cmp c.args.change.moments t.timers.sent) ≤ 1024) (sym order) (few_moments t.router (changed c.args.change (state_of t)) c.requires.change.sound),
+      ),
+    )
 
-pub edit_moments-requires-clause-few : goal.edit_moments-requires-clause-few
-edit_moments-requires-clause-few c =
-    let t = c.args.rows.now in
-    let rows = three_made c.args.change t c.edit_place.new.rows c.edit_paths.new.rows c.edit_held.new.rows c.edit_place.ensures.rows c.edit_paths.ensures.rows c.edit_held.ensures.rows in
-    subst (λ (rows : Rows). length (in_rows.edited upstream_cmp c.args.change.upstream rows.upstream.sent) ≤ 4096) (sym rows)
-    (few_upstream t.router (changed c.args.change (state_of t)) c.requires.change.sound)
+pub edit-requires-5 : goal.edit-requires-5
+edit-requires-5 c = let t = c.args.rows.now in (omega arith, (upstream_exact, few_upstream t.router (changed c.args.change (state_of t)) c.requires.change.sound))
 
-pub edit_actions-requires-clause-room : goal.edit_actions-requires-clause-room
-edit_actions-requires-clause-room c =
-    let t = c.args.rows.now in
-    let rows = four_made c.args.change t c.edit_place.new.rows c.edit_paths.new.rows c.edit_held.new.rows c.edit_moments.new.rows c.edit_place.ensures.rows c.edit_paths.ensures.rows c.edit_held.ensures.rows c.edit_moments.ensures.rows in
-    subst (λ (rows : Rows). length (in_rows.edited nat_cmp c.args.change.table rows.table.labels) ≤ 1024) (sym rows)
-    (c.requires.change.table.room t.table.labels c.rows_are_in_order.ensures.labels_sorted c.requires.tables.table)
+pub edit-requires-6-clause-room : goal.edit-requires-6-clause-room
+edit-requires-6-clause-room c = c.requires.change.table.room c.args.rows.now.table.labels c.rows_are_in_order.ensures.labels_sorted c.requires.tables.table
 
-pub edit_actions-requires-clause-few : goal.edit_actions-requires-clause-few
-edit_actions-requires-clause-few c =
+pub edit_tunnels-requires-clause-room : goal.edit_tunnels-requires-clause-room
+edit_tunnels-requires-clause-room c =
     let t = c.args.rows.now in
     let s = changed c.args.change (state_of t) in
-    let rows = four_made c.args.change t c.edit_place.new.rows c.edit_paths.new.rows c.edit_held.new.rows c.edit_moments.new.rows c.edit_place.ensures.rows c.edit_paths.ensures.rows c.edit_held.ensures.rows c.edit_moments.ensures.rows in
-    let table = ap (λ (tunnels : List (ℕ × Action)). in_rows.edited nat_cmp c.args.change.tunnel_table tunnels) c.requires.tables.tunnel_table ∙ c.requires.change.tunnel_table.table in
-    subst (λ (rows : Rows). length (in_rows.edited nat_cmp c.args.change.tunnel_table rows.table.tunnels) ≤ 256) (sym rows)
-    (omega (arith, ap length table, length_tunnel_table t.router s, few_tunnels t.router s c.requires.change.sound))
+    let edits = c.args.change.tunnel_table in
+    let table =
+    ap (λ (a : Actions). in_rows.edited nat_cmp edits a.tunnels) c.edit-6.ensures ∙ ap (λ (tunnels : List (ℕ × Action)). in_rows.edited nat_cmp edits tunnels) c.requires.tables.tunnel_table
+    ∙ c.requires.change.tunnel_table.table in
+    omega (arith, ap length table, length_tunnel_table t.router s, few_tunnels t.router s c.requires.change.sound)
+
+-- each table is edited
+are_edited : (c : goal.After-drop-edits) → AreEdited c.args.change c.args.rows.now c.advance.new.rows
+are_edited c =
+    let t = c.args.rows.now in
+    let change = c.args.change in
+    let parts = c.into_parts-edits.ensures in
+    let last = c.advance.ensures in
+    let sent = ap (λ (timers : Timers Item). timers.sent) c.edit-4.ensures ∙ ap (λ (cmp : Item → Item → Ordering). in_rows.edited cmp change.moments t.timers.sent) c.items_are_in_order.ensures.order in
+    record {
+      router = ap (λ (rows : Rows). rows.router) last;
+      state =
+          ap state_of last
+          ∙ (λ i. record {
+            facts = record (facts_of t) {
+              moment = (c.replace.ensures ∙ ap (λ (e : EditParts). unwrap_or e.moment t.moment) parts) i;
+              up = (c.replace-2.ensures ∙ ap (λ (e : EditParts). unwrap_or e.up t.up) parts) i;
+              routes = (c.replace-3.ensures ∙ ap (λ (e : EditParts). unwrap_or e.routes t.routes) parts) i;
+              bypasses = (c.replace-4.ensures ∙ ap (λ (e : EditParts). unwrap_or e.bypasses t.bypasses) parts) i;
+              tunnels = (c.make_edits.ensures ∙ ap (λ (e : EditParts). in_rows.edited nat_cmp e.tunnels t.tunnels) parts) i;
+              paths = (c.edit.ensures ∙ ap (λ (e : EditParts). in_rows.edited key_cmp e.paths t.paths) parts) i;
+              sent = sent i;
+            };
+            resvs = (c.edit-2.ensures i).resvs;
+            repairs = (c.make_edits-2.ensures ∙ ap (λ (e : EditParts). in_rows.edited key_cmp e.repairs t.repairs) parts) i;
+            assignments = (c.make_edits-3.ensures ∙ ap (λ (e : EditParts). in_rows.edited key_cmp e.assignments t.assignments) parts) i;
+            labels = (ap (λ (b : Bindings). b.labels) c.edit-3.ensures ∙ ap (λ (e : EditParts). in_rows.edited key_cmp e.labels t.labels.labels) parts) i;
+            resting = [];
+            sent_upstream = (c.edit-5.ensures i).sent;
+          });
+      period = ap (λ (rows : Rows). rows.timers.refresh_ms) last ∙ ap (λ (timers : Timers Item). timers.refresh_ms) c.edit-4.ensures;
+      upstream_period = ap (λ (rows : Rows). rows.upstream.refresh_ms) last ∙ ap (λ (timers : Timers Upstream). timers.refresh_ms) c.edit-5.ensures;
+      claims = ap (λ (rows : Rows). rows.bandwidth.claims) last ∙ ap (λ (b : Bandwidth). b.claims) c.edit-2.ensures;
+      range = ap (λ (rows : Rows). rows.labels.range) last ∙ ap (λ (b : Bindings). b.range) c.edit-3.ensures;
+      table = ap (λ (rows : Rows). rows.table.labels) last ∙ ap (λ (a : Actions). a.labels) c.edit_tunnels.ensures ∙ ap (λ (a : Actions). a.labels) c.edit-6.ensures;
+      tunnel_table =
+          ap (λ (rows : Rows). rows.table.tunnels) last ∙ ap (λ (a : Actions). a.tunnels) c.edit_tunnels.ensures
+          ∙ ap (λ (a : Actions). in_rows.edited nat_cmp change.tunnel_table a.tunnels) c.edit-6.ensures;
+    }
 
 pub returns-clause-tables : goal.returns-clause-tables
-returns-clause-tables c =
-    let t = c.args.rows.now in
-    let last = all_made c.args.change t c.edit_place.new.rows c.edit_paths.new.rows c.edit_held.new.rows c.edit_moments.new.rows c.edit_actions.new.rows c.edit_place.ensures.rows c.edit_paths.ensures.rows c.edit_held.ensures.rows c.edit_moments.ensures.rows c.edit_actions.ensures.rows in
-    subst AreTables (sym (c.advance.ensures ∙ last)) (applied_are c.args.change t c.requires.tables c.requires.change)
+returns-clause-tables c = edited_are c.args.change c.args.rows.now c.advance.new.rows c.requires.tables c.requires.change (are_edited c)
+
+pub returns-clause-router : goal.returns-clause-router
+returns-clause-router c = (are_edited c).router
 
 pub returns-clause-state : goal.returns-clause-state
-returns-clause-state c =
-    let t = c.args.rows.now in
-    ap state_of (c.advance.ensures ∙ all_made c.args.change t c.edit_place.new.rows c.edit_paths.new.rows c.edit_held.new.rows c.edit_moments.new.rows c.edit_actions.new.rows c.edit_place.ensures.rows c.edit_paths.ensures.rows c.edit_held.ensures.rows c.edit_moments.ensures.rows c.edit_actions.ensures.rows)
+returns-clause-state c = (are_edited c).state

@@ -13,4 +13,4 @@ upstream_rows-requires-clause-tspec g c =
     let s = (g.V.StateView.state c.args.view.now).facts in
     let key = c.args.key.now in
     (subst (λ (o : Option PathFact). IfSome o (λ path. IsPath r s.moment (key, path))) (sym c.in-Some.ensures.path)
-    (find-all_row key_cmp key_exact (IsPath r s.moment) key s.paths c.requires.paths.each)).whole_tspec
+    (find-all_row key_cmp key_exact (IsPath r s.moment) key s.paths c.requires.lsps.paths.each)).whole_tspec

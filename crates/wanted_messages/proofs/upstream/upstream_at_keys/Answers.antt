@@ -10,5 +10,5 @@ returns g c =
     let r = g.V.StateView.router c.args.view.now in
     let s = g.V.StateView.state c.args.view.now in
     record {
-      rows = subst (λ (wants : List (Upstream × Output)). IfOk c.asked_in_turn.result (λ rows. rows.items ≡ wants)) (upstream-among r s c.args.touched.now c.requires.order c.requires.paths.in_order) c.asked_in_turn.ensures.rows;
+      rows = subst (λ (wants : List (Upstream × Output)). IfOk c.asked_in_turn.result (λ rows. rows.items ≡ wants)) (upstream-among r s c.args.touched.now c.requires.order c.requires.lsps.paths.in_order) c.asked_in_turn.ensures.rows;
     }

@@ -1,7 +1,7 @@
 -- The tables say of tunnels what the router knows, also while it is cold.
 use Rattle.std.proofs.Common.{ap, ◌∙◌}
-use Rattle.lsr_facts.specs.declared.facts.Facts.{Facts}
 use Rattle.lsr_facts.specs.declared.router.Router.{Router}
+use Rattle.abstract_router.specs.States.{State}
 use Rattle.abstract_router.specs.Tables.{look_tunnel}
 use Rattle.router_core.specs.Below.labels.TunnelLaws.{look_tunnel-alike}
 use Rattle.router_core.proofs.WhileCold.{bypass_tunnels_running}
@@ -16,5 +16,5 @@ returns c =
     c.look_tunnel.ensures
     ∙ ap (λ (r : Router). look_tunnel r tables.state c.args.number) knows.router
     ∙ look_tunnel-alike r tables.state state c.args.number
-    (bypass_tunnels_running r tables.state state (record { facts = knows.facts; lsps = record { resvs = knows.resvs; repairs = knows.repairs; labels = knows.labels } }))
-    (ap (λ (f : Facts). f.tunnels) knows.facts) knows.resvs knows.repairs
+    (bypass_tunnels_running r tables.state state knows.state)
+    (ap (λ (s : State). s.facts.tunnels) knows.state) (ap (λ (s : State). s.resvs) knows.state) (ap (λ (s : State). s.repairs) knows.state)

@@ -16,4 +16,4 @@ returns c =
     c.over_at.ensures
     ∙ ap (λ (r : Router). over_at (bypass_tunnels_of r tables.state) c.args.number) knows.router
     ∙ ap (λ (bypass_tunnels : List (ℕ × BypassTunnel)). over_at bypass_tunnels c.args.number)
-    (bypass_tunnels_running r tables.state state (record { facts = knows.facts; lsps = record { resvs = knows.resvs; repairs = knows.repairs; labels = knows.labels } }))
+    (bypass_tunnels_running r tables.state state knows.state)

@@ -11,5 +11,5 @@ returns c =
     let knows = c.tables-tables.ensures in
     let tables = c.tables-tables.result.now in
     datagram_alike tables.router c.args.self.now.router tables.state c.args.self.now.state c.args.link c.args.bytes.now c.read_datagram.result
-    knows.router (record { facts = knows.facts; lsps = record { resvs = knows.resvs; repairs = knows.repairs; labels = knows.labels } })
+    knows.router knows.state
     (subst (λ (r : Router). IsDatagram r (forwarded tables.router tables.state) c.args.link c.args.bytes.now c.read_datagram.result) c.router.ensures c.read_datagram.ensures)

@@ -1,0 +1,7 @@
+//! The step of an event over what a label switching router knows, whoever keeps it: its answer, what it sends, the labels that it
+//! chooses, and the edits of what is known.
+#![tactic(auto)]
+
+mod step;
+
+pub use step::{EventStep, StepEdits, step_by, step_of};

@@ -1,5 +1,0 @@
-use Rattle.lsr_config.proofs.Finding.{natural_found}
-use Rattle.lsr_config.proofs.values.natural_of.Goals as goal
-
-pub returns : goal.returns
-returns c = rw c.ok.ensures.value (natural_found c.args.number _ c.ranges.number c.try_from.ensures)

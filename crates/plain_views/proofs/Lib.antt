@@ -1,0 +1,2 @@
+mod Freed
+mod Summed
