@@ -31,6 +31,17 @@ use state_views::{Draft, Edits, StateView, WholeState, node_of, refused};
 use std::alloc::{AllocError, Global};
 use std::net::Ipv4Addr;
 
+/// A Path that came over a link.
+#[derive(Clone, Copy, Debug)]
+struct ArrivedPath<'a> {
+    /// The path that its LSP has, if one is known.
+    known: Option<&'a PathFact>,
+    /// The number of the link.
+    link: u16,
+    /// The Path.
+    path: &'a Path,
+}
+
 /// The origin that a Path gives its path which comes at a moment, in milliseconds: the neighbour that sent it, and
 /// until when that counts.
 fn origin_of(moment: u64, link: u16, path: &Path) -> Origin
@@ -48,16 +59,15 @@ fn origin_of(moment: u64, link: u16, path: &Path) -> Origin
 fn origins_by(
     alloc: Global,
     moment: u64,
-    known: Option<&PathFact>,
-    link: u16,
-    path: &Path,
+    arrived: &ArrivedPath,
 ) -> Result<Table<Ipv4Addr, Origin>, AllocError>
     requires { moment ≤ 2 ^ 62 }
-    ensures { IfOk result (λ origins. origins ≡ put address_cmp path.now.sender.sender
-        (origin_of moment link path.now) (origins_of (option_copied known.entry))) }
+    ensures { IfOk result (λ origins. origins ≡ put address_cmp arrived.now.path.now.sender.sender
+        (origin_of moment arrived.now.link arrived.now.path.now) (origins_of (option_copied arrived.now.known))) }
 {
-    let mut origins = origins_of(alloc, known)?;
-    origins.set(path.sender.sender, origin_of(moment, link, path))?;
+    let mut origins = origins_of(alloc, arrived.known)?;
+    let origin = origin_of(moment, arrived.link, arrived.path);
+    origins.set(arrived.path.sender.sender, origin)?;
     Ok(origins)
 }
 
@@ -65,17 +75,17 @@ fn origins_by(
 fn path_by(
     alloc: Global,
     moment: u64,
-    known: Option<&PathFact>,
-    link: u16,
-    path: &Path,
+    arrived: &ArrivedPath,
     way: Choice,
 ) -> Result<PathFact, AllocError>
     requires { moment ≤ 2 ^ 62 }
-    ensures { IfOk result (λ fact. fact ≡ path_by moment (option_copied known.entry) link path.now way) }
+    ensures { IfOk result (λ fact. fact
+        ≡ path_by moment (option_copied arrived.now.known) arrived.now.link arrived.now.path.now way) }
 {
+    let path = arrived.path;
     Ok(PathFact {
         role: role_of(&way),
-        origins: origins_by(alloc, moment, known, link, path)?,
+        origins: origins_by(alloc, moment, arrived)?,
         out_link: link_of(&way),
         given: path.route.clone()?,
         rest: rest_of(way),
@@ -103,20 +113,18 @@ pub(crate) fn path_edit(alloc: Global, key: Key, now: Option<PathFact>) -> Resul
 fn taken<V: StateView>(
     alloc: Global,
     view: &V,
-    known: Option<&PathFact>,
-    link: u16,
-    path: &Path,
+    arrived: &ArrivedPath,
     way: Choice,
 ) -> Result<Draft, AllocError>
     requires moment { (V.state view.now).facts.moment ≤ 2 ^ 62 }
-    requires rate { IsTrue (is_some (token_rate 1 path.now.tspec)) }
+    requires rate { IsTrue (is_some (token_rate 1 arrived.now.path.now.tspec)) }
     ensures { IfOk result (λ draft. IsDraft draft (of_paths (V.state view.now)
-        (taken (V.router view.now) (V.state view.now).facts (option_copied known.entry) link path.now way))
-        (V.router view.now) (V.state view.now)) }
+        (taken (V.router view.now) (V.state view.now).facts (option_copied arrived.now.known) arrived.now.link
+        arrived.now.path.now way)) (V.router view.now) (V.state view.now)) }
 {
-    let key = lsp(path.session, path.sender);
-    let fact = path_by(alloc, view.moment(), known, link, path, way)?;
-    let errors = record_errors(alloc, &node_of(view), &key, known, &fact)?;
+    let key = lsp(arrived.path.session, arrived.path.sender);
+    let fact = path_by(alloc, view.moment(), arrived, way)?;
+    let errors = record_errors(alloc, &node_of(view), &key, arrived.known, &fact)?;
     Ok(Draft {
         reply: Reply::Done,
         errors,
@@ -153,48 +161,54 @@ fn lacks_label<V: WholeState>(view: &V, known: Option<&PathFact>) -> bool
 fn path_with_way<V: WholeState>(
     alloc: Global,
     view: &V,
-    known: Option<&PathFact>,
-    link: u16,
-    path: &Path,
+    arrived: &ArrivedPath,
     way: Choice,
 ) -> Result<Draft, AllocError>
     requires moment { (V.state view.now).facts.moment ≤ 2 ^ 62 }
-    requires message { IsMessage (contents.Path path.now) }
-    requires rate { IsTrue (is_some (token_rate 1 path.now.tspec)) }
-    ensures { IfOk result (λ draft. IsDraft draft
-        (labelled (V.router view.now) (V.state view.now) (option_copied known.entry) link path.now
-        (path_on_its_way (V.router view.now) (V.state view.now).facts (option_copied known.entry) link path.now
+    requires message { IsMessage (contents.Path arrived.now.path.now) }
+    requires rate { IsTrue (is_some (token_rate 1 arrived.now.path.now.tspec)) }
+    ensures { let known = option_copied arrived.now.known in
+        IfOk result (λ draft. IsDraft draft
+        (labelled (V.router view.now) (V.state view.now) known arrived.now.link arrived.now.path.now
+        (path_on_its_way (V.router view.now) (V.state view.now).facts known arrived.now.link arrived.now.path.now
         (Ok way))) (V.router view.now) (V.state view.now)) }
 {
-    if is_full(view, known) {
-        return failed(alloc, view, link, path, RsvpError::SYSTEM_ERROR);
+    if is_full(view, arrived.known) {
+        return failed(
+            alloc,
+            view,
+            arrived.link,
+            arrived.path,
+            RsvpError::SYSTEM_ERROR,
+        );
     }
-    if lacks_label(view, known) {
-        return failed(alloc, view, link, path, RsvpError::NO_LABEL);
+    if lacks_label(view, arrived.known) {
+        return failed(alloc, view, arrived.link, arrived.path, RsvpError::NO_LABEL);
     }
-    taken(alloc, view, known, link, path, way)
+    taken(alloc, view, arrived, way)
 }
 
 /// A Path that nothing is wrong with: its way is asked for.
 fn path_on_its_way<V: WholeState>(
     alloc: Global,
     view: &V,
-    known: Option<&PathFact>,
-    link: u16,
-    path: &Path,
+    arrived: &ArrivedPath,
 ) -> Result<Draft, AllocError>
     requires moment { (V.state view.now).facts.moment ≤ 2 ^ 62 }
-    requires message { IsMessage (contents.Path path.now) }
-    requires rate { IsTrue (is_some (token_rate 1 path.now.tspec)) }
-    ensures { IfOk result (λ draft. IsDraft draft
-        (labelled (V.router view.now) (V.state view.now) (option_copied known.entry) link path.now
-        (path_on_its_way (V.router view.now) (V.state view.now).facts (option_copied known.entry) link path.now
-        (way_for (place_of (V.router view.now) (V.state view.now).facts) (option_copied known.entry) path.now)))
+    requires message { IsMessage (contents.Path arrived.now.path.now) }
+    requires rate { IsTrue (is_some (token_rate 1 arrived.now.path.now.tspec)) }
+    ensures { let known = option_copied arrived.now.known in
+        IfOk result (λ draft. IsDraft draft
+        (labelled (V.router view.now) (V.state view.now) known arrived.now.link arrived.now.path.now
+        (path_on_its_way (V.router view.now) (V.state view.now).facts known arrived.now.link arrived.now.path.now
+        (way_for (place_of (V.router view.now) (V.state view.now).facts) known arrived.now.path.now)))
         (V.router view.now) (V.state view.now)) }
 {
-    match way_for(alloc, &node_of(view), known, path) {
-        Ok(way) => path_with_way(alloc, view, known, link, path, way),
-        Err(RouteFault::Error(error)) => failed(alloc, view, link, path, error.error()),
+    match way_for(alloc, &node_of(view), arrived.known, arrived.path) {
+        Ok(way) => path_with_way(alloc, view, arrived, way),
+        Err(RouteFault::Error(error)) => {
+            failed(alloc, view, arrived.link, arrived.path, error.error())
+        }
         Err(RouteFault::Memory) => Err(AllocError),
     }
 }
@@ -231,7 +245,8 @@ pub fn labelled_path_arrival<V: WholeState>(
     if has_been_here(&node_of(view), &path.recorded) {
         return failed(alloc, view, link, path, RsvpError::ROUTING_LOOP);
     }
-    path_on_its_way(alloc, view, view.path(&key), link, path)
+    let known = view.path(&key);
+    path_on_its_way(alloc, view, &ArrivedPath { known, link, path })
 }
 
 /// What a Path does with an object that it doesn't know. The only error is out of memory.

@@ -16,10 +16,10 @@ unfolding path_on_its_way
 returns-in-Err-Error g c =
     let r = g.V.StateView.router c.args.view.now in
     let s = g.V.StateView.state c.args.view.now in
-    let known = option_copied c.args.known in
-    let way = λ (place : Place). way_for place known c.args.path.now in
+    let known = option_copied c.args.arrived.now.known in
+    let way = λ (place : Place). way_for place known c.args.arrived.now.path.now in
     let there = place_at c.node_of.result in
     let chosen : way there ≡ Err (error_of c.in-Err-Error.error) =
     subst (λ (fault : RouteFault). IsChosen (way there) (Err fault)) c.in-Err-Error.field-0-is c.in-Err-Error.ensures in
-    subst (λ (found : Result Choice RsvpError). IfOk c.failed.result (λ draft. IsDraft draft (labelled r s known c.args.link c.args.path.now (path_on_its_way r s.facts known c.args.link c.args.path.now found)) r s))
+    subst (λ (found : Result Choice RsvpError). IfOk c.failed.result (λ draft. IsDraft draft (labelled r s known c.args.arrived.now.link c.args.arrived.now.path.now (path_on_its_way r s.facts known c.args.arrived.now.link c.args.arrived.now.path.now found)) r s))
     (sym (sym (ap way c.node_of.ensures) ∙ chosen ∙ ap Err (sym c.error.ensures))) c.failed.ensures
