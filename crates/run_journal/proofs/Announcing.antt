@@ -6,15 +6,13 @@ use Rattle.std.proofs.lemmas.List.Elements.{All-nil}
 use Rattle.forwarding_table.specs.Actions.{WritesLabels}
 use Rattle.forwarding_table.specs.declared.action.Action.{Action}
 use Rattle.lsr_facts.specs.declared.facts.Facts.{Facts}
-use Rattle.lsr_facts.specs.declared.key.Key.{Key}
 use Rattle.lsr_facts.specs.declared.router.Router.{Router}
 use Rattle.lsr_facts.specs.declared.tunnel.Tunnel.{Tunnel}
-use Rattle.lsr_facts.specs.declared.upstream.Upstream.{Upstream}
 use Rattle.abstract_paths.specs.declared.events.Event.{Event}
 use Rattle.abstract_router.specs.BypassTunnels.{bypass_tunnels_of}
 use Rattle.abstract_router.specs.Lsps.{lsps_of}
 use Rattle.abstract_router.specs.Soundness.{IsSound}
-use Rattle.abstract_router.specs.States.{State}
+use Rattle.abstract_router.specs.States.{State, bare}
 use Rattle.abstract_router.specs.Tables.{ForwardAlike, TellsChange, look, look_tunnel, table_of, tunnel_entry, tunnel_table_of}
 use Rattle.abstract_paths.specs.Restarts.{opening_facts}
 use Rattle.router_core.specs.Plans.{IsPlanOf, after_plan}
@@ -34,28 +32,28 @@ use Rattle.run_journal.specs.Journals.{IsAnnounced, IsChangeFor, IsOpening, IsSh
 use Rattle.run_journal.specs.Marks.{one_if}
 use Rattle.run_journal.proofs.Leading.{edited_are, in_range}
 
--- a state of this router that knows no path, no reservation and no repair
-abbrev bare : Facts → List (Key × ℕ) → List (Upstream × ℕ) → State
-bare facts labels sent = record { facts = record facts { paths = [] }; resvs = []; repairs = []; labels = labels; sent_upstream = sent }
+-- a state that knows these facts, but no path and nothing of LSPs
+abbrev pathless : Facts → State
+pathless facts = bare (record facts { paths = [] })
 
 -- has no tunnel with an action
-no_pushes : (r : Router) (facts : Facts) (labels : List (Key × ℕ)) (sent : List (Upstream × ℕ)) (tunnels : List (ℕ × Tunnel)) → filter_map (tunnel_entry r (bare facts labels sent)) tunnels ≡ []
-no_pushes r facts labels sent [] = refl
-no_pushes r facts labels sent (tunnel ∷ tunnels) = no_pushes r facts labels sent tunnels
+no_pushes : (r : Router) (facts : Facts) (tunnels : List (ℕ × Tunnel)) → filter_map (tunnel_entry r (pathless facts)) tunnels ≡ []
+no_pushes r facts [] = refl
+no_pushes r facts (tunnel ∷ tunnels) = no_pushes r facts tunnels
 
-bare_look : (r : Router) (facts : Facts) (labels : List (Key × ℕ)) (sent : List (Upstream × ℕ)) (label : ℕ) → look r (bare facts labels sent) label ≡ planes.look [] label
+pathless_look : (r : Router) (facts : Facts) (label : ℕ) → look r (pathless facts) label ≡ planes.look [] label
 unfolding look table_of lsps_of bypass_tunnels_of planes.look
-bare_look r facts labels sent label = refl
+pathless_look r facts label = refl
 
-bare_tunnel : (r : Router) (facts : Facts) (labels : List (Key × ℕ)) (sent : List (Upstream × ℕ)) (number : ℕ) → look_tunnel r (bare facts labels sent) number ≡ planes.look_tunnel [] number
+pathless_tunnel : (r : Router) (facts : Facts) (number : ℕ) → look_tunnel r (pathless facts) number ≡ planes.look_tunnel [] number
 unfolding look_tunnel tunnel_table_of planes.look_tunnel
-bare_tunnel r facts labels sent number = rw (no_pushes r facts labels sent facts.tunnels) refl
+pathless_tunnel r facts number = rw (no_pushes r facts facts.tunnels) refl
 
 -- no change leads to the table of a router as it is opened
 pub lead_opening : (r : Router) (s : State) → IsOpening r s → LeadToTable r s []
 lead_opening r s is = subst (λ (t : State). LeadToTable r t []) (sym is.3) (record {
-  labels = λ label. sym (bare_look r (opening_facts r is.0 is.1 is.2) [] [] label);
-  tunnels = λ number. sym (bare_tunnel r (opening_facts r is.0 is.1 is.2) [] [] number);
+  labels = λ label. sym (pathless_look r (opening_facts r is.0 is.1 is.2) label);
+  tunnels = λ number. sym (pathless_tunnel r (opening_facts r is.0 is.1 is.2) number);
 })
 
 -- what leads to a table leads to one that forwards alike
@@ -111,8 +109,8 @@ gone_more : (r : Router) (s : State) (changes : List TableChange) → LeadToTabl
 gone_more r s changes =
     let facts : Facts = (with_cold true (emptied s)).facts in
     record {
-      labels = λ label. look_added changes gone label ∙ sym (look_none label) ∙ sym (bare_look r facts [] [] label);
-      tunnels = λ number. look_tunnel_added changes gone number ∙ sym (look_tunnel_none number) ∙ sym (bare_tunnel r facts [] [] number);
+      labels = λ label. look_added changes gone label ∙ sym (look_none label) ∙ sym (pathless_look r facts label);
+      tunnels = λ number. look_tunnel_added changes gone number ∙ sym (look_tunnel_none number) ∙ sym (pathless_tunnel r facts number);
     }
 
 pub for_restart : (changes_table : Bool) → IsChangeFor (readies.Restart changes_table) gone
