@@ -29,18 +29,18 @@ bandwidth_edits-requires-clause-rated c =
     (sym c.replace-resvs.ensures.value) (next_rates t.router t.state c.args.step c.requires)
 
 -- what becomes of bandwidth is told by the edits of reservations
-resvs_are : (c : goal.After-bandwidth) → rows.edited key_cmp (resv_edits c.in_ok-bandwidth.bandwidth) c.args.tables.now.state.resvs ≡ rows.edited key_cmp c.args.step.edits.resvs c.args.tables.now.state.resvs
+resvs_are : (c : goal.In_ok-bandwidth) → rows.edited key_cmp (resv_edits c.in_ok-bandwidth.bandwidth) c.args.tables.now.state.resvs ≡ rows.edited key_cmp c.args.step.edits.resvs c.args.tables.now.state.resvs
 resvs_are c = c.in_ok-bandwidth.ensures.resvs ∙ ap (λ (edits : List (Key × Option ResvFact)). rows.edited key_cmp edits c.args.tables.now.state.resvs) c.replace-resvs.ensures.value
 
 pub returns-clause-after : goal.returns-clause-after
 returns-clause-after c =
     let t = c.args.tables.now in
-    changed_is t.router t.state c.args.step c.requires ? c.in_ok-bandwidth.bandwidth c.in_ok-table.table c.in_ok-tunnel_table.tunnel_table (resvs_are c)
+    changed_is t.router t.state c.args.step c.requires c.replace-resvs.new.dest c.in_ok-bandwidth.bandwidth c.in_ok-table.table c.in_ok-tunnel_table.tunnel_table (resvs_are c)
 
 pub returns-clause-is : goal.returns-clause-is
 returns-clause-is c =
     let t = c.args.tables.now in
     let bandwidth = c.in_ok-bandwidth in
-    change_is t.router t.state c.args.step c.requires ? bandwidth.bandwidth c.in_ok-table.table c.in_ok-tunnel_table.tunnel_table (resvs_are c) bandwidth.ensures.edits
+    change_is t.router t.state c.args.step c.requires c.replace-resvs.new.dest bandwidth.bandwidth c.in_ok-table.table c.in_ok-tunnel_table.tunnel_table (resvs_are c) bandwidth.ensures.edits
     (bandwidth.ensures.claims ∙ ap (λ (edits : List (Key × Option ResvFact)). claims_of (edited c.args.step.edits t.state).facts.paths (rows.edited key_cmp edits t.state.resvs)) c.replace-resvs.ensures.value)
     c.in_ok-table.ensures c.in_ok-tunnel_table.ensures
