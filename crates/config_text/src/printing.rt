@@ -116,18 +116,6 @@ fn route_record(alloc: Global, row: &(Prefix, u16)) -> Result<String, AllocError
     format!(in alloc; "\n[[route]]\nprefix = \"{address}/{length}\"\nlink = {link}\n")
 }
 
-/// Appends the record of a static route. The only error is that memory ran out.
-fn push_route_record(
-    alloc: Global,
-    text: &mut Vec<u8>,
-    row: &(Prefix, u16),
-) -> Result<(), AllocError>
-    ensures { OnOk result (text.new.items ≡ text.old.items ++ route_record row.now) }
-{
-    let record = route_record(alloc, row)?;
-    text.extend_from_slice(record.as_bytes())
-}
-
 /// Appends the records of the static routes, in their order. The only error is that memory ran out.
 fn push_routes(
     alloc: Global,
@@ -137,7 +125,8 @@ fn push_routes(
     ensures { OnOk result (text.new.items ≡ text.old.items ++ flat_map route_record routes.now) }
 {
     for route in routes {
-        push_route_record(alloc, text, route)?;
+        let record = route_record(alloc, route)?;
+        text.extend_from_slice(record.as_bytes())?;
     }
     Ok(())
 }
@@ -309,18 +298,6 @@ fn bypass_record(alloc: Global, row: &(u16, Bypass)) -> Result<String, AllocErro
     format!(in alloc; "\n[[bypass]]\nnumber = {number}\ntunnel = {tunnel}\nlink = {link}\n")
 }
 
-/// Appends the record of a bypass. The only error is that memory ran out.
-fn push_bypass_record(
-    alloc: Global,
-    text: &mut Vec<u8>,
-    row: &(u16, Bypass),
-) -> Result<(), AllocError>
-    ensures { OnOk result (text.new.items ≡ text.old.items ++ bypass_record row.now) }
-{
-    let record = bypass_record(alloc, row)?;
-    text.extend_from_slice(record.as_bytes())
-}
-
 /// Appends the records of the bypasses, in their order. The only error is that memory ran out.
 fn push_bypasses(
     alloc: Global,
@@ -330,7 +307,8 @@ fn push_bypasses(
     ensures { OnOk result (text.new.items ≡ text.old.items ++ flat_map bypass_record bypasses.now) }
 {
     for bypass in bypasses {
-        push_bypass_record(alloc, text, bypass)?;
+        let record = bypass_record(alloc, bypass)?;
+        text.extend_from_slice(record.as_bytes())?;
     }
     Ok(())
 }

@@ -7,9 +7,8 @@ mod sockets;
 mod turns;
 mod udp_wire;
 
-pub use interface_workers as workers;
 pub use lsr_config::LinkSockets;
-pub use run::{PortCount, RunReport, TICK_MS, serve_on};
+pub use run::{PortCount, RunReport, TICK_MS, Worker, link_workers, run_worker, serve_on};
 pub use serving::{serve_links, tell_run};
 pub use sockets::read_sockets;
 pub use turns::{DEFAULT_TURNS, MAX_TURNS, read_turns};

@@ -52,7 +52,7 @@ impl Drop for RunReport {
 
 /// A link's worker before it starts.
 #[derive(Drop)]
-struct Worker<L: Ledger, W> {
+pub struct Worker<L: Ledger, W> {
     port: Port<L>,
     reader: CoreReader<L>,
     link: u16,
@@ -60,7 +60,7 @@ struct Worker<L: Ledger, W> {
 }
 
 /// A worker's thread: its turns, with what it did.
-fn run_worker<L: Ledger, R: Wait + Drop, T: Wait, W: Wire + Drop, G: Gate>(
+pub fn run_worker<L: Ledger, R: Wait + Drop, T: Wait, W: Wire + Drop, G: Gate>(
     rt: &T,
     alloc: Global,
     core: &Core<L, R>,
@@ -109,7 +109,7 @@ fn run_clock<L: Ledger, R: Wait + Drop, T: Wait, C: Clock, W: Wire, G: Gate>(
 }
 
 /// The workers of the links, each with the port of its place.
-fn workers<L: Ledger, W: Drop>(
+pub fn link_workers<L: Ledger, W: Drop>(
     alloc: Global,
     ports: Vec<Port<L>>,
     readers: Vec<CoreReader<L>>,
@@ -266,7 +266,7 @@ fn serve_named<
         return Err(OpenFault::Memory);
     };
     let mut clock_wire = clock_wire;
-    let workers = workers(alloc, ports, readers, links)?;
+    let workers = link_workers(alloc, ports, readers, links)?;
     Ok(run_threads(
         rt,
         clock,

@@ -1,7 +1,7 @@
 //! What `show path KEY` and `show resv KEY` print: one LSP whole.
 ghost use Rattle.std.specs.Option.{option_copied};
 ghost use Rattle.std.specs.Prelude.{◌≡◌, ◌++◌, IfOk, OnOk, flat_map, string_bytes};
-ghost use Rattle.lsr_text.specs.Lsps.{asked_line, attr_at, attr_line, backup_words, called_words, carried_lines, counted_line, counting_line, fast_reroute_line, from_words, given_word, hop_lines, hop_words, is_preempted, is_preempting, labels_line, left_words, limit_words, next_line, origin_line, origin_lines, out_words, passed_line, path_head, path_lines, path_lsp_text, preempted_line, preempting_line, priority_words, rate_line, rate_word, repair_line, repair_words, reserved_lines, resv_head, resv_lines, resv_lsp_text, rival_key, rival_line, rival_lines, routed_lines, said_line, set_words, used_line, via_words};
+ghost use Rattle.lsr_text.specs.Lsps.{asked_line, attr_at, attr_line, backup_words, called_words, carried_lines, counted_line, fast_reroute_line, from_words, given_word, hop_lines, hop_words, is_preempted, is_preempting, labels_line, left_words, limit_words, next_line, origin_line, origin_lines, out_words, passed_line, path_head, path_lines, path_lsp_text, preempted_line, preempting_line, priority_words, rate_line, rate_word, repair_line, repair_words, reserved_lines, resv_head, resv_lines, resv_lsp_text, rival_key, rival_line, rival_lines, routed_lines, said_line, used_line, via_words};
 ghost use Rattle.object_text.specs.Traffic.{rate_bytes};
 
 use crate::routes::{push_flags, push_name, push_record, push_route};
@@ -162,38 +162,23 @@ fn push_priorities(text: &mut String, word: &str, setup: u8, hold: u8) -> Result
     write!(text, "  {word} setup {setup} hold {hold}")
 }
 
-/// Appends the name of an LSP, and ends the line.
-#[tactic(auto, unfolding(crate::specs::Lsps::called_words))]
-fn push_called(alloc: Global, text: &mut String, name: &[u8]) -> Result<(), AllocError>
-    ensures { OnOk result (string_bytes text.new ≡ string_bytes text.old ++ called_words name.now) }
-{
-    text.push_str(" name ")?;
-    push_name(alloc, text, name)?;
-    text.push_str("\n")
-}
-
 /// Appends the name that attributes say, and ends the line.
+#[tactic(auto, unfolding(crate::specs::Lsps::called_words))]
 fn push_attr_name(alloc: Global, text: &mut String, attr: &Attr) -> Result<(), AllocError>
     ensures { OnOk result (string_bytes text.new ≡ string_bytes text.old ++ called_words attr.now.name) }
 {
-    push_called(alloc, text, attr.name.as_slice())
-}
-
-/// Appends flags after other words.
-#[tactic(auto, unfolding(crate::specs::Lsps::set_words))]
-fn push_set(alloc: Global, text: &mut String, flags: u8) -> Result<(), AllocError>
-    ensures { OnOk result (string_bytes text.new ≡ string_bytes text.old ++ set_words flags) }
-{
-    push_flags(alloc, text, flags)
+    text.push_str(" name ")?;
+    push_name(alloc, text, attr.name.as_slice())?;
+    text.push_str("\n")
 }
 
 /// Appends the line of attributes: priorities as they came, flags and name.
-#[tactic(auto, unfolding(crate::specs::Lsps::said_line))]
+#[tactic(auto, unfolding(crate::specs::Lsps::said_line, crate::specs::Lsps::set_words))]
 fn push_said(alloc: Global, text: &mut String, attr: &Attr) -> Result<(), AllocError>
     ensures { OnOk result (string_bytes text.new ≡ string_bytes text.old ++ said_line attr.now) }
 {
     push_priorities(text, "attributes", attr.setup, attr.hold)?;
-    push_set(alloc, text, attr.flags)?;
+    push_flags(alloc, text, attr.flags)?;
     push_attr_name(alloc, text, attr)
 }
 
@@ -207,20 +192,13 @@ fn push_attr(alloc: Global, text: &mut String, attr: &Option<Attr>) -> Result<()
     }
 }
 
-/// Appends the line of priorities that count.
-#[tactic(auto, unfolding(crate::specs::Lsps::counting_line))]
-fn push_counting(text: &mut String, setup: u8, hold: u8) -> Result<(), AllocError>
-    ensures { OnOk result (string_bytes text.new ≡ string_bytes text.old ++ counting_line setup hold) }
-{
-    push_priorities(text, "priorities", setup, hold)?;
-    text.push_str("\n")
-}
-
 /// Appends the line of the priorities as they count.
+#[tactic(auto, unfolding(crate::specs::Lsps::counting_line))]
 fn push_counted(text: &mut String, attr: Option<&Attr>) -> Result<(), AllocError>
     ensures { OnOk result (string_bytes text.new ≡ string_bytes text.old ++ counted_line (option_copied attr.entry)) }
 {
-    push_counting(text, setup_of(attr), holding_of(attr))
+    push_priorities(text, "priorities", setup_of(attr), holding_of(attr))?;
+    text.push_str("\n")
 }
 
 /// Appends how many hops a backup may have.
@@ -242,13 +220,13 @@ fn push_backup(alloc: Global, text: &mut String, word: RateWord) -> Result<(), A
 }
 
 /// Appends the line of what a FAST_REROUTE asks for (RFC 4090, 4.1).
-#[tactic(auto, unfolding(crate::specs::Lsps::asked_line))]
+#[tactic(auto, unfolding(crate::specs::Lsps::asked_line, crate::specs::Lsps::set_words))]
 fn push_asked(alloc: Global, text: &mut String, asked: FastReroute) -> Result<(), AllocError>
     ensures { OnOk result (string_bytes text.new ≡ string_bytes text.old ++ asked_line asked) }
 {
     push_priorities(text, "reroute", asked.setup, asked.hold)?;
     push_limit(text, asked.hop_limit)?;
-    push_set(alloc, text, asked.flags)?;
+    push_flags(alloc, text, asked.flags)?;
     push_backup(alloc, text, asked.bandwidth)
 }
 

@@ -3,8 +3,10 @@ ghost use Rattle.std.specs.Prelude.{◌≡◌};
 
 use crate::four_links::{LINKS, Traffic, four_links, open_senders};
 use crate::sending::{CountedWire, Sender};
-use interface_workers::{Core, CoreReader, OpenGate, Opened, Port, Wire, Work, serve_link};
-use lsr_serve::{LinkSockets, LinkWire, ServeFault, UdpWire, open_wires};
+use interface_workers::{Core, CoreReader, OpenGate, Opened, Port, Wire, Work};
+use lsr_serve::{
+    LinkSockets, LinkWire, ServeFault, UdpWire, Worker, link_workers, open_wires, run_worker,
+};
 use sorted_rows::Table;
 use std::alloc::{AllocError, Global};
 use std::marker::Brand;
@@ -28,56 +30,34 @@ struct Neighbours<'a> {
     count: u32,
 }
 
-/// A link's worker.
-#[derive(Drop)]
-struct Worker<'a, L: Ledger, W> {
-    port: Port<L>,
-    reader: CoreReader<L>,
-    link: u16,
-    wire: CountedWire<'a, W>,
-}
-
-/// The turns of a worker.
-fn run_worker<L: Ledger, R: Wait + Drop, W: Wire + Drop>(
-    rt: &R,
+/// The wires, each of which counts what it took, and takes no more than so many frames.
+fn counted<'a, W: Drop>(
     alloc: Global,
-    core: &Core<L, R>,
-    turns: u32,
-    worker: Worker<'_, L, W>,
-) -> Result<Work, AllocError> {
-    let Worker {
-        mut port,
-        reader,
-        link,
-        mut wire,
-    } = worker;
-    serve_link(
-        rt, alloc, core, &mut port, reader, link, &mut wire, &OpenGate, turns,
-    )
-}
-
-/// The workers of the links, each with the port of its place, which take so many frames.
-fn workers<'a, L: Ledger, W: Drop>(
-    alloc: Global,
-    ports: Vec<Port<L>>,
-    readers: Vec<CoreReader<L>>,
     links: Vec<LinkWire<W>>,
     counts: &'a [AtomicU64],
     count: u32,
-) -> Result<Vec<Worker<'a, L, W>>, AllocError> {
+) -> Result<Vec<LinkWire<CountedWire<'a, W>>>, AllocError> {
     let sent = u64::from(count);
-    ports
+    links
         .into_iter()
-        .zip(readers)
-        .zip(links)
         .zip(counts)
-        .map(|(((port, reader), LinkWire { number, wire }), taken)| Worker {
-            port,
-            reader,
-            link: number,
+        .map(|(LinkWire { number, wire }, taken)| LinkWire {
+            number,
             wire: CountedWire { wire, taken, sent },
         })
         .collect(alloc)
+}
+
+/// The workers of the links, whose wires count what they took for these neighbours. The only error is out of memory.
+fn counted_workers<'a, L: Ledger, W: Wire + Drop>(
+    alloc: Global,
+    ports: Vec<Port<L>>,
+    readers: Vec<CoreReader<L>>,
+    wires: Vec<LinkWire<W>>,
+    neighbours: &Neighbours<'a>,
+) -> Result<Vec<Worker<L, CountedWire<'a, W>>>, AllocError> {
+    let wires = counted(alloc, wires, neighbours.counts, neighbours.count)?;
+    link_workers(alloc, ports, readers, wires)
 }
 
 /// Whether each neighbour sent all. The error is out of memory.
@@ -131,7 +111,7 @@ fn run_since<
     rt: &R,
     alloc: Global,
     core: &Core<L, R>,
-    workers: Vec<Worker<'_, L, W>>,
+    workers: Vec<Worker<L, W>>,
     neighbours: Neighbours<'_>,
     start: Instant,
 ) -> Result<Loaded, Fault> {
@@ -146,7 +126,7 @@ fn run_since<
         || thread::map_vec(
             rt,
             workers,
-            &|worker| run_worker(rt, alloc, core, turns, worker),
+            &|worker| run_worker(rt, alloc, core, &OpenGate, turns, worker),
         ),
         || send_all(rt, senders),
     );
@@ -172,14 +152,7 @@ fn serve_by<
     neighbours: Neighbours<'_>,
 ) -> Result<Loaded, Fault> {
     let start = Instant::now(rt)?;
-    match workers(
-        alloc,
-        ports,
-        readers,
-        wires,
-        neighbours.counts,
-        neighbours.count,
-    ) {
+    match counted_workers(alloc, ports, readers, wires, &neighbours) {
         Ok(workers) => run_since(rt, alloc, core, workers, neighbours, start),
         Err(_) => Err(Fault::Memory),
     }
