@@ -65,7 +65,12 @@ impl<R: Wait + Drop> Model for Locked<R> {
 }
 
 /// The entry of a step that is made ready. The only error is out of memory.
-fn entry_of(alloc: Global, port: u16, event: &Event, ready: &Ready) -> Result<CountedEntry, AllocError>
+fn entry_of(
+    alloc: Global,
+    port: u16,
+    event: &Event,
+    ready: &Ready,
+) -> Result<CountedEntry, AllocError>
     ensures { IfOk result (IsEntryFor port event.now ready.now) }
 {
     Ok(CountedEntry {
