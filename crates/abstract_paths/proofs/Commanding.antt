@@ -15,12 +15,13 @@ use Rattle.rsvp_objects.specs.Ranges.{IsAddress}
 use Rattle.rsvp_contents.specs.Limits.{is_short_route}
 use Rattle.rsvp_bodies.specs.declared.prefix.Prefix.{Prefix}
 use Rattle.rsvp_bodies.specs.declared.step.Step.{Step}
+use Rattle.rsvp_bodies.specs.Traffic.{rate_asked}
 use Rattle.sorted_rows.specs.ListLaws.{all-filter}
 use Rattle.sorted_rows.specs.RowsLaws.{all-put, all-put_row, find-put_same}
 use Rattle.lsr_facts.specs.OrderLaws.{prefix_exact, prefix_total}
 use Rattle.lsr_facts.specs.Orders.{is_one_of, key_cmp, prefix_cmp}
 use Rattle.lsr_facts.specs.Routers.{AreRoutes, HasLink, IsRouter, is_same, own_addresses}
-use Rattle.lsr_facts.specs.Bypasses.{is_for_bypass}
+use Rattle.lsr_facts.specs.Bypasses.{AreBypasses, carries, is_above_rate, is_for_bypass}
 use Rattle.lsr_facts.specs.Tunnels.{AreTunnels, IsTunnel, IsTunnelLsp, head_key, heads_of, is_head, pending_key, route_from}
 use Rattle.lsr_facts.specs.declared.choice.Choice.{Choice}
 use Rattle.lsr_facts.specs.declared.errors.RsvpError.{RsvpError}
@@ -36,7 +37,7 @@ use Rattle.abstract_paths.specs.declared.commands.Command.TheVariants.{AddTunnel
 use Rattle.abstract_paths.specs.declared.tunnels.NewBypass.{NewBypass}
 use Rattle.abstract_paths.specs.declared.tunnels.NewTunnel.{NewTunnel}
 use Rattle.abstract_paths.specs.declared.tunnels.TunnelChange.{TunnelChange}
-use Rattle.abstract_paths.proofs.Bypasses.{bypasses_put, bypasses_tunnel_gone, bypasses_tunnel_put, bypasses_where}
+use Rattle.abstract_paths.proofs.Bypasses.{bypasses_put, bypasses_tunnel_begun, bypasses_tunnel_gone, bypasses_tunnel_new, bypasses_tunnel_put, bypasses_where, cancelled_carries}
 use Rattle.abstract_paths.proofs.EventStanding.{LeavesStanding}
 use Rattle.abstract_paths.proofs.Heads.{heads_begun, heads_cancelled, heads_changed, heads_dropped, heads_where, is_head-current, is_head-pending}
 use Rattle.abstract_paths.proofs.Masked.{masked_past}
@@ -56,7 +57,7 @@ use Rattle.abstract_paths.specs.RowLaws.{length-filter_most}
 use Rattle.abstract_paths.specs.Soundness.{IsStanding}
 
 -- where no test of a command holds, each fails
-all_fail : (tests : List (Bool × Refusal)) → option_map (λ test. test.1) (find_first (λ test. test.0) tests) ≡ None → AllByRecursion (λ test. test.0 ≡ false) tests
+pub all_fail : (tests : List (Bool × Refusal)) → option_map (λ test. test.1) (find_first (λ test. test.0) tests) ≡ None → AllByRecursion (λ test. test.0 ≡ false) tests
 all_fail [] none = tt
 all_fail (test ∷ tests) none =
     elim test.0 as (λ b. test.0 ≡ b → option_map (λ (found : Bool × Refusal). found.1) (cond b (Some test) (find_first (λ (t : Bool × Refusal). t.0) tests)) ≡ None → (test.0 ≡ false) × AllByRecursion (λ t. t.0 ≡ false) tests) [
@@ -127,17 +128,17 @@ routes_where r p routes are = record {
 
 module _ (r : Router) (s : Facts) (router : IsRouter r) (runs : s.cold ≡ false) (is : IsStanding r s) where
   -- A tunnel is put, and one of its LSPs is signalled that is one of a tunnel's from now on.
-  begun-stands : (number : ℕ) (tunnel : Tunnel) (lsp : TunnelLsp) → AreTunnels r (put nat_cmp number tunnel s.tunnels) → IsTunnel r (number, tunnel) → IsTunnelLsp r tunnel.last lsp → is_full s ≡ false
+  begun-stands : (number : ℕ) (tunnel : Tunnel) (lsp : TunnelLsp) → AreTunnels r (put nat_cmp number tunnel s.tunnels) → AreBypasses r (put nat_cmp number tunnel s.tunnels) s.bypasses → IsTunnel r (number, tunnel) → IsTunnelLsp r tunnel.last lsp → is_full s ≡ false
       → is_head r (put nat_cmp number tunnel s.tunnels) (head_key r number tunnel.endpoint lsp.id) ≡ true
       → ((q : Key) → is_eq (key_cmp q (head_key r number tunnel.endpoint lsp.id)) ≡ false → is_head r (put nat_cmp number tunnel s.tunnels) q ≡ is_head r s.tunnels q)
       → is_err (head_hop (place_of r s) lsp.route tunnel.endpoint) ≡ false → ((pending : TunnelLsp) → tunnel.pending ≡ Some pending → pending ≡ lsp) → IsStanding r (with_tunnel number tunnel (with_head r (number, tunnel) lsp s))
   unfolding with_head
-  begun-stands number tunnel lsp are its asked room head others fine only =
+  begun-stands number tunnel lsp are protect its asked room head others fine only =
       by (head_hop (place_of r s) lsp.route tunnel.endpoint) (head-leads r s (number, tunnel) lsp router is asked.route) (route-goes_on (place_of r s) tunnel.endpoint (not_own r (number, tunnel) its) (route_from r lsp.route)) fine
     where
       by : (way : Result Choice RsvpError) → Leads r way → HopGoesOn way → is_err way ≡ false → IsStanding r (with_tunnel number tunnel (with_head_by r (number, tunnel) lsp s way))
       by (Err e) leads goes fine = absurd (let f = fine in cc)
-      by (Ok way) leads goes fine = head_put-stands r s runs is room number tunnel lsp tunnel.last (put nat_cmp number tunnel s.tunnels) way are (bypasses_tunnel_put r s.tunnels s.bypasses number tunnel is.bypasses) asked leads goes head others
+      by (Ok way) leads goes fine = head_put-stands r s runs is room number tunnel lsp tunnel.last (put nat_cmp number tunnel s.tunnels) way are protect asked leads goes head others
           (pending_begun r s.tunnels s.paths is.pending number tunnel lsp way are.in_order only)
 
   -- A tunnel begins.
@@ -150,7 +151,7 @@ module _ (r : Router) (s : Facts) (router : IsRouter r) (runs : s.cold ≡ false
       let tunnel = tunnel_by t in
       let asked : IsTunnelLsp r 1 tunnel.current = record { route = good.request.short; whole_tspec = whole; numbered = omega arith; given = omega arith } in
       let its : IsTunnel r (t.number, tunnel) = record { endpoint = four; elsewhere = good.elsewhere; current = asked; pending = tt } in
-      begun-stands t.number tunnel tunnel.current (tunnels_put_room r t.number tunnel s.tunnels is.tunnels room.0 its) its asked room.1
+      begun-stands t.number tunnel tunnel.current (tunnels_put_room r t.number tunnel s.tunnels is.tunnels room.0 its) (bypasses_tunnel_new r s.tunnels s.bypasses t.number tunnel new is.bypasses) its asked room.1
       (is_head-current r (put nat_cmp t.number tunnel s.tunnels) t.number tunnel (find-put_same nat_cmp nat_cmp_total t.number tunnel s.tunnels))
       (λ q apart. heads_begun r t.number s.tunnels tunnel q new refl apart)
       good.request.leads
@@ -160,17 +161,17 @@ module _ (r : Router) (s : Facts) (router : IsRouter r) (runs : s.cold ≡ false
   change-stands : (c : TunnelChange) → length c.tspec ≡ 32 → refusal_of r s (ChangeTunnel c) ≡ None → IsStanding r (commanded r s (ChangeTunnel c))
   change-stands c whole none =
       let fail = all_fail (tests_of r s (ChangeTunnel c)) none in
-      by (find nat_cmp c.number s.tunnels) refl fail.1.0 fail.1.1.0 fail.1.1.1.0
+      by (find nat_cmp c.number s.tunnels) refl fail.1.0 fail.1.1.0 fail.1.1.1.0 fail.1.1.1.1.1.0
     where
       by : (known : Option Tunnel) → find nat_cmp c.number s.tunnels ≡ known → option_map_or (λ tunnel. is_some tunnel.pending) known false ≡ false → (option_map_or (λ tunnel. tunnel.last == 65535) known false || is_full s) ≡ false
-          → option_map_or (λ tunnel. is_bad_request r s tunnel.endpoint c.route c.tspec) known false ≡ false → IsStanding r (option_map_or (λ tunnel. with_change r c.number (begun c.route c.tspec tunnel) s) known s)
-      by None found settled room good = is
-      by (Some t) found settled room good =
+          → option_map_or (λ tunnel. is_bad_request r s tunnel.endpoint c.route c.tspec) known false ≡ false → is_above_rate s.bypasses c.number (rate_asked c.tspec) ≡ false → IsStanding r (option_map_or (λ tunnel. with_change r c.number (begun c.route c.tspec tunnel) s) known s)
+      by None found settled room good most = is
+      by (Some t) found settled room good most =
           let fine = good_request r s t.endpoint c.route c.tspec good in
           let changed = begun c.route c.tspec t in
           let its : IsTunnel r (c.number, changed) = begun_stands r c.number c.route c.tspec t (tunnel_known r c.number t s.tunnels is.tunnels found) fine.short whole in
           let lsp : TunnelLsp = record { id = t.last + 1; route = c.route; tspec = c.tspec } in
-          begun-stands c.number changed lsp (tunnels_put_known r c.number t changed s.tunnels is.tunnels found its) its its.pending.0 (or_parts _ (is_full s) room).1
+          begun-stands c.number changed lsp (tunnels_put_known r c.number t changed s.tunnels is.tunnels found its) (bypasses_tunnel_begun r s.tunnels s.bypasses c.number t c.route c.tspec found most is.bypasses) its its.pending.0 (or_parts _ (is_full s) room).1
           (is_head-pending r (put nat_cmp c.number changed s.tunnels) c.number changed lsp (find-put_same nat_cmp nat_cmp_total c.number changed s.tunnels) refl)
           (λ q apart. heads_changed r c.number s.tunnels t found c.route c.tspec q (none-is t.pending (ap not settled)) apart)
           fine.leads
@@ -186,7 +187,7 @@ module _ (r : Router) (s : Facts) (router : IsRouter r) (runs : s.cold ≡ false
           let keys = option_to_list (pending_key r (number, t)) in
           sound_with_heads r s s.routes (put nat_cmp number (cancelled t) s.tunnels) (where_key key_cmp (λ k. not (is_one_of keys k)) s.paths) runs is is.routes
           (tunnels_put_known r number t (cancelled t) s.tunnels is.tunnels found (cancelled_stands r (number, t) (tunnel_known r number t s.tunnels is.tunnels found)))
-          (bypasses_tunnel_put r s.tunnels s.bypasses number (cancelled t) is.bypasses)
+          (bypasses_tunnel_put r s.tunnels s.bypasses number t (cancelled t) found (λ capacity. cancelled_carries capacity t) is.bypasses)
           (paths_where r s.moment (λ k. not (is_one_of keys k)) s.paths is.paths)
           (heads_where r s.tunnels (put nat_cmp number (cancelled t) s.tunnels) (λ k. not (is_one_of keys k)) s.paths (λ q kept. heads_cancelled r number s.tunnels t found q (not-true _ kept)) is.heads)
           (pending_cancelled r s.tunnels s.paths is.pending number t (is_sorted-put nat_cmp nat_cmp_total number (cancelled t) s.tunnels is.tunnels.in_order))
@@ -213,8 +214,12 @@ module _ (r : Router) (s : Facts) (router : IsRouter r) (runs : s.cold ≡ false
       let fail = all_fail (tests_of r s (AddBypass b)) none in
       sound_with_bypasses r s (put nat_cmp b.number (bypass_by b) s.bypasses) is
       (bypasses_put r s.tunnels s.bypasses b.number (bypass_by b) is.bypasses
-      (record { protects = not-false _ fail.0; runs = not-false _ fail.1.0 })
+      (record { protects = not-false _ fail.0; runs = not-false _ fail.1.0; carried = carried-by (find nat_cmp b.tunnel s.tunnels) (not-false _ fail.1.1.1.1.1.0) })
       fail.1.1.1.0)
+    where
+      carried-by : (known : Option Tunnel) → option_map_or (carries b.capacity) known false ≡ true → option_map_or (carries b.capacity) known true ≡ true
+      carried-by None is = refl
+      carried-by (Some t) is = is
 
   -- What a command changes that isn't refused.
   pub commanded-stands : (c : Command) → IsCommand c → refusal_of r s c ≡ None → IsStanding r (commanded r s c)

@@ -10,7 +10,8 @@ use Rattle.rsvp_contents.specs.Limits.{is_short_route}
 use Rattle.rsvp_bodies.specs.declared.prefix.Prefix.{Prefix}
 use Rattle.rsvp_bodies.specs.declared.step.Step.{Step}
 use Rattle.rsvp_bodies.specs.Rates.{rate_of}
-use Rattle.lsr_facts.specs.Bypasses.{is_for_bypass, is_to_protect}
+use Rattle.rsvp_bodies.specs.Traffic.{rate_asked}
+use Rattle.lsr_facts.specs.Bypasses.{carries, is_above_rate, is_for_bypass, is_to_protect}
 use Rattle.lsr_facts.specs.Limits.{max_bypasses, max_routes, max_tunnels}
 use Rattle.lsr_facts.specs.Orders.{key_cmp, prefix_cmp}
 use Rattle.lsr_facts.specs.Routers.{link_at, masked}
@@ -21,7 +22,7 @@ use Rattle.lsr_facts.specs.declared.choice.Choice.TheVariants.{Tail, Link}
 use Rattle.lsr_facts.specs.declared.facts.Facts.{Facts}
 use Rattle.lsr_facts.specs.declared.key.Key.{Key}
 use Rattle.lsr_facts.specs.declared.refusal.Refusal.{Refusal}
-use Rattle.lsr_facts.specs.declared.refusal.Refusal.TheVariants.{BadRoute, BypassExists, BypassOnItsLink, ChangePending, Full, InUse, TunnelExists, UnknownLink, UnknownTunnel}
+use Rattle.lsr_facts.specs.declared.refusal.Refusal.TheVariants.{BadCapacity, BadRoute, BypassExists, BypassOnItsLink, ChangePending, Full, InUse, TunnelExists, UnknownLink, UnknownTunnel}
 use Rattle.lsr_facts.specs.declared.router.Router.{Router}
 use Rattle.lsr_facts.specs.declared.tunnel.Tunnel.{Tunnel}
 use Rattle.lsr_facts.specs.Changes.{begun, cancelled}
@@ -93,6 +94,7 @@ tests_of r s (ChangeTunnel c) =
     ∷ (is_tunnel_such (λ tunnel. tunnel.last == 65535) s c.number || is_full s, Full)
     ∷ (is_tunnel_such (λ tunnel. is_bad_request r s tunnel.endpoint c.route c.tspec) s c.number, BadRoute)
     ∷ (is_tunnel_such (λ tunnel. comes_onto_its_link r s c.number tunnel.endpoint c.route) s c.number, BypassOnItsLink)
+    ∷ (is_above_rate s.bypasses c.number (rate_asked c.tspec), BadCapacity)
     ∷ []
 tests_of r s (CancelChange number) = (is_unknown s number, UnknownTunnel) ∷ []
 tests_of r s (DropTunnel number) = (is_unknown s number, UnknownTunnel) ∷ (is_for_bypass s.bypasses number, InUse) ∷ []
@@ -102,6 +104,7 @@ tests_of r s (AddBypass b) =
     ∷ (is_some (find nat_cmp b.number s.bypasses), BypassExists)
     ∷ (nat_le max_bypasses (length s.bypasses), Full)
     ∷ (is_tunnel_such (λ tunnel. runs_over r s b.link (b.tunnel, tunnel)) s b.tunnel, BypassOnItsLink)
+    ∷ (not (is_tunnel_such (carries b.capacity) s b.tunnel), BadCapacity)
     ∷ []
 tests_of r s (DropBypass number) = (is_none (find nat_cmp number s.bypasses), UnknownTunnel) ∷ []
 tests_of r s (AddRoute prefix link) =
@@ -129,7 +132,7 @@ tunnel_by t = record {
 
 -- a bypass as it is asked for
 abbrev pub bypass_by : NewBypass → Bypass
-bypass_by b = record { tunnel = b.tunnel; link = b.link; capacity = 0 }
+bypass_by b = record { tunnel = b.tunnel; link = b.link; capacity = b.capacity }
 
 -- The tunnel of a number begins, and its LSP is signalled.
 abbrev pub with_begun : Router → ℕ → Tunnel → Facts → Facts

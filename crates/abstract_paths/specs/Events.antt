@@ -79,6 +79,7 @@ pub record IsNewBypass (b : NewBypass) : Type 0 where
   pub number : IsNumber b.number
   pub tunnel : IsNumber b.tunnel
   pub link : IsNumber b.link
+  pub capacity : b.capacity < 2 ^ 64
 
 -- A command that can be: each number is within its width, addresses have four octets, a traffic descriptor has 32 bytes.
 abbrev pub IsCommand : Command → Type 0

@@ -109,6 +109,7 @@ fn is_new_bypass(bypass: &NewBypass)
         number: _number,
         tunnel: _tunnel,
         link: _link,
+        capacity: _capacity,
     } = *bypass;
 }
 

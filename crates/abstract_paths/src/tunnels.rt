@@ -46,6 +46,8 @@ pub struct NewBypass {
     pub tunnel: u16,
     /// The number of the link that it protects.
     pub link: u16,
+    /// The bandwidth that it is to have for repairs, in bytes per second; 0 for none of its own (RFC 4090, 4.3).
+    pub capacity: u64,
 }
 
 impl TryCopy for NewTunnel {

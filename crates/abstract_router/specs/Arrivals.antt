@@ -32,6 +32,7 @@ use Rattle.abstract_paths.specs.Restarts.{restarted, started}
 use Rattle.abstract_paths.specs.Tears.{path_err_arrival, path_tear_arrival}
 use Rattle.abstract_paths.specs.Time.{tick}
 use Rattle.lsr_facts.specs.Errors.{no_label}
+use Rattle.label_space.specs.Rests.{resting_past}
 use Rattle.abstract_router.specs.Labels.{has_free_label}
 use Rattle.abstract_router.specs.Outcomes.{Outcome, of_paths, refused}
 use Rattle.abstract_router.specs.Reserving.{resv_arrival, unknown_resv}
@@ -49,7 +50,7 @@ is_done _ = false
 unfoldable pub labelled_path_arrival : Router → State → ℕ → Path → Outcome
 labelled_path_arrival r s link p =
     let o = path_arrival r s.facts link p in
-    if is_done o.reply && is_none (find key_cmp (key_of p) s.facts.paths) && not (has_free_label r s.labels)
+    if is_done o.reply && is_none (find key_cmp (key_of p) s.facts.paths) && not (has_free_label r s.labels s.resting)
     then of_paths s (failed r s.facts link p no_label)
     else of_paths s o
 
@@ -114,12 +115,12 @@ arrival r s a =
     else if not (is_up s.facts.up a.link) then refused s LinkDown
     else arrival_by r s a.way a.link a.reading
 
--- Where the moment may come, it comes for reservations and repairs too: those that have expired go (RFC 2205, 2.3), and
--- Resvs are due (RFC 2205, 3.7).
+-- A moment that isn't refused counts for reservations, repairs and labels too: what has expired goes (RFC 2205, 2.3), labels
+-- are free whose rest is over, and Resvs are due (RFC 2205, 3.7).
 abbrev pub for_reservations : Router → State → ℕ → Outcome → Outcome
 for_reservations r s n o =
     if o.is_silent then o
-    else record o { after = record o.after { resvs = expire_resvs n s.resvs; repairs = expire_repairs n s.repairs }; upstream_due = due_items r.refresh_ms s.sent_upstream n }
+    else record o { after = record o.after { resvs = expire_resvs n s.resvs; repairs = expire_repairs n s.repairs; resting = resting_past n s.resting }; upstream_due = due_items r.refresh_ms s.sent_upstream n }
 
 -- A moment comes.
 unfoldable pub moment_comes : Router → State → ℕ → Outcome

@@ -26,7 +26,7 @@ over_of r s tunnel = option_and_then (over_by s.facts (current_key r tunnel)) (f
 
 -- a bypass that runs in this tunnel
 abbrev pub bypass_tunnel_of : Router → State → Bypass → Tunnel → BypassTunnel
-bypass_tunnel_of r s bypass tunnel = record { tunnel = bypass.tunnel; protects = bypass.link; ends_at = tunnel.endpoint; over = over_of r s (bypass.tunnel, tunnel) }
+bypass_tunnel_of r s bypass tunnel = record { tunnel = bypass.tunnel; protects = bypass.link; ends_at = tunnel.endpoint; capacity = bypass.capacity; over = over_of r s (bypass.tunnel, tunnel) }
 
 -- a bypass, by the tunnel that it names
 abbrev pub bypass_tunnel_by : Router → State → ℕ × Bypass → Option BypassTunnel

@@ -8,6 +8,7 @@ use Rattle.lsr_facts.specs.declared.key.Key.{Key}
 use Rattle.lsr_facts.specs.declared.path_fact.PathFact.{PathFact}
 use Rattle.lsr_facts.specs.declared.router.Router.{Router}
 use Rattle.abstract_router.specs.Labels.{has_free_label}
+use Rattle.abstract_router.specs.States.{State}
 
 -- a path that doesn't begin here has a label
 abbrev pub HasLabel : List (Key × ℕ) → Key × PathFact → Type 0
@@ -18,7 +19,7 @@ abbrev pub HasLabelOrIsNew : List (Key × ℕ) → Key → Key × PathFact → T
 HasLabelOrIsNew labels key path = (path.0 ≡ key) ⊎ HasLabel labels path
 
 -- Of the paths after an event each has a label, or one is new and a label is free for it.
-abbrev pub CanLabel : Router → List (Key × ℕ) → List (Key × PathFact) → Type 0
-CanLabel r labels paths =
-    AllByRecursion (HasLabel labels) paths
-    ⊎ ((key : Key) × AllByRecursion (HasLabelOrIsNew labels key) paths × (has_free_label r labels ≡ true))
+abbrev pub CanLabel : Router → State → List (Key × PathFact) → Type 0
+CanLabel r before paths =
+    AllByRecursion (HasLabel before.labels) paths
+    ⊎ ((key : Key) × AllByRecursion (HasLabelOrIsNew before.labels key) paths × (has_free_label r before.labels before.resting ≡ true))

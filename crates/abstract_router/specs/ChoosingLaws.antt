@@ -15,6 +15,7 @@ use Rattle.lsr_facts.specs.declared.path_fact.PathFact.{PathFact}
 use Rattle.lsr_facts.specs.declared.router.Router.{Router}
 use Rattle.abstract_router.specs.Choosing.{CanLabel, HasLabel, HasLabelOrIsNew}
 use Rattle.abstract_router.specs.Labels.{has_free_label, new_keys}
+use Rattle.abstract_router.specs.States.{State}
 
 -- then no key is new
 none_new : (labels : List (Key × ℕ)) (paths : List (Key × PathFact)) → AllByRecursion (HasLabel labels) paths → new_keys labels paths ≡ []
@@ -77,11 +78,11 @@ one_new labels key paths sorted has =
         is_key (inr has) ours (Some v) is new = absurd (let e = new in cc)
 
 -- Where labels can be chosen, at most one key is new, and a label is free for it.
-pub new_keys-few : (r : Router) (labels : List (Key × ℕ)) (paths : List (Key × PathFact)) → T (is_sorted key_cmp paths) → CanLabel r labels paths
-    → (new_keys labels paths ≡ []) ⊎ ((key : Key) × (new_keys labels paths ≡ key ∷ []) × (has_free_label r labels ≡ true))
-new_keys-few r labels paths sorted (inl has) = inl (none_new labels paths has)
-new_keys-few r labels paths sorted (inr new) = by (one_new labels new.0 paths sorted new.1)
+pub new_keys-few : (r : Router) (before : State) (paths : List (Key × PathFact)) → T (is_sorted key_cmp paths) → CanLabel r before paths
+    → (new_keys before.labels paths ≡ []) ⊎ ((key : Key) × (new_keys before.labels paths ≡ key ∷ []) × (has_free_label r before.labels before.resting ≡ true))
+new_keys-few r before paths sorted (inl has) = inl (none_new before.labels paths has)
+new_keys-few r before paths sorted (inr new) = by (one_new before.labels new.0 paths sorted new.1)
   where
-    by : ((new_keys labels paths ≡ []) ⊎ (new_keys labels paths ≡ new.0 ∷ [])) → (new_keys labels paths ≡ []) ⊎ ((key : Key) × (new_keys labels paths ≡ key ∷ []) × (has_free_label r labels ≡ true))
+    by : ((new_keys before.labels paths ≡ []) ⊎ (new_keys before.labels paths ≡ new.0 ∷ [])) → (new_keys before.labels paths ≡ []) ⊎ ((key : Key) × (new_keys before.labels paths ≡ key ∷ []) × (has_free_label r before.labels before.resting ≡ true))
     by (inl none) = inl none
     by (inr one) = inr (new.0, one, new.2)

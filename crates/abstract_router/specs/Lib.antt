@@ -1,4 +1,5 @@
 pub mod Arrivals
+pub mod Assigning
 pub mod Choosing
 pub mod ChoosingLaws
 pub mod ClaimsLaws

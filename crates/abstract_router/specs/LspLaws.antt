@@ -50,17 +50,18 @@ lsps-among s es g h =
     where_key-among key_cmp key_total key_exact es (lsps_of s) g (is_sorted-lsps s h)
     ∙ (λ i. filter_map (λ e. option_map (λ lsp. (e.0, lsp)) (find-lsps e.0 s i)) es)
 
--- Two states know the same of the reservations, the repairs and the labels of LSPs.
+-- Two states know the same of the reservations, the repairs, the labels and the assignments of LSPs.
 pub record AreAlike (s t : State) : Type 0 where
   pub resvs : s.resvs ≡ t.resvs
   pub repairs : s.repairs ≡ t.repairs
   pub labels : s.labels ≡ t.labels
+  pub assignments : s.assignments ≡ t.assignments
 
 -- The LSPs stand on these and on paths alone,
 pub lsps-alike : (s t : State) → s.facts.paths ≡ t.facts.paths → AreAlike s t → lsps_of s ≡ lsps_of t
 unfolding lsps_of
 lsps-alike s t paths are =
-    λ i. map (λ (row : Key × PathFact). (row.0, lsp_of (record s { resvs = are.resvs i; repairs = are.repairs i; labels = are.labels i }) row.0 row.1)) (paths i)
+    λ i. map (λ (row : Key × PathFact). (row.0, lsp_of (record s { resvs = are.resvs i; repairs = are.repairs i; labels = are.labels i; assignments = are.assignments i }) row.0 row.1)) (paths i)
 
 -- and so does the action of a label, with what bypasses run over.
 pub look-alike : (r : Router) (s t : State) (label : ℕ) → bypass_tunnels_of r s ≡ bypass_tunnels_of r t → s.facts.paths ≡ t.facts.paths → AreAlike s t → look r s label ≡ look r t label

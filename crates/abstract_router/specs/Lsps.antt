@@ -4,6 +4,7 @@ use Rattle.std.specs.FinMap.Entries.{find}
 use Rattle.std.specs.Option.{option_map, option_or}
 use Rattle.lsr_facts.specs.Orders.{key_cmp}
 use Rattle.lsr_facts.specs.Timeless.{timeless_path}
+use Rattle.lsr_facts.specs.declared.assignment.Assignment.{Assignment}
 use Rattle.lsr_facts.specs.declared.key.Key.{Key}
 use Rattle.lsr_facts.specs.declared.path_fact.PathFact.{PathFact}
 use Rattle.lsr_facts.specs.declared.router.Router.{Router}
@@ -15,13 +16,14 @@ use Rattle.abstract_paths.specs.Places.{Place, place_of}
 use Rattle.abstract_router.specs.BypassTunnels.{bypass_tunnels_of}
 use Rattle.abstract_router.specs.States.{State}
 
--- All that is known of one LSP but its key, and but for when it expires: its path, and its label, its reservation and its
--- repair if it has them.
+-- All that is known of one LSP but its key, and but for when it expires: its path, and its label, its reservation, its
+-- repair and what it is promised of a bypass if it has them.
 pub record Lsp : Type 0 where
   pub path : PathFact
   pub label : Option ℕ
   pub resv : Option ResvFact
   pub repair : Option Repair
+  pub assignment : Option Assignment
 
 -- What all LSPs share: where the router stands, with its links that are up and its static routes, and its bypasses.
 pub record Around : Type 0 where
@@ -39,6 +41,7 @@ lsp_of s key path = record {
   label = find key_cmp key s.labels;
   resv = option_map timeless_resv (find key_cmp key s.resvs);
   repair = option_map timeless_repair (find key_cmp key s.repairs);
+  assignment = find key_cmp key s.assignments;
 }
 
 -- what holds its label at the router after it: its reservation, or what its repair keeps of it

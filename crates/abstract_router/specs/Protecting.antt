@@ -1,6 +1,6 @@
 -- Which LSPs are protected, and by which bypass (RFC 4090, 4.1, 4.3 and 6). Which of several bypasses is taken is this
 -- router's choice.
-use Rattle.std.specs.Prelude.{ℕ, ◌%◌, ◌/◌, ◌==◌, ◌&&◌, ◌||◌, not, Bool, true, false, if◌then◌else◌, List, [], ◌∷◌, filter_map, find as find_first, Option, Some, None}
+use Rattle.std.specs.Prelude.{ℕ, ◌%◌, ◌/◌, ◌==◌, ◌&&◌, ◌||◌, ◌++◌, not, Bool, true, false, if◌then◌else◌, List, [], ◌∷◌, filter, filter_map, find as find_first, Option, Some, None}
 use Rattle.std.specs.List.{list_any}
 use Rattle.std.specs.Option.{option_map, option_map_or, option_or, unwrap_or}
 use Rattle.std.specs.declared.net.ipv4_addr.Ipv4Addr.{Ipv4Addr}
@@ -8,6 +8,7 @@ use Rattle.rsvp_bodies.specs.declared.trace.Trace.{Trace}
 use Rattle.rsvp_bodies.specs.declared.trace.Trace.TheVariants.{Ipv4, Label, Other}
 use Rattle.lsr_facts.specs.Lifetimes.{begins_here}
 use Rattle.lsr_facts.specs.Routers.{is_same, link_at}
+use Rattle.lsr_facts.specs.declared.assignment.Assignment.{Assignment}
 use Rattle.lsr_facts.specs.declared.key.Key.{Key}
 use Rattle.lsr_facts.specs.declared.path_fact.PathFact.{PathFact}
 use Rattle.lsr_facts.specs.declared.router.Router.{Router}
@@ -68,23 +69,33 @@ ends_at_peer r resv bypass_tunnel = option_map_or (λ link. is_same link.peer_ro
 abbrev pub selected_by : Router → ResvFact → ℕ × BypassTunnel → Option Selected
 selected_by r resv bypass_tunnel =
     if not (leads_around resv bypass_tunnel.1) then None
-    else if ends_at_peer r resv bypass_tunnel.1 then Some (record { bypass = bypass_tunnel.0; is_nnhop = false; label = resv.label })
-    else option_map (λ label. record { bypass = bypass_tunnel.0; is_nnhop = true; label = label }) (label_after bypass_tunnel.1.ends_at (unwrap_or resv.recorded []))
+    else if ends_at_peer r resv bypass_tunnel.1 then Some (record { bypass = bypass_tunnel.0; is_nnhop = false; label = resv.label; capacity = bypass_tunnel.1.capacity })
+    else option_map (λ label. record { bypass = bypass_tunnel.0; is_nnhop = true; label = label; capacity = bypass_tunnel.1.capacity }) (label_after bypass_tunnel.1.ends_at (unwrap_or resv.recorded []))
 
 -- all bypasses over which it may, in the order of their numbers
-unfoldable pub candidates_of : Around → ResvFact → List Selected
-candidates_of a resv = filter_map (selected_by a.place.router resv) a.bypass_tunnels
+unfoldable pub ways_around : Around → ResvFact → List Selected
+ways_around a resv = filter_map (selected_by a.place.router resv) a.bypass_tunnels
 
 -- a bypass ends where the head would have it: later where it wants the next router protected, else at that router
 abbrev pub is_preferred : PathFact → Selected → Bool
 is_preferred path choice = if wants_node_protection path then choice.is_nnhop else not choice.is_nnhop
 
--- The bypass over which a protected LSP would be repaired: the first that the head prefers, else the first (RFC 4090, 6.2).
-unfoldable pub selected : Around → Key → PathFact → ResvFact → Option Selected
-selected a key path resv =
+-- The bypasses that may protect an LSP, the best first: those that end where the head would have it, then the others. None
+-- where it isn't protected (RFC 4090, 6.2).
+unfoldable pub candidates_of : Around → Key → PathFact → ResvFact → List Selected
+candidates_of a key path resv =
     if is_protected a key path
-    then option_or (find_first (is_preferred path) (candidates_of a resv)) (find_first (λ choice. true) (candidates_of a resv))
-    else None
+    then filter (is_preferred path) (ways_around a resv) ++ filter (λ choice. not (is_preferred path choice)) (ways_around a resv)
+    else []
+
+-- An LSP that is promised bandwidth of a bypass is served by that one alone, any other by a bypass that has none to promise.
+abbrev pub may_serve : Option Assignment → Selected → Bool
+may_serve None choice = choice.capacity == 0
+may_serve (Some given) choice = choice.bypass == given.bypass
+
+-- The bypass over which an LSP would be repaired: the first candidate that may serve it.
+unfoldable pub selected : Around → Key → PathFact → Option Assignment → ResvFact → Option Selected
+selected a key path given resv = find_first (may_serve given) (candidates_of a key path resv)
 
 -- the repair of a reservation over a bypass: the label is the one that the bypass's end takes
 abbrev pub repair_with : ResvFact → Selected → Repair

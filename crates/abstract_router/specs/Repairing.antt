@@ -23,7 +23,7 @@ use Rattle.abstract_router.specs.States.{State, with_repairs_where}
 -- how an LSP of this path goes on that is reserved on a link that is down: over the bypass that is selected
 abbrev pub repair_on : Router → State → Key → ResvFact → PathFact → Option Repair
 repair_on r s key resv path =
-    if leaves_by resv.link path && not (is_up s.facts.up resv.link) then option_map (repair_with resv) (selected (around_of r s) key path resv) else None
+    if leaves_by resv.link path && not (is_up s.facts.up resv.link) then option_map (repair_with resv) (selected (around_of r s) key path (find key_cmp key s.assignments) resv) else None
 
 -- the repair of a reservation, if there is to be one
 abbrev pub repair_of : Router → State → Key × ResvFact → Option Repair

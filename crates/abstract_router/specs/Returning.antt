@@ -28,6 +28,7 @@ use Rattle.abstract_paths.specs.Merging.{under}
 use Rattle.abstract_paths.specs.Outcomes.{lsp}
 use Rattle.abstract_paths.specs.Paths.{unknown_object}
 use Rattle.abstract_paths.specs.Tears.{err_of_path}
+use Rattle.abstract_router.specs.Assigning.{has_share}
 use Rattle.abstract_router.specs.BypassTunnels.{bypass_tunnels_of}
 use Rattle.abstract_router.specs.Lsps.{around_of}
 use Rattle.abstract_router.specs.Outcomes.{Outcome, of_paths, refused, replied, reservation_error}
@@ -70,11 +71,12 @@ carried_back r v d repair fact progress PassedOver = progress
 carried_back r v d repair fact progress Granted =
     record progress { state = with_repair repair.0 (record repair.1 { resv = fact }) progress.state; has_granted = true }
 
--- A descriptor renews the repair that it is for. It is tested as any other, but that it takes no bandwidth of the link.
+-- A descriptor renews the repair that it is for. It is tested as any other; but it takes no bandwidth of the link, and it has
+-- to fit what the LSP is promised of the bypass, if it is promised any.
 abbrev pub renewed : Router → ResvStyle → Resv → FlowDescriptor → Progress → Key × Repair → Progress
 renewed r style v d progress repair =
     let fact = resv_by progress.state.facts.moment repair.1.resv.link style v d in
-    carried_back r v d repair fact progress (verdict_by_style r progress.state repair.0 fact true)
+    carried_back r v d repair fact progress (verdict_by_style r progress.state repair.0 fact (has_share progress.state repair.0 fact))
 
 -- and so the next descriptor is taken: one that is for no repair is passed over
 abbrev pub next_returned : Router → ResvStyle → Resv → Progress → FlowDescriptor → Progress

@@ -1,5 +1,5 @@
 -- What holds of every state that a label switching router comes to.
-use Rattle.std.specs.Prelude.{◌≡◌, ℕ, ◌≤◌, true, List, [], Some, None, IsOk, IsTrue, T, nat_eq}
+use Rattle.std.specs.Prelude.{◌≡◌, ℕ, ◌≤◌, true, ◌⊎◌, List, Some, None, IsOk, IsTrue, T, nat_eq}
 use Rattle.std.specs.FinMap.Entries.{find, is_sorted}
 use Rattle.std.specs.List.{AllByRecursion, IsDistinct}
 use Rattle.std.specs.Option.{option_map_or}
@@ -8,12 +8,17 @@ use Rattle.rsvp_contents.specs.Limits.{is_short_passing, is_short_record}
 use Rattle.rsvp_bodies.specs.Traffic.{flowspec_rate}
 use Rattle.sorted_rows.specs.Rows.{keys_of, values_of}
 use Rattle.lsr_facts.specs.Orders.{key_cmp}
+use Rattle.lsr_facts.specs.declared.assignment.Assignment.{Assignment}
+use Rattle.lsr_facts.specs.declared.bypass.Bypass.{Bypass}
 use Rattle.lsr_facts.specs.declared.key.Key.{Key}
 use Rattle.lsr_facts.specs.declared.router.Router.{Router}
 use Rattle.lsr_facts.specs.Claims.{is_same_session, reserved_of}
 use Rattle.lsr_facts.specs.declared.repair.Repair.{Repair}
 use Rattle.lsr_facts.specs.declared.resv_fact.ResvFact.{ResvFact}
 use Rattle.abstract_paths.specs.Soundness.{IsStanding}
+use Rattle.bypass_shares.specs.Shares.{IsWithin}
+use Rattle.label_space.specs.Rests.{AreRestingOf}
+use Rattle.abstract_router.specs.Assigning.{capacity_in, rate_in}
 use Rattle.abstract_router.specs.Wanted.{items_of}
 use Rattle.abstract_router.specs.Upstreams.{upstream_of}
 use Rattle.abstract_router.specs.Labels.{labelled_keys}
@@ -63,10 +68,35 @@ pub record AreLabelled (r : Router) (s : State) : Type 0 where
   pub to_last : AllByRecursion (λ row. row.1 ≤ r.labels.last) s.labels
   pub apart : IsDistinct nat_eq (values_of s.labels)
 
+-- An assignment is of an LSP that is reserved for that rate, or that is repaired over that bypass for no more.
+abbrev pub IsHolding : State → Key × Assignment → Type 0
+IsHolding s given =
+    ((resv : ResvFact) × (find key_cmp given.0 s.resvs ≡ Some resv) × (rate_in resv ≡ given.1.rate))
+    ⊎ ((repair : Repair) × (find key_cmp given.0 s.repairs ≡ Some repair) × (rate_in repair.resv ≤ given.1.rate) × (repair.bypass ≡ given.1.bypass))
+
+-- an assignment is of a bypass that has bandwidth to promise
+abbrev pub IsOfCapacity : List (ℕ × Bypass) → Key × Assignment → Type 0
+IsOfCapacity bypasses given = 1 ≤ capacity_in bypasses given.1.bypass
+
+-- A repair is over a bypass that has none to promise, or over the one that its LSP is promised bandwidth of.
+abbrev pub IsServed : State → Key × Repair → Type 0
+IsServed s repair =
+    (capacity_in s.facts.bypasses repair.1.bypass ≡ 0)
+    ⊎ ((given : Assignment) × (find key_cmp repair.0 s.assignments ≡ Some given) × (given.bypass ≡ repair.1.bypass))
+
+-- The bandwidth of bypasses that LSPs are promised (RFC 4090, 4.3): no bypass promises more than it has, each
+-- promise is held by an LSP, and no repair takes bandwidth that its LSP wasn't promised.
+pub record AreAssigned (s : State) : Type 0 where
+  pub in_order : T (is_sorted key_cmp s.assignments)
+  pub held : AllByRecursion (IsHolding s) s.assignments
+  pub capable : AllByRecursion (IsOfCapacity s.facts.bypasses) s.assignments
+  pub within : IsWithin key_cmp (capacity_in s.facts.bypasses) s.assignments
+  pub served : AllByRecursion (IsServed s) s.repairs
+
 -- What holds of every state: links, routes, time and paths are as they should be; reservations are within the limits of
 -- their links, and each stands on its path; each repair stands on its path and on a bypass that is up; each LSP that
--- doesn't begin here has a label of its own; no bandwidth of a bypass is assigned, and no label rests; and the moments are
--- known of exactly the Paths and the Resvs that are wanted.
+-- doesn't begin here has a label of its own; no bypass promises more than it has; labels that rest are held by nobody; and
+-- the moments are known of exactly the Paths and the Resvs that are wanted.
 pub record IsSound (r : Router) (s : State) : Type 0 where
   pub paths : IsStanding r s.facts
   pub held : AreHeld r s
@@ -74,7 +104,7 @@ pub record IsSound (r : Router) (s : State) : Type 0 where
   pub repaired : AreRepaired s
   pub repairs_standing : AllByRecursion (λ repair. repair_stands r s repair ≡ true) s.repairs
   pub labels : AreLabelled r s
-  pub no_assignments : s.assignments ≡ []
-  pub no_rests : s.resting ≡ []
+  pub assigned : AreAssigned s
+  pub resting : AreRestingOf r.labels s.facts.moment s.labels s.resting
   pub sent : keys_of s.facts.sent ≡ keys_of (items_of r s)
   pub sent_upstream : keys_of s.sent_upstream ≡ keys_of (upstream_of r s)

@@ -1,5 +1,5 @@
 -- One step of the abstract router, and runs of steps.
-use Rattle.std.specs.Prelude.{◌≡◌, ◌≢◌, ◌++◌, ℕ, true, if◌then◌else◌, Bool, false, List, [], ◌∷◌, filter, map}
+use Rattle.std.specs.Prelude.{◌≡◌, ◌≢◌, ◌++◌, ◌+◌, ℕ, true, if◌then◌else◌, Bool, false, List, [], ◌∷◌, filter, map}
 use Rattle.std.specs.List.{AllByRecursion}
 use Rattle.std.specs.Option.{option_map_or}
 use Rattle.rsvp_bodies.specs.declared.prefix.Prefix.{Prefix}
@@ -21,7 +21,9 @@ use Rattle.abstract_paths.specs.Relays.{exceeds_hop_limit}
 use Rattle.abstract_paths.specs.Restarts.{opening_facts}
 pub use Rattle.abstract_paths.specs.Events.{IsCommand, IsEvent}
 use Rattle.abstract_router.specs.Arrivals.{outcome}
-use Rattle.abstract_router.specs.Labels.{IsLabelling, labels_after}
+use Rattle.label_space.specs.Rests.{rested}
+use Rattle.abstract_router.specs.Assigning.{assigned_anew, assignments_left}
+use Rattle.abstract_router.specs.Labels.{IsLabelling, freed, labels_after}
 use Rattle.abstract_router.specs.Outcomes.{Outcome}
 use Rattle.abstract_router.specs.Outputs.{item_stamps, outputs_of, upstream_stamps}
 use Rattle.abstract_router.specs.Repairing.{repaired, repairs_left, told_repaired}
@@ -62,14 +64,22 @@ resvs_left s = with_resvs_where (stands s.facts) s
 abbrev pub left_standing : Router → State → State
 left_standing r s = repairs_left r (resvs_left s)
 
--- At last each LSP that is new has the label that was chosen for it, and the labels of those that went are free.
-abbrev pub labelled : List (Key × ℕ) → State → State
-labelled chosen s = record s { labels = labels_after s.labels chosen s.facts.paths }
+-- At last each LSP that is new has the label that was chosen for it, and the labels of those that went rest, from this moment
+-- on, for as long as the router has them rest.
+abbrev pub labelled : Router → List (Key × ℕ) → State → State
+labelled r chosen s = record s {
+  labels = labels_after s.labels chosen s.facts.paths;
+  resting = rested s.facts.moment (s.facts.moment + r.label_rest_ms) (freed s.labels s.facts.paths) s.resting;
+}
 
--- What follows from an event's own change, in this order: tunnels go over to new LSPs, what a lost link takes away is
--- repaired, what stands no more goes, and labels are given.
+-- tunnels go over to new LSPs, and the bandwidth of bypasses is promised anew
+abbrev pub promised : Router → State → State
+promised r s = assigned_anew r (taken_over r s)
+
+-- What follows from an event's own change, in this order: tunnels go over to new LSPs, the bandwidth of bypasses is promised
+-- anew, what a lost link takes away is repaired, what stands no more goes, and labels are given.
 abbrev pub settled : Router → List (Key × ℕ) → State → State
-settled r chosen s = labelled chosen (left_standing r (repaired r (taken_over r s)))
+settled r chosen s = labelled r chosen (assignments_left (left_standing r (repaired r (promised r s))))
 
 -- and when each message was sent last
 abbrev pub with_moments : Router → State → Outcome → State → State
@@ -83,15 +93,15 @@ known_after r before chosen o = if o.is_silent then o.after else with_moments r 
 -- What a step sends.
 abbrev pub sent_in : Router → State → Outcome → State → List Output
 sent_in r before o after =
-    if o.is_silent then [] else outputs_of r before (o.errors ++ told_repaired r (taken_over r o.after)) o.due o.upstream_due after
+    if o.is_silent then [] else outputs_of r before (o.errors ++ told_repaired r (promised r o.after)) o.due o.upstream_due after
 
 -- The labels that a step may choose: a silent one gives none.
-abbrev pub MayChooseBy : Bool → Router → List (Key × ℕ) → List (Key × PathFact) → List (Key × ℕ) → Type 0
-MayChooseBy true r labels paths chosen = chosen ≡ []
-MayChooseBy false r labels paths chosen = IsLabelling r labels paths chosen
+abbrev pub MayChooseBy : Bool → Router → State → List (Key × PathFact) → List (Key × ℕ) → Type 0
+MayChooseBy true r before paths chosen = chosen ≡ []
+MayChooseBy false r before paths chosen = IsLabelling r before paths chosen
 
 abbrev pub MayChoose : Router → State → Outcome → List (Key × ℕ) → Type 0
-MayChoose r before o chosen = MayChooseBy o.is_silent r before.labels o.after.facts.paths chosen
+MayChoose r before o chosen = MayChooseBy o.is_silent r before o.after.facts.paths chosen
 
 -- One step, made: what the event does and what follows from it, its answer, and what is sent. While the router is
 -- cold, no event but Start is one; nor is a message for another router whose limit ran out.

@@ -1,5 +1,5 @@
 -- What goes through a bypass: frames of repaired LSPs, and messages about them (RFC 4090, 3.2 and 6.4.3).
-use Rattle.std.specs.Prelude.{ℕ, ◌==◌, if◌then◌else◌, List, [], ◌∷◌, Option, None}
+use Rattle.std.specs.Prelude.{ℕ, ◌==◌, not, if◌then◌else◌, List, [], ◌∷◌, filter, Option, None}
 use Rattle.std.specs.FinMap.Entries.{find}
 use Rattle.std.specs.Option.{option_and_then, option_map}
 use Rattle.std.specs.Ordering.{nat_cmp}
@@ -8,6 +8,7 @@ use Rattle.rsvp_contents.specs.declared.messages.Content.TheVariants as contents
 use Rattle.rsvp_contents.specs.declared.messages.Path.{Path}
 use Rattle.rsvp_contents.specs.declared.messages.ResvErr.{ResvErr}
 use Rattle.rsvp_contents.specs.declared.descriptors.ErrorDescriptor.{ErrorDescriptor}
+use Rattle.rsvp_objects.specs.Raw.{Raw}
 use Rattle.rsvp_objects.specs.declared.values.ErrorSpec.{ErrorSpec}
 use Rattle.rsvp_objects.specs.declared.values.Hop.{Hop}
 use Rattle.rsvp_objects.specs.declared.values.Session.{Session}
@@ -52,6 +53,10 @@ head_through sender link = record sender { sender = link.address }
 abbrev pub hop_through : Router → Repair → Hop
 hop_through r repair = record { address = r.id; interface = repair.resv.link }
 
+-- What goes on unread through a bypass: all but objects of class 205, FAST_REROUTE, of any C-Type (RFC 4090, 4.1).
+abbrev pub passing_through : List Raw → List Raw
+passing_through passing = filter (λ o. not (o.class == 205)) passing
+
 -- The Path of a repaired LSP: from another sender and another hop, on from the bypass's end, with no FAST_REROUTE; all
 -- else is as in the Path that went over the link (RFC 4090, 6.4.3 and 6.4.4).
 abbrev pub backup_path : Router → Key → PathFact → Repair → BypassTunnel → Link → Path
@@ -59,6 +64,7 @@ backup_path r key path repair bypass_tunnel link = record (path_onward r key pat
   hop = hop_through r repair;
   route = option_map (route_after key.session.endpoint bypass_tunnel.ends_at repair.is_nnhop) path.rest;
   fast_reroute = None;
+  passing = passing_through path.passing;
   sender = head_through key.sender link;
 }
 

@@ -1,6 +1,6 @@
 -- The Resvs that the state wants kept alive upstream: at the neighbours, and at the heads of bypasses that end here (RFC
 -- 2205, 3.1.4 and 3.7; RFC 3209, 2.2 and 4.4; RFC 4090, 6.4.4).
-use Rattle.std.specs.Prelude.{ℕ, ◌+◌, ◌%◌, ◌/◌, ◌==◌, ◌++◌, Bool, true, false, if◌then◌else◌, List, [], ◌∷◌, filter_map, Option, Some, None}
+use Rattle.std.specs.Prelude.{ℕ, ◌+◌, ◌%◌, ◌/◌, ◌==◌, ◌++◌, Bool, true, false, if◌then◌else◌, List, [], ◌∷◌, filter_map, is_some, Option, Some, None}
 use Rattle.std.specs.FinMap.Entries.{where_key}
 use Rattle.std.specs.List.{flat_map}
 use Rattle.std.specs.Option.{option_and_then, option_map, option_map_or, unwrap_or}
@@ -15,6 +15,7 @@ use Rattle.rsvp_bodies.specs.declared.attr.Attr.{Attr}
 use Rattle.lsr_facts.specs.Orders.{key_cmp}
 use Rattle.lsr_facts.specs.Origins.{number_of}
 use Rattle.lsr_facts.specs.Routers.{link_at}
+use Rattle.lsr_facts.specs.declared.assignment.Assignment.{Assignment}
 use Rattle.lsr_facts.specs.declared.key.Key.{Key}
 use Rattle.lsr_facts.specs.declared.path_fact.Origin.{Origin}
 use Rattle.lsr_facts.specs.declared.path_fact.PathFact.{PathFact}
@@ -73,11 +74,17 @@ protection_flags in_use is_nnhop = 0x01 + (if in_use then 0x02 else 0) + (if is_
 
 -- how an LSP is protected that is reserved: by the bypass over which it would be repaired, if there is one
 abbrev pub flags_ready : Around → Key × Lsp → ResvFact → ℕ
-flags_ready a lsp resv = option_map_or (λ choice. protection_flags false choice.is_nnhop) (selected a lsp.0 lsp.1.path resv) 0
+flags_ready a lsp resv = option_map_or (λ choice. protection_flags false choice.is_nnhop) (selected a lsp.0 lsp.1.path lsp.1.assignment resv) 0
 
--- How this router protects an LSP: by the bypass over which it runs, or would run.
+-- its bandwidth is protected too (0x04) where it is promised some of a bypass (RFC 4090, 4.4)
+abbrev pub bandwidth_flag : Option Assignment → ℕ
+bandwidth_flag given = if is_some given then 0x04 else 0
+
+-- How this router protects an LSP: by the bypass over which it runs, or would run, and whether with bandwidth.
 unfoldable pub own_flags : Around → Key × Lsp → ℕ
-own_flags a lsp = option_map_or (flags_ready a lsp) lsp.1.resv (option_map_or (λ repair. protection_flags true repair.is_nnhop) lsp.1.repair 0)
+own_flags a lsp =
+    option_map_or (flags_ready a lsp) lsp.1.resv (option_map_or (λ repair. protection_flags true repair.is_nnhop) lsp.1.repair 0)
+    + bandwidth_flag lsp.1.assignment
 
 -- what is said of an LSP to its origins, if it is reserved or repaired
 abbrev pub reserved_for : Around → Key × Lsp → Option Reserved

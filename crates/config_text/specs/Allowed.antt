@@ -47,6 +47,7 @@ values_allowed key.Router spot = address_allowed
 values_allowed key.RefreshMs spot = codes "a whole number from 1 to 4294967295, in milliseconds"
 values_allowed key.Labels spot =
     codes "[first, last], two whole numbers from 16 to 1048575, the first not above the last, at most 4096 labels"
+values_allowed key.LabelRestMs spot = codes "a whole number from 0 to 4294967295, in milliseconds"
 values_allowed key.Link spot = link_allowed spot
 values_allowed key.Number spot = number_allowed spot
 values_allowed key.Address spot = address_allowed
@@ -68,6 +69,7 @@ values_allowed key.Hold spot = priority_allowed
 values_allowed key.Flags spot = codes "a whole number from 0 to 255"
 values_allowed key.Name spot = codes "a text of at most 255 bytes, in quotes"
 values_allowed key.Bypass spot = codes "records, each after a line [[bypass]]"
+values_allowed key.Capacity spot = codes "a whole number from 0 to the rate of the bypass's tunnel, in bytes per second"
 
 -- a value that each record has for itself
 unfoldable pub own_allowed : Key → List ℕ
@@ -88,11 +90,11 @@ count_allowed _ = codes "at most 256 records"
 
 -- the keys that stand at the spot
 unfoldable pub keys_allowed : Spot → List ℕ
-keys_allowed spots.Top = codes "router, refresh_ms, labels, link, route, tunnel, bypass"
+keys_allowed spots.Top = codes "router, refresh_ms, labels, label_rest_ms, link, route, tunnel, bypass"
 keys_allowed (spots.Record sections.Links number) = codes "number, address, peer, peer_router, limit, up, listen, send"
 keys_allowed (spots.Record sections.Routes number) = codes "prefix, link"
 keys_allowed (spots.Record sections.Tunnels number) = codes "number, endpoint, route, rate, setup, hold, flags, name"
-keys_allowed (spots.Record sections.Bypasses number) = codes "number, tunnel, link"
+keys_allowed (spots.Record sections.Bypasses number) = codes "number, tunnel, link, capacity"
 
 -- TOML
 abbrev pub toml_allowed : List ℕ

@@ -65,7 +65,8 @@ name_text name = flat_map name_byte name
 abbrev pub router_text : Router → List ℕ
 router_text r =
     codes "router = \"" ++ (address_text r.id ++ (codes "\"\nrefresh_ms = " ++ (decimal r.refresh_ms
-    ++ (codes "\nlabels = [" ++ (decimal r.labels.first ++ (codes ", " ++ (decimal r.labels.last ++ codes "]\n")))))))
+    ++ (codes "\nlabels = [" ++ (decimal r.labels.first ++ (codes ", " ++ (decimal r.labels.last
+    ++ (codes "]\nlabel_rest_ms = " ++ (decimal r.label_rest_ms ++ codes "\n")))))))))
 
 -- the socket addresses of a link, where it has any
 abbrev pub sockets_text : Option LinkSockets → List ℕ
@@ -122,7 +123,7 @@ tunnel_record row = ends_text row ++ (route_text row.1.current.route ++ (demand_
 abbrev pub bypass_record : ℕ × Bypass → List ℕ
 bypass_record row =
     codes "\n[[bypass]]\nnumber = " ++ (decimal row.0 ++ (codes "\ntunnel = " ++ (decimal row.1.tunnel
-    ++ (codes "\nlink = " ++ (decimal row.1.link ++ codes "\n")))))
+    ++ (codes "\nlink = " ++ (decimal row.1.link ++ (codes "\ncapacity = " ++ (decimal row.1.capacity ++ codes "\n")))))))
 
 -- a configuration, whose links have these socket addresses
 abbrev pub config_text : Setup → List (ℕ × LinkSockets) → List ℕ

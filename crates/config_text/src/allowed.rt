@@ -80,6 +80,7 @@ fn values_allowed(key: Key, spot: Spot) -> &'static str
         Key::Router | Key::Address | Key::Peer | Key::PeerRouter => ADDRESS,
         Key::RefreshMs => "a whole number from 1 to 4294967295, in milliseconds",
         Key::Labels => LABELS,
+        Key::LabelRestMs => "a whole number from 0 to 4294967295, in milliseconds",
         Key::Link => link_allowed(spot),
         Key::Number => number_allowed(spot),
         Key::Limit => "a whole number from 0 to 1125899906842624, in bytes per second",
@@ -94,6 +95,9 @@ fn values_allowed(key: Key, spot: Spot) -> &'static str
         Key::Flags => "a whole number from 0 to 255",
         Key::Name => "a text of at most 255 bytes, in quotes",
         Key::Bypass => "records, each after a line [[bypass]]",
+        Key::Capacity => {
+            "a whole number from 0 to the rate of the bypass's tunnel, in bytes per second"
+        }
     }
 }
 
@@ -138,7 +142,7 @@ fn keys_allowed(spot: Spot) -> &'static str
     ensures { result.now ≡ keys_allowed spot }
 {
     match spot {
-        Spot::Top => "router, refresh_ms, labels, link, route, tunnel, bypass",
+        Spot::Top => "router, refresh_ms, labels, label_rest_ms, link, route, tunnel, bypass",
         Spot::Record(Section::Links, _) => {
             "number, address, peer, peer_router, limit, up, listen, send"
         }
@@ -146,7 +150,7 @@ fn keys_allowed(spot: Spot) -> &'static str
         Spot::Record(Section::Tunnels, _) => {
             "number, endpoint, route, rate, setup, hold, flags, name"
         }
-        Spot::Record(Section::Bypasses, _) => "number, tunnel, link",
+        Spot::Record(Section::Bypasses, _) => "number, tunnel, link, capacity",
     }
 }
 

@@ -15,7 +15,8 @@ const NAME_END: &[u8] = b"\"\n";
 /// What begins a name.
 const NAME_START: &[u8] = b"name = \"";
 
-/// What stands before the records: the router id, the refresh period in milliseconds, and the labels.
+/// What stands before the records: the router id, the refresh period in milliseconds, the labels, and how long they
+/// rest, in milliseconds.
 fn router_text(alloc: Global, router: &Router) -> Result<String, AllocError>
     ensures { IfOk result (λ text. string_bytes text ≡ router_text router.now) }
 {
@@ -23,7 +24,10 @@ fn router_text(alloc: Global, router: &Router) -> Result<String, AllocError>
     let refresh_ms = router.refresh_ms;
     let first = router.labels.first;
     let last = router.labels.last;
-    format!(in alloc; "router = \"{id}\"\nrefresh_ms = {refresh_ms}\nlabels = [{first}, {last}]\n")
+    let label_rest_ms = router.label_rest_ms;
+    format!(in alloc;
+        "router = \"{id}\"\nrefresh_ms = {refresh_ms}\nlabels = [{first}, {last}]\nlabel_rest_ms = {label_rest_ms}\n"
+    )
 }
 
 /// A truth value, as a word.
@@ -295,7 +299,10 @@ fn bypass_record(alloc: Global, row: &(u16, Bypass)) -> Result<String, AllocErro
     let (number, bypass) = *row;
     let tunnel = bypass.tunnel;
     let link = bypass.link;
-    format!(in alloc; "\n[[bypass]]\nnumber = {number}\ntunnel = {tunnel}\nlink = {link}\n")
+    let capacity = bypass.capacity;
+    format!(in alloc;
+        "\n[[bypass]]\nnumber = {number}\ntunnel = {tunnel}\nlink = {link}\ncapacity = {capacity}\n"
+    )
 }
 
 /// Appends the records of the bypasses, in their order. The only error is that memory ran out.

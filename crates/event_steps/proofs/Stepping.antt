@@ -1,5 +1,5 @@
 -- A draft, with what follows from it and what it sends, is the step of its event.
-use Rattle.std.specs.Prelude.{◌≡◌, ◌≢◌, ◌++◌, ℕ, true, false, if◌then◌else◌, List, [], Some, None, Result, Ok, Err, IfOk}
+use Rattle.std.specs.Prelude.{◌≡◌, ◌≢◌, ◌≤◌, ◌++◌, ℕ, true, false, if◌then◌else◌, List, [], Some, None, Result, Ok, Err, IfOk}
 use Rattle.std.proofs.Common.{refl, ap, sym, subst, ◌∙◌}
 use Rattle.sorted_rows.specs.Edits as rows
 use Rattle.lsr_facts.specs.Orders.{item_cmp, key_cmp}
@@ -19,16 +19,18 @@ use Rattle.abstract_router.specs.Labels.{IsLabelling}
 use Rattle.abstract_router.specs.Lsps.{lsps_of}
 use Rattle.abstract_router.specs.Outcomes.{Outcome}
 use Rattle.abstract_router.specs.Outputs.{item_stamps, outputs_of, upstream_stamps}
-use Rattle.abstract_router.specs.Repairing.{told_repaired}
+use Rattle.abstract_router.specs.Repairing.{repaired, repairs_left, told_repaired}
 use Rattle.abstract_router.specs.Soundness.{IsSound}
 use Rattle.abstract_router.specs.States.{State}
-use Rattle.abstract_router.specs.Steps.{MayChooseBy, settled, taken_over, with_moments}
+use Rattle.abstract_router.specs.Steps.{MayChooseBy, promised, settled, taken_over, with_moments}
 use Rattle.abstract_router.specs.Touched.{LeavesOtherLsps}
 use Rattle.abstract_router.specs.Upstreams.{upstream_of}
 use Rattle.abstract_router.specs.Wanted.{items_of}
+use Rattle.router_soundness.proofs.AssigningStands.{stands_sent, stands_settled}
 use Rattle.router_soundness.proofs.Drafting.{outcome-leaves}
 use Rattle.router_soundness.proofs.Settling.{LeavesBy, sound_settled}
 use Rattle.router_soundness.proofs.Silence.{silent_keeps}
+use Rattle.router_soundness.specs.Assigned.{AreStanding}
 use Rattle.router_soundness.specs.Drafted.{IsDrafted}
 use Rattle.state_views.specs.Drafts.{IsDraft}
 use Rattle.state_views.specs.Edits.{edited}
@@ -41,7 +43,7 @@ use Rattle.event_steps.specs.declared.step.StepEdits.{StepEdits}
 
 -- the errors that are sent: those of the event itself, then those that repair tells
 abbrev pub errors_in : Router → State → Outcome → List Output
-errors_in r s o = o.errors ++ told_repaired r (taken_over r o.after)
+errors_in r s o = o.errors ++ told_repaired r (promised r o.after)
 
 -- what is sent doesn't depend on when messages were sent
 sent_alike : (r : Router) (s : State) (o : Outcome) (t : State) → outputs_of r s (errors_in r s o) o.due o.upstream_due t ≡ outputs_of r s (errors_in r s o) o.due o.upstream_due (with_moments r s o t)
@@ -49,12 +51,21 @@ unfolding outputs_of items_of upstream_of lsps_of bypass_tunnels_of
 sent_alike r s o t = refl
 
 module _ (r : Router) (s : State) (is : IsSound r s) (draft : Draft) (may : IsDrafted r s (edited draft.edits s)) (x : Edits) (chosen : List (Key × ℕ))
-    (settles : edited x s ≡ settled r chosen (edited draft.edits s)) (labelling : IsLabelling r s.labels (edited draft.edits s).facts.paths chosen) where
+    (settles : edited x s ≡ settled r chosen (edited draft.edits s)) (labelling : IsLabelling r s (edited draft.edits s).facts.paths chosen) where
   abbrev o : Outcome
   o = drafted draft r s
 
   next_sound : IsSound r (with_moments r s o (edited x s))
   next_sound = subst (λ t. IsSound r (with_moments r s o t)) (sym settles) (sound_settled r s o chosen is may labelling)
+
+  -- nothing is left to promise of the bandwidth of bypasses
+  next_standing : AreStanding r (with_moments r s o (edited x s))
+  next_standing = stands_sent r s o (edited x s) (subst (AreStanding r) (sym settles) (stands_settled r s o.after chosen is may))
+
+  -- the moment is that of the draft
+  next_moment : (edited x s).facts.moment ≡ o.after.facts.moment
+  unfolding taken_over repaired repairs_left
+  next_moment = ap (λ (t : State). t.facts.moment) settles
 
   -- all is as it should be that is known of LSPs then
   pub next_lsps : AreLsps r (edited x s)
@@ -75,7 +86,12 @@ module _ (r : Router) (s : State) (is : IsSound r s) (draft : Draft) (may : IsDr
         changed = is ∙ ap (λ t. with_moments r s o t) settles;
         sent = sends ∙ sent_alike r s o (edited x s) ∙ ap (λ t. outputs_of r s (errors_in r s o) o.due o.upstream_due t) (sym is);
         some = refl;
-        edits = record { sound = subst (IsSound r) (sym is) next_sound; others = subst (λ (y : Edits). LeavesOtherLsps (is_among key_cmp e.changed) s (edited y s)) (sym same) others };
+        edits = record {
+          sound = subst (IsSound r) (sym is) next_sound;
+          standing = subst (AreStanding r) (sym is) next_standing;
+          later = subst (λ moment. s.facts.moment ≤ moment) (sym (ap (λ (y : Edits). (edited y s).facts.moment) same ∙ next_moment)) may.later;
+          others = subst (λ (y : Edits). LeavesOtherLsps (is_among key_cmp e.changed) s (edited y s)) (sym same) others;
+        };
       }
 
 module _ (r : Router) (s : State) (event : Event) (draft : Draft) (runs : s.facts.cold ≡ false) (possible : IsEvent event) (passes : exceeds_hop_limit r s.facts event ≡ false) (is : IsDraft draft (outcome r s event) r s) where
@@ -89,7 +105,7 @@ module _ (r : Router) (s : State) (event : Event) (draft : Draft) (runs : s.fact
           possible = possible;
           awake = λ cold. absurd (let e = sym runs ∙ cold in cc);
           passes = passes;
-          chosen = subst (λ b. MayChooseBy b r s.labels o.after.facts.paths []) (sym so) refl;
+          chosen = subst (λ b. MayChooseBy b r s o.after.facts.paths []) (sym so) refl;
           replied = is.reply;
           changed = sym (silent_keeps r s event runs other so) ∙ sym (ap (λ b. if b then o.after else with_moments r s o (settled r [] o.after)) so);
           sent = sym (ap (λ b. if b then [] else outputs_of r s (errors_in r s o) o.due o.upstream_due s) so);
@@ -123,7 +139,7 @@ module _ (r : Router) (s : State) (event : Event) (draft : Draft) (runs : s.fact
           possible = possible;
           awake = λ cold. absurd (let e = sym runs ∙ cold in cc);
           passes = passes;
-          chosen = subst (λ b. MayChooseBy b r s.labels o.after.facts.paths x.chosen) (sym so) sent.chosen;
+          chosen = subst (λ b. MayChooseBy b r s o.after.facts.paths x.chosen) (sym so) sent.chosen;
           replied = sent.replied;
           changed = sent.changed ∙ sym (ap (λ b. if b then o.after else with_moments r s o (settled r x.chosen o.after)) so);
           sent = sent.sent ∙ sym (ap (λ b. if b then [] else outputs_of r s (errors_in r s o) o.due o.upstream_due (after_step x s)) so);

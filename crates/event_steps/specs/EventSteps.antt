@@ -1,5 +1,5 @@
 -- The step of an event, decided over what is known.
-use Rattle.std.specs.Prelude.{◌≡◌, ◌++◌, false, IfSome, is_none}
+use Rattle.std.specs.Prelude.{◌≡◌, ◌≤◌, ◌++◌, false, IfSome, is_none}
 use Rattle.std.specs.Option.{option_map_or}
 use Rattle.sorted_rows.specs.Edits as rows
 use Rattle.lsr_facts.specs.Orders.{item_cmp, key_cmp}
@@ -15,8 +15,9 @@ use Rattle.abstract_router.specs.Outputs.{outputs_of}
 use Rattle.abstract_router.specs.Repairing.{told_repaired}
 use Rattle.abstract_router.specs.Soundness.{IsSound}
 use Rattle.abstract_router.specs.States.{State}
-use Rattle.abstract_router.specs.Steps.{Step, settled, taken_over, with_moments}
+use Rattle.abstract_router.specs.Steps.{Step, promised, settled, with_moments}
 use Rattle.abstract_router.specs.Touched.{LeavesOtherLsps}
+use Rattle.router_soundness.specs.Assigned.{AreStanding}
 use Rattle.state_views.specs.Drafts.{due_by, upstream_due_by}
 use Rattle.state_views.specs.Edits.{edited}
 use Rattle.state_views.specs.declared.draft.Draft.{Draft}
@@ -49,10 +50,12 @@ after_step x s = option_map_or (λ edits. after_edits edits s) x.edits s
 abbrev pub made_by : Event → EventStep → Made
 made_by event x = record { event = event; labels = x.chosen; reply = x.reply; outputs = x.outputs }
 
--- What a step changes leaves a sound state, and of no other LSP than it tells something else is known after, but for when it
--- expires.
+-- What a step changes leaves a sound state, no earlier than before and with nothing left to promise of the bandwidth of bypasses;
+-- and of no other LSP than it tells something else is known after, but for when it expires.
 pub record AreStepEdits (r : Router) (s : State) (e : StepEdits) : Type 0 where
   pub sound : IsSound r (after_edits e s)
+  pub standing : AreStanding r (after_edits e s)
+  pub later : s.facts.moment ≤ (after_edits e s).facts.moment
   pub others : LeavesOtherLsps (is_among key_cmp e.changed) s (edited e.edits s)
 
 -- It is the step of this event: its answer, its labels, what it sends, and what is known after it. A silent one changes nothing.
@@ -64,9 +67,9 @@ pub record IsStepOf (r : Router) (s : State) (event : Event) (x : EventStep) : T
 -- It is the step of what an event does of itself, where that isn't silent: with labels that may be chosen, with what follows from
 -- it, and with what is sent.
 pub record IsSendingStep (r : Router) (s : State) (o : Outcome) (x : EventStep) : Type 0 where
-  pub chosen : IsLabelling r s.labels o.after.facts.paths x.chosen
+  pub chosen : IsLabelling r s o.after.facts.paths x.chosen
   pub replied : x.reply ≡ o.reply
   pub changed : after_step x s ≡ with_moments r s o (settled r x.chosen o.after)
-  pub sent : x.outputs ≡ outputs_of r s (o.errors ++ told_repaired r (taken_over r o.after)) o.due o.upstream_due (after_step x s)
+  pub sent : x.outputs ≡ outputs_of r s (o.errors ++ told_repaired r (promised r o.after)) o.due o.upstream_due (after_step x s)
   pub some : is_none x.edits ≡ false
   pub edits : IfSome x.edits (AreStepEdits r s)

@@ -56,7 +56,7 @@ pub fn step_by<V: WholeState>(
 ) -> Result<EventStep, AllocError>
     requires sound { IsSound (V.router view.now) (V.state view.now) }
     requires draft { IsDrafted (V.router view.now) (V.state view.now) (edited draft.edits (V.state view.now)) }
-    requires labels { IsLabelling (V.router view.now) (V.state view.now).labels
+    requires labels { IsLabelling (V.router view.now) (V.state view.now)
         (edited draft.edits (V.state view.now)).facts.paths chosen }
     ensures step { IfOk result (IsSendingStep (V.router view.now) (V.state view.now)
         (drafted draft (V.router view.now) (V.state view.now))) }

@@ -1,5 +1,5 @@
 -- Bypasses as they are asked for one by one, and all of them.
-use Rattle.std.specs.Prelude.{◌≡◌, ◌+◌, ◌<◌, ◌==◌, ◌&&◌, ◌||◌, ◌++◌, not, ℕ, Bool, true, false, cond, if◌then◌else◌, T, List, [], ◌∷◌, filter_map, find as find_first, is_some, length, Option, Some, None}
+use Rattle.std.specs.Prelude.{◌≡◌, ◌+◌, ◌<◌, ◌==◌, ◌&&◌, ◌||◌, ◌++◌, not, ℕ, Bool, true, false, cond, if◌then◌else◌, T, List, [], ◌∷◌, filter, filter_map, find as find_first, is_some, length, Option, Some, None}
 use Rattle.std.specs.FinMap.Entries.{find, is_sorted}
 use Rattle.std.specs.List.{cons_option, list_any}
 use Rattle.std.specs.Option.{option_and_then, option_map, option_map_or, option_or, unwrap_or}
@@ -12,6 +12,7 @@ use Rattle.std.proofs.lemmas.Bool.{and_parts, eq-eqb, eqb-true}
 use Rattle.std.proofs.lemmas.Cmp.{nat_list_eq_equiv}
 use Rattle.std.proofs.lemmas.List.{take_more}
 use Rattle.std.proofs.lemmas.List.Elements.{filter_map-append}
+use Rattle.std.proofs.lemmas.List.Folds.{find-append}
 use Rattle.std.proofs.lemmas.Map.Lookups.{exact_unsigned}
 use Rattle.sorted_rows.specs.Edits as rows
 use Rattle.sorted_rows.specs.RowsLaws.{ties}
@@ -20,6 +21,7 @@ use Rattle.lsr_facts.specs.Orders.{key_cmp}
 use Rattle.lsr_facts.specs.Routers.{is_same}
 use Rattle.lsr_facts.specs.Timeless.{timeless_path}
 use Rattle.lsr_facts.specs.Tunnels.{current_key}
+use Rattle.lsr_facts.specs.declared.assignment.Assignment.{Assignment}
 use Rattle.lsr_facts.specs.declared.bypass.Bypass.{Bypass}
 use Rattle.lsr_facts.specs.declared.key.Key.{Key}
 use Rattle.lsr_facts.specs.declared.path_fact.PathFact.{PathFact}
@@ -27,6 +29,7 @@ use Rattle.lsr_facts.specs.declared.router.Router.{Router}
 use Rattle.lsr_facts.specs.declared.tunnel.Tunnel.{Tunnel}
 use Rattle.lsr_facts.specs.Reservations.{timeless_resv}
 use Rattle.lsr_facts.specs.declared.repair.BypassTunnel.{BypassTunnel}
+use Rattle.lsr_facts.specs.declared.repair.Selected.{Selected}
 use Rattle.lsr_facts.specs.declared.repair.Repair.{Repair}
 use Rattle.lsr_facts.specs.declared.resv_fact.ResvFact.{ResvFact}
 use Rattle.abstract_paths.specs.Places.{is_up}
@@ -34,15 +37,16 @@ use Rattle.abstract_paths.specs.StampLaws.{none-is}
 use Rattle.abstract_paths.specs.Tears.{leaves_by}
 use Rattle.abstract_router.specs.BypassTunnels.{bypass_tunnel_by, bypass_tunnel_of, bypass_tunnels_of, over_of}
 use Rattle.abstract_router.specs.Lsps.{Around, Lsp, around_of, lsp_of}
-use Rattle.abstract_router.specs.Protecting.{candidates_of, is_preferred, is_protected, selected}
+use Rattle.abstract_router.specs.Protecting.{candidates_of, is_preferred, is_protected, may_serve, selected, ways_around}
 use Rattle.abstract_router.specs.States.{State}
-use Rattle.abstract_router.specs.Upstreams.{flags_ready, own_flags, protection_flags}
+use Rattle.abstract_router.specs.Upstreams.{flags_ready, protection_flags}
 use Rattle.state_views.specs.EditLaws.{neither, row_edited, tunnel_edited}
 use Rattle.state_views.specs.Edits.{edited}
 use Rattle.state_views.specs.declared.edits.Edits.{Edits}
 use Rattle.facility_backup.specs.Asking.{candidate_by, candidates, find-bypass_tunnels, row_by}
 use Rattle.facility_backup.specs.Carrying.{leaves_tunnels, names_tunnel, runs_bypass}
 use Rattle.facility_backup.specs.Choosing.{best, best_of}
+use Rattle.facility_backup.specs.Serving.{bypass_flags, serves, serves_told, serving_by}
 
 -- the bypass of a number, where its row is found
 pub found_bypass_tunnel : (r : Router) (s : State) (number : ℕ) (row : Option Bypass) (bypasses : List (ℕ × Bypass)) → T (is_sorted nat_cmp bypasses) → bypasses ≡ s.facts.bypasses → row ≡ find nat_cmp number bypasses
@@ -52,17 +56,17 @@ found_bypass_tunnel r s number row bypasses sorted are found =
     ∙ sym (find-bypass_tunnels r s number (subst (λ (rows : List (ℕ × Bypass)). T (is_sorted nat_cmp rows)) are sorted))
 
 -- when a path or a reservation expires is nothing to the choice
-pub selected_timeless : (a : Around) (key : Key) (path : PathFact) (resv : ResvFact) → selected a key (timeless_path path) resv ≡ selected a key path resv
-unfolding selected
-selected_timeless a key path resv = refl
+pub selected_timeless : (a : Around) (key : Key) (path : PathFact) (given : Option Assignment) (resv : ResvFact) → selected a key (timeless_path path) given resv ≡ selected a key path given resv
+unfolding selected candidates_of
+selected_timeless a key path given resv = refl
 
 pub flags_ready_timeless : (a : Around) (lsp : Key × Lsp) (resv : ResvFact) → flags_ready a lsp (timeless_resv resv) ≡ flags_ready a lsp resv
-unfolding selected candidates_of
+unfolding selected candidates_of ways_around
 flags_ready_timeless a lsp resv = refl
 
 -- so how an LSP is protected whose reservation is found
-pub own_ready : (a : Around) (s : State) (key : Key) (path : PathFact) (resv : ResvFact) → Some resv ≡ find key_cmp key s.resvs → flags_ready a (key, lsp_of s key path) resv ≡ own_flags a (key, lsp_of s key path)
-unfolding own_flags
+pub own_ready : (a : Around) (s : State) (key : Key) (path : PathFact) (resv : ResvFact) → Some resv ≡ find key_cmp key s.resvs
+    → flags_ready a (key, lsp_of s key path) resv ≡ bypass_flags a (key, lsp_of s key path)
 own_ready a s key path resv found =
     let lsp : Key × Lsp = (key, lsp_of s key path) in
     sym (flags_ready_timeless a lsp resv)
@@ -105,20 +109,23 @@ carried r s number bypasses tunnel are found =
     ∙ sym (carrying_each r s number s.facts.bypasses)
 
 -- An LSP that isn't protected is repaired over no bypass;
-pub unprotected : (a : Around) (key : Key) (path : PathFact) (resv : ResvFact) → is_protected a key path ≡ false → None ≡ selected a key path resv
-unfolding selected
-unprotected a key path resv isnt =
-    sym (ap (λ b. cond b (option_or (find_first (is_preferred path) (candidates_of a resv)) (find_first (λ choice. true) (candidates_of a resv))) None) isnt)
+pub unprotected : (a : Around) (key : Key) (path : PathFact) (given : Option Assignment) (resv : ResvFact) → is_protected a key path ≡ false → None ≡ selected a key path given resv
+unfolding selected candidates_of
+unprotected a key path given resv isnt =
+    sym (ap (λ b. find_first (may_serve given) (cond b (filter (is_preferred path) (ways_around a resv) ++ filter (λ choice. not (is_preferred path choice)) (ways_around a resv)) [])) isnt)
 
--- another over the best of all.
-pub chosen : (r : Router) (s : State) (key : Key) (path : PathFact) (resv : ResvFact) (bypasses : List (ℕ × Bypass)) → bypasses ≡ s.facts.bypasses → is_protected (around_of r s) key path ≡ true
-    → best_of (is_preferred path) (candidate_by r s resv) bypasses None ≡ selected (around_of r s) key path resv
-unfolding selected
-chosen r s key path resv bypasses are is =
-    ap (λ all. best_of (is_preferred path) (candidate_by r s resv) all None) are
-    ∙ best (is_preferred path) (candidate_by r s resv) s.facts.bypasses None
-    ∙ ap (λ choices. option_or (find_first (is_preferred path) choices) (find_first (λ choice. true) choices)) (sym (candidates r s resv))
-    ∙ sym (ap (λ b. cond b (option_or (find_first (is_preferred path) (candidates_of (around_of r s) resv)) (find_first (λ choice. true) (candidates_of (around_of r s) resv))) None) is)
+-- another over the best of those that may serve.
+pub chosen : (r : Router) (s : State) (key : Key) (path : PathFact) (given : Option Assignment) (resv : ResvFact) (bypasses : List (ℕ × Bypass)) → bypasses ≡ s.facts.bypasses → is_protected (around_of r s) key path ≡ true
+    → best_of (is_preferred path) (serving_by r s given resv) bypasses None ≡ selected (around_of r s) key path given resv
+unfolding selected candidates_of
+chosen r s key path given resv bypasses are is =
+    let parts = λ (choices : List Selected). filter (is_preferred path) choices ++ filter (λ choice. not (is_preferred path choice)) choices in
+    let ways = ways_around (around_of r s) resv in
+    ap (λ all. best_of (is_preferred path) (serving_by r s given resv) all None) are
+    ∙ best (is_preferred path) (may_serve given) (serves given) (candidate_by r s resv) (serves_told r s given resv) s.facts.bypasses None
+    ∙ ap (λ choices. option_or (find_first (may_serve given) (filter (is_preferred path) choices)) (find_first (may_serve given) (filter (λ choice. not (is_preferred path choice)) choices))) (sym (candidates r s resv))
+    ∙ sym (find-append (may_serve given) (filter (is_preferred path) ways) (filter (λ choice. not (is_preferred path choice)) ways))
+    ∙ sym (ap (λ b. find_first (may_serve given) (cond b (parts ways) [])) is)
 
 -- one more bypass is as it was
 pub leaves_more : (r : Router) (s t : State) (bypasses : List (ℕ × Bypass)) (i : ℕ) (d : ℕ × Bypass) (was now : Option BypassTunnel) → i < length bypasses
@@ -183,7 +190,7 @@ module _ (r : Router) (s : State) (e : Edits) (up : e.up ≡ None) where
     where
       by : (tunnel : Option Tunnel) → option_map {U = ℕ × BypassTunnel} (λ bypass_tunnel. (bypass.0, bypass_tunnel)) (option_map (bypass_tunnel_of r s bypass.1) tunnel) ≡ option_map {U = ℕ × BypassTunnel} (λ bypass_tunnel. (bypass.0, bypass_tunnel)) (option_map (bypass_tunnel_of r (edited e s) bypass.1) tunnel)
       by None = refl
-      by (Some tunnel) = λ i. Some (bypass.0, record { tunnel = bypass.1.tunnel; protects = bypass.1.link; ends_at = tunnel.endpoint; over = same_over (bypass.1.tunnel, tunnel) (left tunnel) i })
+      by (Some tunnel) = λ i. Some (bypass.0, record { tunnel = bypass.1.tunnel; protects = bypass.1.link; ends_at = tunnel.endpoint; capacity = bypass.1.capacity; over = same_over (bypass.1.tunnel, tunnel) (left tunnel) i })
 
   -- So each of these is, where no tunnel is edited in which one runs, and its LSPs are left.
   same_rows : (bypasses : List (ℕ × Bypass)) → ((number : ℕ) → names_tunnel bypasses number ≡ true → find nat_cmp number e.tunnels ≡ None) → ((key : Key) → runs_bypass r bypasses key ≡ true → IsLeft key)

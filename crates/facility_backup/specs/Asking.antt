@@ -15,7 +15,7 @@ use Rattle.lsr_facts.specs.declared.resv_fact.ResvFact.{ResvFact}
 use Rattle.abstract_paths.specs.TouchedLaws.{find-made}
 use Rattle.abstract_router.specs.BypassTunnels.{bypass_tunnel_by, bypass_tunnels_of}
 use Rattle.abstract_router.specs.Lsps.{around_of}
-use Rattle.abstract_router.specs.Protecting.{candidates_of, selected_by}
+use Rattle.abstract_router.specs.Protecting.{selected_by, ways_around}
 use Rattle.abstract_router.specs.States.{State}
 
 -- a bypass with its number, among all
@@ -42,7 +42,7 @@ picked-twice {A} {B} {C} f name g (x ∷ xs) =
       | Some y ↦ ap (cons_option (g (name x y))) (picked-twice f name g xs)
     ]
 
--- The candidates are those of all bypasses, in their order.
-pub candidates : (r : Router) (s : State) (resv : ResvFact) → candidates_of (around_of r s) resv ≡ filter_map (candidate_by r s resv) s.facts.bypasses
-unfolding candidates_of bypass_tunnels_of
+-- The ways around a link are the candidates of all bypasses, in their order.
+pub candidates : (r : Router) (s : State) (resv : ResvFact) → ways_around (around_of r s) resv ≡ filter_map (candidate_by r s resv) s.facts.bypasses
+unfolding ways_around bypass_tunnels_of
 candidates r s resv = picked-twice (bypass_tunnel_by r s) (λ bypass bypass_tunnel. (bypass.0, bypass_tunnel)) (selected_by r resv) s.facts.bypasses

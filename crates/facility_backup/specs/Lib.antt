@@ -4,3 +4,4 @@ pub mod Choosing
 pub mod Holding
 pub mod Matching
 pub mod OverLaws
+pub mod Serving

@@ -34,6 +34,7 @@ pub fn bypass_tunnel_by<V: StateView>(view: &V, bypass: &(u16, Bypass)) -> Optio
         tunnel: number,
         protects: bypass.1.link,
         ends_at: tunnel.endpoint,
+        capacity: bypass.1.capacity,
         over: over_of(view, number, tunnel),
     })
 }

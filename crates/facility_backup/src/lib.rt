@@ -8,13 +8,16 @@ mod labels;
 mod matching;
 mod protecting;
 mod repairs;
+mod same;
 mod selecting;
 mod standing;
 mod surroundings;
 
 pub use bypass_tunnels::{bypass_tunnel_at, bypass_tunnel_by, over_at};
 pub use matching::is_for;
+pub use protecting::{is_preferred, is_protected, selected_by};
 pub use repairs::{Held, held_lsp, repair};
+pub use same::{leaves_path, leaves_repair, leaves_resv};
 pub use selecting::{own_flags, select};
 pub use standing::{held_of, repair_stands, stands};
 pub use state_views::{Edits, StateView};

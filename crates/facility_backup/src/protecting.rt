@@ -83,8 +83,8 @@ fn carries_bypass<V: StateView>(view: &V, key: &Key, path: &PathFact) -> bool
     begins_here(path.role) && is_bypass_tunnel(view, key.session.tunnel)
 }
 
-/// Whether the LSP is protected: its head wants that, and it carries no bypass of this router.
-pub(crate) fn is_protected<V: StateView>(view: &V, key: &Key, path: &PathFact) -> bool
+/// Whether the LSP is protected: its head wants that, and it carries no bypass of this router. Takes no memory.
+pub fn is_protected<V: StateView>(view: &V, key: &Key, path: &PathFact) -> bool
     ensures { result ≡ is_protected (around_of (V.router view.now) (V.state view.now)) key.now path.now }
 {
     wants_protection(path) && !carries_bypass(view, key, path)
@@ -125,8 +125,8 @@ fn recorded_label(address: Ipv4Addr, recorded: &Option<Record>) -> Option<u32>
 }
 
 /// How an LSP with this reservation would be repaired over the bypass of this number, if it may be: that ends at the next
-/// router, or at a later one whose label the record says (RFC 4090, 6.4.2).
-pub(crate) fn selected_by(
+/// router, or at a later one whose label the record says (RFC 4090, 6.4.2). Takes no memory.
+pub fn selected_by(
     router: &Router,
     resv: &ResvFact,
     number: u16,
@@ -142,6 +142,7 @@ pub(crate) fn selected_by(
             bypass: number,
             is_nnhop: false,
             label: resv.label,
+            capacity: bypass_tunnel.capacity,
         });
     }
     let label = recorded_label(bypass_tunnel.ends_at, &resv.recorded)?;
@@ -149,12 +150,13 @@ pub(crate) fn selected_by(
         bypass: number,
         is_nnhop: true,
         label,
+        capacity: bypass_tunnel.capacity,
     })
 }
 
 /// Whether a bypass ends where the head would have it: later where it wants the next router protected, else at that
-/// router.
-pub(crate) fn is_preferred(path: &PathFact, choice: Selected) -> bool
+/// router (RFC 4090, 4.3).
+pub fn is_preferred(path: &PathFact, choice: Selected) -> bool
     ensures { result ≡ is_preferred path.now choice }
 {
     if wants_node_protection(path) {

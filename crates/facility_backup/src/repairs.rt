@@ -35,8 +35,8 @@ pub fn held_lsp<'a, V: StateView>(view: &'a V, key: &Key) -> Option<Held<'a>>
     })
 }
 
-/// The bypass over which it is repaired: the one that is selected, where its path leaves by the link of its reservation,
-/// which is down.
+/// The bypass over which it is repaired: the one that is selected by what it is promised, where its path leaves by the link of
+/// its reservation, which is down.
 fn choice_of<V: StateView>(view: &V, held: &Held) -> Option<Selected>
     ensures { option_map (repair_with held.now.resv.now) result
         ≡ repair_on (V.router view.now) (V.state view.now) held.now.key held.now.resv.now held.now.path.now }
@@ -44,7 +44,8 @@ fn choice_of<V: StateView>(view: &V, held: &Held) -> Option<Selected>
     if !leaves_by(held.resv.link, held.path) || is_up(node_of(view).up, held.resv.link) {
         return None;
     }
-    select(view, &held.key, held.path, held.resv)
+    let given = view.assignment(&held.key);
+    select(view, &held.key, held.path, given, held.resv)
 }
 
 /// How an LSP that is held goes on, if it is to be repaired: over the bypass that was selected, under the label by which the

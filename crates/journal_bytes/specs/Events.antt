@@ -90,9 +90,13 @@ tunnel_bytes t =
 abbrev pub change_bytes : TunnelChange → List ℕ
 change_bytes c = big_bytes 2 c.number ++ (route_bytes c.route ++ c.tspec)
 
--- A bypass: its number, its tunnel and its link.
+-- the number of a bypass, of its tunnel and of its link
+abbrev pub bypass_numbers : NewBypass → List ℕ
+bypass_numbers b = big_bytes 2 b.number ++ (big_bytes 2 b.tunnel ++ big_bytes 2 b.link)
+
+-- A bypass: its number, its tunnel, its link and its capacity.
 abbrev pub bypass_bytes : NewBypass → List ℕ
-bypass_bytes b = big_bytes 2 b.number ++ (big_bytes 2 b.tunnel ++ big_bytes 2 b.link)
+bypass_bytes b = bypass_numbers b ++ big_bytes 8 b.capacity
 
 -- A command begins with its code, in 1 byte.
 abbrev pub command_code : Command → ℕ

@@ -2,7 +2,7 @@
 
 ghost use Rattle.std.specs.Prelude.{◌≡◌, ◌++◌, ◌∷◌, OnOk};
 ghost use Rattle.rsvp_objects.specs.Values.{fast_reroute_body};
-ghost use Rattle.journal_bytes.specs.Events.{affinities_bytes, attr_bytes, bypass_bytes, change_bytes, protection_bytes, tunnel_bytes};
+ghost use Rattle.journal_bytes.specs.Events.{affinities_bytes, attr_bytes, bypass_bytes, bypass_numbers, change_bytes, protection_bytes, tunnel_bytes};
 
 use crate::counted::put_counted;
 use crate::numbers::*;
@@ -84,11 +84,19 @@ pub(crate) fn put_change(change: &TunnelChange, out: &mut Vec<u8>) -> Result<(),
     out.extend_from_slice(change.tspec.as_slice())
 }
 
-/// Appends a bypass that is to protect a link.
-pub(crate) fn put_bypass(bypass: NewBypass, out: &mut Vec<u8>) -> Result<(), AllocError>
-    ensures ok { OnOk result (out.new.items ≡ out.old.items ++ bypass_bytes bypass) }
+/// Appends the numbers of a bypass, of its tunnel and of its link.
+fn put_bypass_numbers(bypass: NewBypass, out: &mut Vec<u8>) -> Result<(), AllocError>
+    ensures ok { OnOk result (out.new.items ≡ out.old.items ++ bypass_numbers bypass) }
 {
     out.extend_from_slice(&bypass.number.to_be_bytes())?;
     out.extend_from_slice(&bypass.tunnel.to_be_bytes())?;
     out.extend_from_slice(&bypass.link.to_be_bytes())
+}
+
+/// Appends a bypass that is to protect a link.
+pub(crate) fn put_bypass(bypass: NewBypass, out: &mut Vec<u8>) -> Result<(), AllocError>
+    ensures ok { OnOk result (out.new.items ≡ out.old.items ++ bypass_bytes bypass) }
+{
+    put_bypass_numbers(bypass, out)?;
+    out.extend_from_slice(&bypass.capacity.to_be_bytes())
 }

@@ -1,16 +1,17 @@
 -- A label is given exactly where one of the range is free.
 use Rattle.std.proofs.Common.{◌≡◌, ℕ, zero, suc, ◌+◌, ◌-◌, ◌<◌, ◌≤◌, ◌||◌, Bool, true, false, List, [], ◌∷◌, Option, Some, None, IfSome, is_some, refl, sym, ap, subst, ◌∙◌, arith, inl, inr}
 use Rattle.std.specs.List.{Contains, IsDistinct, list_any, range_with_len, slice_get}
-use Rattle.std.proofs.lemmas.Bool.{cases_eq}
+use Rattle.std.proofs.lemmas.Bool.{cases_eq, false≢true}
 use Rattle.std.proofs.lemmas.List.FromFn.{get_or-range_with_len, length-range_with_len}
 use Rattle.lsr_facts.specs.Routers.{AreLabels}
 use Rattle.lsr_facts.specs.declared.key.Key.{Key}
 use Rattle.lsr_facts.specs.declared.router.LabelRange.{LabelRange}
 use Rattle.lsr_facts.specs.declared.router.Router.{Router}
 use Rattle.label_space.specs.LineLaws.{Contains-first, none_contained}
-use Rattle.label_space.specs.Labels.{IsFree, IsOf, Labels, give, labels_of}
+use Rattle.label_space.specs.Labels.{IsFree, IsLabelSpace, IsOf, Labels, give, labels_of}
 use Rattle.label_space.specs.FreeLabels.{MayBeGiven, has_free_label, is_free, labels_in}
-use Rattle.label_space.specs.Bindings.{AreBound}
+use Rattle.label_space.specs.Bindings.{AreBound, by_label}
+use Rattle.label_space.proofs.Binding.{free_by, free_to}
 
 -- one of so many numbers passes the test
 any_in : (test : ℕ → Bool) (count from n : ℕ) → from ≤ n → n < from + count → test n ≡ true → list_any test (range_with_len from count) ≡ true
@@ -36,32 +37,30 @@ none_in test (suc count) from fails =
     no true fails = absurd (fails refl)
     no false fails = refl
 
--- The labels of a range are free where no LSP holds one.
-pub bound_new : (range : LabelRange) → AreLabels range → AreBound record { range = range; free = labels_of range } []
+-- No LSP holds a label of a new space.
+pub bound_new : (range : LabelRange) → AreLabels range → IsLabelSpace record { range = range; moment = 0; free = labels_of range; resting = [] } → AreBound record { range = range; moment = 0; free = labels_of range; resting = [] } []
 unfolding IsDistinct
-bound_new range labels = record {
+bound_new range labels known = record {
+  known = known;
   in_order = tt;
   held = record { from_first = tt; to_last = tt; apart = tt };
-  free = λ label. (by label, to label);
+  taken = λ label. (λ is. absurd (is.taken (all_free label is.own)), λ is. absurd (false≢true is));
 }
   where
-    by : (label : ℕ) → Contains (range_with_len range.first (range.last - range.first + 1)) label → IsOf range label × (true ≡ true)
-    by label among =
-        let below : among.0 < range.last - range.first + 1 = omega (arith, among.1, length-range_with_len range.first (range.last - range.first + 1)) in
-        let is = sym (get_or-range_with_len range.first (range.last - range.first + 1) among.0 label below) ∙ among.2 in
-        (record { from = omega (arith, is); to = omega (arith, is, below, labels.some) }, refl)
-
-    to : (label : ℕ) → IsOf range label × (true ≡ true) → Contains (range_with_len range.first (range.last - range.first + 1)) label
-    to label own =
-        let below : label - range.first < range.last - range.first + 1 = omega (arith, own.0.from, own.0.to) in
-        (label - range.first, omega (arith, below, length-range_with_len range.first (range.last - range.first + 1)), get_or-range_with_len range.first (range.last - range.first + 1) (label - range.first) label below ∙ omega (arith, own.0.from))
+    all_free : (label : ℕ) → IsOf range label → Contains (range_with_len range.first (range.last - range.first + 1)) label
+    all_free label own =
+        let below : label - range.first < range.last - range.first + 1 = omega (arith, own.from, own.to) in
+        (label - range.first, omega (arith, below, length-range_with_len range.first (range.last - range.first + 1)), get_or-range_with_len range.first (range.last - range.first + 1) (label - range.first) label below ∙ omega (arith, own.from))
 
 module _ (space : Labels) (labels : List (Key × ℕ)) (are : AreBound space labels) where
+  abbrev resting : List (ℕ × ℕ)
+  resting = by_label space.resting
+
   -- what is given may be
-  pub given_may : (r : Router) → r.labels ≡ space.range → (label : Option ℕ) → IfSome label (IsFree space) → IfSome label (MayBeGiven r labels)
+  pub given_may : (r : Router) → r.labels ≡ space.range → (label : Option ℕ) → IfSome label (IsFree space) → IfSome label (MayBeGiven r labels resting)
   given_may r same None is = tt
   given_may r same (Some label) is =
-      let free = (are.free label).0 is in
+      let free = free_by space labels are label is in
       record {
         from_first = subst (λ (range : LabelRange). range.first ≤ label) (sym same) free.0.from;
         to_last = subst (λ (range : LabelRange). label ≤ range.last) (sym same) free.0.to;
@@ -69,13 +68,13 @@ module _ (space : Labels) (labels : List (Key × ℕ)) (are : AreBound space lab
       }
 
   -- one is free of the range
-  some_left : (free : List ℕ) → space.free ≡ free → is_some (slice_get free 0) ≡ list_any (is_free labels) (labels_in space.range)
+  some_left : (free : List ℕ) → space.free ≡ free → is_some (slice_get free 0) ≡ list_any (is_free labels resting) (labels_in space.range)
   some_left [] none =
-      sym (none_in (is_free labels) (space.range.last + 1 - space.range.first) space.range.first (λ n above below free. none_contained n (subst (λ line. Contains line n) none ((are.free n).1 (record { from = above; to = omega (arith, above, below) }, free)))))
+      sym (none_in (is_free labels resting) (space.range.last + 1 - space.range.first) space.range.first (λ n above below free. none_contained n (subst (λ line. Contains line n) none (free_to space labels are n (record { from = above; to = omega (arith, above, below) }) free))))
   some_left (label ∷ free) some =
-      let is = (are.free label).0 (subst (λ line. Contains line label) (sym some) (Contains-first label free label refl)) in
-      sym (any_in (is_free labels) (space.range.last + 1 - space.range.first) space.range.first label is.0.from (omega (arith, is.0.from, is.0.to)) is.1)
+      let is = free_by space labels are label (subst (λ line. Contains line label) (sym some) (Contains-first label free label refl)) in
+      sym (any_in (is_free labels resting) (space.range.last + 1 - space.range.first) space.range.first label is.0.from (omega (arith, is.0.from, is.0.to)) is.1)
 
-  pub given_where : (r : Router) → r.labels ≡ space.range → is_some (give space) ≡ has_free_label r labels
+  pub given_where : (r : Router) → r.labels ≡ space.range → is_some (give space) ≡ has_free_label r labels resting
   unfolding has_free_label
-  given_where r same = some_left space.free refl ∙ ap (λ range. list_any (is_free labels) (labels_in range)) (sym same)
+  given_where r same = some_left space.free refl ∙ ap (λ range. list_any (is_free labels resting) (labels_in range)) (sym same)

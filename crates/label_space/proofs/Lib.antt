@@ -1,6 +1,10 @@
 pub mod Binding
+pub mod Exporting
 pub mod Giving
+pub mod Knowing
 pub mod Links
 pub mod Numbering
 pub mod Relinked
+pub mod Resting
+pub mod Rising
 pub mod Turning

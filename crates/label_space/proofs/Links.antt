@@ -1,5 +1,5 @@
 -- Segments of a line that is linked both ways: their ends, their parts, and what a link that changes leaves of them.
-use Rattle.std.proofs.Common.{◌≡◌, ◌≢◌, ℕ, zero, suc, ◌<◌, ◌≤◌, ◌==◌, nat_eq, false, cond, List, [], ◌∷◌, ◌++◌, length, get_or, set, refl, sym, ap, subst, ◌∙◌, arith, get_or-set_other, get_or-set_same}
+use Rattle.std.proofs.Common.{◌≡◌, ◌≢◌, ◌⊎◌, ℕ, zero, suc, ◌<◌, ◌≤◌, ◌==◌, nat_eq, false, cond, List, [], ◌∷◌, ◌++◌, length, get_or, set, refl, sym, ap, subst, ◌∙◌, inl, inr, arith, get_or-set_other, get_or-set_same}
 use Rattle.std.specs.List.{AllByRecursion, IsDistinct}
 use Rattle.std.proofs.lemmas.Bool.{cond-false, cond-true, eq-eqb, eqb-false}
 use Rattle.std.proofs.lemmas.Grind.{get_or-set_at}
@@ -44,6 +44,15 @@ linked-set_end next previous last behind from (place ∷ line) to is within plac
       get_or-set_other previous behind place last 0 (λ same. eqb-false behind place apart.0 (sym same)) ∙ linked.1,
       linked-set_end next previous last behind place line to is within place_within (IsDistinct-head nat_eq place line distinct) (IsDistinct-tail nat_eq place line distinct) apart.1 linked.2,
     )
+
+-- the last of a segment is one of it, or the place before it where none is in it
+pub linked_last : (next previous : List ℕ) (from : ℕ) (line : List ℕ) (to : ℕ) → IsLinked next previous from line to → ((line ≡ []) × (get_or previous to 0 ≡ from)) ⊎ ((less : List ℕ) × (line ≡ less ++ get_or previous to 0 ∷ []))
+linked_last next previous from [] to linked = inl (refl, linked.1)
+linked_last next previous from (place ∷ line) to linked =
+    elim (linked_last next previous place line to linked.2) [
+      | inl none ↦ inr ([], ap (λ rest. place ∷ rest) none.0 ∙ ap (λ x. x ∷ []) (sym none.1))
+      | inr some ↦ inr (place ∷ some.0, ap (λ rest. place ∷ rest) some.1)
+    ]
 
 -- a segment, parted at a place
 pub linked-part : (next previous : List ℕ) (from : ℕ) (before : List ℕ) (place : ℕ) (behind : List ℕ) (to : ℕ) → IsLinked next previous from (before ++ place ∷ behind) to → IsLinked next previous from before place × IsLinked next previous place behind to

@@ -1,12 +1,11 @@
 -- The labels of places, numbered from the first label of a range on.
 use Rattle.std.proofs.Common.{◌≡◌, ℕ, zero, suc, ◌+◌, ◌-◌, ◌<◌, ◌≤◌, ◌==◌, nat_eq, true, false, cond, not, List, [], ◌∷◌, map, refl, sym, ap, ◌∙◌, inl, inr, arith}
-use Rattle.std.specs.List.{All, Contains, IsDistinct, range_with_len}
+use Rattle.std.specs.List.{AllByRecursion, Contains, IsDistinct, range_with_len}
 use Rattle.std.proofs.lemmas.Bool.{cases_eq, eq-eqb, ne_eqb}
-use Rattle.std.proofs.lemmas.List.Elements.{All-map, All-weaker}
 use Rattle.std.proofs.lemmas.Map.Keys.{IsDistinct-cons, IsDistinct-head, IsDistinct-tail}
 use Rattle.sorted_rows.specs.ListLaws.{all-map, all-weaker}
 use Rattle.lsr_facts.specs.declared.router.LabelRange.{LabelRange}
-use Rattle.label_space.specs.Labels.{HasPlaces, IsLabelSpace, IsOf, labels_at}
+use Rattle.label_space.specs.Labels.{HasPlaces, IsOf, labels_at}
 use Rattle.label_space.specs.LineLaws.{Contains-cons_cases, Contains-first, Contains-later, none_contained}
 use Rattle.label_space.specs.Lines.{line_without}
 
@@ -64,10 +63,11 @@ module _ (first : ℕ) where
       let next : first + (from + 1) ≡ first + from + 1 = omega arith in
       ap (λ l. (first + from) ∷ l) (map-range_with_len (from + 1) count ∙ ap (λ start. range_with_len start count) next)
 
--- labels of places in line, none of which is in it twice
-pub is_label_space : (range : LabelRange) (count : ℕ) (line : List ℕ) → HasPlaces range count → All (λ place. place < count) line → IsDistinct nat_eq line → IsLabelSpace record { range = range; free = labels_at range line }
-is_label_space range count line places within apart = record {
-  range = places.labels;
-  own = All-map (IsOf range) (λ place. range.first + place) line (All-weaker (λ place. place < count) (λ place. IsOf range (range.first + place)) (λ place below. record { from = omega arith; to = omega (arith, below, places.places) }) line within);
-  apart = IsDistinct-labels range.first line apart;
-}
+-- the labels of places in line are of the range
+pub labels_own : (range : LabelRange) (count : ℕ) (line : List ℕ) → HasPlaces range count → AllByRecursion (λ place. place < count) line → AllByRecursion (IsOf range) (labels_at range line)
+labels_own range count line places within =
+    all-map (IsOf range) (λ place. range.first + place) line (all-weaker (λ place. place < count) (λ place. IsOf range (range.first + place)) (λ place below. record { from = omega arith; to = omega (arith, below, places.places) }) line within)
+
+-- and a label of the range has a place
+pub place_within : (range : LabelRange) (count label : ℕ) → HasPlaces range count → IsOf range label → label - range.first < count
+place_within range count label places own = omega (arith, places.places, own.from, own.to)

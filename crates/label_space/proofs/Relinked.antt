@@ -1,16 +1,17 @@
 -- What links say of their line, and what each change of them makes of it.
-use Rattle.std.proofs.Common.{◌≡◌, ◌≢◌, ℕ, zero, suc, ◌+◌, ◌<◌, ◌≤◌, ◌==◌, nat_eq, not, true, false, List, [], ◌∷◌, ◌++◌, Some, None, length, get_or, set, refl, sym, ap, subst, ◌∙◌, inl, inr, arith, add-one, get_or-set_other, get_or-set_same}
+use Rattle.std.proofs.Common.{◌≡◌, ◌≢◌, ◌⊎◌, ℕ, zero, suc, ◌+◌, ◌<◌, ◌≤◌, ◌==◌, nat_eq, not, true, false, List, [], ◌∷◌, ◌++◌, Some, None, length, get_or, set, refl, sym, ap, subst, ◌∙◌, inl, inr, arith, add-one, get_or-set_other, get_or-set_same}
 use Rattle.std.specs.List.{AllByRecursion, Contains, IsDistinct, list_any, range_with_len, slice_get}
+use Rattle.std.specs.Option.{unwrap_or}
 use Rattle.std.proofs.lemmas.Bool.{cases_eq, eqb-false, eqb-true, false≢true, ne_eqb, or_cases}
 use Rattle.std.proofs.lemmas.Grind.{get_or-set_at}
-use Rattle.std.proofs.lemmas.List.{get_or_append_left, get_or_push, length-append, length-set}
+use Rattle.std.proofs.lemmas.List.{append-nil, append_assoc, get_or_append_left, get_or_push, length-append, length-set}
 use Rattle.std.proofs.lemmas.List.Elements.{Contains-append_left, Contains-push}
 use Rattle.std.proofs.lemmas.List.FromFn.{get_or-range_with_len, length-range_with_len}
 use Rattle.std.proofs.lemmas.Map.Steps.{length-le_from_distinct_below}
 use Rattle.sorted_rows.specs.ListLaws.{all-append, all-filter, all-weaker}
-use Rattle.label_space.specs.LineLaws.{Contains-line_without, Differs, IsDistinct-joined, IsDistinct-line_without, cases_contained, differs_from, line_around, line_without-between}
+use Rattle.label_space.specs.LineLaws.{Contains-line_without, Contains-with_others, Contains-with_same, Differs, IsDistinct-joined, IsDistinct-line_without, all-with, cases_contained, differs_from, distinct_with, line_around, line_without-between}
 use Rattle.label_space.specs.Lines.{AreLinks, IsLinked, line_of, line_without}
-use Rattle.label_space.proofs.Links.{all-first, all-last, all-part, around_place, line_from-linked, linked-join, linked-part, linked-removed, linked-set_end, linked-set_next, linked-set_previous}
+use Rattle.label_space.proofs.Links.{all-first, all-last, all-part, around_place, line_from-linked, linked_last, linked-join, linked-part, linked-removed, linked-set_end, linked-set_next, linked-set_previous}
 
 -- the end differs from each place
 end_differs : (count : ℕ) (line : List ℕ) → AllByRecursion (λ place. place < count) line → Differs count line
@@ -177,6 +178,97 @@ module _ (count : ℕ) (next previous : List ℕ) (links : AreLinks count next p
       ∙ get_or-set_other next last other place 0 (λ same. eqb-false other (get_or previous count 0) last_differs (same ∙ is_last))
       ∙ links.alone other other_below before_absent)
 
+  -- A place joins the line before another one: it and the one before that one name each other, and it and that one.
+  joined_before : (place last there : ℕ) (before behind : List ℕ) → line_of count next ≡ before ++ there ∷ behind → place < count → ¬ Contains (line_of count next) place → last ≡ get_or previous there 0 → AreLinks count (set (set next last place) place there) (set (set previous place last) there place) × (line_of count (set (set next last place) place there) ≡ before ++ place ∷ there ∷ behind)
+  joined_before place last there before behind is below absent is_last =
+      let line = line_of count next in
+      let parts = parted there before behind is in
+      let distinct = subst (IsDistinct nat_eq) is links.apart in
+      let sides = around_place before there behind distinct in
+      let within = subst (AllByRecursion (λ p. p < count)) is links.within in
+      let there_below : there < count = (all-part (λ p. p < count) before there behind within).1 in
+      let ends = all-part (λ p. (count == p) ≡ false) before there behind (subst (Differs count) is (end_differs count line links.within)) in
+      let whole = subst (Differs place) is (differs_from line place absent) in
+      let away = all-part (λ p. (place == p) ≡ false) before there behind whole in
+      let last_below : last < length next =
+      let h = all-last (λ p. p < count + 1) next previous count before there parts.0 (omega arith) (all-weaker (λ p. p < count) (λ p. p < count + 1) (λ p lower. omega (arith, lower)) before parts.2) in omega (arith, h, is_last, links.nexts) in
+      let last_apart : last ≢ there = λ same. eqb-false there (get_or previous there 0) (all-last (λ p. (there == p) ≡ false) next previous count before there parts.0 (ne_eqb there count (λ e. absurd (omega (arith, e, there_below)))) sides.differs_before) (sym same ∙ is_last) in
+      let last_differs : Differs last behind = subst (λ p. Differs p behind) (sym is_last) (all-last (λ p. Differs p behind) next previous count before there parts.0 ends.2 sides.apart) in
+      let place_end : place ≢ count = λ same. absurd (omega (arith, same, below)) in
+      let there_end : there ≢ count = λ same. absurd (omega (arith, same, there_below)) in
+      let place_there : place ≢ there = eqb-false place there away.1 in
+      let next' = set next last place in
+      let next'' = set next' place there in
+      let previous' = set previous place last in
+      let previous'' = set previous' there place in
+      let relinked = linked-set_end next previous last place count before there is_last last_below (omega (arith, below, links.previouses)) ends.0 sides.first away.0 parts.0 in
+      let first = linked-set_previous next'' previous' there place count before place (λ same. place_there (sym same)) sides.differs_before (linked-set_next next' previous' place there count before place place_end away.0 relinked) in
+      let second = linked-set_previous next'' previous' there place there behind count there_end sides.differs_behind (linked-set_previous next'' previous place last there behind count place_end away.2 (linked-set_next next' previous place there there behind count place_there away.2 (linked-set_next next previous last place there behind count last_apart last_differs parts.1))) in
+      let forth = get_or-set_same next' place there 0 (omega (arith, below, length-set next last place, links.nexts)) in
+      let back = get_or-set_same previous' there place 0 (omega (arith, there_below, length-set previous place last, links.previouses)) in
+      are_links count next'' previous'' (before ++ place ∷ there ∷ behind)
+      (length-set next' place there ∙ length-set next last place ∙ links.nexts)
+      (length-set previous' there place ∙ length-set previous place last ∙ links.previouses)
+      (linked-join next'' previous'' count before place (there ∷ behind) count first (forth, back, second))
+      (all-with (λ p. p < count) before place (there ∷ behind) below within)
+      (distinct_with before place (there ∷ behind) whole distinct)
+      (λ other other_below other_absent.
+      let other_apart : other ≢ place = λ same. other_absent (subst (Contains (before ++ place ∷ there ∷ behind)) (sym same) (Contains-with_same before place (there ∷ behind))) in
+      let before_absent : ¬ Contains line other = λ among. other_absent (Contains-with_others before place (there ∷ behind) other (subst (λ l. Contains l other) is among)) in
+      let differs = (all-part (λ y. (other == y) ≡ false) before there behind (subst (Differs other) is (differs_from line other before_absent))).0 in
+      let apart_last = all-last (λ p. (other == p) ≡ false) next previous count before there parts.0 (ne_eqb other count (λ same. absurd (omega (arith, same, other_below)))) differs in
+      get_or-set_other next' place other there 0 other_apart
+      ∙ get_or-set_other next last other place 0 (λ same. eqb-false other (get_or previous there 0) apart_last (same ∙ is_last))
+      ∙ links.alone other other_below before_absent)
+
+  -- So it joins the line between its two parts.
+  pub inserted : (place last there : ℕ) (before behind : List ℕ) → line_of count next ≡ before ++ behind → unwrap_or (slice_get behind 0) count ≡ there → place < count → ¬ Contains (line_of count next) place → last ≡ get_or previous there 0 → AreLinks count (set (set next last place) place there) (set (set previous place last) there place) × (line_of count (set (set next last place) place there) ≡ before ++ place ∷ behind)
+  inserted place last there before [] is at below absent is_last =
+      let line : line_of count next ≡ before = is ∙ append-nil before in
+      let made = joined place last below absent (is_last ∙ ap (λ p. get_or previous p 0) (sym at)) in
+      subst (λ p. AreLinks count (set (set next last place) place p) (set (set previous place last) p place) × (line_of count (set (set next last place) place p) ≡ before ++ place ∷ [])) at (made.0, made.1 ∙ ap (λ l. l ++ place ∷ []) line)
+  inserted place last there before (first ∷ behind) is at below absent is_last =
+      let made = joined_before place last first before behind is below absent (is_last ∙ ap (λ p. get_or previous p 0) (sym at)) in
+      subst (λ p. AreLinks count (set (set next last place) place p) (set (set previous place last) p place) × (line_of count (set (set next last place) place p) ≡ before ++ place ∷ first ∷ behind)) at made
+
+  -- the first of the other part is a place, or the end
+  pub there_within : (there : ℕ) (before behind : List ℕ) → line_of count next ≡ before ++ behind → unwrap_or (slice_get behind 0) count ≡ there → there < count + 1
+  there_within there before [] is at = omega (arith, at)
+  there_within there before (first ∷ behind) is at =
+      let below = (all-part (λ p. p < count) before first behind (subst (AllByRecursion (λ p. p < count)) is links.within)).1 in
+      omega (arith, at, below)
+
+  -- and the one before it is the last of the one part, or the end where none is in that
+  pub last_of : (there : ℕ) (before behind : List ℕ) → line_of count next ≡ before ++ behind → unwrap_or (slice_get behind 0) count ≡ there → ((before ≡ []) × (get_or previous there 0 ≡ count)) ⊎ ((less : List ℕ) × (before ≡ less ++ get_or previous there 0 ∷ []))
+  last_of there before [] is at =
+      let linked = subst (λ l. IsLinked next previous count l count) (is ∙ append-nil before) links.linked in
+      subst (λ p. ((before ≡ []) × (get_or previous p 0 ≡ count)) ⊎ ((less : List ℕ) × (before ≡ less ++ get_or previous p 0 ∷ []))) at (linked_last next previous count before count linked)
+  last_of there before (first ∷ behind) is at =
+      subst (λ p. ((before ≡ []) × (get_or previous p 0 ≡ count)) ⊎ ((less : List ℕ) × (before ≡ less ++ get_or previous p 0 ∷ []))) at (linked_last next previous count before first (parted first before behind is).0)
+
+  -- which is below the end
+  pub last_is_place : (less behind : List ℕ) (last : ℕ) → line_of count next ≡ (less ++ last ∷ []) ++ behind → last < count
+  last_is_place less behind last is =
+      (all-part (λ p. p < count) less last behind (subst (AllByRecursion (λ p. p < count)) (is ∙ append_assoc less (last ∷ []) behind) links.within)).1
+
+  pub last_below : (there : ℕ) (before behind : List ℕ) → line_of count next ≡ before ++ behind → unwrap_or (slice_get behind 0) count ≡ there → get_or previous there 0 ≢ count → get_or previous there 0 < count
+  last_below there before behind is at apart =
+      elim (last_of there before behind is at) [
+        | inl none ↦ absurd (apart none.1)
+        | inr some ↦ last_is_place some.0 behind (get_or previous there 0) (is ∙ ap (λ l. l ++ behind) some.1)
+      ]
+
+  pub last_before_within : (there : ℕ) (before behind : List ℕ) → line_of count next ≡ before ++ behind → unwrap_or (slice_get behind 0) count ≡ there → get_or previous there 0 < count + 1
+  last_before_within there before behind is at =
+      elim (last_of there before behind is at) [
+        | inl none ↦ let e = none.1 in omega (arith, e)
+        | inr some ↦ let below = last_is_place some.0 behind (get_or previous there 0) (is ∙ ap (λ l. l ++ behind) some.1) in omega (arith, below)
+      ]
+
+  -- no more places are in line than there are
+  pub line_few : length (line_of count next) ≤ count
+  line_few = length-le_from_distinct_below (line_of count next) count links.apart (λ place. below_any count place (line_of count next) links.within)
+
 -- numbers from one on are at least it
 range_above : (low from count : ℕ) → low < from → AllByRecursion (λ x. (low == x) ≡ false) (range_with_len from count)
 range_above low from zero above = tt
@@ -184,12 +276,12 @@ range_above low from (suc count) above =
     (ne_eqb low from (λ same. absurd (omega (arith, above))), range_above low (from + 1) count (omega (arith, above)))
 
 -- and below where they end
-range_below : (high from count : ℕ) → from + count ≤ high → AllByRecursion (λ x. x < high) (range_with_len from count)
+pub range_below : (high from count : ℕ) → from + count ≤ high → AllByRecursion (λ x. x < high) (range_with_len from count)
 range_below high from zero below = tt
 range_below high from (suc count) below = (omega (arith, below), range_below high (from + 1) count (omega (arith, below)))
 
 -- none of them is twice
-IsDistinct-range : (from count : ℕ) → IsDistinct nat_eq (range_with_len from count)
+pub IsDistinct-range : (from count : ℕ) → IsDistinct nat_eq (range_with_len from count)
 unfolding IsDistinct
 IsDistinct-range from zero = tt
 IsDistinct-range from (suc count) = (range_above from (from + 1) count (omega arith), IsDistinct-range (from + 1) count)

@@ -1,13 +1,13 @@
 -- Both passes together make the edits, and each LSP may hold what it is given when its turn comes.
-use Rattle.std.proofs.Common.{◌≡◌, ℕ, ◌+◌, ◌<◌, ◌≤◌, drop, get_or, T, nat_eq, Bool, true, false, cond, List, [], ◌∷◌, length, Option, Some, None, is_some, refl, sym, ap, subst, ◌∙◌, arith}
+use Rattle.std.proofs.Common.{◌≡◌, ℕ, ◌+◌, ◌<◌, ◌≤◌, drop, get_or, T, nat_eq, Bool, true, false, cond, List, [], ◌∷◌, length, Option, Some, None, IfSome, is_some, refl, sym, ap, subst, ◌∙◌, arith}
 use Rattle.std.specs.FinMap.Entries.{find, is_sorted, put, same_entries}
 use Rattle.std.specs.List.{IsDistinct}
-use Rattle.std.specs.Ordering.{eq_by_cmp, is_eq}
+use Rattle.std.specs.Ordering.{eq_by_cmp, is_eq, nat_cmp}
 use Rattle.std.proofs.lemmas.Option.{none-some}
 use Rattle.sorted_rows.specs.Rows.{values_of}
 use Rattle.std.proofs.lemmas.Cmp.{tied_itself}
 use Rattle.std.proofs.lemmas.List.{drop_more}
-use Rattle.sorted_rows.specs.RowsLaws.{find-behind, find-first, find-put_apart, find-put_same, second, ties}
+use Rattle.sorted_rows.specs.RowsLaws.{find-all_row, find-behind, find-first, find-put_apart, find-put_same, second, ties}
 use Rattle.sorted_rows.proofs.Passes.{length_in_turn}
 use Rattle.sorted_rows.specs.EditLaws.{find-at_key, find-edited, is_sorted-at_key, is_sorted-edited}
 use Rattle.sorted_rows.specs.Edits.{at_key, edited, over}
@@ -16,7 +16,11 @@ use Rattle.lsr_facts.specs.OrderLaws.{key_exact, key_total}
 use Rattle.lsr_facts.specs.Orders.{key_cmp}
 use Rattle.lsr_facts.specs.declared.key.Key.{Key}
 use Rattle.lsr_facts.specs.declared.router.LabelRange.{LabelRange}
-use Rattle.label_space.specs.BindingLaws.{free-from_not_found, one_key}
+use Rattle.std.proofs.lemmas.Map.Lookups.{exact_unsigned}
+use Rattle.label_space.specs.FreeLabels.{is_held}
+use Rattle.label_space.specs.RestLaws.{is_sorted-rested, rested_next}
+use Rattle.label_space.specs.Rests.{AreApart, freed_by, held_by, rested}
+use Rattle.label_space.specs.BindingLaws.{free-from, one_key, unheld-from_not_found, unheld-not_found}
 use Rattle.label_space.specs.Bindings.{AreHeldOf}
 use Rattle.label_space.proofs.Binding.{held_own}
 use Rattle.label_space.specs.Turns.{CanHold, MayHoldNow, emptied}
@@ -153,35 +157,68 @@ no_other_holds key label edits labels g new apart q found =
     let at : find key_cmp key labels ≡ Some label = subst (λ k. find key_cmp k labels ≡ Some label) (one_key last apart q key label at_q (given_last key label edits labels g new)) found in
     none-some label (sym (new_here (key, Some label) edits g labels new) ∙ at)
 
--- an LSP may hold what it is given, where all are as they should be in the end
-may_hold : (range : LabelRange) (key : Key) (now : Option ℕ) (edits : List (Key × Option ℕ)) (labels : List (Key × ℕ)) → T (is_sorted key_cmp ((key, now) ∷ edits)) → T (is_sorted key_cmp labels) → AreNew ((key, now) ∷ edits) labels → length (in_turn (given key_cmp) edits (given key_cmp key now labels)) ≤ 1024 → AreHeldOf range (in_turn (given key_cmp) edits (given key_cmp key now labels)) → MayHoldNow range key now labels
-may_hold range key None edits labels g h new few held = tt
-may_hold range key (Some label) edits labels g h new few held = record {
-  room = omega (arith, few, length_in_turn key_cmp edits (put key_cmp key label labels));
-  new = new_here (key, Some label) edits g labels new;
-  own = held_own range (in_turn (given key_cmp) edits (put key_cmp key label labels)) held key label (given_last key label edits labels g new);
-  free = free-from_not_found labels label h (no_other_holds key label edits labels g new held.apart);
-}
+-- a label that rests is held by no LSP
+awake_where : (labels : List (Key × ℕ)) (resting : List (ℕ × ℕ)) → AreApart labels resting → (key : Key) (label : ℕ) → find key_cmp key labels ≡ Some label → find nat_cmp label resting ≡ None
+awake_where labels resting apart key label found =
+    by (find nat_cmp label resting) (find-all_row nat_cmp exact_unsigned (λ row. is_held labels row.0 ≡ false) label resting apart)
+  where
+    by : (o : Option ℕ) → IfSome o (λ until. is_held labels label ≡ false) → o ≡ None
+    by None is = refl
+    by (Some until) is = absurd (unheld-not_found labels label is key found)
 
-can_hold : (range : LabelRange) (edits : List (Key × Option ℕ)) (labels : List (Key × ℕ)) → T (is_sorted key_cmp edits) → T (is_sorted key_cmp labels) → AreNew edits labels → length (in_turn (given key_cmp) edits labels) ≤ 1024 → AreHeldOf range (in_turn (given key_cmp) edits labels) → CanHold range edits labels
-can_hold range [] labels g h new few held = tt
-can_hold range (edit ∷ edits) labels g h new few held = (
-  may_hold range edit.0 edit.1 edits labels g h new few held,
-  can_hold range edits (given key_cmp edit.0 edit.1 labels) (second _ _ g) (sorted_given edit.0 edit.1 labels h) (new_others edit edits g labels new) few held,
+-- an LSP may hold what it is given, where all are as they should be in the end
+may_hold : (range : LabelRange) (key : Key) (now : Option ℕ) (edits : List (Key × Option ℕ)) (labels : List (Key × ℕ)) (resting : List (ℕ × ℕ)) → T (is_sorted key_cmp ((key, now) ∷ edits)) → T (is_sorted key_cmp labels) → AreNew ((key, now) ∷ edits) labels → length (in_turn (given key_cmp) edits (given key_cmp key now labels)) ≤ 1024 → AreHeldOf range (in_turn (given key_cmp) edits (given key_cmp key now labels)) → AreApart (in_turn (given key_cmp) edits (given key_cmp key now labels)) resting → MayHoldNow range key now labels resting
+may_hold range key None edits labels resting g h new few held apart = tt
+may_hold range key (Some label) edits labels resting g h new few held apart =
+    let last = in_turn (given key_cmp) edits (put key_cmp key label labels) in
+    let at = given_last key label edits labels g new in
+    record {
+      room = omega (arith, few, length_in_turn key_cmp edits (put key_cmp key label labels));
+      new = new_here (key, Some label) edits g labels new;
+      own = held_own range last held key label at;
+      free = free-from labels resting label (unheld-from_not_found labels label h (no_other_holds key label edits labels g new held.apart)) (awake_where last resting apart key label at);
+    }
+
+can_hold : (range : LabelRange) (edits : List (Key × Option ℕ)) (labels : List (Key × ℕ)) (resting : List (ℕ × ℕ)) → T (is_sorted key_cmp edits) → T (is_sorted key_cmp labels) → AreNew edits labels → length (in_turn (given key_cmp) edits labels) ≤ 1024 → AreHeldOf range (in_turn (given key_cmp) edits labels) → AreApart (in_turn (given key_cmp) edits labels) resting → CanHold range edits labels resting
+can_hold range [] labels resting g h new few held apart = tt
+can_hold range (edit ∷ edits) labels resting g h new few held apart = (
+  may_hold range edit.0 edit.1 edits labels resting g h new few held apart,
+  can_hold range edits (given key_cmp edit.0 edit.1 labels) resting (second _ _ g) (sorted_given edit.0 edit.1 labels h) (new_others edit edits g labels new) few held apart,
 )
 
 -- After the first pass each LSP may hold what it is given, in turn.
-pub can_hold_then : (range : LabelRange) (edits : List (Key × Option ℕ)) (labels : List (Key × ℕ)) → T (is_sorted key_cmp edits) → T (is_sorted key_cmp labels) → length (edited key_cmp edits labels) ≤ 1024 → AreHeldOf range (edited key_cmp edits labels) → CanHold range edits (in_turn (emptied key_cmp) edits labels)
-can_hold_then range edits labels g h few held =
+pub can_hold_then : (range : LabelRange) (edits : List (Key × Option ℕ)) (labels : List (Key × ℕ)) (resting : List (ℕ × ℕ)) → T (is_sorted key_cmp edits) → T (is_sorted key_cmp labels) → length (edited key_cmp edits labels) ≤ 1024 → AreHeldOf range (edited key_cmp edits labels) → AreApart (edited key_cmp edits labels) resting → CanHold range edits (in_turn (emptied key_cmp) edits labels) resting
+can_hold_then range edits labels resting g h few held apart =
     let left = in_turn (emptied key_cmp) edits labels in
     let made = passes_made edits labels g h in
-    can_hold range edits left g (sorted_emptied edits labels h) (new_emptied edits labels)
+    can_hold range edits left resting g (sorted_emptied edits labels h) (new_emptied edits labels)
     (subst (λ rows. length rows ≤ 1024) (sym made) few)
     (subst (AreHeldOf range) (sym made) held)
+    (subst (λ rows. AreApart rows resting) (sym made) apart)
 
 -- The next edit of the first pass, and those behind it.
 pub emptied_next : (edits : List (Key × Option ℕ)) (i : ℕ) (d : Key × Option ℕ) (key : Key) (labels now all : List (Key × ℕ)) → i < length edits → key ≡ (get_or edits i d).0 → now ≡ at_key key_cmp key None labels → in_turn (emptied key_cmp) (drop i edits) labels ≡ all → in_turn (emptied key_cmp) (drop (i + 1) edits) now ≡ all
 emptied_next edits i d key labels now all within is made before =
     ap (in_turn (emptied key_cmp) (drop (i + 1) edits)) (made ∙ ap (λ k. at_key key_cmp k None labels) is)
     ∙ sym (ap (λ es. in_turn (emptied key_cmp) es labels) (drop_more edits i d within))
+    ∙ before
+
+-- The labels are in order still, and those that rest.
+pub sorted_next : (key : Key) (labels now : List (Key × ℕ)) → now ≡ at_key key_cmp key None labels → T (is_sorted key_cmp labels) → T (is_sorted key_cmp now)
+sorted_next key labels now made sorted =
+    subst (λ rows. T (is_sorted key_cmp rows)) (sym made) (is_sorted-at_key key_cmp key_total key None labels sorted)
+
+pub in_order_next : (moment until : ℕ) (key : Key) (labels : List (Key × ℕ)) (resting then : List (ℕ × ℕ)) → then ≡ rested moment until (held_by key labels) resting → T (is_sorted nat_cmp resting) → T (is_sorted nat_cmp then)
+in_order_next moment until key labels resting then rests in_order =
+    subst (λ rows. T (is_sorted nat_cmp rows)) (sym rests) (is_sorted-rested moment until (held_by key labels) resting in_order)
+
+-- And so it is with the labels that rest.
+pub rested_turn : (edits : List (Key × Option ℕ)) (i : ℕ) (d : Key × Option ℕ) (key : Key) (moment now_at until : ℕ) (labels now : List (Key × ℕ)) (resting then all : List (ℕ × ℕ)) → T (is_sorted key_cmp labels) → T (is_sorted nat_cmp resting) → i < length edits → key ≡ (get_or edits i d).0 → now_at ≡ moment → now ≡ at_key key_cmp key None labels → then ≡ rested now_at until (held_by key labels) resting → rested moment until (freed_by (drop i edits) labels) resting ≡ all → rested moment until (freed_by (drop (i + 1) edits) now) then ≡ all
+rested_turn edits i d key moment now_at until labels now resting then all sorted in_order within is at made rests before =
+    let edit = get_or edits i d in
+    (λ j. rested moment until (freed_by (drop (i + 1) edits) (made j)) (rests j))
+    ∙ ap (λ m. rested moment until (freed_by (drop (i + 1) edits) (at_key key_cmp key None labels)) (rested m until (held_by key labels) resting)) at
+    ∙ ap (λ k. rested moment until (freed_by (drop (i + 1) edits) (at_key key_cmp k None labels)) (rested moment until (held_by k labels) resting)) is
+    ∙ rested_next moment until edit.0 edit.1 (drop (i + 1) edits) labels resting sorted in_order
+    ∙ sym (ap (λ es. rested moment until (freed_by es labels) resting) (drop_more edits i d within))
     ∙ before

@@ -6,4 +6,6 @@ pub mod LabelLaws
 pub mod Labels
 pub mod LineLaws
 pub mod Lines
+pub mod RestLaws
+pub mod Rests
 pub mod Turns

@@ -1,9 +1,9 @@
 -- Laws of lines: what they have, and what one is without a member.
-use Rattle.std.specs.Prelude.{◌≡◌, ◌≢◌, ℕ, zero, suc, ◌<◌, ◌==◌, ◌⊎◌, nat_eq, true, false, cond, not, List, [], ◌∷◌, ◌++◌, Contains, length}
+use Rattle.std.specs.Prelude.{◌≡◌, ◌≢◌, ℕ, zero, suc, ◌<◌, ◌==◌, ◌⊎◌, nat_eq, Bool, true, false, cond, not, List, [], ◌∷◌, ◌++◌, Contains, filter, length}
 use Rattle.std.specs.List.{AllByRecursion, IsDistinct, slice_index_or}
-use Rattle.std.proofs.Common.{refl, sym, ap, ◌∙◌, inl, inr, arith}
+use Rattle.std.proofs.Common.{refl, sym, ap, subst, ◌∙◌, inl, inr, arith}
 use Rattle.std.proofs.lemmas.Bool.{cases_eq, eqb-false, eqb-true, ne_eqb}
-use Rattle.std.proofs.lemmas.List.Elements.{filter-append}
+use Rattle.std.proofs.lemmas.List.Elements.{Contains-append_cases, Contains-append_left, Contains-append_right, filter-append}
 use Rattle.std.proofs.lemmas.Map.Keys.{IsDistinct-head, IsDistinct-tail, IsDistinct-cons}
 use Rattle.sorted_rows.specs.ListLaws.{all-append, all-filter, all-weaker, filter-all_pass}
 use Rattle.label_space.specs.Lines.{line_without}
@@ -140,3 +140,102 @@ pub IsDistinct-joined : (line : List ℕ) (x : ℕ) → IsDistinct nat_eq line �
 IsDistinct-joined [] x distinct differs = IsDistinct-cons nat_eq x [] tt distinct
 IsDistinct-joined (y ∷ line) x distinct differs =
     IsDistinct-cons nat_eq y (line ++ x ∷ []) (all-append (λ z. (y == z) ≡ false) line (x ∷ []) (IsDistinct-head nat_eq y line distinct) (differ_turned x y differs.0, tt)) (IsDistinct-joined line x (IsDistinct-tail nat_eq y line distinct) differs.1)
+
+-- what holds of each of a line holds of one in it, and of the others
+pub all-around : {A : Type 0} (P : A → Type 0) (before : List A) (x : A) (behind : List A) → AllByRecursion P (before ++ x ∷ behind) → P x × AllByRecursion P (before ++ behind)
+all-around P [] x behind each = each
+all-around P (y ∷ before) x behind each = let rest = all-around P before x behind each.1 in (rest.0, (each.0, rest.1))
+
+-- and the other way round
+pub all-with : {A : Type 0} (P : A → Type 0) (before : List A) (x : A) (behind : List A) → P x → AllByRecursion P (before ++ behind) → AllByRecursion P (before ++ x ∷ behind)
+all-with P [] x behind here each = (here, each)
+all-with P (y ∷ before) x behind here each = (each.0, all-with P before x behind here each.1)
+
+-- what holds of each of a line holds of each of its parts
+pub all-parts : {A : Type 0} (P : A → Type 0) (before behind : List A) → AllByRecursion P (before ++ behind) → AllByRecursion P before × AllByRecursion P behind
+all-parts P [] behind each = (tt, each)
+all-parts P (y ∷ before) behind each = let rest = all-parts P before behind each.1 in ((each.0, rest.0), rest.1)
+
+-- one of a line in which nothing is twice differs from the others, of which none is twice
+pub distinct_around : (before : List ℕ) (x : ℕ) (behind : List ℕ) → IsDistinct nat_eq (before ++ x ∷ behind) → Differs x (before ++ behind) × IsDistinct nat_eq (before ++ behind)
+distinct_around [] x behind distinct = (IsDistinct-head nat_eq x behind distinct, IsDistinct-tail nat_eq x behind distinct)
+distinct_around (y ∷ before) x behind distinct =
+    let head = all-around (λ z. (y == z) ≡ false) before x behind (IsDistinct-head nat_eq y (before ++ x ∷ behind) distinct) in
+    let rest = distinct_around before x behind (IsDistinct-tail nat_eq y (before ++ x ∷ behind) distinct) in
+    ((differ_turned y x head.0, rest.0), IsDistinct-cons nat_eq y (before ++ behind) head.1 rest.1)
+
+-- and the other way round
+pub distinct_with : (before : List ℕ) (x : ℕ) (behind : List ℕ) → Differs x (before ++ behind) → IsDistinct nat_eq (before ++ behind) → IsDistinct nat_eq (before ++ x ∷ behind)
+distinct_with [] x behind away distinct = IsDistinct-cons nat_eq x behind away distinct
+distinct_with (y ∷ before) x behind away distinct =
+    IsDistinct-cons nat_eq y (before ++ x ∷ behind)
+    (all-with (λ z. (y == z) ≡ false) before x behind (differ_turned x y away.0) (IsDistinct-head nat_eq y (before ++ behind) distinct))
+    (distinct_with before x behind away.1 (IsDistinct-tail nat_eq y (before ++ behind) distinct))
+
+-- what is in one part of it isn't in the other
+pub distinct_parts : (before behind : List ℕ) (x : ℕ) → IsDistinct nat_eq (before ++ behind) → Contains before x → Differs x behind
+distinct_parts [] behind x distinct among = absurd (none_contained x among)
+distinct_parts (y ∷ before) behind x distinct among =
+    elim (Contains-cons_cases y before x among) [
+      | inl same ↦ subst (λ z. Differs z behind) same (all-parts (λ z. (y == z) ≡ false) before behind (IsDistinct-head nat_eq y (before ++ behind) distinct)).1
+      | inr later ↦ distinct_parts before behind x (IsDistinct-tail nat_eq y (before ++ behind) distinct) later
+    ]
+
+-- and nothing is twice where some of the one part went
+pub distinct_filter : (p : ℕ → Bool) (before behind : List ℕ) → IsDistinct nat_eq (before ++ behind) → IsDistinct nat_eq (filter p before ++ behind)
+distinct_filter p [] behind distinct = distinct
+distinct_filter p (y ∷ before) behind distinct =
+    let rest = distinct_filter p before behind (IsDistinct-tail nat_eq y (before ++ behind) distinct) in
+    let head = all-parts (λ z. (y == z) ≡ false) before behind (IsDistinct-head nat_eq y (before ++ behind) distinct) in
+    elim (p y) as (λ b. IsDistinct nat_eq (cond b (y ∷ filter p before) (filter p before) ++ behind)) [
+      | true ↦ IsDistinct-cons nat_eq y (filter p before ++ behind) (all-append (λ z. (y == z) ≡ false) (filter p before) behind (all-filter (λ z. (y == z) ≡ false) p before head.0) head.1) rest
+      | false ↦ rest
+    ]
+
+-- a line that one more joins has this one, and the others
+pub Contains-with_cases : {X : Type 0} (before : List X) (y : X) (behind : List X) (x : X) → Contains (before ++ y ∷ behind) x → (y ≡ x) ⊎ Contains (before ++ behind) x
+Contains-with_cases before y behind x among =
+    elim (Contains-append_cases before (y ∷ behind) x among) [
+      | inl first ↦ inr (Contains-append_left before behind x first)
+      | inr later ↦ elim (Contains-cons_cases y behind x later) [
+        | inl same ↦ inl same
+        | inr last ↦ inr (Contains-append_right before behind x last)
+      ]
+    ]
+
+pub Contains-with_same : {X : Type 0} (before : List X) (y : X) (behind : List X) → Contains (before ++ y ∷ behind) y
+Contains-with_same before y behind = Contains-append_right before (y ∷ behind) y (Contains-first y behind y refl)
+
+pub Contains-with_others : {X : Type 0} (before : List X) (y : X) (behind : List X) (x : X) → Contains (before ++ behind) x → Contains (before ++ y ∷ behind) x
+Contains-with_others before y behind x among =
+    elim (Contains-append_cases before behind x among) [
+      | inl first ↦ Contains-append_left before (y ∷ behind) x first
+      | inr later ↦ Contains-append_right before (y ∷ behind) x (Contains-later y behind x later)
+    ]
+
+-- what passes a test is in what the test leaves of a line
+pub Contains-filter : {X : Type 0} (p : X → Bool) (line : List X) (x : X) → p x ≡ true → Contains line x → Contains (filter p line) x
+Contains-filter p [] x passes among = among
+Contains-filter p (y ∷ line) x passes among =
+    let rest = Contains-filter p line x passes in
+    elim (Contains-cons_cases y line x among) [
+      | inl same ↦ subst (λ b. Contains (cond b (y ∷ filter p line) (filter p line)) x) (sym (ap p same ∙ passes)) (Contains-first y (filter p line) x same)
+      | inr later ↦ elim (p y) as (λ b. Contains (cond b (y ∷ filter p line) (filter p line)) x) [
+        | true ↦ Contains-later y (filter p line) x (rest later)
+        | false ↦ rest later
+      ]
+    ]
+
+-- and what is in that passes, and was in the line
+pub Contains-from_filter : {X : Type 0} (p : X → Bool) (line : List X) (x : X) → Contains (filter p line) x → (p x ≡ true) × Contains line x
+Contains-from_filter p [] x = λ among. absurd (none_contained x among)
+Contains-from_filter p (y ∷ line) x =
+    let rest = Contains-from_filter p line x in
+    let further : Contains (filter p line) x → (p x ≡ true) × Contains (y ∷ line) x = λ among. ((rest among).0, Contains-later y line x (rest among).1) in
+    elim (p y) as (λ b. p y ≡ b → Contains (cond b (y ∷ filter p line) (filter p line)) x → (p x ≡ true) × Contains (y ∷ line) x) [
+      | true ↦ λ passes among. elim (Contains-cons_cases y (filter p line) x among) [
+        | inl same ↦ (ap p (sym same) ∙ passes, Contains-first y line x same)
+        | inr later ↦ further later
+      ]
+      | false ↦ λ fails among. further among
+    ] refl

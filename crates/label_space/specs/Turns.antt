@@ -15,19 +15,21 @@ use Rattle.label_space.specs.Labels.{IsOf}
 abbrev pub emptied : {K X : Type 0} → (K → K → Ordering) → K → Option X → List (K × X) → List (K × X)
 emptied cmp key now rows = at_key cmp key None rows
 
--- An LSP may hold this label beside those that are held: there is room for it, it has none, and the label is free.
-pub record MayHold (range : LabelRange) (key : Key) (label : ℕ) (labels : List (Key × ℕ)) : Type 0 where
+-- An LSP may hold this label beside those that are held and those that rest: there is room for it, it has none, and the label
+-- is free.
+pub record MayHold (range : LabelRange) (key : Key) (label : ℕ) (labels : List (Key × ℕ)) (resting : List (ℕ × ℕ)) : Type 0 where
   pub room : length (put key_cmp key label labels) ≤ max_lsps
   pub new : find key_cmp key labels ≡ None
   pub own : IsOf range label
-  pub free : is_free labels label ≡ true
+  pub free : is_free labels resting label ≡ true
 
 -- so it is where an edit gives one
-abbrev pub MayHoldNow : LabelRange → Key → Option ℕ → List (Key × ℕ) → Type 0
-MayHoldNow range key None labels = Unit {0}
-MayHoldNow range key (Some label) labels = MayHold range key label labels
+abbrev pub MayHoldNow : LabelRange → Key → Option ℕ → List (Key × ℕ) → List (ℕ × ℕ) → Type 0
+MayHoldNow range key None labels resting = Unit {0}
+MayHoldNow range key (Some label) labels resting = MayHold range key label labels resting
 
 -- and at each edit in turn
-abbrev pub CanHold : LabelRange → List (Key × Option ℕ) → List (Key × ℕ) → Type 0
-CanHold range [] labels = Unit {0}
-CanHold range (edit ∷ edits) labels = MayHoldNow range edit.0 edit.1 labels × CanHold range edits (given key_cmp edit.0 edit.1 labels)
+abbrev pub CanHold : LabelRange → List (Key × Option ℕ) → List (Key × ℕ) → List (ℕ × ℕ) → Type 0
+CanHold range [] labels resting = Unit {0}
+CanHold range (edit ∷ edits) labels resting =
+    MayHoldNow range edit.0 edit.1 labels resting × CanHold range edits (given key_cmp edit.0 edit.1 labels) resting

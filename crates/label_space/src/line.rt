@@ -1,13 +1,13 @@
-ghost use Rattle.std.specs.Prelude.{◌≡◌, ◌<◌, ◌↔◌, ◌++◌, ◌∷◌, [], All, Contains, IfOk, IsTrue, nat_eq, slice_get};
+ghost use Rattle.std.specs.Prelude.{◌≡◌, ◌<◌, ◌↔◌, All, Contains, IfOk, IsTrue, length, nat_eq, slice_get};
 ghost use Rattle.std.specs.List.{IsDistinct, range_with_len};
-ghost use Rattle.label_space.specs.Lines.{line_without};
+ghost use Rattle.label_space.specs.Lines.{IsBehind, IsRising, line_with, line_without};
 
 use sorted_rows::TryCopy;
 use std::alloc::{AllocError, Global};
 use std::marker::Model;
 
-/// Places that are numbered from 0, some of which stand in line. Each call takes the same time, however many they are.
-/// Contracts see how many places there are, and the line.
+/// Places that are numbered from 0, some of which stand in line. Each call takes the same time, however many they are,
+/// but for one that has a place go ahead of others. Contracts see how many places there are, and the line.
 #[derive(Debug, Drop)]
 pub(crate) struct Line {
     /// How many places there are. As a place it is the one before the first in line, and after the last.
@@ -66,7 +66,8 @@ impl Line {
 
     /// Whether a place is in line. A number that is no place isn't.
     pub(crate) fn contains(&self, place: u32) -> bool
-        ensures { IsTrue result ↔ Contains self.now.line place }
+        ensures in_line { IsTrue result ↔ Contains self.now.line place }
+        ensures within { IsTrue result → place < self.now.count }
     {
         place < self.count && self.next[place as usize] != place
     }
@@ -84,17 +85,39 @@ impl Line {
         self.next[place as usize] = place;
     }
 
-    /// A place joins the line at its end. Takes no memory.
-    pub(crate) fn push_back(&mut self, place: u32)
+    /// The first place in line whose number is more than this, where numbers don't fall along the line; the number of
+    /// places where there is none. Looks from the end of the line on.
+    fn first_above(&self, numbers: &[u64], number: u64) -> u32
+        requires numbers { length numbers.now ≡ self.now.count }
+        requires rising { IsRising numbers.now self.now.line }
+        ensures { IsBehind numbers.now number self.now result }
+    {
+        let mut behind = self.count;
+        for _ in 0..self.count {
+            let last = self.previous[behind as usize];
+            if last == self.count || numbers[last as usize] <= number {
+                return behind;
+            }
+            behind = last;
+        }
+        behind
+    }
+
+    /// A place joins the line, behind all whose number is no more than its own. It takes as long as there are places
+    /// that it goes ahead of. It asks for numbers that don't fall along the line. Takes no memory.
+    pub(crate) fn join(&mut self, place: u32, numbers: &[u64])
         requires within { place < self.old.count }
         requires absent { ¬ Contains self.old.line place }
-        ensures { self.new ≡ record self.old { line = self.old.line ++ place ∷ [] } }
+        requires numbers { length numbers.now ≡ self.old.count }
+        requires rising { IsRising numbers.now self.old.line }
+        ensures { self.new ≡ record self.old { line = line_with numbers.now place self.old.line } }
     {
-        let last = self.previous[self.count as usize];
+        let behind = self.first_above(numbers, numbers[place as usize]);
+        let last = self.previous[behind as usize];
         self.next[last as usize] = place;
         self.previous[place as usize] = last;
-        self.next[place as usize] = self.count;
-        self.previous[self.count as usize] = place;
+        self.next[place as usize] = behind;
+        self.previous[behind as usize] = place;
     }
 }
 

@@ -34,7 +34,7 @@ use Rattle.label_table.specs.Turns.{onward_at}
 
 -- an LSP of this path that isn't repaired
 abbrev unrepaired : State → Key → PathFact → Lsp
-unrepaired s key path = record { path = timeless_path path; label = find key_cmp key s.labels; resv = option_map timeless_resv (find key_cmp key s.resvs); repair = None }
+unrepaired s key path = record (lsp_of s key path) { repair = None }
 
 -- An LSP that goes on does what its reservation says, or its repair, whenever these expire.
 pub acts_onward : (r : Router) (s : State) (key : Key) (path : PathFact) → action_of (around_of r s) (lsp_of s key path) ≡ (if goes_on path.role then onward_at r s key else Some Pop)
@@ -56,7 +56,7 @@ kept_action r before after key keeps = elim keeps [
 ]
   where
     known : Option Repair → Option Lsp
-    known repair = option_map {U = Lsp} (λ path. record { path = timeless_path path; label = find key_cmp key before.labels; resv = option_map timeless_resv (find key_cmp key before.resvs); repair = option_map timeless_repair repair }) (find key_cmp key before.facts.paths)
+    known repair = option_map {U = Lsp} (λ path. record (lsp_of before key path) { repair = option_map timeless_repair repair }) (find key_cmp key before.facts.paths)
 
     by : (path : Option PathFact) → option_and_then (action_of (around_of r before)) (option_map (unrepaired before key) path) ≡ option_and_then (action_of (around_of r after)) (option_map (unrepaired before key) path)
     by None = refl

@@ -28,13 +28,13 @@ use Rattle.abstract_router.specs.States.{State}
 use Rattle.abstract_router.specs.Tables.{action_of, look}
 use Rattle.abstract_router.specs.Touched.{LeavesOtherLsps}
 use Rattle.state_views.specs.EditLaws.{labels_in_order}
-use Rattle.label_space.specs.BindingLaws.{cases_free, free-not_found, one_key}
+use Rattle.label_space.specs.BindingLaws.{cases_held, one_key, unheld-not_found}
 use Rattle.label_table.proofs.Acting.{action_writes, kept_action}
 use Rattle.label_table.proofs.Changing.{changes_something, found_changes, over_change}
 use Rattle.label_table.proofs.Rooms.{table_few}
 use Rattle.label_table.proofs.Setting.{each_apart, each_holds, each_said, each_sorted}
 use Rattle.label_table.specs.Bypassed.{AreBypassed}
-use Rattle.label_table.specs.RowLaws.{look-free, look-held}
+use Rattle.label_table.specs.RowLaws.{look-held, look-unheld}
 use Rattle.label_table.specs.Rows.{AreTableEdits, IsTableOf, action_at}
 use Rattle.label_table.specs.Turns.{Edit, change, change_at, put_each, row_at, rows_of}
 
@@ -95,8 +95,8 @@ module _ {E : Type 0} (touched : List (Key × E)) (r : Router) (s : State) (sort
   IsElsewhere = (key : Key) × (is_among key_cmp touched key ≡ false) × (find key_cmp key s.labels ≡ Some label)
 
   sides : (find nat_cmp label (rows_of r s touched) ≡ look r s label) ⊎ IsElsewhere
-  sides = elim (cases_free s.labels label (labels_in_order s.labels s.facts.paths sorted held.of_lsps)) [
-    | inl free ↦ inl (none_of_them (λ key among is. free-not_found s.labels label free key is) ∙ sym (look-free r s label free))
+  sides = elim (cases_held s.labels label (labels_in_order s.labels s.facts.paths sorted held.of_lsps)) [
+    | inl unheld ↦ inl (none_of_them (λ key among is. unheld-not_found s.labels label unheld key is) ∙ sym (look-unheld r s label unheld))
     | inr holder ↦ elim (cases_bool (is_among key_cmp touched holder.0)) [
       | inl among ↦ inl (one_of_them holder.0 among holder.1 ∙ sym (look-held r s sorted held.apart holder.0 label holder.1))
       | inr apart ↦ inr (holder.0, apart, holder.1)

@@ -18,12 +18,12 @@ use Rattle.lsr_facts.specs.declared.router.Router.{Router}
 use Rattle.forwarding_table.specs.declared.action.Action.{Action}
 use Rattle.forwarding_table.specs.declared.action.Action.TheVariants.{Pop}
 use Rattle.abstract_router.specs.BypassTunnels.{bypass_tunnels_of}
-use Rattle.abstract_router.specs.Labels.{is_free}
 use Rattle.abstract_router.specs.LspLaws.{AreAlike, look-alike}
 use Rattle.abstract_router.specs.Lsps.{Around, Lsp, around_of, lsp_of, lsps_of}
 use Rattle.abstract_router.specs.States.{State}
 use Rattle.abstract_router.specs.Tables.{action_of, entry_of, look, table_of}
-use Rattle.label_space.specs.BindingLaws.{free-not_found, one_key}
+use Rattle.label_space.specs.BindingLaws.{one_key, unheld-not_found}
+use Rattle.label_space.specs.FreeLabels.{is_held}
 use Rattle.label_table.specs.Rows.{IsTableOf, action_at}
 
 -- the action of the first entry of a label
@@ -62,11 +62,11 @@ module _ (r : Router) (s : State) (label : ℕ) where
   entries paths = filter_map (λ (lsp : Key × Lsp). entry_of (around_of r s) lsp.1) (map (λ (path : Key × PathFact). (path.0, lsp_of s path.0 path.1)) paths)
 
   -- no LSP has an entry for a label that none holds
-  none_of_paths : is_free s.labels label ≡ true → (paths : List (Key × PathFact)) → first_of label (entries paths) ≡ None
-  none_of_paths free [] = refl
-  none_of_paths free (path ∷ paths) =
-      passed_over label (entry_of (around_of r s) (lsp_of s path.0 path.1)) (entries paths) (λ action is. free-not_found s.labels label free path.0 (entry_held (around_of r s) (lsp_of s path.0 path.1) label action is))
-      ∙ none_of_paths free paths
+  none_of_paths : is_held s.labels label ≡ false → (paths : List (Key × PathFact)) → first_of label (entries paths) ≡ None
+  none_of_paths unheld [] = refl
+  none_of_paths unheld (path ∷ paths) =
+      passed_over label (entry_of (around_of r s) (lsp_of s path.0 path.1)) (entries paths) (λ action is. unheld-not_found s.labels label unheld path.0 (entry_held (around_of r s) (lsp_of s path.0 path.1) label action is))
+      ∙ none_of_paths unheld paths
 
   module _ (apart : IsDistinct nat_eq (values_of s.labels)) (key : Key) (held : find key_cmp key s.labels ≡ Some label) where
     -- the entry of the LSP that holds the label
@@ -99,9 +99,9 @@ module _ (r : Router) (s : State) (label : ℕ) where
             ∙ own_first (action_of (around_of r s) (lsp_of s key path.1)) (entries paths) (rest ∙ ap (λ (o : Option PathFact). option_and_then (action_of (around_of r s)) (option_map (lsp_of s key) o)) behind)
 
 -- A label that no LSP holds has no action.
-pub look-free : (r : Router) (s : State) (label : ℕ) → is_free s.labels label ≡ true → look r s label ≡ None
+pub look-unheld : (r : Router) (s : State) (label : ℕ) → is_held s.labels label ≡ false → look r s label ≡ None
 unfolding look table_of lsps_of
-look-free r s label free = none_of_paths r s label free s.facts.paths
+look-unheld r s label unheld = none_of_paths r s label unheld s.facts.paths
 
 -- A label that an LSP holds has the action of that LSP.
 pub look-held : (r : Router) (s : State) → T (is_sorted key_cmp s.facts.paths) → IsDistinct nat_eq (values_of s.labels) → (key : Key) (label : ℕ) → find key_cmp key s.labels ≡ Some label → look r s label ≡ action_at r s key

@@ -2,7 +2,7 @@
 use Rattle.std.proofs.Common.{◌≡◌, ℕ, List, [], ◌∷◌, Some, None, Result, Ok, Err, inl, inr}
 use Rattle.toml.specs.Data.{Members, table}
 use Rattle.toml.specs.Parse.{parse_document}
-use Rattle.lsr_config.specs.Rules.{Rule, given, fitting, new_number, new_address, new_prefix, elsewhere, known_number, few, known, fault_of, FirstBroken}
+use Rattle.lsr_config.specs.Rules.{Rule, given, fitting, new_number, new_address, new_prefix, elsewhere, known_number, carried, few, known, fault_of, FirstBroken}
 use Rattle.lsr_config.specs.Documents.{rules_of, Says}
 use Rattle.lsr_config.specs.Reading.{IsFault, Judges, IsRefused, IsRead}
 use Rattle.lsr_config.specs.Configs.{Setup}
@@ -19,6 +19,7 @@ not_text (new_address document before link) e = cc
 not_text (new_prefix before route) e = cc
 not_text (elsewhere document links tunnel) e = cc
 not_text (known_number first under others d) e = cc
+not_text (carried tunnels bypass) e = cc
 not_text (few key most before) e = cc
 not_text (known keys name) e = cc
 

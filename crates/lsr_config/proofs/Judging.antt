@@ -12,8 +12,8 @@ use Rattle.sorted_rows.specs.ListLaws.{all-append}
 use Rattle.lsr_config.specs.Keys.{key_name}
 use Rattle.rsvp_bodies.specs.Finding.{Finds}
 use Rattle.lsr_config.specs.Values.{SaysEach, SaysTables}
-use Rattle.lsr_config.specs.Rules.{Kind, some_tables, IsOfKind, Has, Rule, given, fitting, new_number, new_address, new_prefix, elsewhere, known_number, few, known, Holds, fault_of, FirstBroken}
-use Rattle.lsr_config.specs.Documents.{needed, optional, in_turn, each_record, table_rules, array_elements, records, HasOr}
+use Rattle.lsr_config.specs.Rules.{Kind, some_tables, IsOfKind, Has, Rule, given, fitting, new_number, new_address, new_prefix, elsewhere, known_number, carried, few, known, HasOr, Holds, fault_of, FirstBroken}
+use Rattle.lsr_config.specs.Documents.{needed, optional, in_turn, each_record, table_rules, array_elements, records}
 use Rattle.lsr_config.specs.Reading.{IsFault, Judges}
 use Rattle.lsr_config.specs.declared.key.Key.{Key}
 use Rattle.lsr_config.specs.declared.fault.ConfigFault.{ConfigFault}
@@ -168,6 +168,7 @@ fault_alone (new_address document before link) h = inl (h, refl)
 fault_alone (new_prefix before route) h = inl (h, refl)
 fault_alone (elsewhere document links tunnel) h = inl (h, refl)
 fault_alone (known_number first under others d) h = inl (h, refl)
+fault_alone (carried tunnels bypass) h = inl (h, refl)
 fault_alone (few key most before) h = inl (h, refl)
 fault_alone (known keys name) h = inl (h, refl)
 

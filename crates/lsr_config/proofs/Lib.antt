@@ -1,5 +1,6 @@
 pub mod Answering
 pub mod Apart
+pub mod Capacities
 pub mod Finding
 pub mod Judging
 pub mod Naming

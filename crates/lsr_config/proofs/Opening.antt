@@ -1,13 +1,14 @@
 -- A configuration that a document says, where it keeps all rules, is one that a router can be opened with.
-use Rattle.std.proofs.Common.{◌≡◌, ℕ, ◌+◌, ◌-◌, ◌*◌, ◌/◌, ◌%◌, ◌^◌, ◌<◌, ◌≤◌, false, List, [], ◌∷◌, ◌++◌, map, length, Option, Some, None, is_some, refl, sym, ap, subst, ◌∙◌, arith, T, length-append}
+use Rattle.std.proofs.Common.{◌≡◌, ℕ, ◌+◌, ◌-◌, ◌*◌, ◌/◌, ◌%◌, ◌^◌, ◌<◌, ◌≤◌, true, false, List, [], ◌∷◌, ◌++◌, map, length, Option, Some, None, is_some, refl, sym, ap, subst, ◌∙◌, arith, T, length-append}
 use Rattle.std.proofs.Math.Nat.{mul-mod_right}
 use Rattle.std.proofs.lemmas.Cmp.{nat_cmp_total}
 use Rattle.std.proofs.lemmas.Map.Keys.{IsDistinct-cons}
 use Rattle.std.proofs.lemmas.Map.Lookups.{exact_unsigned}
 use Rattle.std.proofs.lemmas.Nat.{from_be_bytes-to_be_bytes_4, pow_pos}
-use Rattle.std.specs.Prelude.{IsSomeAnd, IsTrue, MatchOption}
+use Rattle.std.specs.Prelude.{IfSome, IsSomeAnd, IsTrue, MatchOption}
 use Rattle.std.specs.List.{AllByRecursion, IsDistinct, list_any}
 use Rattle.std.specs.FinMap.Entries.{find, is_sorted}
+use Rattle.std.specs.Option.{option_map_or}
 use Rattle.std.specs.Net.Addr.{ipv4_bits, ipv4_octets}
 use Rattle.std.specs.Net.Grammar.{IsIpv4Text}
 use Rattle.std.specs.Ordering.{nat_cmp}
@@ -20,7 +21,8 @@ use Rattle.rsvp_contents.specs.Limits.{is_short_route}
 use Rattle.rsvp_bodies.specs.RateWords.{tspec_with}
 use Rattle.sorted_rows.specs.ListLaws.{all-map}
 use Rattle.sorted_rows.specs.Rows.{values_of}
-use Rattle.lsr_facts.specs.Bypasses.{AreBypasses, IsBypass}
+use Rattle.sorted_rows.specs.RowsLaws.{find-all_row}
+use Rattle.lsr_facts.specs.Bypasses.{AreBypasses, IsBypass, carries}
 use Rattle.lsr_facts.specs.Orders.{prefix_cmp}
 use Rattle.lsr_facts.specs.OrderLaws.{prefix_total, prefix_exact}
 use Rattle.lsr_facts.specs.Routers.{AreLabels, AreRoutes, HasLink, IsLink, IsRouter, is_same, link_at, masked, own_addresses}
@@ -33,10 +35,11 @@ use Rattle.lsr_facts.specs.declared.tunnel.Tunnel.{Tunnel}
 use Rattle.lsr_config.specs.Configs.{IsConfig, Setup}
 use Rattle.lsr_config.specs.Keys.{key_name}
 use Rattle.lsr_config.specs.Values.{SaysAddress, SaysEach, SaysLabels, SaysWhole, SaysPrefix, SaysSteps, SaysTspec}
-use Rattle.lsr_config.specs.Rules.{Rule, Has, HasAddress, HasNumber, HasPrefix, IsFree, SomeOf, Holds}
-use Rattle.lsr_config.specs.Documents.{all_known_rules, each_record, link_rules, router_rules, route_rules, tunnel_rules, bypass_rules, rules_of, records, table_rules, new_tunnel, HasOr, SaysLink, SaysRoute, SaysTunnel, SaysBypass, Says, in_order}
+use Rattle.lsr_config.specs.Rules.{Rule, Has, HasOr, HasAddress, HasCapacity, HasNumber, HaveRoom, HasPrefix, IsFree, SomeOf, Holds}
+use Rattle.lsr_config.specs.Documents.{all_known_rules, each_record, link_rules, router_rules, route_rules, tunnel_rules, bypass_rules, rules_of, records, table_rules, new_tunnel, SaysLink, SaysRoute, SaysTunnel, SaysBypass, Says, in_order}
 use Rattle.lsr_config.specs.declared.key.Key.{Key}
 use Rattle.lsr_config.specs.declared.key.Key.TheVariants as key
+use Rattle.lsr_config.proofs.Capacities.{CarryAll, has_some, room_in_all, tspec_fits}
 use Rattle.lsr_config.proofs.Apart.{address_rule, addresses_apart, distinct_addresses, not_same, rows_apart, same_link}
 use Rattle.lsr_config.proofs.Judging.{all_front, all_back, records_kept, says_length, turn_end, turn_first, turn_kept, turn_rest}
 use Rattle.lsr_config.proofs.Placing.{sorted_in_order, length_in_order, all_in_order, found_in_order}
@@ -77,7 +80,7 @@ few_tunnels d before tunnel h =
 
 few_bypasses : (d : Data) (before : List Data) (bypass : Data) → AllByRecursion Holds (bypass_rules d before bypass) → length before < 64
 unfolding bypass_rules Holds
-few_bypasses d before bypass h = (turn_first _ _ (turn_rest _ _ (turn_rest _ _ (turn_rest _ _ (turn_rest _ _ (turn_rest _ _ (turn_rest _ _ h))))))).0
+few_bypasses d before bypass h = (turn_first _ _ (turn_rest _ _ (turn_rest _ _ (turn_rest _ _ (turn_rest _ _ (turn_rest _ _ (turn_rest _ _ (turn_rest _ _ (turn_rest _ _ h))))))))).0
 
 ends_elsewhere : (d : Data) (before : List Data) (tunnel : Data) → AllByRecursion Holds (tunnel_rules d before tunnel) → (a : Ipv4Addr) → HasAddress key.Endpoint tunnel a → IsFree d (records key.Link d) a
 unfolding tunnel_rules Holds
@@ -94,6 +97,10 @@ in_a_tunnel d before bypass h = (turn_first _ _ (turn_rest _ _ (turn_rest _ _ (t
 for_a_link : (d : Data) (before : List Data) (bypass : Data) → AllByRecursion Holds (bypass_rules d before bypass) → (n : ℕ) → HasNumber 1 key.Link bypass n → SomeOf (λ link. HasNumber 1 key.Number link n) (records key.Link d)
 unfolding bypass_rules Holds
 for_a_link d before bypass h = (turn_first _ _ (turn_rest _ _ (turn_rest _ _ (turn_rest _ _ (turn_rest _ _ (turn_rest _ _ h)))))).0
+
+in_room : (d : Data) (before : List Data) (bypass : Data) → AllByRecursion Holds (bypass_rules d before bypass) → (n capacity : ℕ) → HasNumber 0 key.Tunnel bypass n → HasCapacity bypass capacity → HaveRoom n capacity (records key.Tunnel d)
+unfolding bypass_rules Holds
+in_room d before bypass h = (turn_first _ _ (turn_rest _ _ (turn_rest _ _ (turn_rest _ _ (turn_rest _ _ (turn_rest _ _ (turn_rest _ _ (turn_rest _ _ h)))))))).0
 
 -- a table has no more records than the rule of each allows
 at_most : (rules : List Data → Data → List Rule) (most : ℕ) → ((before : List Data) (d : Data) → AllByRecursion Holds (rules before d) → length before < most)
@@ -127,10 +134,6 @@ module _ {A : Type 0} (Reads : Data → A → Type 0) (rules : List Data → Dat
   )
 
 -- ---- what the values say
-
-has_some : (P : Data → Type 0) (Q : Type 0) (o : Option Data) → ((d : Data) → P d → Q) → IsSomeAnd o P → Q
-has_some P Q None from h = absurd h
-has_some P Q (Some d) from h = from d h
 
 number_from_one : (key : Key) (d : Data) (n : ℕ) → HasNumber 1 key d n → 1 ≤ n
 unfolding SaysWhole
@@ -207,12 +210,6 @@ none_same : (a : Ipv4Addr) (addresses : List Ipv4Addr) → AllByRecursion (λ b.
 none_same a [] h = refl
 none_same a (b ∷ addresses) h = rw (h.0, none_same a addresses h.1) refl
 
-pub tspec_length : (rate : ℕ) → length (tspec_with rate) ≡ 32
-tspec_length rate = refl
-
-tspec_fits : (key : Key) (d : Data) (tspec : List ℕ) → Has key d (λ v. SaysTspec v tspec) → length tspec ≡ 32
-tspec_fits key d tspec h = has_some (λ v. SaysTspec v tspec) (length tspec ≡ 32) (get (key_name key) d) (λ v says. ap length says.2 ∙ tspec_length says.0) h
-
 route_fits : (r : Router) (key : Key) (d : Data) (steps : List Step) → length (ipv4_octets r.id) ≡ 4 → Has key d (λ v. SaysSteps v steps) → IsTrue (is_short_route (route_from r steps))
 unfolding SaysSteps
 route_fits r key d steps four h =
@@ -231,6 +228,11 @@ new_fits r row first endpoint elsewhere short whole =
       current = record { route = short; whole_tspec = whole; numbered = omega (arith, current); given = omega (arith, current, last) };
       pending = subst (IsPendingAs r row.1) (sym none) tt;
     }
+
+-- a tunnel that is found, under a number whose tunnels carry so much, carries it
+found_carries : (n capacity : ℕ) (o : Option Tunnel) → IfSome o (λ t. n ≡ n → carries capacity t ≡ true) → option_map_or (carries capacity) o true ≡ true
+found_carries n capacity None h = refl
+found_carries n capacity (Some t) h = h refl
 
 -- ---- the configuration
 
@@ -334,10 +336,19 @@ module _ (d : Data) (c : Setup) (kept : AllByRecursion Holds (rules_of d)) (says
       (all_in_order nat_cmp nat_cmp_total exact_unsigned (λ (row : ℕ × Tunnel). row.1.pending ≡ None) rows
       (all_rows SaysTunnel (tunnel_rules d) (λ row. row.1.pending ≡ None) (λ before tunnel row held this. ap (λ (t : Tunnel). t.pending) this.first) [] (records key.Tunnel d) rows (tunnels_kept d kept) says.tunnels.1))
 
+  -- a tunnel carries the capacities for which its record has room
+  all_carry : (n capacity : ℕ) → HaveRoom n capacity (records key.Tunnel d) → option_map_or (carries capacity) (find nat_cmp n c.tunnels) true ≡ true
+  all_carry n capacity room =
+      let all : CarryAll n capacity c.tunnels =
+      subst (CarryAll n capacity) (sym says.tunnels.2)
+      (all_in_order nat_cmp nat_cmp_total exact_unsigned (λ (row : ℕ × Tunnel). row.0 ≡ n → carries capacity row.1 ≡ true) says.tunnels.0 (room_in_all n capacity (records key.Tunnel d) says.tunnels.0 says.tunnels.1 room)) in
+      found_carries n capacity (find nat_cmp n c.tunnels) (find-all_row nat_cmp exact_unsigned (λ (row : ℕ × Tunnel). row.0 ≡ n → carries capacity row.1 ≡ true) n c.tunnels all)
+
   bypass_opens : (before : List Data) (bypass : Data) (row : ℕ × Bypass) → AllByRecursion Holds (bypass_rules d before bypass) → SaysBypass bypass row → IsBypass c.router c.tunnels row
   bypass_opens before bypass row held this = record {
     protects = link_there row.1.link (for_a_link d before bypass held row.1.link this.link);
     runs = number_found 0 row.1.tunnel (records key.Tunnel d) says.tunnels.0 c.tunnels says.tunnels.2 (tunnels_numbered _ _ says.tunnels.1) (in_a_tunnel d before bypass held row.1.tunnel this.tunnel);
+    carried = all_carry row.1.tunnel row.1.capacity (in_room d before bypass held row.1.tunnel row.1.capacity this.tunnel this.capacity);
   }
 
   bypasses_open : AreBypasses c.router c.tunnels c.bypasses
@@ -358,8 +369,8 @@ module _ (d : Data) (c : Setup) (kept : AllByRecursion Holds (rules_of d)) (says
 
 -- A document whose parts were judged one after the other: its rules are kept, it says the configuration of these parts, and a router can be opened with that.
 pub parts_open : (d : Data) (c : Setup) (links : List (ℕ × Link)) (routes : List (Prefix × ℕ)) (tunnels : List (ℕ × Tunnel)) (bypasses : List (ℕ × Bypass))
-    → AllByRecursion Holds (router_rules d) × (HasAddress key.Router d c.router.id × HasOr key.RefreshMs d (c.router.refresh_ms ≡ 30000) (λ v. SaysWhole 1 4294967295 v c.router.refresh_ms) × Has key.Labels d (λ v. SaysLabels v c.router.labels))
-    → c.router.label_rest_ms ≡ 0
+    → AllByRecursion Holds (router_rules d) × (HasAddress key.Router d c.router.id × HasOr key.RefreshMs d (c.router.refresh_ms ≡ 30000) (λ v. SaysWhole 1 4294967295 v c.router.refresh_ms) × Has key.Labels d (λ v. SaysLabels v c.router.labels)
+    × HasOr key.LabelRestMs d (c.router.label_rest_ms ≡ 0) (λ v. SaysWhole 0 4294967295 v c.router.label_rest_ms))
     → AllByRecursion Holds (table_rules key.Link (link_rules d) d) × SaysEach SaysLink (records key.Link d) links
     → AllByRecursion Holds (table_rules key.Route (route_rules (records key.Link d)) d) × SaysEach SaysRoute (records key.Route d) routes
     → AllByRecursion Holds (table_rules key.Tunnel (tunnel_rules d) d) × SaysEach SaysTunnel (records key.Tunnel d) tunnels
@@ -368,14 +379,14 @@ pub parts_open : (d : Data) (c : Setup) (links : List (ℕ × Link)) (routes : L
     → c.router.links ≡ in_order nat_cmp links → c.routes ≡ in_order prefix_cmp routes → c.tunnels ≡ in_order nat_cmp tunnels → c.bypasses ≡ in_order nat_cmp bypasses
     → (AllByRecursion Holds (rules_of d) × Says d c) × IsConfig c
 unfolding rules_of
-parts_open d c links routes tunnels bypasses top label_rest each_link each_route each_tunnel each_bypass known link_order route_order tunnel_order bypass_order =
+parts_open d c links routes tunnels bypasses top each_link each_route each_tunnel each_bypass known link_order route_order tunnel_order bypass_order =
     let kept : AllByRecursion Holds (rules_of d) =
     turn_kept _ _ top.0 (turn_kept _ _ each_link.0 (turn_kept _ _ each_route.0 (turn_kept _ _ each_tunnel.0 (turn_kept _ _ each_bypass.0 (turn_kept _ _ known turn_end))))) in
     let says : Says d c = record {
       id = top.1.0;
       refresh_ms = top.1.1;
       labels = top.1.2;
-      label_rest = label_rest;
+      label_rest = top.1.3;
       links = (links, each_link.1, link_order);
       routes = (routes, each_route.1, route_order);
       tunnels = (tunnels, each_tunnel.1, tunnel_order);

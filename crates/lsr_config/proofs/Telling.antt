@@ -29,7 +29,7 @@ use Rattle.lsr_config.proofs.Judging.{says_weaker}
 
 -- ---- a value says one thing
 
-same_text : {A : Type 0} (Spells : List ℕ → A → Type 0) → ((text : List ℕ) (a b : A) → Spells text a → Spells text b → a ≡ b) → (d : Data) (a b : A) → SaysText Spells d a → SaysText Spells d b → a ≡ b
+pub same_text : {A : Type 0} (Spells : List ℕ → A → Type 0) → ((text : List ℕ) (a b : A) → Spells text a → Spells text b → a ≡ b) → (d : Data) (a b : A) → SaysText Spells d a → SaysText Spells d b → a ≡ b
 same_text Spells unique d a b p q =
     let first : as_str d ≡ Some p.0 = ap as_str p.1 in
     let second : as_str d ≡ Some q.0 = ap as_str q.1 in
@@ -110,7 +110,7 @@ prefix_tells a b =
       (λ e. rw (address.1 (ap (λ (p : Prefix). p.address) e)) (eq-eqb a.length b.length (ap (λ (p : Prefix). p.length) e))),
     )
 
-some_weaker : (o : Option Data) (P Q : Data → Type 0) → ((v : Data) → P v → Q v) → IsSomeAnd o P → IsSomeAnd o Q
+pub some_weaker : (o : Option Data) (P Q : Data → Type 0) → ((v : Data) → P v → Q v) → IsSomeAnd o P → IsSomeAnd o Q
 some_weaker None P Q from h = absurd h
 some_weaker (Some v) P Q from h = from v h
 

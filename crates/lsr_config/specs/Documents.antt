@@ -1,5 +1,5 @@
 -- The rules of a document in their order, and the configuration that a document says.
-use Rattle.std.specs.Prelude.{◌≡◌, ℕ, ◌^◌, true, List, [], ◌∷◌, ◌++◌, map, fold, Option, Some, None, MatchOption}
+use Rattle.std.specs.Prelude.{◌≡◌, ℕ, ◌^◌, true, List, [], ◌∷◌, ◌++◌, map, fold, Option, Some, None}
 use Rattle.std.specs.FinMap.Entries.{put}
 use Rattle.std.specs.Ordering.{nat_cmp}
 use Rattle.std.specs.declared.cmp.Ordering.{Ordering}
@@ -14,7 +14,7 @@ use Rattle.lsr_facts.specs.declared.router.Link.{Link}
 use Rattle.lsr_facts.specs.declared.tunnel.Tunnel.{Tunnel}
 use Rattle.lsr_config.specs.Keys.{key_name, top_keys, link_keys, route_keys, tunnel_keys, bypass_keys}
 use Rattle.lsr_config.specs.Values.{SaysWhole, SaysFlag, SaysLabels, SaysEach, SaysSteps, SaysTspec, SaysName, elements}
-use Rattle.lsr_config.specs.Rules.{Kind, an_address, a_socket, a_whole, a_flag, some_labels, a_prefix, some_tables, some_steps, a_rate, a_name, Has, HasAddress, HasNumber, HasPrefix, Rule, given, fitting, new_number, new_address, new_prefix, elsewhere, known_number, few, known}
+use Rattle.lsr_config.specs.Rules.{Kind, an_address, a_socket, a_whole, a_flag, some_labels, a_prefix, some_tables, some_steps, a_rate, a_name, Has, HasOr, HasAddress, HasCapacity, HasNumber, HasPrefix, Rule, given, fitting, new_number, new_address, new_prefix, elsewhere, known_number, carried, few, known}
 use Rattle.lsr_config.specs.declared.key.Key.{Key}
 use Rattle.lsr_config.specs.declared.key.Key.TheVariants as key
 use Rattle.lsr_config.specs.Configs.{Setup}
@@ -123,6 +123,8 @@ bypass_rules document before bypass = in_turn (
     ∷ (known_number 0 key.Tunnel (records key.Tunnel document) bypass ∷ [])
     ∷ needed (a_whole 1 65535) key.Link bypass
     ∷ (known_number 1 key.Link (records key.Link document) bypass ∷ [])
+    ∷ optional (a_whole 0 (2 ^ 50)) key.Capacity bypass
+    ∷ (carried (records key.Tunnel document) bypass ∷ [])
     ∷ (few key.Bypass 64 before ∷ [])
     ∷ [])
 
@@ -132,6 +134,7 @@ router_rules document = in_turn (
     needed an_address key.Router document
     ∷ optional (a_whole 1 4294967295) key.RefreshMs document
     ∷ needed some_labels key.Labels document
+    ∷ optional (a_whole 0 4294967295) key.LabelRestMs document
     ∷ [])
 
 -- each record of a table of the document has only keys of these
@@ -161,10 +164,6 @@ rules_of document = in_turn (
     ∷ [])
 
 -- ---- what a document says
-
--- the value under the key is said so, or where there is none the default holds
-abbrev pub HasOr : Key → Data → Type 0 → (Data → Type 0) → Type 0
-HasOr key d default P = MatchOption (get (key_name key) d) default P
 
 -- the record says the link of this number
 pub record SaysLink (d : Data) (row : ℕ × Link) : Type 0 where
@@ -214,7 +213,7 @@ pub record SaysBypass (d : Data) (row : ℕ × Bypass) : Type 0 where
   pub number : HasNumber 0 key.Number d row.0
   pub tunnel : HasNumber 0 key.Tunnel d row.1.tunnel
   pub link : HasNumber 1 key.Link d row.1.link
-  pub capacity : row.1.capacity ≡ 0
+  pub capacity : HasCapacity d row.1.capacity
 
 -- rows, each put in its place in the order of the keys
 unfoldable pub in_order : {K V : Type 0} → (K → K → Ordering) → List (K × V) → List (K × V)
@@ -229,7 +228,7 @@ pub record Says (document : Data) (c : Setup) : Type 0 where
   pub id : HasAddress key.Router document c.router.id
   pub refresh_ms : HasOr key.RefreshMs document (c.router.refresh_ms ≡ 30000) (λ v. SaysWhole 1 4294967295 v c.router.refresh_ms)
   pub labels : Has key.Labels document (λ v. SaysLabels v c.router.labels)
-  pub label_rest : c.router.label_rest_ms ≡ 0
+  pub label_rest : HasOr key.LabelRestMs document (c.router.label_rest_ms ≡ 0) (λ v. SaysWhole 0 4294967295 v c.router.label_rest_ms)
   pub links : SaysTable nat_cmp SaysLink (records key.Link document) c.router.links
   pub routes : SaysTable prefix_cmp SaysRoute (records key.Route document) c.routes
   pub tunnels : SaysTable nat_cmp SaysTunnel (records key.Tunnel document) c.tunnels

@@ -8,6 +8,7 @@ abbrev pub key_name : Key → List ℕ
 key_name key.Router = codes "router"
 key_name key.RefreshMs = codes "refresh_ms"
 key_name key.Labels = codes "labels"
+key_name key.LabelRestMs = codes "label_rest_ms"
 key_name key.Link = codes "link"
 key_name key.Number = codes "number"
 key_name key.Address = codes "address"
@@ -27,10 +28,11 @@ key_name key.Hold = codes "hold"
 key_name key.Flags = codes "flags"
 key_name key.Name = codes "name"
 key_name key.Bypass = codes "bypass"
+key_name key.Capacity = codes "capacity"
 
 -- the keys of a document outside its records
 abbrev pub top_keys : List Key
-top_keys = key.Router ∷ key.RefreshMs ∷ key.Labels ∷ key.Link ∷ key.Route ∷ key.Tunnel ∷ key.Bypass ∷ []
+top_keys = key.Router ∷ key.RefreshMs ∷ key.Labels ∷ key.LabelRestMs ∷ key.Link ∷ key.Route ∷ key.Tunnel ∷ key.Bypass ∷ []
 
 -- the keys of a record of the table `link`
 abbrev pub link_keys : List Key
@@ -46,4 +48,4 @@ tunnel_keys = key.Number ∷ key.Endpoint ∷ key.Route ∷ key.Rate ∷ key.Set
 
 -- the keys of a record of the table `bypass`
 abbrev pub bypass_keys : List Key
-bypass_keys = key.Number ∷ key.Tunnel ∷ key.Link ∷ []
+bypass_keys = key.Number ∷ key.Tunnel ∷ key.Link ∷ key.Capacity ∷ []

@@ -1,14 +1,15 @@
 -- The rules that a document has to keep to be a configuration, and the fault of each.
-use Rattle.std.specs.Prelude.{◌≡◌, ◌⊎◌, ℕ, ◌<◌, Bool, List, [], ◌∷◌, length, IsSome, IfSome, IsSomeAnd}
+use Rattle.std.specs.Prelude.{◌≡◌, ◌⊎◌, ℕ, ◌^◌, ◌<◌, ◌≤◌, Bool, List, [], ◌∷◌, length, IsSome, IfSome, IsSomeAnd, MatchOption}
 use Rattle.std.specs.List.{AllByRecursion}
 use Rattle.std.specs.declared.net.ipv4_addr.Ipv4Addr.{Ipv4Addr}
 use Rattle.std.specs.declared.net.socket_addr.SocketAddr.{SocketAddr}
 use Rattle.toml.specs.Data.{Data, get}
 use Rattle.rsvp_bodies.specs.declared.prefix.Prefix.{Prefix}
 use Rattle.rsvp_bodies.specs.declared.step.Step.{Step}
+use Rattle.rsvp_bodies.specs.Traffic.{rate_asked}
 use Rattle.lsr_facts.specs.declared.router.LabelRange.{LabelRange}
 use Rattle.lsr_config.specs.Keys.{key_name}
-use Rattle.lsr_config.specs.Values.{SaysAddress, SaysSocket, SaysWhole, SaysFlag, SaysLabels, SaysPrefix, SaysTables, SaysSteps, SaysRate, SaysName}
+use Rattle.lsr_config.specs.Values.{SaysAddress, SaysSocket, SaysWhole, SaysFlag, SaysLabels, SaysPrefix, SaysTables, SaysSteps, SaysRate, SaysTspec, SaysName}
 use Rattle.lsr_config.specs.declared.key.Key.{Key}
 use Rattle.lsr_config.specs.declared.key.Key.TheVariants as key
 use Rattle.lsr_config.specs.declared.fault.ConfigFault.{ConfigFault}
@@ -45,6 +46,10 @@ IsOfKind a_name d = (name : List ℕ) × SaysName d name
 abbrev pub Has : Key → Data → (Data → Type 0) → Type 0
 Has key d P = IsSomeAnd (get (key_name key) d) P
 
+-- the value under the key is said so, or where there is none the default holds
+abbrev pub HasOr : Key → Data → Type 0 → (Data → Type 0) → Type 0
+HasOr key d default P = MatchOption (get (key_name key) d) default P
+
 -- the table gives the key this address
 abbrev pub HasAddress : Key → Data → Ipv4Addr → Type 0
 HasAddress key d a = Has key d (λ v. SaysAddress v a)
@@ -56,6 +61,18 @@ HasNumber first key d n = Has key d (λ v. SaysWhole first 65535 v n)
 -- the table gives the key this prefix
 abbrev pub HasPrefix : Key → Data → Prefix → Type 0
 HasPrefix key d p = Has key d (λ v. SaysPrefix v p)
+
+-- the record of a bypass gives this capacity, in bytes per second: 0 where it gives none
+abbrev pub HasCapacity : Data → ℕ → Type 0
+HasCapacity d n = HasOr key.Capacity d (n ≡ 0) (λ v. SaysWhole 0 (2 ^ 50) v n)
+
+-- the record of a tunnel gives traffic of so much bandwidth or more
+abbrev pub HasRoom : ℕ → Data → Type 0
+HasRoom capacity d = Has key.Rate d (λ v. (tspec : List ℕ) × SaysTspec v tspec × (capacity ≤ rate_asked tspec))
+
+-- each of the tunnels that has this number has traffic of so much bandwidth or more
+abbrev pub HaveRoom : ℕ → ℕ → List Data → Type 0
+HaveRoom n capacity tunnels = AllByRecursion (λ tunnel. HasNumber 0 key.Number tunnel n → HasRoom capacity tunnel) tunnels
 
 -- the fact holds of some element
 abbrev pub SomeOf : {A : Type 0} → (A → Type 0) → List A → Type 0
@@ -82,6 +99,8 @@ pub data Rule : Type 0 where
   elsewhere : Data → List Data → Data → Rule
   -- one of the other records has the number that this one gives the key, of those that count from the first
   known_number : ℕ → Key → List Data → Data → Rule
+  -- the traffic of the tunnel, of these, in which this bypass runs is of no less bandwidth than the bypass has for repairs
+  carried : List Data → Data → Rule
   -- fewer records stand before one of this table than the table may have
   few : Key → ℕ → List Data → Rule
   -- the name is that of one of the keys
@@ -99,6 +118,7 @@ Holds (new_prefix before route) =
 Holds (elsewhere document links tunnel) = (a : Ipv4Addr) → HasAddress key.Endpoint tunnel a → IsFree document links a
 Holds (known_number first under others d) =
     (n : ℕ) → HasNumber first under d n → SomeOf (λ other. HasNumber first key.Number other n) others
+Holds (carried tunnels bypass) = (n capacity : ℕ) → HasNumber 0 key.Tunnel bypass n → HasCapacity bypass capacity → HaveRoom n capacity tunnels
 Holds (few key most before) = length before < most
 Holds (known keys name) = SomeOf (λ key. key_name key ≡ name) keys
 
@@ -111,6 +131,7 @@ fault_of (new_address document before link) = fault.Repeated key.Address
 fault_of (new_prefix before route) = fault.Repeated key.Prefix
 fault_of (elsewhere document links tunnel) = fault.BadValue key.Endpoint
 fault_of (known_number first under others d) = fault.UnknownName under
+fault_of (carried tunnels bypass) = fault.BadValue key.Capacity
 fault_of (few key most before) = fault.TooMany key
 fault_of (known keys name) = fault.UnknownKey name
 

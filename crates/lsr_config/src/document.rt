@@ -2,8 +2,8 @@
 ghost use Rattle.std.specs.Prelude.{◌≡◌, IfOk};
 ghost use Rattle.toml.specs.View.{view};
 ghost use Rattle.lsr_config.specs.Values.{SaysWhole, SaysLabels};
-ghost use Rattle.lsr_config.specs.Rules.{Has, HasAddress};
-ghost use Rattle.lsr_config.specs.Documents.{router_rules, rules_of, HasOr, Says, in_order};
+ghost use Rattle.lsr_config.specs.Rules.{Has, HasAddress, HasOr};
+ghost use Rattle.lsr_config.specs.Documents.{router_rules, rules_of, Says, in_order};
 ghost use Rattle.lsr_config.specs.Reading.{Judges};
 
 use crate::bypasses::read_bypasses;
@@ -29,12 +29,18 @@ const GREATEST_REFRESH_MS: u64 = 4_294_967_295;
 
 const DEFAULT_REFRESH_MS: u64 = 30_000;
 
+/// The rest of a label, in milliseconds, where labels don't rest, and the greatest one.
+const NO_REST_MS: u64 = 0;
+
+const GREATEST_REST_MS: u64 = 4_294_967_295;
+
 /// What a document says outside its records.
 #[derive(Clone, Copy)]
 struct Top {
     id: Ipv4Addr,
     refresh_ms: u32,
     labels: LabelRange,
+    label_rest_ms: u32,
 }
 
 /// The configuration that a document says.
@@ -56,7 +62,7 @@ pub(crate) fn read_document(alloc: Global, document: &Value) -> Result<Config, C
             id: top.id,
             refresh_ms: top.refresh_ms,
             labels: top.labels,
-            label_rest_ms: 0,
+            label_rest_ms: top.label_rest_ms,
             links: link_table,
         },
         routes: route_table,
@@ -70,7 +76,8 @@ fn read_top(document: &Value) -> Result<Top, ConfigFault>
     ensures { Judges (router_rules (view document.now))
         (λ top. HasAddress Key.Router (view document.now) top.id
         × HasOr Key.RefreshMs (view document.now) (top.refresh_ms ≡ 30000) (λ v. SaysWhole 1 4294967295 v top.refresh_ms)
-        × Has Key.Labels (view document.now) (λ v. SaysLabels v top.labels)) result }
+        × Has Key.Labels (view document.now) (λ v. SaysLabels v top.labels)
+        × HasOr Key.LabelRestMs (view document.now) (top.label_rest_ms ≡ 0) (λ v. SaysWhole 0 4294967295 v top.label_rest_ms)) result }
 {
     let id = address_at(document, Key::Router)?;
     let refresh_ms = whole_or(
@@ -81,10 +88,18 @@ fn read_top(document: &Value) -> Result<Top, ConfigFault>
         DEFAULT_REFRESH_MS,
     )?;
     let labels = labels_at(document, Key::Labels)?;
+    let label_rest_ms = whole_or(
+        document,
+        Key::LabelRestMs,
+        NO_REST_MS,
+        GREATEST_REST_MS,
+        NO_REST_MS,
+    )?;
     Ok(Top {
         id,
         refresh_ms: refresh_ms as u32,
         labels,
+        label_rest_ms: label_rest_ms as u32,
     })
 }
 

@@ -14,6 +14,8 @@ pub enum Key {
     RefreshMs,
     /// `labels`, the first and the last label that the router gives out.
     Labels,
+    /// `label_rest_ms`, how long a label rests once it is free, before it is given out again, in milliseconds.
+    LabelRestMs,
     /// `link`, the table of the links, the link of a route, and the one that a bypass protects.
     Link,
     /// `number`, the number of a link, of a tunnel or of a bypass.
@@ -52,6 +54,8 @@ pub enum Key {
     Name,
     /// `bypass`, the table of the bypasses.
     Bypass,
+    /// `capacity`, the bandwidth that a bypass has for repairs, in bytes per second.
+    Capacity,
 }
 
 impl Key {
@@ -63,6 +67,7 @@ impl Key {
             Key::Router => "router",
             Key::RefreshMs => "refresh_ms",
             Key::Labels => "labels",
+            Key::LabelRestMs => "label_rest_ms",
             Key::Link => "link",
             Key::Number => "number",
             Key::Address => "address",
@@ -82,6 +87,7 @@ impl Key {
             Key::Flags => "flags",
             Key::Name => "name",
             Key::Bypass => "bypass",
+            Key::Capacity => "capacity",
         }
     }
 }

@@ -16,10 +16,11 @@ use std::alloc::Global;
 use toml::{Table, Value};
 
 /// The keys of a document outside its records.
-const TOP_KEYS: [Key; 7] = [
+const TOP_KEYS: [Key; 8] = [
     Key::Router,
     Key::RefreshMs,
     Key::Labels,
+    Key::LabelRestMs,
     Key::Link,
     Key::Route,
     Key::Tunnel,
@@ -54,7 +55,7 @@ const TUNNEL_KEYS: [Key; 8] = [
 ];
 
 /// The keys of a bypass's record.
-const BYPASS_KEYS: [Key; 3] = [Key::Number, Key::Tunnel, Key::Link];
+const BYPASS_KEYS: [Key; 4] = [Key::Number, Key::Tunnel, Key::Link, Key::Capacity];
 
 /// Refuses the first unknown key: of the document, then of its links, of its routes, of its tunnels and of its
 /// bypasses.

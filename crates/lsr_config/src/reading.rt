@@ -4,8 +4,8 @@ ghost use Rattle.toml.specs.Data.{Data, get};
 ghost use Rattle.toml.specs.View.{view};
 ghost use Rattle.lsr_config.specs.Keys.{key_name};
 ghost use Rattle.lsr_config.specs.Values.{SaysWhole, SaysFlag, SaysLabels, SaysSocket, SaysSteps, SaysRate, SaysName};
-ghost use Rattle.lsr_config.specs.Rules.{an_address, a_socket, a_whole, a_flag, some_labels, a_prefix, some_tables, some_steps, a_rate, a_name, Has, HasAddress, HasNumber, HasPrefix, few};
-ghost use Rattle.lsr_config.specs.Documents.{needed, optional, records, HasOr};
+ghost use Rattle.lsr_config.specs.Rules.{an_address, a_socket, a_whole, a_flag, some_labels, a_prefix, some_tables, some_steps, a_rate, a_name, Has, HasOr, HasAddress, HasNumber, HasPrefix, few};
+ghost use Rattle.lsr_config.specs.Documents.{needed, optional, records};
 ghost use Rattle.lsr_config.specs.Reading.{Judges};
 ghost use Rattle.lsr_config.specs.declared.fault.ConfigFault.TheVariants as fault;
 

@@ -72,6 +72,7 @@ refusals =
     refused 28 (codes "InUse") ∷
     refused 29 (codes "Late") ∷
     refused 30 (codes "BadMoment") ∷
+    refused 31 (codes "BadCapacity") ∷
     refused 40 (codes "NoMemory") ∷
     refused 41 (codes "JournalFull") ∷
     refused 42 (codes "IsCold") ∷

@@ -10,11 +10,12 @@ pub const ERRORS: &str = "\
   See: RFC 2205, B (code 1)
 1/2 NoBandwidth
   Admission control failure: with this reservation more would be reserved on the link
-  than its limit, at this setup priority. An older reservation of the LSP stays.
+  than its limit, at this setup priority. Or the LSP runs over a bypass, and asks for more than
+  it was promised of that bypass's capacity. An older reservation of the LSP stays.
   What to do: ask for less, route the tunnel elsewhere, raise the link's `limit`, or give the
   tunnel a better setup priority (a lower number), so that others give way. `show links` says
-  what is reserved at each priority.
-  See: RFC 2205, B (code 1); RFC 3209, 4.7.3
+  what is reserved at each priority, `show resv KEY` what the LSP was promised.
+  See: RFC 2205, B (code 1); RFC 3209, 4.7.3; RFC 4090, 4.3
 1/3 MtuTooLarge
   Admission control failure: the greatest packet of the FLOWSPEC is longer than the
   link takes. This router never says so; it passes it on.
@@ -140,8 +141,12 @@ pub const ERRORS: &str = "\
   What to do: route the tunnel round that router.
   See: RFC 3209, 7.3
 24/9 LabelsTaken
-  All labels that this router may give out are taken.
-  What to do: give `labels` a longer range in the configuration, or tear down LSPs.
+  All labels that this router may give out are held by LSPs, or rest: where `label_rest_ms` of
+  the configuration is above 0, a label that its LSP lost is given out again only after that
+  time, so that what a neighbour still sends with it reaches nobody.
+  What to do: `show labels` tells which are held and which rest, and for how long still. Wait
+  until one is free: the Path comes again by itself. Or give `labels` a longer range in the
+  configuration, or `label_rest_ms` a shorter time, or tear down LSPs.
   See: RFC 3209, 7.3; docs/CONFIGURATION.md (The router)
 24/10 UnsupportedL3pid
   The LSP is to carry another protocol than IPv4 (L3PID 0x0800).

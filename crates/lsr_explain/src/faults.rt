@@ -18,7 +18,7 @@ BadValue KEY
   there may be many of has one pair of brackets, as `[link]`. Of a tunnel: its endpoint is this
   router, its route has more than 31 steps, a prefix's length is above 32, a priority is above 7,
   or its rate isn't eight hexadecimal digits, or is negative, no number, or 2^50 bytes per
-  second or more.
+  second or more. Of a bypass: its capacity is above the rate of its tunnel.
   Where, and what is allowed there, stands after it.
   What to do: write the value as docs/CONFIGURATION.md says; head such tables `[[link]]`.
   See: docs/CONFIGURATION.md (Faults)

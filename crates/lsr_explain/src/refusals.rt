@@ -148,8 +148,9 @@ pub const REFUSALS: &str = "\
   Of `drop N`: a bypass runs in tunnel N, so the tunnel has to stay. Of `unbypass N`: LSPs run
   over bypass N since the link that it protects went down, so it has to stay.
   What to do: of `drop`: `show bypasses` tells which bypasses run in the tunnel. Drop each of them
-  first, with `unbypass` and its own number. Of `unbypass`: the last number of the bypass's line
-  tells how many LSPs run over it. Wait until they are torn down or led elsewhere by their heads.
+  first, with `unbypass` and its own number. Of `unbypass`: the number after `up` or `down` in the
+  bypass's line tells how many LSPs run over it. Wait until they are torn down or led elsewhere by
+  their heads.
   See: docs/ROUTER.md (A command comes; Bypasses and local repair)
 29 Late
   The moment is below the last one that the router was told.
@@ -159,6 +160,16 @@ pub const REFUSALS: &str = "\
   The moment is above 4611686018427387904 (2^62) milliseconds.
   What to do: give the milliseconds since the router was opened, and not a date.
   See: docs/ROUTER.md (A moment comes)
+31 BadCapacity
+  A bypass can't promise more bandwidth than its tunnel carries. Of `bypass`: the capacity is
+  above the rate of the tunnel, or above that of the LSP that a change of it is to bring. Of
+  `change`: the new rate is below the capacity of a bypass that runs in the tunnel. Nothing
+  changed.
+  What to do: of `bypass`: name a lower capacity, or raise the tunnel's rate first with
+  `change N RATE ROUTE..`, and try again once `show tunnels` tells `pending none`. Of `change`:
+  `show bypasses` tells the capacities, as the last number but one of each line. Drop that
+  bypass with `unbypass N`, and add it anew with a lower capacity.
+  See: RFC 4090, 4.3; docs/ROUTER.md (A command comes; Bypasses and local repair)
 40 NoMemory
   There was no memory for it. Nothing changed.
   What to do: free some memory and try again; neighbours repeat their messages by themselves.

@@ -1,5 +1,5 @@
 -- Tunnels that begin at a router (RFC 3209, 2.1 and 4.6), and their LSPs.
-use Rattle.std.specs.Prelude.{◌≡◌, ◌≢◌, ℕ, ◌≤◌, Bool, false, List, ◌∷◌, map, length, Option, Some, None, option_map, option_to_list, IsTrue, T}
+use Rattle.std.specs.Prelude.{◌≡◌, ◌≢◌, ℕ, ◌≤◌, Bool, false, List, ◌∷◌, length, Option, Some, None, option_map, option_to_list, IsTrue, T}
 use Rattle.std.specs.FinMap.Entries as rows
 use Rattle.std.specs.List.{AllByRecursion, list_any}
 use Rattle.std.specs.Option.{option_map_or}

@@ -60,6 +60,8 @@ pub struct BypassTunnel {
     pub protects: u16,
     /// The router at which it ends: the merge point.
     pub ends_at: Ipv4Addr,
+    /// The bandwidth that it has for repairs, in bytes per second; 0 where none is said (RFC 4090, 4.3).
+    pub capacity: u64,
     /// What it runs over; `None` where it isn't up.
     pub over: Option<Over>,
 }
@@ -74,4 +76,6 @@ pub struct Selected {
     pub is_nnhop: bool,
     /// The label under which the router at its end takes the LSP.
     pub label: u32,
+    /// The bandwidth that it has for repairs, in bytes per second; 0 where none is said (RFC 4090, 4.3).
+    pub capacity: u64,
 }

@@ -1,4 +1,5 @@
-ghost use Rattle.std.specs.Prelude.{◌≡◌, IfOk};
+ghost use Rattle.std.specs.Prelude.{◌≡◌, length, IfOk, IfSome};
+ghost use Rattle.lsr_facts.specs.Bypasses.{carries};
 
 use rsvp_contents::{Attr, FastReroute, Route, Tspec};
 use sorted_rows::TryCopy;
@@ -69,6 +70,23 @@ impl TryCopy for TunnelLsp {
             route: self.route.clone()?,
             tspec: self.tspec.clone()?,
         })
+    }
+}
+
+impl Tunnel {
+    /// Whether so much bandwidth, in bytes per second, fits the tunnel's traffic, and that of the LSP which is to take its
+    /// current one's place: a bypass in this tunnel may have it for repairs (RFC 4090, 4.3). Their traffic is written in 32
+    /// bytes.
+    pub fn carries(&self, capacity: u64) -> bool
+        requires current { length self.now.current.tspec ≡ 32 }
+        requires pending { IfSome self.now.pending (λ lsp. length lsp.tspec ≡ 32) }
+        ensures { result ≡ carries capacity self.now }
+    {
+        let by_pending = match &self.pending {
+            Some(lsp) => capacity <= lsp.tspec.rate_asked(),
+            None => true,
+        };
+        capacity <= self.current.tspec.rate_asked() && by_pending
     }
 }
 

@@ -15,7 +15,7 @@ use Rattle.std.proofs.lemmas.List.Sums.{AllPass-from_list_all, list_all-from_All
 use Rattle.hex.specs.Hex.{decode_of, decode_pairs, is_hex_digit}
 use Rattle.hex.proofs.HexLemmas.{decode_of-digits, decode_of-ok}
 use Rattle.lsr_lines.specs.Lines.{AsksOf, AsksToTake, BringsAfter}
-use Rattle.lsr_lines.specs.Numbers.{NamesLink, NamesMoment, NamesUpTo}
+use Rattle.lsr_lines.specs.Numbers.{NamesLink, NamesWhole, NamesUpTo}
 
 pub own : IsNumeralModel (λ ds. all_ascii_digits ds ≡ true) (digits_value 10)
 own = numerals_by_value _ tells_all_ascii_digits
@@ -31,8 +31,8 @@ no_sign (d ∷ ds) h e = let p = tells_all_ascii_digits.parts d ds h in absurd (
 pub no_link_signed : (digits : List ℕ) (link : ℕ) → get_or digits 0 0 ≡ 43 → NamesLink digits link → ⊥
 no_link_signed digits link e n = no_sign digits n.decimal e
 
-pub no_moment_signed : (digits : List ℕ) (moment : ℕ) → get_or digits 0 0 ≡ 43 → NamesMoment digits moment → ⊥
-no_moment_signed digits moment e n = no_sign digits n.decimal e
+pub no_whole_signed : (digits : List ℕ) (moment : ℕ) → get_or digits 0 0 ≡ 43 → NamesWhole digits moment → ⊥
+no_whole_signed digits moment e n = no_sign digits n.decimal e
 
 digits_some : (digits : List ℕ) → 1 ≤ digits_value 10 digits → 0 < length digits
 digits_some [] h = absurd (omega (arith, h))
@@ -41,8 +41,8 @@ digits_some (d ∷ ds) h = omega arith
 pub no_link : {E : Type 0} (digits : List ℕ) (e : E) (link : ℕ) → get_or digits 0 0 ≢ 43 → ParsesUnsigned 16 10 digits (Err e) → NamesLink digits link → ⊥
 no_link digits e link plain h n = digits_parsed 16 digits (Err e) plain h (n.decimal, digits_some digits (omega (arith, n.value, n.low)), omega (arith, n.value, n.high))
 
-pub no_moment : {E : Type 0} (digits : List ℕ) (e : E) (moment : ℕ) → get_or digits 0 0 ≢ 43 → ParsesUnsigned 64 10 digits (Err e) → NamesMoment digits moment → ⊥
-no_moment digits e moment plain h n = digits_parsed 64 digits (Err e) plain h (n.decimal, omega (arith, n.some), omega (arith, n.value, n.high))
+pub no_whole : {E : Type 0} (digits : List ℕ) (e : E) (moment : ℕ) → get_or digits 0 0 ≢ 43 → ParsesUnsigned 64 10 digits (Err e) → NamesWhole digits moment → ⊥
+no_whole digits e moment plain h n = digits_parsed 64 digits (Err e) plain h (n.decimal, omega (arith, n.some), omega (arith, n.value, n.high))
 
 pub no_number : {E : Type 0} (digits : List ℕ) (e : E) (most number : ℕ) → most < 2 ^ 16 → get_or digits 0 0 ≢ 43 → ParsesUnsigned 16 10 digits (Err e) → NamesUpTo most digits number → ⊥
 no_number digits e most number low plain h n = digits_parsed 16 digits (Err e) plain h (n.decimal, omega (arith, n.some), omega (arith, n.value, n.high, low))

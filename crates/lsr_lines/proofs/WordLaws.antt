@@ -17,7 +17,7 @@ use Rattle.rsvp_bodies.specs.declared.attr.Attr.{Attr}
 use Rattle.rsvp_bodies.specs.RateWords.{IsRateText, tspec_with}
 use Rattle.rsvp_bodies.specs.RouteWords.{IsStepText}
 use Rattle.abstract_paths.specs.declared.tunnels.NewTunnel.{NewTunnel}
-use Rattle.lsr_lines.specs.Commands.{is_space, words_of, words_left, IsFlagsText, AreSteps, SaysAttr, SaysCommand, SaysRoute, SaysStatic, SaysTunnel}
+use Rattle.lsr_lines.specs.Commands.{is_space, words_of, words_left, IsFlagsText, AreSteps, SaysAttr, SaysCapacity, SaysCommand, SaysRoute, SaysStatic, SaysTunnel}
 use Rattle.lsr_lines.specs.Numbers.{NamesUpTo}
 use Rattle.abstract_paths.specs.declared.commands.Command.{Command}
 use Rattle.abstract_paths.specs.declared.commands.Command.TheVariants as commands
@@ -123,6 +123,16 @@ words_some text = omega (arith, length-slice_split is_space text)
 pub more_words : (left : Option (Bor (List ℕ))) → true ≡ is_some left → 1 ≤ length (words_left left)
 more_words None e = absurd (true≢false e)
 more_words (Some text) e = words_some text.now
+
+-- words of which there are some, and not one alone, say no capacity
+more_than_one : (words : List (List ℕ)) (capacity : ℕ) → 1 ≤ length words → length words ≢ 1 → ¬ SaysCapacity words capacity
+more_than_one [] capacity some other h = absurd (omega (arith, some))
+more_than_one (digits ∷ []) capacity some other h = absurd (other refl)
+more_than_one (digits ∷ word ∷ words) capacity some other h = h
+
+pub no_capacity : (left : Option (Bor (List ℕ))) (capacity : ℕ) → is_some left ≡ true → length (words_left left) ≢ 1 → ¬ SaysCapacity (words_left left) capacity
+no_capacity None capacity e other h = absurd (true≢false (sym e))
+no_capacity (Some text) capacity e other h = more_than_one (words_of text.now) capacity (words_some text.now) other h
 
 -- a line that begins with `route` is about nothing else
 pub no_static : (word : List ℕ) (others : List (List ℕ)) → word ≡ codes "route" → ((route : Prefix × ℕ) → ¬ SaysStatic others route.0 route.1) → (command : Command) → ¬ SaysCommand (word ∷ others) command

@@ -14,7 +14,7 @@ use Rattle.abstract_paths.specs.declared.commands.Command.TheVariants as command
 use Rattle.abstract_paths.specs.declared.tunnels.NewBypass.{NewBypass}
 use Rattle.abstract_paths.specs.declared.tunnels.NewTunnel.{NewTunnel}
 use Rattle.abstract_paths.specs.declared.tunnels.TunnelChange.{TunnelChange}
-use Rattle.lsr_lines.specs.Numbers.{NamesLink, NamesUpTo}
+use Rattle.lsr_lines.specs.Numbers.{NamesLink, NamesUpTo, NamesWhole}
 use denote.Ref.{Bor}
 
 -- a space
@@ -83,9 +83,16 @@ abbrev pub SaysNumber : List (List ℕ) → ℕ → Type 0
 SaysNumber (number ∷ []) n = NamesUpTo 65535 number n
 SaysNumber words n = ⊥
 
--- `N TUNNEL LINK`
+-- `[CAPACITY]`, in bytes per second: 0 where there is no word
+abbrev pub SaysCapacity : List (List ℕ) → ℕ → Type 0
+SaysCapacity [] capacity = capacity ≡ 0
+SaysCapacity (digits ∷ []) capacity = NamesWhole digits capacity
+SaysCapacity words capacity = ⊥
+
+-- `N TUNNEL LINK [CAPACITY]`
 abbrev pub SaysBypass : List (List ℕ) → NewBypass → Type 0
-SaysBypass (number ∷ tunnel ∷ link ∷ []) b = NamesUpTo 65535 number b.number × NamesUpTo 65535 tunnel b.tunnel × NamesLink link b.link
+SaysBypass (number ∷ tunnel ∷ link ∷ others) b =
+    NamesUpTo 65535 number b.number × NamesUpTo 65535 tunnel b.tunnel × NamesLink link b.link × SaysCapacity others b.capacity
 SaysBypass words b = ⊥
 
 -- `PREFIX`
@@ -99,7 +106,7 @@ SaysStatic (text ∷ digits ∷ []) prefix link = IsPrefixText text prefix × Na
 SaysStatic words prefix link = ⊥
 
 -- What words command a router: `tunnel N ENDPOINT RATE SETUP HOLD FLAGS NAME [ROUTE..]`, `change N RATE [ROUTE..]`,
--- `cancel N`, `drop N`, `bypass N TUNNEL LINK`, `unbypass N`, `route PREFIX LINK` or `unroute PREFIX`.
+-- `cancel N`, `drop N`, `bypass N TUNNEL LINK [CAPACITY]`, `unbypass N`, `route PREFIX LINK` or `unroute PREFIX`.
 abbrev pub SaysCommand : List (List ℕ) → Command → Type 0
 SaysCommand words (commands.AddTunnel t) = BeginsWith (codes "tunnel") (λ others. SaysTunnel others t) words
 SaysCommand words (commands.ChangeTunnel c) = BeginsWith (codes "change") (λ others. SaysChange others c) words

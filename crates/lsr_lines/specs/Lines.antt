@@ -1,7 +1,7 @@
 -- Which line asks for what.
 use Rattle.std.specs.Prelude.{◌≡◌, ◌≤◌, ◌⊎◌, ℕ, length, List, ◌∷◌, ◌++◌, Ok, codes}
 use Rattle.hex.specs.Hex.{decode_of}
-use Rattle.lsr_lines.specs.Numbers.{NamesLink, NamesMoment}
+use Rattle.lsr_lines.specs.Numbers.{NamesLink, NamesWhole}
 use Rattle.lsr_lines.specs.Commands.{words_of, BringsTunnel, SaysCommand}
 use Rattle.lsr_lines.specs.Lsps.{AsksAbout}
 use Rattle.lsr_lines.specs.declared.lines.Request.{Request}
@@ -42,7 +42,7 @@ pub record AsksOf (Names : List ℕ → ℕ → Type 0) (word line : List ℕ) (
 abbrev pub AsksFor : List ℕ → Request → Type 0
 AsksFor line (requests.Receive arrival) = AsksToTake (codes "rx ") line arrival.link arrival.bytes.items
 AsksFor line (requests.Frame arrival) = AsksToTake (codes "frame ") line arrival.link arrival.bytes.items
-AsksFor line (requests.Tick moment) = AsksOf NamesMoment (codes "tick ") line moment
+AsksFor line (requests.Tick moment) = AsksOf NamesWhole (codes "tick ") line moment
 AsksFor line (requests.LinkUp link) = AsksOf NamesLink (codes "up ") line link
 AsksFor line (requests.LinkDown link) = AsksOf NamesLink (codes "down ") line link
 AsksFor line requests.Restart = line ≡ codes "restart"
@@ -51,6 +51,7 @@ AsksFor line (requests.Command command) = SaysCommand (words_of line) command
 AsksFor line requests.ShowPaths = line ≡ codes "show paths"
 AsksFor line requests.ShowResvs = line ≡ codes "show resvs"
 AsksFor line requests.ShowTable = line ≡ codes "show table"
+AsksFor line requests.ShowLabels = line ≡ codes "show labels"
 AsksFor line requests.ShowLinks = line ≡ codes "show links"
 AsksFor line requests.ShowTunnels = line ≡ codes "show tunnels"
 AsksFor line requests.ShowBypasses = line ≡ codes "show bypasses"

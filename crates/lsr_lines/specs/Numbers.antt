@@ -10,12 +10,12 @@ pub record NamesLink (digits : List ℕ) (link : ℕ) : Type 0 where
   pub low : 1 ≤ link
   pub high : link ≤ 65535
 
--- A moment: decimal digits, leading zeros taken, that fit 64 bits.
-pub record NamesMoment (digits : List ℕ) (moment : ℕ) : Type 0 where
+-- A number of 64 bits: decimal digits, leading zeros taken.
+pub record NamesWhole (digits : List ℕ) (number : ℕ) : Type 0 where
   pub some : 1 ≤ length digits
   pub decimal : all_ascii_digits digits ≡ true
-  pub value : digits_value 10 digits ≡ moment
-  pub high : moment < 2 ^ 64
+  pub value : digits_value 10 digits ≡ number
+  pub high : number < 2 ^ 64
 
 -- A number from 0 to the most that is allowed: decimal digits, leading zeros taken.
 pub record NamesUpTo (most : ℕ) (digits : List ℕ) (number : ℕ) : Type 0 where

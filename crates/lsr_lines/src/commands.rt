@@ -9,10 +9,10 @@ ghost use Rattle.rsvp_bodies.specs.declared.step.Step.{Step};
 ghost use Rattle.rsvp_bodies.specs.declared.attr.Attr.{Attr};
 ghost use Rattle.rsvp_bodies.specs.Finding.{Finds};
 ghost use Rattle.rsvp_bodies.specs.RateWords.{IsRateText};
-ghost use Rattle.lsr_lines.specs.Commands.{BringsTunnel, IsFlagsText, SaysAttr, SaysBypass, SaysChange, SaysCommand, SaysNumber, SaysPrefix, SaysRoute, SaysStatic, SaysTunnel, words_left, words_of};
+ghost use Rattle.lsr_lines.specs.Commands.{BringsTunnel, IsFlagsText, SaysAttr, SaysBypass, SaysCapacity, SaysChange, SaysCommand, SaysNumber, SaysPrefix, SaysRoute, SaysStatic, SaysTunnel, words_left, words_of};
 ghost use Rattle.lsr_lines.specs.Numbers.{NamesUpTo};
 
-use crate::numbers::{read_link, read_up_to};
+use crate::numbers::{read_link, read_up_to, read_whole};
 use crate::words::{next_two, next_word, only_word};
 use abstract_paths::{Command, NewBypass, NewTunnel, TunnelChange};
 use rsvp_bodies::attr_numbers::MAX_NAME_LEN;
@@ -41,6 +41,9 @@ const UNROUTE: &str = "unroute";
 
 /// The greatest number of a tunnel or a bypass.
 const MAX_NUMBER: u16 = 65_535;
+
+/// The capacity of a bypass that has no bandwidth of its own for repairs, in bytes per second.
+const NO_CAPACITY: u64 = 0;
 
 /// The greatest priority that a word can say: one byte's.
 const MAX_PRIORITY: u16 = 255;
@@ -280,21 +283,34 @@ fn read_bypass(left: Option<&str>) -> Option<NewBypass>
     ensures { Finds (SaysBypass (words_left left.entry)) result }
 {
     let (number, tunnel, left) = next_two(left)?;
-    bypass_said(number, tunnel, only_word(left)?)
+    let (link, left) = next_word(left)?;
+    bypass_said(number, tunnel, link, left)
 }
 
-/// The bypass that its three words ask for; none where they ask for none.
-fn bypass_said(number: &str, tunnel: &str, link: &str) -> Option<NewBypass>
-    ensures { Finds (SaysBypass (number.now ∷ tunnel.now ∷ link.now ∷ [])) result }
+/// The bypass that its three words, and one more if it is left, ask for; none where they ask for none.
+fn bypass_said(number: &str, tunnel: &str, link: &str, left: Option<&str>) -> Option<NewBypass>
+    ensures { Finds (SaysBypass (number.now ∷ tunnel.now ∷ link.now ∷ words_left left.entry)) result }
 {
     let number = read_up_to(MAX_NUMBER, number)?;
     let tunnel = read_up_to(MAX_NUMBER, tunnel)?;
     let link = read_link(link)?;
+    let capacity = read_capacity(left)?;
     Some(NewBypass {
         number,
         tunnel,
         link,
+        capacity,
     })
+}
+
+/// The capacity that the only word says, in bytes per second: 0 where no word is left.
+fn read_capacity(left: Option<&str>) -> Option<u64>
+    ensures { Finds (SaysCapacity (words_left left.entry)) result }
+{
+    if left.is_none() {
+        return Some(NO_CAPACITY);
+    }
+    read_whole(only_word(left)?)
 }
 
 /// The prefix that is the only word.
@@ -321,8 +337,8 @@ fn static_said(prefix: &str, link: &str) -> Option<(Prefix, u16)>
     Some((prefix, link))
 }
 
-/// What a word and the others command of a bypass or of a static route: `bypass N TUNNEL LINK`, `route PREFIX LINK` or
-/// `unroute PREFIX`; none where they do not.
+/// What a word and the others command of a bypass or of a static route: `bypass N TUNNEL LINK [CAPACITY]`, `route
+/// PREFIX LINK` or `unroute PREFIX`; none where they do not.
 fn read_linked(word: &str, left: Option<&str>) -> Option<Command>
     requires no_tunnel { (word.now ≢ codes "tunnel") × (word.now ≢ codes "change") }
     requires no_number { (word.now ≢ codes "cancel") × (word.now ≢ codes "drop") × (word.now ≢ codes "unbypass") }
@@ -342,7 +358,7 @@ fn read_linked(word: &str, left: Option<&str>) -> Option<Command>
 }
 
 /// What a word and the others command of a tunnel that is there, of a bypass or of a static route: `cancel N`, `drop N`,
-/// `unbypass N`, `bypass N TUNNEL LINK`, `route PREFIX LINK` or `unroute PREFIX`; none where they do not.
+/// `unbypass N`, `bypass N TUNNEL LINK [CAPACITY]`, `route PREFIX LINK` or `unroute PREFIX`; none where they do not.
 fn read_short(word: &str, left: Option<&str>) -> Option<Command>
     requires no_tunnel { word.now ≢ codes "tunnel" }
     requires no_change { word.now ≢ codes "change" }

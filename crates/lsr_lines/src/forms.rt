@@ -22,11 +22,11 @@ tunnel N ENDPOINT RATE SETUP HOLD FLAGS NAME [ROUTE..], as tunnel 5 10.0.0.4 47f
 change N RATE [ROUTE..], as change 5 47f42400 ~10.0.0.4/32
 cancel N, with N 0 to 65535
 drop N, with N 0 to 65535
-bypass N TUNNEL LINK, with N and TUNNEL 0 to 65535 and LINK 1 to 65535
+bypass N TUNNEL LINK [CAPACITY], with N and TUNNEL 0 to 65535, LINK 1 to 65535 and CAPACITY 0 to 18446744073709551615
 unbypass N, with N 0 to 65535
 route PREFIX LINK, as route 10.9.0.0/16 2
 unroute PREFIX, as unroute 10.9.0.0/16
-show paths, resvs, table, links, tunnels, bypasses, recent or summary, or path or resv and an LSP as show path 10.0.0.4/1/10.0.0.1 10.0.0.1/1
+show paths, resvs, table, labels, links, tunnels, bypasses, recent or summary, or path or resv and an LSP as show path 10.0.0.4/1/10.0.0.1 10.0.0.1/1
 ";
 
 /// What is expected of a line with another first word.

@@ -8,12 +8,12 @@ ghost use Rattle.hex.specs.Hex.{decode_of};
 ghost use Rattle.lsr_lines.specs.declared.lines.Request.{Request};
 ghost use Rattle.lsr_lines.specs.Lines.{AsksFor, AsksOf, AsksToTake, BringsAfter, BringsMore};
 ghost use Rattle.lsr_lines.specs.Lsps.{AsksAbout};
-ghost use Rattle.lsr_lines.specs.Numbers.{NamesLink, NamesMoment};
+ghost use Rattle.lsr_lines.specs.Numbers.{NamesLink, NamesWhole};
 ghost use Rattle.lsr_lines.specs.declared.lsps.LspName.{LspName};
 
 use crate::commands::read_command;
 use crate::lsps::{LspName, read_lsp};
-use crate::numbers::{read_link, read_moment};
+use crate::numbers::{read_link, read_whole};
 use crate::words::next_word;
 use abstract_paths::Command;
 use std::alloc::{AllocError, Global};
@@ -44,8 +44,8 @@ pub enum Request {
     Restart,
     /// `start`: a cold router is started.
     Start,
-    /// `tunnel ..`, `change ..`, `cancel N`, `drop N`, `bypass N TUNNEL LINK`, `unbypass N`, `route PREFIX LINK` or `unroute
-    /// PREFIX`: a command about a tunnel, a bypass or a static route.
+    /// `tunnel ..`, `change ..`, `cancel N`, `drop N`, `bypass N TUNNEL LINK [CAPACITY]`, `unbypass N`, `route PREFIX LINK` or
+    /// `unroute PREFIX`: a command about a tunnel, a bypass or a static route.
     Command(Command),
     /// `show paths`: the paths that the router knows are printed.
     ShowPaths,
@@ -53,6 +53,8 @@ pub enum Request {
     ShowResvs,
     /// `show table`: the label table is printed.
     ShowTable,
+    /// `show labels`: the labels are printed that LSPs hold and that rest.
+    ShowLabels,
     /// `show links`: the links are printed, with what is reserved on them.
     ShowLinks,
     /// `show tunnels`: the tunnels that begin here are printed.
@@ -90,6 +92,8 @@ const SHOW_RESVS: &str = "show resvs";
 
 const SHOW_TABLE: &str = "show table";
 
+const SHOW_LABELS: &str = "show labels";
+
 const SHOW_LINKS: &str = "show links";
 
 const SHOW_TUNNELS: &str = "show tunnels";
@@ -117,10 +121,10 @@ fn read_link_after(word: &str, line: &str) -> Option<u16>
 
 /// The moment that the line names after the word, which ends with a space; none where it is no such line.
 fn read_moment_after(word: &str, line: &str) -> Option<u64>
-    ensures { MatchOption result ((moment : ℕ) → ¬ AsksOf NamesMoment word.now line.now moment) (AsksOf NamesMoment word.now line.now) }
+    ensures { MatchOption result ((moment : ℕ) → ¬ AsksOf NamesWhole word.now line.now moment) (AsksOf NamesWhole word.now line.now) }
 {
     let digits = line.strip_prefix(word)?;
-    read_moment(digits)
+    read_whole(digits)
 }
 
 /// What a line of one word asks for, `restart` or `start`; none where it is no such line.
@@ -138,13 +142,13 @@ fn read_word(line: &str) -> Option<Request>
     None
 }
 
-/// What a line asks to be shown: `show paths|resvs|table|links|tunnels|bypasses|recent|summary`; none where it is no such
-/// line.
+/// What a line asks to be shown: `show paths|resvs|table|labels|links|tunnels|bypasses|recent|summary`; none where it is no
+/// such line.
 fn read_show(line: &str) -> Option<Request>
     ensures { MatchOption result
         ((line.now ≢ codes "show paths") × (line.now ≢ codes "show resvs") × (line.now ≢ codes "show table")
-        × (line.now ≢ codes "show links") × (line.now ≢ codes "show tunnels") × (line.now ≢ codes "show bypasses")
-        × (line.now ≢ codes "show recent") × (line.now ≢ codes "show summary"))
+        × (line.now ≢ codes "show labels") × (line.now ≢ codes "show links") × (line.now ≢ codes "show tunnels")
+        × (line.now ≢ codes "show bypasses") × (line.now ≢ codes "show recent") × (line.now ≢ codes "show summary"))
         (AsksFor line.now) }
 {
     if line == SHOW_PATHS {
@@ -155,6 +159,9 @@ fn read_show(line: &str) -> Option<Request>
     }
     if line == SHOW_TABLE {
         return Some(Request::ShowTable);
+    }
+    if line == SHOW_LABELS {
+        return Some(Request::ShowLabels);
     }
     if line == SHOW_LINKS {
         return Some(Request::ShowLinks);
@@ -198,7 +205,7 @@ fn read_show_lsp(line: &str) -> Option<Request>
 /// line.
 fn read_number(line: &str) -> Option<Request>
     ensures { MatchOption result
-        (((moment : ℕ) → ¬ AsksOf NamesMoment (codes "tick ") line.now moment)
+        (((moment : ℕ) → ¬ AsksOf NamesWhole (codes "tick ") line.now moment)
         × ((link : ℕ) → ¬ AsksOf NamesLink (codes "up ") line.now link) × ((link : ℕ) → ¬ AsksOf NamesLink (codes "down ") line.now link))
         (AsksFor line.now) }
 {
@@ -274,9 +281,9 @@ fn read_arrival(alloc: Global, word: &str, line: &str) -> Result<Option<Arrival>
 }
 
 /// What the line asks for: `rx LINK HEX`, `frame LINK HEX`, `tick N`, `up LINK`, `down LINK`, `restart`, `start`, a
-/// command ([`Command`]), `show paths|resvs|table|links|tunnels|bypasses|recent|summary`, `show path KEY` or `show
-/// resv KEY`; none where it is no such line. Words are parted by one space. The only error is that there is no memory for bytes or for a tunnel that the line brings,
-/// so it never comes in place of none.
+/// command ([`Command`]), `show paths|resvs|table|labels|links|tunnels|bypasses|recent|summary`, `show path KEY` or
+/// `show resv KEY`; none where it is no such line. Words are parted by one space. The only error is that there is no memory
+/// for bytes or for a tunnel that the line brings, so it never comes in place of none.
 pub fn read_request(alloc: Global, line: &str) -> Result<Option<Request>, AllocError>
     ensures request { IfOk result (λ request. MatchOption request
         ((asked : Request) → ¬ AsksFor line.now asked)

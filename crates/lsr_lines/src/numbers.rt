@@ -1,7 +1,7 @@
 //! The numbers that words name.
 ghost use Rattle.std.specs.Prelude.{◌≤◌, ℕ};
 ghost use Rattle.std.specs.Option.{MatchOption};
-ghost use Rattle.lsr_lines.specs.Numbers.{NamesLink, NamesMoment, NamesUpTo};
+ghost use Rattle.lsr_lines.specs.Numbers.{NamesLink, NamesWhole, NamesUpTo};
 
 /// What `parse` takes before a number, though it is no digit.
 const SIGN: char = '+';
@@ -20,15 +20,15 @@ pub(crate) fn read_link(digits: &str) -> Option<u16>
     }
 }
 
-/// The moment that the word names, in milliseconds: decimal digits, leading zeros taken, that fit 64 bits.
-pub(crate) fn read_moment(digits: &str) -> Option<u64>
-    ensures { MatchOption result ((moment : ℕ) → ¬ NamesMoment digits.now moment) (NamesMoment digits.now) }
+/// The number of 64 bits that the word names: decimal digits, leading zeros taken.
+pub(crate) fn read_whole(digits: &str) -> Option<u64>
+    ensures { MatchOption result ((number : ℕ) → ¬ NamesWhole digits.now number) (NamesWhole digits.now) }
 {
     if digits.starts_with(SIGN) {
         return None;
     }
     match digits.parse::<u64>() {
-        Ok(moment) => Some(moment),
+        Ok(number) => Some(number),
         Err(_) => None,
     }
 }

@@ -1,5 +1,5 @@
 -- What a session answers to a request.
-use Rattle.std.specs.Prelude.{◌≡◌, ◌-◌, ◌==◌, ℕ, Bool, List, ◌∷◌, ◌++◌, [], length, drop, map, flat_map, is_some, T, Result, Ok, Err}
+use Rattle.std.specs.Prelude.{◌≡◌, ◌-◌, ◌==◌, ℕ, Bool, List, ◌∷◌, ◌++◌, [], length, drop, map, flat_map, if◌then◌else◌, is_some, T, Result, Ok, Err}
 use Rattle.std.specs.FinMap.Entries.{is_sorted}
 use Rattle.std.specs.List.{count_by}
 use Rattle.std.specs.Option.{option_map_or}
@@ -21,6 +21,7 @@ use Rattle.lsr_facts.specs.Claims.{reserved_of}
 use Rattle.abstract_paths.specs.Places.{is_up}
 use Rattle.abstract_router.specs.BypassTunnels.{bypass_tunnels_of, over_at}
 use Rattle.abstract_router.specs.Preempting.{claims_of}
+use Rattle.bypass_shares.specs.Shares.{assigned_of}
 use Rattle.abstract_router.specs.States.{State}
 use Rattle.abstract_router.specs.Tables.{look_tunnel}
 use Rattle.router_core.specs.Below.labels.Rows.{IsTableOf}
@@ -30,10 +31,11 @@ use Rattle.router_core.specs.declared.inputs.Served.{Served}
 use Rattle.router_core.specs.declared.inputs.Served.TheVariants as serves
 use Rattle.lsr_text.specs.Answers.{answer_text, refusal_line, replies_text}
 use Rattle.lsr_text.specs.FrameLines.{delivery_line, sent_line}
+use Rattle.lsr_text.specs.Labels.{labels_text}
 use Rattle.lsr_text.specs.Lsps.{path_lsp_text, resv_lsp_text}
 use Rattle.lsr_text.specs.Rows.{bypass_line, head_line, link_line, resvs_text, table_text}
 use Rattle.lsr_text.specs.Shown.{paths_text}
-use Rattle.lsr_text.specs.Summary.{counts_text, reserved_line}
+use Rattle.lsr_text.specs.Summary.{assigned_line, counts_text, reserved_line}
 use Rattle.lsr_text.specs.Tunnels.{tunnels_text}
 use Rattle.lsr_lines.specs.declared.lines.Request.{Request}
 use Rattle.lsr_lines.specs.declared.lines.Request.TheVariants as requests
@@ -146,7 +148,7 @@ uses_of r number = count_by (λ repair. repair.1.bypass == number) r.state.repai
 
 -- the line of a bypass
 abbrev pub bypass_text : RouterState → ℕ × Bypass → List ℕ
-bypass_text r row = bypass_line row (is_bypass_up r row.0) (uses_of r row.0)
+bypass_text r row = bypass_line row (is_bypass_up r row.0) (uses_of r row.0) (assigned_of row.0 r.state.assignments)
 
 -- a line for each bypass, in the order of their numbers
 abbrev pub bypasses_text : RouterState → List ℕ
@@ -163,9 +165,15 @@ key_of lsp = record {
 abbrev pub room_text : State → ℕ × Link → List ℕ
 room_text s link = reserved_line link.0 (reserved_of link.0 7 (claims_of s.facts.paths s.resvs)) link.1.limit
 
--- how much there is of everything, and then a line for each link of the router, in the order of their numbers
+-- the line of what is assigned of a bypass, if it has a capacity
+abbrev pub share_text : State → ℕ × Bypass → List ℕ
+share_text s row = if row.1.capacity == 0 then [] else assigned_line row.0 (assigned_of row.0 s.assignments) row.1.capacity
+
+-- how much there is of everything, and then a line for each link of the router, and for each bypass that has a capacity, in
+-- the order of their numbers
 abbrev pub summary_text : RouterState → List ℕ
-summary_text r = counts_text r.router r.state ++ flat_map (room_text r.state) r.router.links
+summary_text r =
+    counts_text r.router r.state ++ (flat_map (room_text r.state) r.router.links ++ flat_map (share_text r.state) r.state.facts.bypasses)
 
 -- What is printed for a request, and what the session is then: the answer to an event, whose reply is the newest of
 -- the last ones, be it a command or not; what comes of a datagram, be it a labelled frame or not; or what the session
@@ -182,6 +190,7 @@ PrintsAnswer before (requests.Command command) printed after = PrintsEvent befor
 PrintsAnswer before requests.ShowPaths printed after = (printed ≡ paths_text before.router.state.facts.paths) × (after ≡ before)
 PrintsAnswer before requests.ShowResvs printed after = (printed ≡ resvs_text before.router.state.resvs) × (after ≡ before)
 PrintsAnswer before requests.ShowTable printed after = PrintsTable before.router printed × (after ≡ before)
+PrintsAnswer before requests.ShowLabels printed after = (printed ≡ labels_text before.router.router before.router.state) × (after ≡ before)
 PrintsAnswer before requests.ShowLinks printed after = (printed ≡ links_text before.router) × (after ≡ before)
 PrintsAnswer before requests.ShowTunnels printed after = (printed ≡ tunnels_text before.router.state.facts.tunnels) × (after ≡ before)
 PrintsAnswer before requests.ShowBypasses printed after = (printed ≡ bypasses_text before.router) × (after ≡ before)

@@ -7,8 +7,8 @@ ghost use Rattle.lsr_session.specs.Requests.{PrintsAnswer, PrintsArrival, Prints
 
 use crate::passing::passed_text;
 use crate::shown::{
-    show_bypasses, show_links, show_path, show_paths, show_resv, show_resvs, show_summary,
-    show_table, show_tunnels,
+    show_bypasses, show_labels, show_links, show_path, show_paths, show_resv, show_resvs,
+    show_summary, show_table, show_tunnels,
 };
 use abstract_paths::{Command, Event, KIND_HOP, Made};
 use circular_buffer::HeapCircularBuffer;
@@ -80,6 +80,7 @@ fn answer(alloc: Global, session: &mut Session, request: &Request) -> Result<Str
         Request::ShowPaths => show_paths(alloc, &session.router),
         Request::ShowResvs => show_resvs(alloc, &session.router),
         Request::ShowTable => show_table(alloc, &session.router),
+        Request::ShowLabels => show_labels(alloc, &session.router),
         Request::ShowLinks => show_links(alloc, &session.router),
         Request::ShowTunnels => show_tunnels(alloc, &session.router),
         Request::ShowBypasses => show_bypasses(alloc, &session.router),

@@ -1,17 +1,20 @@
 //! What a session shows of its router.
-ghost use Rattle.std.specs.Prelude.{◌≡◌, ◌==◌, ◌++◌, IfOk, OnOk, count_by, string_bytes};
+ghost use Rattle.std.specs.Prelude.{◌≡◌, ◌≤◌, ◌<◌, ◌^◌, ◌==◌, ◌++◌, IfOk, OnOk, count_by, flat_map, string_bytes};
+ghost use Rattle.bypass_shares.specs.Shares.{assigned_of};
+ghost use Rattle.lsr_text.specs.Labels.{labels_text};
 ghost use Rattle.lsr_text.specs.Lsps.{path_lsp_text, resv_lsp_text};
 ghost use Rattle.lsr_text.specs.Rows.{resvs_text};
 ghost use Rattle.lsr_text.specs.Shown.{paths_text};
 ghost use Rattle.lsr_text.specs.Tunnels.{tunnels_text};
-ghost use Rattle.lsr_session.specs.Requests.{PrintsTable, bypass_text, bypasses_text, head_text, heads_text, key_of, link_text, links_text, room_text, summary_text, sums_of};
+ghost use Rattle.lsr_session.specs.Requests.{PrintsTable, bypass_text, bypasses_text, head_text, heads_text, key_of, link_text, links_text, room_text, share_text, summary_text, sums_of};
 
 use explicit_routes::is_up;
-use lsr_facts::{Bypass, Key, Link, Repair, State, Tunnel, WORST_PRIORITY};
+use lsr_facts::{Assignment, Bypass, Key, Link, Repair, State, Tunnel, WORST_PRIORITY};
 use lsr_lines::LspName;
 use lsr_text::{
-    PRIORITIES, path_lsp_text, paths_text, push_bypass, push_counts, push_head, push_link,
-    push_reserved_link, resv_lsp_text, resvs_text, table_text, tunnels_text,
+    PRIORITIES, labels_text, path_lsp_text, paths_text, push_assigned_bypass, push_bypass,
+    push_counts, push_head, push_link, push_reserved_link, resv_lsp_text, resvs_text, table_text,
+    tunnels_text,
 };
 use router_core::Machine;
 use rsvp_contents::{Session, Template};
@@ -74,6 +77,15 @@ pub(crate) fn show_table(alloc: Global, router: &Machine) -> Result<String, Allo
     Ok(text)
 }
 
+/// The lines of the labels that LSPs hold and of those that rest, and how many are free. The only error is that memory ran
+/// out.
+pub(crate) fn show_labels(alloc: Global, router: &Machine) -> Result<String, AllocError>
+    ensures { IfOk result (λ text. string_bytes text ≡ labels_text router.now.router router.now.state) }
+{
+    let state = router.export(alloc)?;
+    labels_text(alloc, router.router(), &state)
+}
+
 /// The lines of the tunnels that begin at the router. The only error is that memory ran out.
 pub(crate) fn show_tunnels(alloc: Global, router: &Machine) -> Result<String, AllocError>
     ensures { IfOk result (λ text. string_bytes text ≡ tunnels_text router.now.state.facts.tunnels) }
@@ -92,6 +104,32 @@ fn uses_of(repairs: &[(Key, Repair)], number: u16) -> usize
         .count()
 }
 
+/// The sum of what is assigned of the bypass of a number, in bytes per second.
+fn sum_of(assignments: &[(Key, Assignment)], number: u16) -> u64
+    requires { assigned_of number assignments.now < 2 ^ 64 }
+    ensures { result ≡ assigned_of number assignments.now }
+{
+    let mut sum = 0;
+    for (_, given) in assignments {
+        if given.bypass == number {
+            sum += given.rate;
+        }
+    }
+    sum
+}
+
+/// How much of a bypass is assigned, in bytes per second: nothing where it has no capacity.
+fn assigned_of(state: &State, row: &(u16, Bypass)) -> u64
+    requires { assigned_of row.now.0 state.now.assignments ≤ row.now.1.capacity }
+    ensures { result ≡ assigned_of row.now.0 state.now.assignments }
+{
+    let (number, bypass) = *row;
+    if bypass.capacity == 0 {
+        return 0;
+    }
+    sum_of(state.assignments.as_slice(), number)
+}
+
 /// Appends the line of a bypass of the router, which knows this. The only error is that memory ran out.
 fn push_bypass_of(
     router: &Machine,
@@ -99,17 +137,20 @@ fn push_bypass_of(
     text: &mut String,
     row: &(u16, Bypass),
 ) -> Result<(), AllocError>
-    requires { state.now ≡ router.now.state }
+    requires known { state.now ≡ router.now.state }
+    requires within { assigned_of row.now.0 state.now.assignments ≤ row.now.1.capacity }
     ensures { OnOk result (string_bytes text.new ≡ string_bytes text.old ++ bypass_text router.now row.now) }
 {
     let is_up = router.over_at(row.0).is_some();
-    push_bypass(text, row, is_up, uses_of(state.repairs.as_slice(), row.0))
+    let uses = uses_of(state.repairs.as_slice(), row.0);
+    push_bypass(text, row, is_up, uses, assigned_of(state, row))
 }
 
 /// The lines of the bypasses that the router has, in the order of their numbers. The only error is that memory ran out.
 pub(crate) fn show_bypasses(alloc: Global, router: &Machine) -> Result<String, AllocError>
     ensures { IfOk result (λ text. string_bytes text ≡ bypasses_text router.now) }
 {
+    router.soundness();
     let state = router.export(alloc)?;
     let mut text = String::new(alloc);
     for row in state.facts.bypasses.as_slice() {
@@ -216,6 +257,40 @@ fn push_room_of(router: &Machine, text: &mut String, row: &(u16, Link)) -> Resul
     )
 }
 
+/// Appends the lines of what is reserved of the links of the router. The only error is that memory ran out.
+fn push_rooms(router: &Machine, text: &mut String) -> Result<(), AllocError>
+    ensures { OnOk result (string_bytes text.new ≡ string_bytes text.old ++ flat_map (room_text router.now.state) router.now.router.links) }
+{
+    for row in router.router().links.as_slice() {
+        push_room_of(router, text, row)?;
+    }
+    Ok(())
+}
+
+/// Appends the line of what is assigned of a bypass, if it has a capacity. The only error is that memory ran out.
+fn push_share_of(state: &State, text: &mut String, row: &(u16, Bypass)) -> Result<(), AllocError>
+    requires { assigned_of row.now.0 state.now.assignments ≤ row.now.1.capacity }
+    ensures { OnOk result (string_bytes text.new ≡ string_bytes text.old ++ share_text state.now row.now) }
+{
+    let (number, bypass) = *row;
+    if bypass.capacity == 0 {
+        return Ok(());
+    }
+    push_assigned_bypass(text, number, assigned_of(state, row), bypass.capacity)
+}
+
+/// Appends the lines of what is assigned of bypasses that have a capacity. The only error is that memory ran out.
+fn push_shares(router: &Machine, state: &State, text: &mut String) -> Result<(), AllocError>
+    requires { state.now ≡ router.now.state }
+    ensures { OnOk result (string_bytes text.new ≡ string_bytes text.old ++ flat_map (share_text state.now) state.now.facts.bypasses) }
+{
+    router.soundness();
+    for row in state.facts.bypasses.as_slice() {
+        push_share_of(state, text, row)?;
+    }
+    Ok(())
+}
+
 /// How much there is of everything, and how much there may be. The only error is that memory ran out.
 pub(crate) fn show_summary(alloc: Global, router: &Machine) -> Result<String, AllocError>
     ensures { IfOk result (λ text. string_bytes text ≡ summary_text router.now) }
@@ -223,8 +298,7 @@ pub(crate) fn show_summary(alloc: Global, router: &Machine) -> Result<String, Al
     let state = router.export(alloc)?;
     let mut text = String::new(alloc);
     push_counts(&mut text, router.router(), &state)?;
-    for row in router.router().links.as_slice() {
-        push_room_of(router, &mut text, row)?;
-    }
+    push_rooms(router, &mut text)?;
+    push_shares(router, &state, &mut text)?;
     Ok(text)
 }

@@ -3,6 +3,7 @@ pub mod Answers
 pub mod Shown
 pub mod Rows
 pub mod FrameLines
+pub mod Labels
 pub mod Tunnels
 pub mod Routes
 pub mod Lsps

@@ -16,6 +16,7 @@ use Rattle.rsvp_bodies.specs.declared.attr.Attr.{Attr}
 use Rattle.rsvp_objects.specs.declared.values.FastReroute.{FastReroute}
 use Rattle.rsvp_objects.specs.declared.values.Hop.{Hop}
 use Rattle.lsr_facts.specs.Orders.{key_cmp}
+use Rattle.lsr_facts.specs.declared.assignment.Assignment.{Assignment}
 use Rattle.lsr_facts.specs.declared.key.Key.{Key}
 use Rattle.lsr_facts.specs.declared.path_fact.Origin.{Origin}
 use Rattle.lsr_facts.specs.declared.path_fact.PathFact.{PathFact}
@@ -159,6 +160,15 @@ abbrev pub repair_line : ℕ → Option Repair → List ℕ
 repair_line moment None = codes "  repair none\n"
 repair_line moment (Some repair) = used_line moment repair
 
+-- `assigned bypass N rate R`: what the LSP is promised of a bypass, in bytes per second; `assigned none` where it is none
+abbrev pub assigned_line : Option Assignment → List ℕ
+assigned_line None = codes "  assigned none\n"
+assigned_line (Some given) = codes "  assigned bypass " ++ (decimal given.bypass ++ (codes " rate " ++ (decimal given.rate ++ codes "\n")))
+
+-- the repair that it runs over, and what it is promised for repairs
+unfoldable pub protection_lines : State → Key → Option Repair → List ℕ
+protection_lines s key repair = repair_line s.facts.moment repair ++ assigned_line (find key_cmp key s.assignments)
+
 -- `path KEY ROLE`
 unfoldable pub path_head : Key → Role → List ℕ
 path_head key role = codes "path " ++ (key_text key ++ (codes " " ++ (role_word role ++ codes "\n")))
@@ -166,7 +176,7 @@ path_head key role = codes "path " ++ (key_text key ++ (codes " " ++ (role_word 
 -- all lines of a path
 unfoldable pub path_lines : Router → State → Key → PathFact → List ℕ
 path_lines r s key fact =
-    path_head key fact.role ++ (hop_lines r s.facts.moment fact ++ (carried_lines fact ++ (routed_lines fact ++ repair_line s.facts.moment (find key_cmp key s.repairs))))
+    path_head key fact.role ++ (hop_lines r s.facts.moment fact ++ (carried_lines fact ++ (routed_lines fact ++ protection_lines s key (find key_cmp key s.repairs))))
 
 -- `show path KEY`: nothing where there is no such path
 abbrev pub path_lsp_text : Router → State → Key → List ℕ
@@ -235,11 +245,11 @@ rival_lines s key link =
 
 -- the lines of a reservation that stands on its link
 abbrev pub standing_lines : State → Key → ResvFact → List ℕ
-standing_lines s key fact = resv_lines s key fact ++ (repair_line s.facts.moment None ++ rival_lines s key fact.link)
+standing_lines s key fact = resv_lines s key fact ++ (protection_lines s key None ++ rival_lines s key fact.link)
 
 -- those of one that was lost with its link, and that the LSP is repaired for
 abbrev pub repaired_lines : State → Key → Repair → List ℕ
-repaired_lines s key repair = resv_lines s key repair.resv ++ repair_line s.facts.moment (Some repair)
+repaired_lines s key repair = resv_lines s key repair.resv ++ protection_lines s key (Some repair)
 
 -- `show resv KEY`: nothing where there is neither
 abbrev pub resv_lsp_text : State → Key → List ℕ

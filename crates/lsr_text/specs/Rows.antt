@@ -70,8 +70,9 @@ abbrev pub link_line : ℕ → Bool → ℕ → List ℕ → List ℕ
 link_line number is_up limit sums =
     codes "link" ++ (next_number number ++ (codes " " ++ (state_word is_up ++ (next_number limit ++ (sum_words sums ++ codes "\n")))))
 
--- `bypass N TUNNEL LINK up|down USES`: the tunnel that it runs in, the link that it protects, whether it is up, and how
--- many repairs use it
-abbrev pub bypass_line : ℕ × Bypass → Bool → ℕ → List ℕ
-bypass_line row is_up uses =
-    codes "bypass" ++ (next_number row.0 ++ (next_number row.1.tunnel ++ (next_number row.1.link ++ (codes " " ++ (state_word is_up ++ (next_number uses ++ codes "\n"))))))
+-- `bypass N TUNNEL LINK up|down USES CAPACITY SUM`: the tunnel that it runs in, the link that it protects, whether it is
+-- up, how many repairs use it, its capacity, and how much of that is assigned, both in bytes per second
+abbrev pub bypass_line : ℕ × Bypass → Bool → ℕ → ℕ → List ℕ
+bypass_line row is_up uses assigned =
+    codes "bypass" ++ (next_number row.0 ++ (next_number row.1.tunnel ++ (next_number row.1.link ++ (codes " " ++ (state_word is_up
+    ++ (next_number uses ++ (next_number row.1.capacity ++ (next_number assigned ++ codes "\n"))))))))

@@ -47,11 +47,19 @@ tables_lines s =
 abbrev pub label_room : LabelRange → ℕ
 label_room labels = labels.last + 1 - labels.first
 
--- how much there is of everything but bandwidth; of labels, how many of the range are held
+-- how many labels of the range are held, and how many rest
+unfoldable pub labels_lines : Router → State → List ℕ
+labels_lines r s =
+    limited_line (codes "labels") (length s.labels) (label_room r.labels) ++ limited_line (codes "resting") (length s.resting) (label_room r.labels)
+
+-- how much there is of everything but bandwidth
 unfoldable pub counts_text : Router → State → List ℕ
-counts_text r s =
-    links_line r s ++ (lsps_lines s ++ (tables_lines s ++ limited_line (codes "labels") (length s.labels) (label_room r.labels)))
+counts_text r s = links_line r s ++ (lsps_lines s ++ (tables_lines s ++ labels_lines r s))
 
 -- `link N reserved BYTES of LIMIT`, in bytes per second
 abbrev pub reserved_line : ℕ → ℕ → ℕ → List ℕ
 reserved_line number reserved limit = codes "link " ++ (decimal number ++ (codes " reserved " ++ limit_words reserved limit))
+
+-- `bypass N assigned BYTES of CAPACITY`, in bytes per second
+abbrev pub assigned_line : ℕ → ℕ → ℕ → List ℕ
+assigned_line number assigned capacity = codes "bypass " ++ (decimal number ++ (codes " assigned " ++ limit_words assigned capacity))

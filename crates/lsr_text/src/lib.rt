@@ -4,6 +4,7 @@
 
 mod answers;
 mod frames;
+mod labels;
 mod lsps;
 mod names;
 mod routes;
@@ -14,11 +15,12 @@ mod tunnels;
 
 pub use answers::{answer_text, push_refusal, push_replies};
 pub use frames::{push_delivery, push_sent};
+pub use labels::labels_text;
 pub use lsps::{path_lsp_text, resv_lsp_text};
 pub use names::{OUT_OF_MEMORY, refusal_name};
 pub use rows::{
     PRIORITIES, push_bypass, push_head, push_label, push_link, push_resv, resvs_text, table_text,
 };
 pub use shown::paths_text;
-pub use summary::{push_counts, push_reserved_link};
+pub use summary::{push_assigned_bypass, push_counts, push_reserved_link};
 pub use tunnels::{push_tunnel, tunnels_text};

@@ -1,14 +1,15 @@
 //! What `show path KEY` and `show resv KEY` print: one LSP whole.
 ghost use Rattle.std.specs.Option.{option_copied};
 ghost use Rattle.std.specs.Prelude.{◌≡◌, ◌++◌, IfOk, OnOk, flat_map, string_bytes};
-ghost use Rattle.lsr_text.specs.Lsps.{asked_line, attr_at, attr_line, backup_words, called_words, carried_lines, counted_line, fast_reroute_line, from_words, given_word, hop_lines, hop_words, is_preempted, is_preempting, labels_line, left_words, limit_words, next_line, origin_line, origin_lines, out_words, passed_line, path_head, path_lines, path_lsp_text, preempted_line, preempting_line, priority_words, rate_line, rate_word, repair_line, repair_words, reserved_lines, resv_head, resv_lines, resv_lsp_text, rival_key, rival_line, rival_lines, routed_lines, said_line, used_line, via_words};
+ghost use Rattle.lsr_text.specs.Lsps.{asked_line, assigned_line, attr_at, attr_line, backup_words, called_words, carried_lines, counted_line, fast_reroute_line, from_words, given_word, hop_lines, hop_words, is_preempted, is_preempting, labels_line, left_words, limit_words, next_line, origin_line, origin_lines, out_words, passed_line, path_head, path_lines, path_lsp_text, preempted_line, preempting_line, priority_words, protection_lines, rate_line, rate_word, repair_line, repair_words, reserved_lines, resv_head, resv_lines, resv_lsp_text, rival_key, rival_line, rival_lines, routed_lines, said_line, used_line, via_words};
 ghost use Rattle.object_text.specs.Traffic.{rate_bytes};
 
 use crate::routes::{push_flags, push_name, push_record, push_route};
 use crate::rows::style_text;
 use crate::shown::{push_key, role_word};
 use lsr_facts::{
-    Key, Link, Origin, PathFact, Repair, ResvFact, Role, Router, State, Via, holding_of, setup_of,
+    Assignment, Key, Link, Origin, PathFact, Repair, ResvFact, Role, Router, State, Via,
+    holding_of, setup_of,
 };
 use object_text::rate_bytes;
 use rsvp_bodies::RateWord;
@@ -307,6 +308,34 @@ fn push_repair(text: &mut String, moment: u64, repair: Option<&Repair>) -> Resul
     }
 }
 
+/// Appends the line of what an LSP is promised of a bypass, in bytes per second, or that it is promised nothing.
+fn push_assigned(text: &mut String, given: Option<&Assignment>) -> Result<(), AllocError>
+    ensures { OnOk result (string_bytes text.new ≡ string_bytes text.old ++ assigned_line (option_copied given.entry)) }
+{
+    match given {
+        Some(given) => {
+            let bypass = given.bypass;
+            let rate = given.rate;
+            write!(text, "  assigned bypass {bypass} rate {rate}\n")
+        }
+        None => text.push_str("  assigned none\n"),
+    }
+}
+
+/// Appends the lines of the repair that an LSP runs over, and of what it is promised for repairs.
+#[tactic(auto, unfolding(crate::specs::Lsps::protection_lines))]
+fn push_protection(
+    text: &mut String,
+    state: &State,
+    key: &Key,
+    repair: Option<&Repair>,
+) -> Result<(), AllocError>
+    ensures { OnOk result (string_bytes text.new ≡ string_bytes text.old ++ protection_lines state.now key.now (option_copied repair.entry)) }
+{
+    push_repair(text, state.facts.moment, repair)?;
+    push_assigned(text, state.assignments.get(key))
+}
+
 /// Appends the first line of a path.
 #[tactic(auto, unfolding(crate::specs::Lsps::path_head))]
 fn push_path_head(text: &mut String, key: &Key, role: Role) -> Result<(), AllocError>
@@ -334,7 +363,7 @@ fn push_path_lsp(
     push_hops(text, router, state.facts.moment, fact)?;
     push_carried(alloc, text, fact)?;
     push_routed(alloc, text, fact)?;
-    push_repair(text, state.facts.moment, state.repairs.get(key))
+    push_protection(text, state, key, state.repairs.get(key))
 }
 
 /// All that a router knows of the path of an LSP: nothing where there is no path. The only error is that memory ran out.
@@ -553,11 +582,11 @@ pub fn resv_lsp_text(alloc: Global, state: &State, key: &Key) -> Result<String, 
     let mut text = String::new(alloc);
     if let Some(fact) = state.resvs.get(key) {
         push_resv_lsp(alloc, &mut text, state, key, fact)?;
-        push_repair(&mut text, state.facts.moment, None)?;
+        push_protection(&mut text, state, key, None)?;
         push_rivals(&mut text, state, key, fact.link)?;
     } else if let Some(repair) = state.repairs.get(key) {
         push_resv_lsp(alloc, &mut text, state, key, &repair.resv)?;
-        push_repair(&mut text, state.facts.moment, Some(repair))?;
+        push_protection(&mut text, state, key, Some(repair))?;
     }
     Ok(text)
 }

@@ -128,19 +128,25 @@ pub fn push_link(
     text.push_str("\n")
 }
 
-/// Appends the line of a bypass: `bypass N TUNNEL LINK up|down USES`, the tunnel that it runs in, the link that it protects,
-/// whether it is up, and how many repairs use it. The only error is that memory ran out.
+/// Appends the line of a bypass: `bypass N TUNNEL LINK up|down USES CAPACITY SUM`, the tunnel that it runs in, the link that
+/// it protects, whether it is up, how many repairs use it, its capacity, and how much of that is assigned, both in bytes per
+/// second. The only error is that memory ran out.
 pub fn push_bypass(
     text: &mut String,
     row: &(u16, Bypass),
     is_up: bool,
     uses: usize,
+    assigned: u64,
 ) -> Result<(), AllocError>
-    ensures { OnOk result (string_bytes text.new ≡ string_bytes text.old ++ bypass_line row.now is_up uses) }
+    ensures { OnOk result (string_bytes text.new ≡ string_bytes text.old ++ bypass_line row.now is_up uses assigned) }
 {
     let (number, bypass) = row;
     let tunnel = bypass.tunnel;
     let link = bypass.link;
     let state = state_word(is_up);
-    write!(text, "bypass {number} {tunnel} {link} {state} {uses}\n")
+    let capacity = bypass.capacity;
+    write!(
+        text,
+        "bypass {number} {tunnel} {link} {state} {uses} {capacity} {assigned}\n"
+    )
 }

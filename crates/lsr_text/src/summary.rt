@@ -1,6 +1,6 @@
 //! What `show summary` prints: how much there is of everything, and how much there may be.
 ghost use Rattle.std.specs.Prelude.{◌≡◌, ◌++◌, OnOk, count_by, string_bytes};
-ghost use Rattle.lsr_text.specs.Summary.{counts_text, has_up, is_near, label_room, limited_line, links_line, lsps_lines, limit_words, reserved_line, tables_lines};
+ghost use Rattle.lsr_text.specs.Summary.{assigned_line, counts_text, has_up, is_near, label_room, labels_lines, limited_line, links_line, lsps_lines, limit_words, reserved_line, tables_lines};
 
 use lsr_facts::limits::{MAX_BYPASSES, MAX_LSPS, MAX_ROUTES, MAX_TUNNELS};
 use lsr_facts::{LabelRange, Router, State};
@@ -55,7 +55,7 @@ fn push_links(text: &mut String, router: &Router, state: &State) -> Result<(), A
 }
 
 /// How many labels the range has.
-fn label_room(labels: LabelRange) -> u64
+pub(crate) fn label_room(labels: LabelRange) -> u64
     ensures { result ≡ label_room labels }
 {
     (u64::from(labels.last) + 1).saturating_sub(u64::from(labels.first))
@@ -108,16 +108,25 @@ fn push_tables(text: &mut String, state: &State) -> Result<(), AllocError>
     )
 }
 
+/// Appends the lines of how many labels are held, and how many rest.
+#[tactic(auto, unfolding(crate::specs::Summary::labels_lines))]
+fn push_labels(text: &mut String, router: &Router, state: &State) -> Result<(), AllocError>
+    ensures { OnOk result (string_bytes text.new ≡ string_bytes text.old ++ labels_lines router.now state.now) }
+{
+    let room = label_room(router.labels);
+    push_counted(text, "labels", state.labels.as_slice().len() as u64, room)?;
+    push_counted(text, "resting", state.resting.as_slice().len() as u64, room)
+}
+
 /// Appends the lines of how much there is of everything but bandwidth. The only error is that memory ran out.
 #[tactic(auto, unfolding(crate::specs::Summary::counts_text))]
 pub fn push_counts(text: &mut String, router: &Router, state: &State) -> Result<(), AllocError>
     ensures { OnOk result (string_bytes text.new ≡ string_bytes text.old ++ counts_text router.now state.now) }
 {
-    let labels = state.labels.as_slice().len() as u64;
     push_links(text, router, state)?;
     push_lsps(text, state)?;
     push_tables(text, state)?;
-    push_counted(text, "labels", labels, label_room(router.labels))
+    push_labels(text, router, state)
 }
 
 /// Appends the line of what is reserved of a link, in bytes per second. The only error is that memory ran out.
@@ -131,4 +140,17 @@ pub fn push_reserved_link(
 {
     write!(text, "link {number} reserved ")?;
     push_limited(text, reserved, limit)
+}
+
+/// Appends the line of what is assigned of a bypass, in bytes per second. The only error is that memory ran out.
+pub fn push_assigned_bypass(
+    text: &mut String,
+    number: u16,
+    assigned: u64,
+    capacity: u64,
+) -> Result<(), AllocError>
+    ensures { OnOk result (string_bytes text.new ≡ string_bytes text.old ++ assigned_line number assigned capacity) }
+{
+    write!(text, "bypass {number} assigned ")?;
+    push_limited(text, assigned, capacity)
 }

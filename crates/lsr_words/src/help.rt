@@ -79,16 +79,20 @@ line. Each line is one of these:
                     the old one, and takes its place once it is reserved
   cancel N          the change of tunnel N is given up
   drop N            tunnel N goes; refused while a bypass runs in it
-  bypass N TUNNEL LINK
+  bypass N TUNNEL LINK [CAPACITY]
                     bypass N, 0 to 65535, is to protect link LINK: it runs in tunnel TUNNEL, which
                     begins here and has to leave by another link. When LINK goes down, LSPs over it
-                    that want protection go on over the bypass
+                    that want protection go on over the bypass. CAPACITY is its bandwidth for them,
+                    in bytes per second, at most the tunnel's rate: LSPs that ask for bandwidth
+                    protection are promised some of it, and no others go over it. Without it, or
+                    with 0, the bypass takes the LSPs that are promised nothing
   unbypass N        bypass N goes; refused while LSPs are repaired over it
   route PREFIX LINK what goes to PREFIX, as 10.9.0.0/16, leaves over link LINK
   unroute PREFIX    the static route to PREFIX goes
   show paths        asks for the paths that the router knows
   show resvs        asks for the reservations that stand
   show table        asks for the label table
+  show labels       asks which labels LSPs hold, which rest, and how many are free
   show links        asks for the links, and for what is reserved on them
   show tunnels      asks for the tunnels that begin here
   show bypasses     asks for the bypasses of the links
@@ -133,6 +137,7 @@ What to do next:
   refused 25, 26, 28       `show bypasses` has the bypasses; `lsr explain N` says what is wrong
   refused 29 Late          a moment below the last one: go on from that
   refused 30 BadMoment     a moment above 4611686018427387904 (2^62)
+  refused 31 BadCapacity   more than the tunnel carries: `show bypasses` has the capacities
   refused 40 NoMemory      there was no memory, and nothing changed: try again
   refused 42 IsCold        the router was restarted: `start` it first
 `lsr explain N`, `lsr explain NAME` and `lsr explain CODE/VALUE` say more of each; CODE/VALUE
@@ -165,9 +170,15 @@ ENDPOINT/TUNNEL/EXTENDED SENDER/LSP, the session, sender and LSP ID of an LSP:
                     the LSP ID of the LSP that carries its traffic once it is reserved; that of
                     the one which is to take its place, or `none`; the last error that came
                     for one of them, or `error none`
-  bypass N TUNNEL LINK up|down USES
+  bypass N TUNNEL LINK up|down USES CAPACITY SUM
                     the tunnel that it runs in; the link that it protects; whether its tunnel has
-                    a label to send under; how many LSPs are repaired over it
+                    a label to send under; how many LSPs are repaired over it; its capacity, and
+                    how much of that LSPs are promised, in bytes per second
+  held LABEL KEY    a label and the LSP that holds it, in the order of the LSPs
+  resting LABEL until MOMENT left N ms
+                    a label that no LSP is given before that moment, N milliseconds from now
+  free COUNT of COUNT
+                    how many labels are neither held nor rest, of all that the router gives out
 
 `show path KEY`, `show resv KEY` and `show summary` print one thing in each line, in words that
 docs/PROGRAM.md explains. Nothing is printed of an LSP that isn't there.
@@ -202,7 +213,8 @@ What is printed is the whole configuration, as TOML: it can be given to `lsr ste
 `lsr serve` in place of FILE, and is the same router. Use it to check a file before it is used, to
 see what was left out, to bring a file into order, or to begin one: without FILE it is the built-in
 router's.
-  - what FILE leaves out stands there: refresh_ms = 30000, and up = true of a link
+  - what FILE leaves out stands there: refresh_ms = 30000, label_rest_ms = 0, up = true of a link,
+    and capacity = 0 of a bypass
   - bits of a route's prefix past its length are 0; numbers are decimal, as flags = 4 for 0x04
   - the tables stand in the order link, route, tunnel, bypass; links, tunnels and bypasses by their
     numbers, routes by their prefixes; keys in the order of docs/CONFIGURATION.md

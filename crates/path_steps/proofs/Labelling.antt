@@ -19,5 +19,5 @@ pub labelled_path_speaks : (r : Router) (s : State) (link : ℕ) (p : Path) → 
 unfolding labelled_path_arrival
 labelled_path_speaks r s link p elsewhere =
     let o = path_arrival r s.facts link p in
-    cond_both (is_done o.reply && is_none (find key_cmp (key_of p) s.facts.paths) && not (has_free_label r s.labels)) _ _ (λ (o : Outcome). o.is_silent ≡ false) (λ none. refl)
+    cond_both (is_done o.reply && is_none (find key_cmp (key_of p) s.facts.paths) && not (has_free_label r s.labels s.resting)) _ _ (λ (o : Outcome). o.is_silent ≡ false) (λ none. refl)
     (λ some. path_speaks r s.facts link p elsewhere)

@@ -14,6 +14,6 @@ use Rattle.abstract_router.specs.States.{State}
 -- a Path does what it does of itself; but where it would be taken, its path is new, and no label is free, it is in error
 abbrev pub labelled : Router → State → Option PathFact → ℕ → Path → PathOutcome → Outcome
 labelled r s known link p o =
-    if is_done o.reply && is_none known && not (has_free_label r s.labels)
+    if is_done o.reply && is_none known && not (has_free_label r s.labels s.resting)
     then of_paths s (failed r s.facts link p no_label)
     else of_paths s o

@@ -148,7 +148,7 @@ fn is_full<V: WholeState>(view: &V, known: Option<&PathFact>) -> bool
 /// Whether the path is new, and no label is free for it.
 fn lacks_label<V: WholeState>(view: &V, known: Option<&PathFact>) -> bool
     ensures { result ≡ (is_none (option_copied known.entry)
-        && not (has_free_label (V.router view.now) (V.state view.now).labels)) }
+        && not (has_free_label (V.router view.now) (V.state view.now).labels (V.state view.now).resting)) }
 {
     match known {
         Some(_) => false,

@@ -42,9 +42,9 @@ is_some-find test (n ∷ numbers) =
     elim (test n) as (λ b. is_some (cond b (Some n) (find test numbers)) ≡ (b || list_any test numbers)) [ true ↦ refl | false ↦ rest ]
 
 -- so a label is found where one is free
-pub is_found : (r : Router) (labels : List (Key × ℕ)) → is_some (find (is_free labels) (labels_in r.labels)) ≡ has_free_label r labels
+pub is_found : (r : Router) (labels : List (Key × ℕ)) (resting : List (ℕ × ℕ)) → is_some (find (is_free labels resting) (labels_in r.labels)) ≡ has_free_label r labels resting
 unfolding has_free_label
-is_found r labels = is_some-find (is_free labels) (labels_in r.labels)
+is_found r labels resting = is_some-find (is_free labels resting) (labels_in r.labels)
 
 -- What is found of numbers from one on is one of them, and passes.
 found_in : (test : ℕ → Bool) (count from end : ℕ) → from + count ≤ end → IfSome (find test (range_with_len from count)) (λ n. (from ≤ n) × (n < end) × (test n ≡ true))
@@ -61,10 +61,10 @@ found_in test (suc count) from end within =
     further (Some n) is = (omega (arith, is.0), is.1, is.2)
 
 -- and may be given
-pub may_be_given : (r : Router) (labels : List (Key × ℕ)) → IfSome (find (is_free labels) (labels_in r.labels)) (MayBeGiven r labels)
-may_be_given r labels =
-    by (find (is_free labels) (labels_in r.labels)) (found_in (is_free labels) (r.labels.last + 1 - r.labels.first) r.labels.first (r.labels.first + (r.labels.last + 1 - r.labels.first)) (omega arith))
+pub may_be_given : (r : Router) (labels : List (Key × ℕ)) (resting : List (ℕ × ℕ)) → IfSome (find (is_free labels resting) (labels_in r.labels)) (MayBeGiven r labels resting)
+may_be_given r labels resting =
+    by (find (is_free labels resting) (labels_in r.labels)) (found_in (is_free labels resting) (r.labels.last + 1 - r.labels.first) r.labels.first (r.labels.first + (r.labels.last + 1 - r.labels.first)) (omega arith))
   where
-    by : (found : Option ℕ) → IfSome found (λ n. (r.labels.first ≤ n) × (n < r.labels.first + (r.labels.last + 1 - r.labels.first)) × (is_free labels n ≡ true)) → IfSome found (MayBeGiven r labels)
+    by : (found : Option ℕ) → IfSome found (λ n. (r.labels.first ≤ n) × (n < r.labels.first + (r.labels.last + 1 - r.labels.first)) × (is_free labels resting n ≡ true)) → IfSome found (MayBeGiven r labels resting)
     by None is = tt
     by (Some n) is = record { from_first = is.0; to_last = omega (arith, is.0, is.1); free = is.2 }

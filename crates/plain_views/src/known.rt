@@ -32,6 +32,10 @@ impl StateView for Known<'_> {
         self.router.refresh_ms
     }
 
+    fn label_rest_ms(&self) -> u32 {
+        self.router.label_rest_ms
+    }
+
     fn moment(&self) -> u64 {
         self.state.facts.moment
     }

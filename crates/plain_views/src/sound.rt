@@ -107,6 +107,10 @@ impl StateView for SoundView<'_> {
         self.known.refresh_ms()
     }
 
+    fn label_rest_ms(&self) -> u32 {
+        self.known.label_rest_ms()
+    }
+
     fn moment(&self) -> u64 {
         self.known.moment()
     }
@@ -167,6 +171,19 @@ impl WholeState for SoundView<'_> {
 
     fn repair_at(&self, place: usize) -> Option<&(Key, Repair)> {
         self.known.state.repairs.as_slice().get(place)
+    }
+
+    fn assignment_count(&self) -> usize {
+        self.known.state.assignments.as_slice().len()
+    }
+
+    fn assignment_at(&self, place: usize) -> Option<&(Key, Assignment)> {
+        self.known.state.assignments.as_slice().get(place)
+    }
+
+    /// It says no: a state that others made may be sound and promise less than it could.
+    fn assignments_stand(&self) -> bool {
+        false
     }
 
     fn sent_at(&self, item: &Item) -> Option<u64> {
@@ -246,6 +263,6 @@ impl WholeState for SoundView<'_> {
 
     fn free_label(&self) -> Option<u32> {
         let labels = self.known.state.labels.as_slice();
-        first_free(self.known.router.labels, labels)
+        first_free(self.known.router.labels, labels, &self.known.state.resting)
     }
 }

@@ -1,24 +1,57 @@
 //! What comes of a flow descriptor of a Resv that came back from the end of a bypass (RFC 4090, 6.4.4).
 
 ghost use Rattle.std.specs.FinMap.Entries.{find, is_sorted};
-ghost use Rattle.std.specs.Prelude.{◌≡◌, ◌∷◌, ◌^◌, ◌≤◌, [], IfOk, OnErr, Some, T, true};
+ghost use Rattle.std.specs.Option.{option_map_or};
+ghost use Rattle.std.specs.Prelude.{◌≡◌, ◌∷◌, ◌^◌, ◌≤◌, [], IfOk, OnErr, Some, T, nat_le, true};
 ghost use Rattle.lsr_facts.specs.Orders.{key_cmp};
-ghost use Rattle.abstract_router.specs.Reserving.{named};
+ghost use Rattle.abstract_router.specs.Assigning.{has_share};
+ghost use Rattle.abstract_router.specs.Reserving.{named, verdict_by_style};
 ghost use Rattle.abstract_router.specs.Reserving as reserving;
 ghost use Rattle.abstract_router.specs.Returning.{carried_back, next_returned, renewed};
 ghost use Rattle.abstract_router.specs.Soundness.{AreHeld};
 ghost use Rattle.resv_arrivals.specs.Below.rules.Rooms.{HaveRoom};
+ghost use Rattle.resv_arrivals.specs.Judgements.{IsJudgement};
 ghost use Rattle.resv_arrivals.specs.Progresses.{fact_at, is_heard};
 ghost use Rattle.repair_arrivals.specs.Progresses.{IsReached, reached};
 
 use crate::matching::repair_from;
 use crate::progress::RepairProgress;
 use crate::telling::told_back;
-use lsr_facts::{Repair, ResvStyle, RsvpError};
+use lsr_facts::{Key, Repair, ResvStyle, RsvpError};
 use resv_arrivals::{Asked, Judgement, judge_beside, key_in, resv_by, with_told};
 use rsvp_contents::{FlowDescriptor, Resv};
 use state_views::{StateView, WholeState};
 use std::alloc::{AllocError, Global};
+
+/// Whether what an LSP is promised of a bypass, if it is promised any, is as much as this rate, in bytes per second.
+fn is_promised<V: StateView>(view: &V, key: &Key, rate: u64) -> bool
+    ensures { result ≡ option_map_or (λ given. nat_le rate given.rate) (find key_cmp key.now (V.state view.now).assignments) true }
+{
+    match view.assignment(key) {
+        Some(given) => rate <= given.rate,
+        None => true,
+    }
+}
+
+/// What becomes of a flow descriptor for a repair. It is tested as any other; but it takes no bandwidth of the link, and it has
+/// to fit what its LSP is promised of the bypass (RFC 4090, 4.3).
+fn judge_renewal<V: WholeState>(view: &V, asked: &Asked) -> Judgement
+    ensures { let s = V.state view.now in
+        let fact = fact_at s.facts.moment asked.now in
+        IsJudgement fact result (verdict_by_style (V.router view.now) s asked.now.key fact (has_share s asked.now.key fact)) }
+{
+    match judge_beside(view, asked) {
+        Judgement::Failed(error) => Judgement::Failed(error),
+        Judgement::PassedOver => Judgement::PassedOver,
+        Judgement::Granted(rate) => {
+            if is_promised(view, &asked.key, rate) {
+                Judgement::Granted(rate)
+            } else {
+                Judgement::Failed(RsvpError::NO_BANDWIDTH)
+            }
+        }
+    }
+}
 
 /// A flow descriptor for a repair is in error: that goes back through the bypass, and changes nothing.
 fn failed<V: StateView>(
@@ -86,7 +119,7 @@ fn granted<V: StateView>(
     })
 }
 
-/// What comes of a flow descriptor for a repair. It is tested as any other, but that it takes no bandwidth of the link.
+/// What comes of a flow descriptor for a repair.
 fn renewed<V: WholeState>(
     alloc: Global,
     view: &V,
@@ -108,7 +141,7 @@ fn renewed<V: WholeState>(
     ensures memory { OnErr result (is_heard (renewed (V.router view.now) asked.now.style asked.now.resv.now
         asked.now.descriptor.now (reached (V.state view.now) progress) (asked.now.key, repair.now)) ≡ true) }
 {
-    match judge_beside(view, asked) {
+    match judge_renewal(view, asked) {
         Judgement::Failed(error) => failed(alloc, view, progress, asked, repair, error),
         Judgement::PassedOver => Ok(progress),
         Judgement::Granted(_) => granted(view, progress, asked, repair),

@@ -1,5 +1,5 @@
 -- The verdicts on a flow descriptor, by what the code finds.
-use Rattle.std.specs.Prelude.{◌≡◌, ℕ, ◌≤◌, ◌||◌, if◌then◌else◌, not, Bool, true, false, cond, List, [], ◌∷◌, Option, Some, None, Result, Ok, Err, IsOk, is_some, find as find_first}
+use Rattle.std.specs.Prelude.{◌≡◌, ℕ, ◌≤◌, ◌||◌, nat_le, if◌then◌else◌, not, Bool, true, false, cond, List, [], ◌∷◌, Option, Some, None, Result, Ok, Err, IsOk, is_some, find as find_first}
 use Rattle.std.specs.FinMap.Entries.{find}
 use Rattle.std.specs.List.{list_any}
 use Rattle.std.specs.Option.{option_and_then, option_map, option_map_or, unwrap_or}
@@ -14,6 +14,7 @@ use Rattle.rsvp_bodies.specs.declared.attr.Attr.{Attr}
 use Rattle.sorted_rows.specs.RowsLaws.{ties}
 use Rattle.lsr_facts.specs.OrderLaws.{key_exact, session_total}
 use Rattle.lsr_facts.specs.Orders.{key_cmp}
+use Rattle.lsr_facts.specs.declared.assignment.Assignment.{Assignment}
 use Rattle.lsr_facts.specs.declared.key.Key.{Key}
 use Rattle.lsr_facts.specs.declared.path_fact.PathFact.{PathFact}
 use Rattle.lsr_facts.specs.declared.router.Router.{Router}
@@ -28,7 +29,8 @@ use Rattle.lsr_facts.specs.Errors.{no_bandwidth, no_path, no_sender, style_confl
 use Rattle.abstract_router.specs.Preempting.{claims_of, fits_link, giving_way, limit_of, request_of}
 use Rattle.abstract_paths.specs.Paths.{has_loop}
 use Rattle.abstract_paths.specs.Tears.{leaves_by}
-use Rattle.abstract_router.specs.Reserving.{Verdict, Failed, PassedOver, Granted, conflicts, verdict_by_rate, verdict_of, verdict_on_path}
+use Rattle.abstract_router.specs.Assigning.{has_share}
+use Rattle.abstract_router.specs.Reserving.{Verdict, Failed, PassedOver, Granted, conflicts, verdict_by_rate, verdict_by_style, verdict_of, verdict_on_path}
 use Rattle.abstract_router.specs.States.{State, is_repaired}
 use Rattle.forwarding_table.specs.Labels.{is_label}
 use Rattle.lsr_facts.specs.declared.claim.Claim.{Claim}
@@ -85,6 +87,24 @@ by_room r fact has_room (Ok rate) = by (not (is_label fact.label)) (has_loop r f
     by true loop = refl
     by false true = refl
     by false false = refl
+
+-- The same of a verdict by style.
+pub style_by_room : (r : Router) (s : State) (key : Key) (fact : ResvFact) (has_room : Bool) → verdict_by_style r s key fact has_room ≡ in_room has_room (verdict_by_style r s key fact true)
+style_by_room r s key fact has_room = by (find_first (conflicts fact.link fact.style key) s.resvs)
+  where
+    by : (found : Option (Key × ResvFact)) → option_map_or (λ other. Failed (style_conflict other.1.style)) found (verdict_by_rate r fact has_room (flowspec_rate fact.flowspec))
+        ≡ in_room has_room (option_map_or (λ other. Failed (style_conflict other.1.style)) found (verdict_by_rate r fact true (flowspec_rate fact.flowspec)))
+    by None = by_room r fact has_room (flowspec_rate fact.flowspec)
+    by (Some other) = refl
+
+-- So what is granted where there is room has to fit what its LSP is promised.
+pub granted_within : (r : Router) (s : State) (key : Key) (fact : ResvFact) (rate : ℕ) (fits : Bool) → verdict_by_style r s key fact true ≡ Granted → flowspec_rate fact.flowspec ≡ Ok rate
+    → fits ≡ option_map_or (λ given. nat_le rate given.rate) (find key_cmp key s.assignments) true
+    → verdict_by_style r s key fact (has_share s key fact) ≡ in_room fits Granted
+granted_within r s key fact rate fits granted rated is =
+    let share : has_share s key fact ≡ fits =
+    ap (λ (rate : Result ℕ TrafficFault). option_map_or (λ (given : Assignment). nat_le (result_unwrap_or rate 0) given.rate) (find key_cmp key s.assignments) true) rated ∙ sym is in
+    style_by_room r s key fact (has_share s key fact) ∙ (λ i. in_room (share i) (granted i))
 
 -- So the verdict on a path that leaves by the link, of an LSP that isn't repaired, is told by the style of the first that
 -- stands against it.

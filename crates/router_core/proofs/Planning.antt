@@ -20,6 +20,7 @@ use Rattle.abstract_router.specs.States.{State}
 use Rattle.abstract_router.specs.Tables.{look, look_tunnel}
 use Rattle.event_steps.specs.EventSteps.{AreStepEdits, after_edits}
 use Rattle.event_steps.specs.declared.step.StepEdits.{StepEdits}
+use Rattle.router_soundness.specs.Assigned.{AreStanding}
 use Rattle.router_tables.specs.Below.labels.RowLaws.{bypass_tunnels-alike, table-alike}
 use Rattle.router_tables.specs.Below.labels.Rows.{AreTableEdits}
 use Rattle.router_tables.specs.Below.labels.TunnelLaws.{look_tunnel-alike, tunnel_table-alike}
@@ -54,7 +55,7 @@ module _ (r : Router) (s : State) (e : StepEdits) (is : AreStepEdits r s e) wher
 
     -- the same is known of LSPs after both, and bypasses run over the same
     alike : AreAlike x (changed change s)
-    alike = record { resvs = sym resvs; repairs = refl; labels = refl }
+    alike = record { resvs = sym resvs; repairs = refl; labels = refl; assignments = refl }
 
     bypass_tunnels : bypass_tunnels_of r x ≡ bypass_tunnels_of r (changed change s)
     bypass_tunnels = bypass_tunnels-alike r x (changed change s) refl refl refl refl (sym resvs)
@@ -70,6 +71,8 @@ module _ (r : Router) (s : State) (e : StepEdits) (is : AreStepEdits r s e) wher
     pub change_is : AreEdits bandwidth → rows.edited key_cmp (claim_edits bandwidth) (claims_of s.facts.paths s.resvs) ≡ claims_of x.facts.paths x.resvs → AreTableEdits r s x table → AreTunnelEdits r s x tunnel_table → IsChange r s change
     change_is edits claims are are_tunnels = record {
       sound = subst (IsSound r) (sym changed_is) is.sound;
+      standing = subst (AreStanding r) (sym changed_is) is.standing;
+      later = is.later;
       edits = edits;
       claims = claims ∙ ap (λ held. claims_of x.facts.paths held) (sym resvs);
       table = record {

@@ -21,7 +21,7 @@ IsAsRunning s t = s ≡ with_cold false t
 
 -- the same is known of LSPs
 pub lsps_running : (s t : State) → IsAsRunning s t → AreAlike s t
-lsps_running s t runs = record { resvs = ap (λ (x : State). x.resvs) runs; repairs = ap (λ (x : State). x.repairs) runs; labels = ap (λ (x : State). x.labels) runs }
+lsps_running s t runs = record { resvs = ap (λ (x : State). x.resvs) runs; repairs = ap (λ (x : State). x.repairs) runs; labels = ap (λ (x : State). x.labels) runs; assignments = ap (λ (x : State). x.assignments) runs }
 
 -- bypasses run over the same
 pub bypass_tunnels_running : (r : Router) (s t : State) → IsAsRunning s t → bypass_tunnels_of r s ≡ bypass_tunnels_of r t

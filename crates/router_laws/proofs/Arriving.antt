@@ -1,6 +1,6 @@
 -- What a message that comes leaves of links, paths, tunnels and bypasses: it puts a path or takes one away, or notes an error
 -- of a tunnel, and no more.
-use Rattle.std.specs.Prelude.{◌≡◌, ◌&&◌, ◌==◌, ℕ, not, nat_le, false, true, List, [], ◌∷◌, filter, filter_map, find as find_first, fold, length, Option, Some, None, is_none, Result, Ok, Err}
+use Rattle.std.specs.Prelude.{◌≡◌, ◌&&◌, ◌==◌, ℕ, not, nat_le, false, List, [], ◌∷◌, filter, filter_map, find as find_first, fold, length, Option, Some, None, is_none, Result, Ok, Err}
 use Rattle.std.specs.FinMap.Entries.{find}
 use Rattle.std.specs.List.{list_any}
 use Rattle.std.specs.Option.{option_map_or}
@@ -51,6 +51,7 @@ use Rattle.abstract_paths.specs.Paths.{failed, has_loop, key_of, path_arrival, p
 use Rattle.abstract_paths.specs.Places.{is_up, place_of}
 use Rattle.abstract_paths.specs.Tears as tears
 use Rattle.abstract_paths.specs.Tears.{err_of_path, leaves_by, left_with, origins_without, path_err_arrival, path_err_passed_on, path_tear_arrival, torn}
+use Rattle.abstract_router.specs.Assigning.{has_share}
 use Rattle.abstract_router.specs.Arrivals.{arrival, arrival_by, is_done, labelled_path_arrival, message_arrival, reading_arrival, routed_arrival, stack_arrival}
 use Rattle.abstract_router.specs.Labels.{has_free_label}
 use Rattle.abstract_router.specs.Outcomes.{Outcome, of_paths, refused}
@@ -135,7 +136,7 @@ module _ (r : Router) (P : State → Type 0) (renews : (s : State) (key : Key) (
       by None = h
       by (Some repair) =
           let fact = resv_by progress.state.facts.moment repair.1.resv.link style v d in
-          renewed_leaves d repair fact progress (verdict_by_style r progress.state repair.0 fact true) h
+          renewed_leaves d repair fact progress (verdict_by_style r progress.state repair.0 fact (has_share progress.state repair.0 fact)) h
 
   pub all_returned_leave : (ds : List FlowDescriptor) (progress : Progress) → P progress.state → P (fold (next_returned r style v) progress ds).state
   all_returned_leave [] progress h = h
@@ -156,7 +157,7 @@ module _ (r : Router) (s : State) (P : Facts → Type 0) (stays : P s.facts) (pu
   labelled_path_leaves : (link : ℕ) (p : Path) → P (labelled_path_arrival r s link p).after.facts
   unfolding labelled_path_arrival
   labelled_path_leaves link p =
-      cond_both (is_done (path_arrival r s.facts link p).reply && is_none (find key_cmp (key_of p) s.facts.paths) && not (has_free_label r s.labels)) (of_paths s (failed r s.facts link p no_label)) (of_paths s (path_arrival r s.facts link p)) (λ (o : Outcome). P o.after.facts)
+      cond_both (is_done (path_arrival r s.facts link p).reply && is_none (find key_cmp (key_of p) s.facts.paths) && not (has_free_label r s.labels s.resting)) (of_paths s (failed r s.facts link p no_label)) (of_paths s (path_arrival r s.facts link p)) (λ (o : Outcome). P o.after.facts)
       (λ full. stays) (λ room. path_leaves s.facts P stays r link p (put (key_of p)))
 
   -- the descriptors of a Resv

@@ -1,5 +1,5 @@
 -- What bypasses run over: what the current LSPs of their tunnels are reserved over.
-use Rattle.std.specs.Prelude.{◌≡◌, ◌&&◌, ◌||◌, ℕ, Bool, true, false, cond, T, List, [], ◌∷◌, filter_map, Option, Some, None, is_some}
+use Rattle.std.specs.Prelude.{◌≡◌, ◌&&◌, ◌||◌, ℕ, Bool, true, false, cond, T, List, [], ◌∷◌, filter_map, Option, Some, None}
 use Rattle.std.specs.FinMap.Entries.{find, is_sorted, put}
 use Rattle.std.specs.List.{list_any}
 use Rattle.std.specs.Option.{option_and_then, option_map, option_map_or}
@@ -14,7 +14,6 @@ use Rattle.sorted_rows.specs.RowsLaws.{find-put_apart, find-put_same}
 use Rattle.lsr_facts.specs.Orders.{key_cmp}
 use Rattle.lsr_facts.specs.Tunnels.{current_key, head_key}
 use Rattle.lsr_facts.specs.declared.bypass.Bypass.{Bypass}
-use Rattle.lsr_facts.specs.declared.facts.Facts.{Facts}
 use Rattle.lsr_facts.specs.declared.router.Router.{Router}
 use Rattle.lsr_facts.specs.declared.tunnel.Tunnel.{Tunnel}
 use Rattle.lsr_facts.specs.declared.repair.BypassTunnel.{BypassTunnel}
@@ -23,9 +22,9 @@ use Rattle.lsr_facts.specs.declared.resv_fact.ResvFact.{ResvFact}
 use Rattle.abstract_paths.specs.Changes.{with_tunnel}
 use Rattle.abstract_paths.specs.Places.{is_up}
 use Rattle.abstract_paths.specs.Tears.{leaves_by}
-use Rattle.abstract_paths.specs.TouchedLaws.{find-made}
 use Rattle.abstract_router.specs.BypassTunnels.{bypass_tunnel_by, bypass_tunnel_of, bypass_tunnels_of, over_at, over_by, over_of}
 use Rattle.abstract_router.specs.States.{State, with_facts}
+use Rattle.router_soundness.proofs.BypassTunnels.{RunsIn, over_at-is}
 use Rattle.router_laws.proofs.TunnelEvents.{IsSameTunnel}
 
 -- A row that is found, and whose value passes a test, is one that does.
@@ -41,39 +40,6 @@ found-any {K} {X} cmp test key value (row ∷ rows) found passes =
     behind true h = refl
     behind false h = h
 
--- A bypass that is known, and its tunnel.
-pub record RunsIn (s : Facts) (number : ℕ) : Type 0 where
-  pub bypass : Bypass
-  pub tunnel : Tunnel
-  pub known : find nat_cmp number s.bypasses ≡ Some bypass
-  pub runs : find nat_cmp bypass.tunnel s.tunnels ≡ Some tunnel
-
-module _ (r : Router) (s : State) (number : ℕ) (sorted : T (is_sorted nat_cmp s.facts.bypasses)) where
-  -- the bypass of a number, by its tunnel
-  find-bypass_tunnels : find nat_cmp number (bypass_tunnels_of r s) ≡ option_and_then (λ bypass. bypass_tunnel_by r s (number, bypass)) (find nat_cmp number s.facts.bypasses)
-  unfolding bypass_tunnels_of
-  find-bypass_tunnels = find-made nat_cmp nat_cmp_total exact_unsigned (bypass_tunnel_by r s) number s.facts.bypasses sorted
-
-  -- What it runs over.
-  pub over_at-is : (is : RunsIn s.facts number) → over_at (bypass_tunnels_of r s) number ≡ over_of r s (is.bypass.tunnel, is.tunnel)
-  over_at-is is =
-      ap (option_and_then (λ (bypass_tunnel : BypassTunnel). bypass_tunnel.over)) (find-bypass_tunnels ∙ ap (option_and_then (λ bypass. bypass_tunnel_by r s (number, bypass))) is.known)
-      ∙ ap (λ o. option_and_then (λ (bypass_tunnel : BypassTunnel). bypass_tunnel.over) (option_map (bypass_tunnel_of r s is.bypass) o)) is.runs
-
-  -- A bypass that is up is known, and so is its tunnel.
-  pub runs-up : is_some (over_at (bypass_tunnels_of r s) number) ≡ true → RunsIn s.facts number
-  runs-up up = by (find nat_cmp number s.facts.bypasses) refl (ap (λ o. is_some (option_and_then (λ (bypass_tunnel : BypassTunnel). bypass_tunnel.over) o)) (sym find-bypass_tunnels) ∙ up)
-    where
-      by_tunnel : (bypass : Bypass) → find nat_cmp number s.facts.bypasses ≡ Some bypass → (tunnel : Option Tunnel) → find nat_cmp bypass.tunnel s.facts.tunnels ≡ tunnel
-          → is_some (option_and_then (λ (bypass_tunnel : BypassTunnel). bypass_tunnel.over) (option_map (bypass_tunnel_of r s bypass) tunnel)) ≡ true → RunsIn s.facts number
-      by_tunnel bypass known None runs some = absurd (let e = some in cc)
-      by_tunnel bypass known (Some tunnel) runs some = record { bypass = bypass; tunnel = tunnel; known = known; runs = runs }
-
-      by : (bypass : Option Bypass) → find nat_cmp number s.facts.bypasses ≡ bypass
-          → is_some (option_and_then (λ (bypass_tunnel : BypassTunnel). bypass_tunnel.over) (option_and_then (λ bypass. bypass_tunnel_by r s (number, bypass)) bypass)) ≡ true → RunsIn s.facts number
-      by None known some = absurd (let e = some in cc)
-      by (Some bypass) known some = by_tunnel bypass known (find nat_cmp bypass.tunnel s.facts.tunnels) refl some
-
 -- A tunnel is put that carries its traffic by the same LSP as before.
 module _ (r : Router) (s : State) (number : ℕ) (old new : Tunnel) (found : find nat_cmp number s.facts.tunnels ≡ Some old) (same : IsSameTunnel old new) where
   abbrev after : State
@@ -81,7 +47,7 @@ module _ (r : Router) (s : State) (number : ℕ) (old new : Tunnel) (found : fin
 
   -- a bypass by the end and the current LSP of its tunnel
   abbrev bypass_tunnel : Bypass → Ipv4Addr → ℕ → BypassTunnel
-  bypass_tunnel bypass endpoint id = record { tunnel = bypass.tunnel; protects = bypass.link; ends_at = endpoint; over = option_and_then (over_by s.facts (head_key r bypass.tunnel endpoint id)) (find key_cmp (head_key r bypass.tunnel endpoint id) s.resvs) }
+  bypass_tunnel bypass endpoint id = record { tunnel = bypass.tunnel; protects = bypass.link; ends_at = endpoint; capacity = bypass.capacity; over = option_and_then (over_by s.facts (head_key r bypass.tunnel endpoint id)) (find key_cmp (head_key r bypass.tunnel endpoint id) s.resvs) }
 
   agree : (bypass : ℕ × Bypass) → bypass_tunnel_by r after bypass ≡ bypass_tunnel_by r s bypass
   agree bypass = elim (cases_eq bypass.1.tunnel number) as (λ c. bypass_tunnel_by r after bypass ≡ bypass_tunnel_by r s bypass) [

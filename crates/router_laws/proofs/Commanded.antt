@@ -1,6 +1,6 @@
 -- What commands leave of LSPs: all but those that they signal or take away; so the current ones of all tunnels but one
 -- that is dropped.
-use Rattle.std.specs.Prelude.{◌≡◌, ◌≢◌, ◌+◌, ◌||◌, ◌==◌, ℕ, not, nat_le, Bool, true, false, cond, if◌then◌else◌, T, List, [], ◌∷◌, filter, find as find_first, length, map, Option, Some, None, is_none, is_some, option_map, option_to_list, Result, Ok, Err}
+use Rattle.std.specs.Prelude.{◌≡◌, ◌≢◌, ◌+◌, ◌||◌, ◌==◌, ℕ, not, Bool, true, false, cond, if◌then◌else◌, T, List, [], ◌∷◌, filter, find as find_first, map, Option, Some, None, is_none, is_some, option_map, option_to_list, Result, Ok, Err}
 use Rattle.std.specs.Bool.{then_some}
 use Rattle.std.specs.Cmp.{nat_eq_equiv}
 use Rattle.std.specs.FinMap.Entries.{find, find-where_key, is_sorted, is_sorted-put, is_sorted-where_key, put, where_key}
@@ -18,7 +18,6 @@ use Rattle.sorted_rows.specs.RowsLaws.{find-put_apart, find-put_other, find-put_
 use Rattle.lsr_facts.specs.Bypasses.{is_for_bypass}
 use Rattle.lsr_facts.specs.OrderLaws.{key_exact, key_total}
 use Rattle.lsr_facts.specs.Orders.{is_one_of, key_cmp}
-use Rattle.lsr_facts.specs.Routers.{link_at}
 use Rattle.lsr_facts.specs.Tunnels.{current_key, head_key, heads_of, pending_key}
 use Rattle.lsr_facts.specs.declared.bypass.Bypass.{Bypass}
 use Rattle.lsr_facts.specs.declared.choice.Choice.{Choice}
@@ -27,7 +26,7 @@ use Rattle.lsr_facts.specs.declared.facts.Facts.{Facts}
 use Rattle.lsr_facts.specs.declared.key.Key.{Key}
 use Rattle.lsr_facts.specs.declared.path_fact.PathFact.{PathFact}
 use Rattle.lsr_facts.specs.declared.refusal.Refusal.{Refusal}
-use Rattle.lsr_facts.specs.declared.refusal.Refusal.TheVariants.{BypassExists, BypassOnItsLink, Full, InUse, UnknownLink, UnknownTunnel}
+use Rattle.lsr_facts.specs.declared.refusal.Refusal.TheVariants.{InUse, UnknownTunnel}
 use Rattle.lsr_facts.specs.declared.router.Router.{Router}
 use Rattle.lsr_facts.specs.declared.tunnel.Tunnel.{Tunnel}
 use Rattle.lsr_facts.specs.declared.tunnel.TunnelLsp.{TunnelLsp}
@@ -46,12 +45,14 @@ use Rattle.abstract_paths.proofs.Alongside.{with_head-same}
 use Rattle.abstract_paths.proofs.Heads.{same_keys}
 use Rattle.abstract_paths.proofs.TunnelTable.{tunnel_known}
 use Rattle.abstract_paths.specs.Changes.{with_tunnel, without_paths}
-use Rattle.abstract_paths.specs.Commands.{begun_by, bypass_by, command, commanded, is_tunnel_such, is_unknown, refusal_of, runs_over, tunnel_by, with_cancelled, with_change, with_dropped}
+use Rattle.abstract_paths.specs.Commands.{begun_by, bypass_by, command, commanded, refusal_of, tests_of, tunnel_by, with_cancelled, with_change, with_dropped}
 use Rattle.abstract_paths.specs.Heads.{head_hop, head_path, with_head, with_head_by}
 use Rattle.abstract_paths.specs.Outcomes as paths
 use Rattle.abstract_paths.specs.Places.{is_up, place_of}
 use Rattle.abstract_paths.specs.StampLaws.{none-is}
 use Rattle.router_soundness.proofs.Standing.{repair_on_bypass}
+use Rattle.abstract_paths.proofs.Commanding.{all_fail}
+use Rattle.abstract_router.specs.Assigning.{assigned_anew, assignments_left}
 use Rattle.abstract_router.specs.Arrivals.{command_comes, commanded_by, outcome, takes_used_bypass}
 use Rattle.abstract_router.specs.BypassTunnels.{bypass_tunnels_of, over_at}
 use Rattle.abstract_router.specs.Outcomes.{Outcome, of_paths, refused}
@@ -61,7 +62,8 @@ use Rattle.abstract_router.specs.States.{State, is_repaired, is_reserved, with_f
 use Rattle.abstract_router.specs.Steps.{AreSettled, Step, given_up, is_ready, known_after, labelled, left_standing, resvs_left, stands, with_moments}
 use Rattle.abstract_router.specs.Tables.{look_tunnel, push_by, push_of, push_through}
 use Rattle.router_laws.specs.Words.{where_up}
-use Rattle.router_laws.proofs.BypassTunnels.{RunsIn, found-any, over_at-same, runs-up}
+use Rattle.router_soundness.proofs.BypassTunnels.{RunsIn, runs-up}
+use Rattle.router_laws.proofs.BypassTunnels.{found-any, over_at-same}
 use Rattle.router_soundness.proofs.TakingOver.{new_id}
 use Rattle.router_laws.proofs.GoingOver.{tunnels_in_order}
 use Rattle.router_laws.proofs.Led.{led}
@@ -272,16 +274,7 @@ module _ (r : Router) (s : Facts) where
 
   -- a bypass is begun only under a number that none has
   bypass_free : (b : NewBypass) → refusal_of r s (AddBypass b) ≡ None → find nat_cmp b.number s.bypasses ≡ None
-  bypass_free b =
-      by (is_none (link_at r b.link)) (is_unknown s b.tunnel) (find nat_cmp b.number s.bypasses)
-      ((nat_le 64 (length s.bypasses), Full) ∷ (is_tunnel_such (λ tunnel. runs_over r s b.link (b.tunnel, tunnel)) s b.tunnel, BypassOnItsLink) ∷ [])
-    where
-      by : (unlinked unknown : Bool) (known : Option Bypass) (more : List (Bool × Refusal))
-          → option_map (λ (test : Bool × Refusal). test.1) (find_first (λ (test : Bool × Refusal). test.0) ((unlinked, UnknownLink) ∷ (unknown, UnknownTunnel) ∷ (is_some known, BypassExists) ∷ more)) ≡ None → known ≡ None
-      by true unknown known more none = absurd (let e : Some UnknownLink ≡ None = none in cc)
-      by false true known more none = absurd (let e : Some UnknownTunnel ≡ None = none in cc)
-      by false false None more none = refl
-      by false false (Some u) more none = absurd (let e : Some BypassExists ≡ None = none in cc)
+  bypass_free b none = none-is (find nat_cmp b.number s.bypasses) (all_fail (tests_of r s (AddBypass b)) none).1.1.0
 
   -- a bypass that is known stays, but where it is dropped
   bypass_then : (c : Command) → refusal_of r s c ≡ None → (number : ℕ) (bypass : Bypass) → find nat_cmp number s.bypasses ≡ Some bypass → c ≢ DropBypass number → find nat_cmp number (commanded r s c).bypasses ≡ Some bypass
@@ -452,10 +445,10 @@ module _ (r : Router) (before after : State) (made : Made) (c : Command) (is : I
           (step-keeps r (is_one_of (touched_by r before.facts c)) before is o made.labels (λ silent. absurd (let e = silent in cc)) (λ key apart. ap (λ keys. is_one_of keys key) none_given) keeps)
 
       -- nothing is to be repaired either
-      came_left : after ≡ with_moments r before o (labelled made.labels (left_standing r mid))
+      came_left : after ≡ with_moments r before o (labelled r made.labels (assignments_left (left_standing r (assigned_anew r mid))))
       came_left =
-          let rest : State → State = λ t. with_moments r before o (labelled made.labels (left_standing r t)) in
-          came ∙ ap (λ t. rest (repaired r t)) (taken_over-same r mid mid_rests) ∙ ap rest (repaired-same r mid keeps.over_up)
+          let rest : State → State = λ t. with_moments r before o (labelled r made.labels (assignments_left (left_standing r t))) in
+          came ∙ ap (λ t. rest (repaired r (assigned_anew r t))) (taken_over-same r mid mid_rests) ∙ ap rest (repaired-same r (assigned_anew r mid) keeps.over_up)
 
       -- tunnels and bypasses are as the command leaves them
       tunnels_then : after.facts.tunnels ≡ (commanded r before.facts c).tunnels
@@ -473,7 +466,7 @@ module _ (r : Router) (before after : State) (made : Made) (c : Command) (is : I
           let facts = commanded r before.facts c in
           let gone = subst (λ keys. let s = without_held (option_to_list keys) (with_facts facts before) in (is_reserved s key ≡ false) × (is_repaired s key ≡ false)) (sym begun_one) (none_without r before rests key facts, unrepaired_without r before rests key facts) in (
             none-is (find key_cmp key after.resvs) (ap (λ (s : State). is_some (find key_cmp key s.resvs)) came_left ∙ none_of_fewer (stands mid.facts) key mid.resvs gone.0),
-            none-is (find key_cmp key after.repairs) (ap (λ (s : State). is_some (find key_cmp key s.repairs)) came_left ∙ none_of_fewer (repair_stands r (resvs_left mid)) key mid.repairs gone.1),
+            none-is (find key_cmp key after.repairs) (ap (λ (s : State). is_some (find key_cmp key s.repairs)) came_left ∙ none_of_fewer (repair_stands r (resvs_left (assigned_anew r mid))) key mid.repairs gone.1),
           )
 
       -- A bypass that an LSP runs over runs over what it ran over.

@@ -34,7 +34,7 @@ use Rattle.abstract_router.specs.Outcomes.{Outcome}
 use Rattle.abstract_router.specs.Repairing.{repair_stands, repaired, repairs_left}
 use Rattle.abstract_router.specs.Soundness.{IsSound}
 use Rattle.abstract_router.specs.States.{State, is_reserved}
-use Rattle.abstract_router.specs.Steps.{AreSettled, Step, given_up, is_ready, resvs_left, settled, stands, switched_where, taken_over, with_moments}
+use Rattle.abstract_router.specs.Steps.{AreSettled, Step, given_up, is_ready, promised, resvs_left, settled, stands, switched_where, taken_over, with_moments}
 use Rattle.abstract_router.specs.Tables.{look_tunnel}
 use Rattle.router_soundness.proofs.Running.{sound_step}
 use Rattle.router_soundness.proofs.TakingOver.{found_switched, new_id, new_kept, standing_taken}
@@ -194,7 +194,7 @@ module _ (r : Router) (before after : State) (made : Made) (is : IsSound r befor
       repair_gone : is_ready r mid (number, old) ≡ true → find key_cmp (current_key r (number, old)) after.repairs ≡ None
       unfolding repaired repairs_left
       repair_gone ready =
-          let s = resvs_left (repaired r (taken_over r mid)) in
+          let s = resvs_left (repaired r (promised r mid)) in
           let is_over = λ (repair : Repair). is_some (over_at (bypass_tunnels_of r s) repair.bypass) in
           ap (λ (s : State). find key_cmp (current_key r (number, old)) s.repairs) came
           ∙ found_none (repair_stands r s) (current_key r (number, old)) s.repairs (λ row own.

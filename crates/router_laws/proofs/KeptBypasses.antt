@@ -29,7 +29,8 @@ use Rattle.abstract_router.specs.States.{State}
 use Rattle.abstract_router.specs.Steps.{Step, given_up, is_ready, settled, switched_where, taken_over, with_moments}
 use Rattle.router_laws.specs.TouchedBy.{touched_by, touched_by_way}
 use Rattle.router_laws.proofs.Arriving.{arrival_leaves}
-use Rattle.router_laws.proofs.BypassTunnels.{RunsIn, over_at-same}
+use Rattle.router_soundness.proofs.BypassTunnels.{RunsIn}
+use Rattle.router_laws.proofs.BypassTunnels.{over_at-same}
 use Rattle.router_soundness.proofs.TakingOver.{found_switched}
 use Rattle.router_laws.proofs.GoingOver.{ready_given_up}
 use Rattle.router_laws.proofs.Led.{led}

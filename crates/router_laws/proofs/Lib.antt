@@ -7,9 +7,11 @@ pub mod KeptBypasses
 pub mod Led
 pub mod NoneRepaired
 pub mod OwnLsps
+pub mod Promised
 pub mod Pushing
 pub mod Repeating
 pub mod Repeats
+pub mod Rested
 pub mod Settled
 pub mod Staying
 pub mod Still

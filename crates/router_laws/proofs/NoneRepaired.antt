@@ -44,7 +44,7 @@ module _ (r : Router) (s : State) where
       by : (path : Option PathFact) → option_map {U = Key × Repair} (λ repair. (resv.0, repair)) (option_and_then (repair_on r s resv.0 resv.1) path) ≡ None
       by None = refl
       by (Some path) =
-          let again = option_map (repair_with resv.1) (selected (around_of r s) resv.0 path resv.1) in
+          let again = option_map (repair_with resv.1) (selected (around_of r s) resv.0 path (find key_cmp resv.0 s.assignments) resv.1) in
           ap (λ b. option_map {U = Key × Repair} (λ repair. (resv.0, repair)) (if leaves_by resv.1.link path && not b then again else None)) up ∙ never (leaves_by resv.1.link path) again
 
   module _ (up : AreOverUp s) where

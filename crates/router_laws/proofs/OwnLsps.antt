@@ -44,6 +44,7 @@ use Rattle.abstract_paths.specs.Places.{is_up, place_of}
 use Rattle.abstract_paths.specs.Soundness.{IsCountAs, IsHeadOf, IsPath, IsStanding, IsWay, IsWayAs}
 use Rattle.abstract_paths.specs.Stamps.{stamps}
 use Rattle.abstract_paths.specs.Tears.{err_of_path, leaves_by, path_err_arrival, path_err_passed_on}
+use Rattle.router_soundness.specs.Assigned.{AreStanding}
 use Rattle.abstract_router.specs.Arrivals.{arrival, is_done, labelled_path_arrival, message_arrival}
 use Rattle.abstract_router.specs.BypassTunnels.{bypass_tunnels_of}
 use Rattle.lsr_facts.specs.Errors.{no_label}
@@ -53,11 +54,11 @@ use Rattle.abstract_router.specs.Outputs.{item_stamps, outputs_of, upstream_stam
 use Rattle.abstract_router.specs.Repairing.{told_repaired}
 use Rattle.abstract_router.specs.Soundness.{IsSound}
 use Rattle.abstract_router.specs.States.{State, with_facts}
-use Rattle.abstract_router.specs.Steps.{AreSettled, known_after, sent_in, settled, taken_over}
+use Rattle.abstract_router.specs.Steps.{AreSettled, known_after, sent_in, promised, settled}
 use Rattle.abstract_router.specs.Steps as steps
 use Rattle.abstract_router.specs.Upstreams.{upstream_of}
 use Rattle.abstract_router.specs.Wanted.{items_of}
-use Rattle.router_soundness.proofs.Beside.{items_beside, sound_beside, upstream_beside}
+use Rattle.router_soundness.proofs.Beside.{assignments_beside, items_beside, sound_beside, upstream_beside}
 use Rattle.router_laws.specs.Words.{comes}
 use Rattle.router_laws.proofs.BypassTunnels.{bypass_tunnels-put}
 use Rattle.router_laws.proofs.Led.{answered, led, sends}
@@ -86,7 +87,7 @@ head_refused : (r : Router) (s : State) (link : ℕ) (p : Path) → is_head r s.
 unfolding labelled_path_arrival
 head_refused r s link p head =
     ap (λ o.
-    if is_done o.reply && is_none (find key_cmp (key_of p) s.facts.paths) && not (has_free_label r s.labels)
+    if is_done o.reply && is_none (find key_cmp (key_of p) s.facts.paths) && not (has_free_label r s.labels s.resting)
     then of_paths s (failed r s.facts link p no_label)
     else of_paths s o) (path_refused r s.facts link p head)
 
@@ -99,7 +100,7 @@ own_path_refused r before after made link p there up head x is =
 -- ---- PathErrs
 
 -- An event that changes tunnels and no more, and reserves nothing, sends nothing.
-module _ (r : Router) (s : State) (is : IsSound r s) (tunnels : List (ℕ × Tunnel)) (standing : IsStanding r (record s.facts { tunnels = tunnels })) (rests : AreSettled r (with_facts (record s.facts { tunnels = tunnels }) s))
+module _ (r : Router) (s : State) (is : IsSound r s) (tunnels : List (ℕ × Tunnel)) (standing : IsStanding r (record s.facts { tunnels = tunnels })) (rests : AreSettled r (with_facts (record s.facts { tunnels = tunnels }) s)) (stand : AreStanding r s)
     (same_bypass_tunnels : bypass_tunnels_of r (with_facts (record s.facts { tunnels = tunnels }) s) ≡ bypass_tunnels_of r s) where
   abbrev changed : State
   changed = with_facts (record s.facts { tunnels = tunnels }) s
@@ -110,6 +111,9 @@ module _ (r : Router) (s : State) (is : IsSound r s) (tunnels : List (ℕ × Tun
 
   upstream_same : upstream_of r changed ≡ upstream_of r s
   upstream_same = upstream_beside r s s.facts.cold tunnels same_bypass_tunnels
+
+  stand_changed : AreStanding r changed
+  stand_changed = assignments_beside r s s.facts.cold tunnels same_bypass_tunnels ∙ stand
 
   sound_changed : IsSound r changed
   sound_changed = sound_beside r s s.facts.cold tunnels same_bypass_tunnels standing is
@@ -122,7 +126,7 @@ module _ (r : Router) (s : State) (is : IsSound r s) (tunnels : List (ℕ × Tun
         facts = record t.facts { sent = stamps item_cmp [] (sym items_same i) s.facts.sent t.facts.moment (items_of r t) };
         sent_upstream = stamps upstream_cmp [] (sym upstream_same i) s.sent_upstream t.facts.moment (upstream_of r t);
       })
-      ∙ known-same r changed sound_changed rests replies.Done [] chosen
+      ∙ known-same r changed sound_changed rests stand_changed replies.Done [] chosen
 
   sends_changed : sent_in r s (replied replies.Done [] changed) changed ≡ []
   unfolding outputs_of
@@ -130,14 +134,14 @@ module _ (r : Router) (s : State) (is : IsSound r s) (tunnels : List (ℕ × Tun
       let up = s.facts.up in
       let items = items_of r changed in
       let upstream = upstream_of r changed in
-      (λ i. errors_out up (told_repaired r (taken_over r changed))
+      (λ i. errors_out up (told_repaired r (promised r changed))
       ++ between item_cmp (tear_for up) (sym items_same i) items
       ++ between upstream_cmp (tear_for up) (sym upstream_same i) upstream
       ++ between item_cmp (send_for item_cmp []) items (sym items_same i)
       ++ between upstream_cmp (send_for upstream_cmp []) upstream (sym upstream_same i))
-      ∙ sent-none r changed sound_changed rests replies.Done
+      ∙ sent-none r changed sound_changed rests stand_changed replies.Done
 
-module _ (r : Router) (s : State) (e : PathErr) (fact : PathFact) (is : IsSound r s) (rests : AreSettled r s) (known : find key_cmp (lsp e.session e.sender) s.facts.paths ≡ Some fact) (head : is_head r s.facts.tunnels (lsp e.session e.sender) ≡ true) where
+module _ (r : Router) (s : State) (e : PathErr) (fact : PathFact) (is : IsSound r s) (rests : AreSettled r s) (stand : AreStanding r s) (known : find key_cmp (lsp e.session e.sender) s.facts.paths ≡ Some fact) (head : is_head r s.facts.tunnels (lsp e.session e.sender) ≡ true) where
   abbrev key : Key
   key = lsp e.session e.sender
 
@@ -198,7 +202,7 @@ module _ (r : Router) (s : State) (e : PathErr) (fact : PathFact) (is : IsSound 
       let standing = subst (IsStanding r) (with_noted-same e.error number s.facts) (with_noted-stands r s.facts e.error number is.paths) in
       let waits = subst (AreSettled r) noting_same (noted_rests r s rests e.error number) in
       subst (λ (t : State). (known_after r s chosen (replied replies.Done [] t) ≡ t) × (sent_in r s (replied replies.Done [] t) t ≡ [])) (sym noting_same)
-      (known_changed r s is tunnels standing waits bypass_tunnels_noting chosen, sends_changed r s is tunnels standing waits bypass_tunnels_noting)
+      (known_changed r s is tunnels standing waits stand bypass_tunnels_noting chosen, sends_changed r s is tunnels standing waits stand bypass_tunnels_noting)
 
   noting_is : (link : ℕ) → leaves_by link fact ≡ true → of_paths s (path_err_arrival r s.facts link e) ≡ replied replies.Done [] noting
   unfolding path_err_arrival
@@ -221,17 +225,17 @@ leaves_over r link fact way leaves =
     by roles.Tail rest has goes = absurd (let e = goes in cc)
 
 -- A PathErr for an LSP of a tunnel that begins here.
-pub own_error_noted : (r : Router) (before after : State) (made : Made) (link : ℕ) (e : PathErr) (fact : PathFact) → IsSound r before → AreSettled r before → is_up before.facts.up link ≡ true
+pub own_error_noted : (r : Router) (before after : State) (made : Made) (link : ℕ) (e : PathErr) (fact : PathFact) → IsSound r before → AreSettled r before → AreStanding r before → is_up before.facts.up link ≡ true
     → find key_cmp (lsp e.session e.sender) before.facts.paths ≡ Some fact → leaves_by link fact ≡ true → is_head r before.facts.tunnels (lsp e.session e.sender) ≡ true → steps.Step r before made after → made.event ≡ comes link (contents.PathErr e)
     → (made.reply ≡ replies.Done) × (made.outputs ≡ []) × (after ≡ with_facts (with_noted e.error e.session.tunnel before.facts) before)
     × ((t : Tunnel) × (find nat_cmp e.session.tunnel after.facts.tunnels ≡ Some t) × (t.noted ≡ Some (record { node = e.error.node; code = e.error.code; value = e.error.value })))
-own_error_noted r before after made link e fact is rests up known leaves head x event =
-    let there = leaves_over r link fact (its r before e fact is rests known head).way leaves in
-    let o = replied replies.Done [] (noting r before e fact is rests known head) in
-    let does = arrival_over r before link (contents.PathErr e) there up ∙ noting_is r before e fact is rests known head link leaves in
-    let still = noting_still r before e fact is rests known head made.labels in
+own_error_noted r before after made link e fact is rests stand up known leaves head x event =
+    let there = leaves_over r link fact (its r before e fact is rests stand known head).way leaves in
+    let o = replied replies.Done [] (noting r before e fact is rests stand known head) in
+    let does = arrival_over r before link (contents.PathErr e) there up ∙ noting_is r before e fact is rests stand known head link leaves in
+    let still = noting_still r before e fact is rests stand known head made.labels in
     let came = led r before after made (comes link (contents.PathErr e)) o x event does ∙ still.0 in
-    let noted_one = noted_there r before e fact is rests known head in (
+    let noted_one = noted_there r before e fact is rests stand known head in (
       answered r before after made (comes link (contents.PathErr e)) o x event does,
       sends r before after made (comes link (contents.PathErr e)) o x event does ∙ ap (sent_in r before o) came ∙ still.1,
       came,

@@ -36,6 +36,7 @@ use Rattle.abstract_paths.specs.declared.events.Made.{Made}
 use Rattle.abstract_paths.specs.Paths.{has_loop}
 use Rattle.abstract_paths.specs.Places.{is_up}
 use Rattle.abstract_paths.specs.Tears.{leaves_by}
+use Rattle.router_soundness.specs.Assigned.{AreStanding}
 use Rattle.abstract_router.specs.ClaimsLaws.{claims-put}
 use Rattle.router_soundness.proofs.Claiming.{setup_most}
 use Rattle.router_soundness.proofs.Entries.{reserved_or_repaired}
@@ -187,14 +188,14 @@ module _ (r : Router) (s : State) (is : IsSound r s) (link : ℕ) (style : ResvS
       let rest = all-still ds found.1 (if has_loop r d.recorded then some else true) in
       (rest.0, ap (λ p. fold (next_descriptor r link style v) p ds) (one-still d found.0 some) ∙ rest.1)
 
-module _ (r : Router) (s : State) (is : IsSound r s) (rests : AreSettled r s) where
+module _ (r : Router) (s : State) (is : IsSound r s) (rests : AreSettled r s) (stand : AreStanding r s) where
   resv-still : (link : ℕ) (style : ResvStyle) (v : Resv) → style_of v.style ≡ Some style → AllByRecursion (AsksForOwn s link style v) v.descriptors → IsStill r s (resv_arrival r s link v)
   unfolding resv_arrival
   resv-still link style v is_style found =
       let all = all-still r s is link style v v.descriptors found false in
       subst (IsStill r s)
       (sym (ap (λ o. option_map_or (λ style. let progress = all_descriptors r s link style v in resv_replied s progress progress.first) o (resv_failed r s link v false [] unknown_style)) is_style ∙ ap (λ progress. resv_replied s progress progress.first) all.1))
-      (cond_both all.0 (replied replies.Done [] s) (refused s NoMatch) (IsStill r s) (λ some. done-still r s is rests) (λ none. refused-still r s (refused s NoMatch) refl refl))
+      (cond_both all.0 (replied replies.Done [] s) (refused s NoMatch) (IsStill r s) (λ some. done-still r s is rests stand) (λ none. refused-still r s (refused s NoMatch) refl refl))
 
   arrival-still : (link : ℕ) (style : ResvStyle) (v : Resv) → style_of v.style ≡ Some style → AllByRecursion (AsksForOwn s link style v) v.descriptors
       → IsStill r s (arrival r s (hop_arrive link (contents.Resv v)))
@@ -204,11 +205,11 @@ module _ (r : Router) (s : State) (is : IsSound r s) (rests : AreSettled r s) wh
       (λ there. cond_both (not (is_up s.facts.up link)) (refused s LinkDown) _ (IsStill r s) (λ down. refused-still r s (refused s LinkDown) refl refl) (λ up. resv-still link style v is_style found))
 
 -- A Resv that asks for just what stands changes nothing, and nothing is sent for it.
-pub repeated_is_silent : (r : Router) (before after : State) (made : Made) (link : ℕ) (v : Resv) (style : ResvStyle) → IsSound r before → AreSettled r before → Step r before made after
+pub repeated_is_silent : (r : Router) (before after : State) (made : Made) (link : ℕ) (v : Resv) (style : ResvStyle) → IsSound r before → AreSettled r before → AreStanding r before → Step r before made after
     → made.event ≡ comes link (contents.Resv v) → style_of v.style ≡ Some style
     → All (λ d. find key_cmp (key_in v d) before.resvs ≡ Some (resv_by before.facts.moment link style v d)) v.descriptors
     → (after ≡ before) × (made.outputs ≡ [])
-repeated_is_silent r before after made link v style is rests step event is_style found =
-    let still = arrival-still r before is rests link style v is_style (recursion_from_All (AsksForOwn before link style v) v.descriptors found) in
+repeated_is_silent r before after made link v style is rests stand step event is_style found =
+    let still = arrival-still r before is rests stand link style v is_style (recursion_from_All (AsksForOwn before link style v) v.descriptors found) in
     let same = still_step r before after made (comes link (contents.Resv v)) (arrival r before (hop_arrive link (contents.Resv v))) step event refl still in
     (same.2, same.1)

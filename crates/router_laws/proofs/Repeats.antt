@@ -45,13 +45,18 @@ use Rattle.abstract_paths.specs.Paths.{drops_record, failed, has_loop, key_of, o
 use Rattle.abstract_paths.specs.Places.{Place, is_up, place_of}
 use Rattle.abstract_paths.specs.Routing.{next_hop}
 use Rattle.abstract_paths.specs.Soundness.{IsHeadOf}
+use Rattle.router_soundness.specs.Assigned.{AreStanding}
+use Rattle.router_soundness.proofs.AssigningStands.{stands_sent, stands_settled}
+use Rattle.router_soundness.proofs.Drafting.{outcome-leaves}
+use Rattle.router_soundness.proofs.Settling.{LeavesBy}
+use Rattle.router_soundness.specs.Drafted.{IsDrafted}
 use Rattle.abstract_router.specs.Arrivals.{arrival, arrival_by, is_done, labelled_path_arrival}
 use Rattle.abstract_router.specs.Labels.{has_free_label}
 use Rattle.abstract_router.specs.Outcomes.{Outcome, of_paths, refused, replied}
 use Rattle.abstract_router.specs.Repairing.{repaired, repairs_left}
 use Rattle.abstract_router.specs.Soundness.{IsSound}
 use Rattle.abstract_router.specs.States.{State}
-use Rattle.abstract_router.specs.Steps.{AreSettled, Step, known_after, taken_over}
+use Rattle.abstract_router.specs.Steps.{AreSettled, IsEvent, Step, known_after, settled, taken_over}
 use Rattle.router_soundness.proofs.Running.{sound_step}
 use Rattle.router_laws.specs.Words.{comes}
 use Rattle.router_laws.proofs.GivenUp.{not_given_up, path_left}
@@ -86,14 +91,14 @@ arrival_read r s a open_link =
 labelled_done : (r : Router) (s : State) (link : ℕ) (p : Path) → replies.Done ≡ (labelled_path_arrival r s link p).reply → labelled_path_arrival r s link p ≡ of_paths s (path_arrival r s.facts link p)
 unfolding labelled_path_arrival
 labelled_done r s link p =
-    cond_both (is_done (path_arrival r s.facts link p).reply && is_none (find key_cmp (key_of p) s.facts.paths) && not (has_free_label r s.labels)) _ _ (λ (o : Outcome). replies.Done ≡ o.reply → o ≡ of_paths s (path_arrival r s.facts link p))
+    cond_both (is_done (path_arrival r s.facts link p).reply && is_none (find key_cmp (key_of p) s.facts.paths) && not (has_free_label r s.labels s.resting)) _ _ (λ (o : Outcome). replies.Done ≡ o.reply → o ≡ of_paths s (path_arrival r s.facts link p))
     (λ full done. absurd (let e = done in cc)) (λ room done. refl)
 
 -- and so does one of an LSP that is known, where all is as it was
 labelled_again : (r : Router) (s : State) (link : ℕ) (p : Path) (fact : PathFact) → find key_cmp (key_of p) s.facts.paths ≡ Some fact → path_arrival r s.facts link p ≡ paths.done [] s.facts → labelled_path_arrival r s link p ≡ replied replies.Done [] s
 unfolding labelled_path_arrival
 labelled_again r s link p fact found again =
-    λ i. if is_done (again i).reply && is_none (found i) && not (has_free_label r s.labels) then of_paths s (failed r s.facts link p no_label) else of_paths s (again i)
+    λ i. if is_done (again i).reply && is_none (found i) && not (has_free_label r s.labels s.resting) then of_paths s (failed r s.facts link p no_label) else of_paths s (again i)
 
 -- the same put twice is put once
 put_twice : {K X : Type 0} (cmp : K → K → Ordering) → IsTotalOrder cmp → (k : K) (v : X) (es : List (K × X)) → put cmp k v (put cmp k v es) ≡ put cmp k v es
@@ -267,6 +272,15 @@ module _ (r : Router) (before after : State) (made : Made) (link : ℕ) (p : Pat
   unfolding takes
   settled_after = subst (AreSettled r) (sym came) (heard-settles r before takes made.labels refl)
 
+  -- and the bandwidth of bypasses stands as it is promised
+  stands_after : IsRouter r → AreStanding r after
+  unfolding takes known
+  stands_after router =
+      let event = comes link (contents.Path p) in
+      let leaves = outcome-leaves r before event router sound (subst IsEvent is x.possible) (λ cold. sym is ∙ x.awake cold) in
+      let drafted : IsDrafted r before takes.after = subst (λ (o : Outcome). LeavesBy r before o.is_silent o.after) meets.is leaves in
+      subst (AreStanding r) (sym came) (stands_sent r before takes (settled r made.labels takes.after) (stands_settled r before takes.after made.labels sound drafted))
+
   -- A Path that is done makes or renews its origin.
   pub path_renews : (fact : PathFact) × (find key_cmp (key_of p) after.facts.paths ≡ Some fact) × (find address_cmp p.sender.sender fact.origins ≡ Some (origin_of before.facts.moment link p))
   unfolding made_path
@@ -276,4 +290,4 @@ module _ (r : Router) (before after : State) (made : Made) (link : ℕ) (p : Pat
 pub path_repeats : (r : Router) (a b c : State) (one other : Made) (link : ℕ) (p : Path) → IsRouter r → IsSound r a → one.event ≡ comes link (contents.Path p) → other.event ≡ comes link (contents.Path p) → one.reply ≡ replies.Done → Step r a one b → Step r b other c → (other.reply ≡ replies.Done) × (other.outputs ≡ []) × (c ≡ b)
 path_repeats r a b c one other link p router sound is again done x y =
     let sound_b = sound_step r a one b router sound x in
-    still_step r b c other (comes link (contents.Path p)) (replied replies.Done [] b) y again (does_again r a b one link p sound x is done sound_b) (done-still r b sound_b (settled_after r a b one link p sound x is done))
+    still_step r b c other (comes link (contents.Path p)) (replied replies.Done [] b) y again (does_again r a b one link p sound x is done sound_b) (done-still r b sound_b (settled_after r a b one link p sound x is done) (stands_after r a b one link p sound x is done router))

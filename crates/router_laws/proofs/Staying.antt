@@ -26,6 +26,7 @@ use Rattle.abstract_paths.specs.Places.{is_up}
 use Rattle.abstract_paths.specs.Tears.{leaves_by}
 use Rattle.abstract_paths.proofs.Alongside.{signalled-same, signalled-stay}
 use Rattle.abstract_paths.specs.Heads.{signalled}
+use Rattle.abstract_router.specs.Assigning.{assigned_anew, assignments_left}
 use Rattle.abstract_router.specs.BypassTunnels.{bypass_tunnels_of, over_at}
 use Rattle.abstract_router.specs.Repairing.{repair_stands, repaired, repairs_left}
 use Rattle.abstract_router.specs.Reserving.{Failed, Granted, PassedOver, Progress, Verdict, carried_on}
@@ -66,7 +67,7 @@ module _ (r : Router) (before : State) (n : ℕ) (key : Key) (path : PathFact) (
   leaves_still link = ap (λ p. option_map_or (leaves_by link) p false) path_stays ∙ ap (λ p. option_map_or (leaves_by link) p false) (sym known)
 
   -- A reservation stands on it still, so it is left.
-  resv_left : (resv : ResvFact) → find key_cmp key before.resvs ≡ Some resv → resv_lives_past n resv ≡ true → find key_cmp key (left_standing r (ticked r before n).after).resvs ≡ Some resv
+  resv_left : (resv : ResvFact) → find key_cmp key before.resvs ≡ Some resv → resv_lives_past n resv ≡ true → find key_cmp key (left_standing r (assigned_anew r (ticked r before n).after)).resvs ≡ Some resv
   unfolding ticked expire_resvs repairs_left
   resv_left resv found refreshed =
       let facts = signalled r (lived before.facts n) in
@@ -76,11 +77,11 @@ module _ (r : Router) (before : State) (n : ℕ) (key : Key) (path : PathFact) (
       ∙ subst (λ o. IfSome o (λ v. stands before.facts (key, v) ≡ true)) found (find-all_row key_cmp key_exact (λ v. stands before.facts v ≡ true) key before.resvs is.standing))
 
   -- So is a repair, where its bypass is up.
-  repair_left : (repair : Repair) (over : Over) → find key_cmp key before.repairs ≡ Some repair → resv_lives_past n repair.resv ≡ true → over_at (bypass_tunnels_of r (left_standing r (ticked r before n).after)) repair.bypass ≡ Some over
-      → find key_cmp key (left_standing r (ticked r before n).after).repairs ≡ Some repair
+  repair_left : (repair : Repair) (over : Over) → find key_cmp key before.repairs ≡ Some repair → resv_lives_past n repair.resv ≡ true → over_at (bypass_tunnels_of r (left_standing r (assigned_anew r (ticked r before n).after))) repair.bypass ≡ Some over
+      → find key_cmp key (left_standing r (assigned_anew r (ticked r before n).after)).repairs ≡ Some repair
   unfolding ticked expire_repairs repairs_left bypass_tunnels_of
   repair_left repair over found refreshed up =
-      let s = resvs_left (ticked r before n).after in
+      let s = resvs_left (assigned_anew r (ticked r before n).after) in
       let stood = subst (λ o. IfSome o (λ v. repair_stands r before (key, v) ≡ true)) found (find-all_row key_cmp key_exact (λ v. repair_stands r before v ≡ true) key before.repairs is.repairs_standing) in
       find-kept (repair_stands r s) key repair (filter (λ v. resv_lives_past n v.1.resv) before.repairs) (is_sorted-filter key_cmp (λ v. resv_lives_past n v.1.resv) before.repairs is.repaired.in_order)
       (find-kept (λ v. resv_lives_past n v.1.resv) key repair before.repairs is.repaired.in_order found refreshed)
@@ -89,11 +90,11 @@ module _ (r : Router) (before : State) (n : ℕ) (key : Key) (path : PathFact) (
 
 -- what is known after a moment, but for labels and for when messages were sent
 after_moment : (r : Router) (before after : State) (made : Made) (n : ℕ) → IsSound r before → AreSettled r before → Step r before made after → made.event ≡ events.Tick n → made.reply ≡ replies.Done
-    → after ≡ with_moments r before (ticked r before n) (labelled made.labels (left_standing r (ticked r before n).after))
+    → after ≡ with_moments r before (ticked r before n) (labelled r made.labels (assignments_left (left_standing r (assigned_anew r (ticked r before n).after))))
 after_moment r before after made n is rests step event done =
     let s = (ticked r before n).after in
-    let rest : State → State = λ t. with_moments r before (ticked r before n) (labelled made.labels (left_standing r t)) in
-    after_tick r before after made n step event done ∙ ap (λ t. rest (repaired r t)) (taken_over-same r s (ticked-settled r before n rests)) ∙ ap rest (repaired-same r s (up_ticked r before n (over-up r before is)))
+    let rest : State → State = λ t. with_moments r before (ticked r before n) (labelled r made.labels (assignments_left (left_standing r t))) in
+    after_tick r before after made n step event done ∙ ap (λ t. rest (repaired r (assigned_anew r t))) (taken_over-same r s (ticked-settled r before n rests)) ∙ ap rest (repaired-same r (assigned_anew r s) (up_ticked r before n (over-up r before is)))
 
 -- A moment takes no reservation that was refreshed in time, and whose path lives on.
 pub refreshed_stays : (r : Router) (before after : State) (made : Made) (n : ℕ) (key : Key) (resv : ResvFact) (path : PathFact) → IsSound r before → AreSettled r before → Step r before made after → made.event ≡ events.Tick n → made.reply ≡ replies.Done

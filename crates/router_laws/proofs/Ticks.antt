@@ -51,6 +51,7 @@ use Rattle.abstract_paths.specs.Time.{tick}
 use Rattle.abstract_paths.proofs.Alongside.{signalled-all, signalled-other, signalled-same}
 use Rattle.abstract_paths.proofs.Heads.{head_known}
 use Rattle.abstract_paths.proofs.PathTable.{path_known}
+use Rattle.label_space.specs.Rests.{resting_past}
 use Rattle.abstract_router.specs.Arrivals.{for_reservations, moment_comes}
 use Rattle.abstract_router.specs.BypassTunnels.{bypass_tunnels_of}
 use Rattle.abstract_router.specs.Lsps.{around_of, lsps_of}
@@ -60,7 +61,7 @@ use Rattle.abstract_router.specs.Protecting.{repair_with, selected}
 use Rattle.abstract_router.specs.Repairing.{new_repairs, repair_of, repair_on, repair_stands, repaired, repairs_left, told_repaired}
 use Rattle.abstract_router.specs.Soundness.{IsSound}
 use Rattle.abstract_router.specs.States.{State}
-use Rattle.abstract_router.specs.Steps.{AreSettled, Step, given_up, is_ready, resvs_left, settled, stands, taken_over, with_moments}
+use Rattle.abstract_router.specs.Steps.{AreSettled, Step, given_up, is_ready, promised, resvs_left, settled, stands, taken_over, with_moments}
 use Rattle.abstract_router.specs.UpstreamLaws.{is_sorted-upstream_sound}
 use Rattle.abstract_router.specs.Upstreams.{upstream_of}
 use Rattle.abstract_router.specs.Wanted.{items_of}
@@ -83,7 +84,7 @@ ticked r s n = record {
   errors = [];
   due = due_items r.refresh_ms s.facts.sent n;
   upstream_due = due_items r.refresh_ms s.sent_upstream n;
-  after = record s { facts = signalled r (lived s.facts n); resvs = reservations.expire_resvs n s.resvs; repairs = reservations.expire_repairs n s.repairs };
+  after = record s { facts = signalled r (lived s.facts n); resvs = reservations.expire_resvs n s.resvs; repairs = reservations.expire_repairs n s.repairs; resting = resting_past n s.resting };
   is_silent = false;
 }
 
@@ -140,7 +141,7 @@ module _ (r : Router) (before after : State) (made : Made) (n : ℕ) (x : Step r
   unfolding ticked
   after_tick = led r before after made (events.Tick n) (ticked r before n) x is does
 
-  sends_then : made.outputs ≡ outputs_of r before (told_repaired r (taken_over r (ticked r before n).after)) (due_items r.refresh_ms before.facts.sent n) (due_items r.refresh_ms before.sent_upstream n) after
+  sends_then : made.outputs ≡ outputs_of r before (told_repaired r (promised r (ticked r before n).after)) (due_items r.refresh_ms before.facts.sent n) (due_items r.refresh_ms before.sent_upstream n) after
   unfolding ticked
   sends_then = sends r before after made (events.Tick n) (ticked r before n) x is does
 
@@ -202,13 +203,13 @@ module _ (r : Router) (before after : State) (made : Made) (n : ℕ) (x : Step r
 
       by : (path : Option PathFact) → Lives (option_and_then (repair_on r s resv.0 resv.1) path)
       by None = tt
-      by (Some path) = cond_both (leaves_by resv.1.link path && not (is_up s.facts.up resv.1.link)) _ _ Lives (λ lost. chosen (selected (around_of r s) resv.0 path resv.1)) (λ other. tt)
+      by (Some path) = cond_both (leaves_by resv.1.link path && not (is_up s.facts.up resv.1.link)) _ _ Lives (λ lost. chosen (selected (around_of r s) resv.0 path (find key_cmp resv.0 s.assignments) resv.1)) (λ other. tt)
 
   -- and no repair
   pub no_repair_expired : AllByRecursion (λ repair. n < repair.1.resv.expiry) after.repairs
   unfolding ticked reservations.expire_resvs reservations.expire_repairs taken_over repaired repairs_left new_repairs
   no_repair_expired =
-      let s = taken_over r (ticked r before n).after in
+      let s = promised r (ticked r before n).after in
       let Lives : Key × Repair → Type 0 = λ repair. n < repair.1.resv.expiry in
       let again = λ (resv : Key × ResvFact). option_map {U = Key × Repair} (λ repair. (resv.0, repair)) (repair_of r s resv) in
       subst (λ (t : State). AllByRecursion Lives t.repairs) (sym after_tick)
@@ -370,7 +371,7 @@ module _ (r : Router) (before after : State) (made : Made) (n at : ℕ) (sound :
       let due = due_items r.refresh_ms before.facts.sent n in
       let upstream_due = due_items r.refresh_ms before.sent_upstream n in
       let out = goes_out item_cmp item_total item_exact r.refresh_ms n at (items_of r before) (items_of r after) before.facts.sent item output in_order wanted sent waited in
-      let errors = errors_out after.facts.up (told_repaired r (taken_over r (ticked r before n).after)) in
+      let errors = errors_out after.facts.up (told_repaired r (promised r (ticked r before n).after)) in
       let tears = between item_cmp (tear_for after.facts.up) (items_of r before) (items_of r after) in
       let resv_tears = between upstream_cmp (tear_for after.facts.up) (upstream_of r before) (upstream_of r after) in
       let sends = between item_cmp (send_for item_cmp due) (items_of r after) (items_of r before) in
@@ -392,7 +393,7 @@ module _ (r : Router) (before after : State) (made : Made) (n at : ℕ) (sound :
       let due = due_items r.refresh_ms before.facts.sent n in
       let upstream_due = due_items r.refresh_ms before.sent_upstream n in
       let out = goes_out upstream_cmp upstream_total upstream_exact r.refresh_ms n at (upstream_of r before) (upstream_of r after) before.sent_upstream upstream output in_order wanted sent waited in
-      let errors = errors_out after.facts.up (told_repaired r (taken_over r (ticked r before n).after)) in
+      let errors = errors_out after.facts.up (told_repaired r (promised r (ticked r before n).after)) in
       let tears = between item_cmp (tear_for after.facts.up) (items_of r before) (items_of r after) in
       let resv_tears = between upstream_cmp (tear_for after.facts.up) (upstream_of r before) (upstream_of r after) in
       let sends = between item_cmp (send_for item_cmp due) (items_of r after) (items_of r before) in

@@ -56,6 +56,7 @@ use Rattle.abstract_paths.specs.Places.{is_up}
 use Rattle.abstract_paths.specs.StampLaws.{none-is}
 use Rattle.abstract_paths.specs.Tears.{err_of_path, leaves_by, path_err_arrival, path_tear_arrival}
 use Rattle.abstract_paths.specs.TouchedLaws.{find-made}
+use Rattle.abstract_router.specs.Assigning.{assignments_left, has_share}
 use Rattle.abstract_router.specs.Arrivals.{arrival_by, arrival, is_done, labelled_path_arrival, message_arrival, reading_arrival, routed_arrival, stack_arrival, unknown_routed_arrival, unknown_stack_arrival}
 use Rattle.abstract_router.specs.BypassTunnels.{bypass_tunnels_of, over_at}
 use Rattle.lsr_facts.specs.Errors.{unknown_style}
@@ -67,7 +68,7 @@ use Rattle.abstract_router.specs.Repairing.{repair_stands, repairs_left}
 use Rattle.abstract_router.specs.Returning.{all_returned, carried_back, next_returned, renewed, repair_from, returned_keys, returned_resv, returned_tear, the_one, torn_back}
 use Rattle.abstract_router.specs.Soundness.{IsSound}
 use Rattle.abstract_router.specs.States.{State, is_one_of}
-use Rattle.abstract_router.specs.Steps.{Step, given_up, known_after, labelled, left_standing, resvs_left, settled, stands, taken_over, with_moments}
+use Rattle.abstract_router.specs.Steps.{Step, given_up, known_after, labelled, left_standing, promised, resvs_left, settled, stands, taken_over, with_moments}
 use Rattle.abstract_router.specs.Tearing.{err_onward, is_resv_torn_by, resv_err_passed_on, resv_err_arrival, resv_tear_arrival, stack_err_arrival, stack_err_onward}
 use Rattle.router_soundness.proofs.OtherWays.{returned_err_by, returned_unknown_by}
 use Rattle.router_soundness.proofs.Silence.{silent_keeps}
@@ -302,7 +303,7 @@ module _ (r : Router) (touched : Key → Bool) (s : State) (is : IsSound r s) wh
   labelled_path-keeps : (link : ℕ) (p : Path) → AreTouched touched (key_of p ∷ []) → Keeps touched s (labelled_path_arrival r s link p).after
   unfolding labelled_path_arrival
   labelled_path-keeps link p among =
-      cond_both (is_done (path_arrival r s.facts link p).reply && is_none (find key_cmp (key_of p) s.facts.paths) && not (has_free_label r s.labels)) _ _ (λ (o : Outcome). Keeps touched s o.after) (λ full. stays)
+      cond_both (is_done (path_arrival r s.facts link p).reply && is_none (find key_cmp (key_of p) s.facts.paths) && not (has_free_label r s.labels s.resting)) _ _ (λ (o : Outcome). Keeps touched s o.after) (λ full. stays)
       (λ room. of_paths-keeps (path_arrival r s.facts link p) (path-keeps touched s.facts is.paths.paths.in_order r link p (one touched (key_of p) among)))
 
   message-keeps : (link : ℕ) (content : Content) → is_up s.facts.up link ≡ true → AreTouched touched (touched_by_message r s link content) → Keeps touched s (message_arrival r s link content).after
@@ -373,7 +374,7 @@ module _ (r : Router) (touched : Key → Bool) (s : State) (is : IsSound r s) wh
       by None among = keeps
       by (Some repair) among =
           let fact = resv_by progress.state.facts.moment repair.1.resv.link style v d in
-          renewal-keeps v d repair fact progress (verdict_by_style r progress.state repair.0 fact true) among keeps
+          renewal-keeps v d repair fact progress (verdict_by_style r progress.state repair.0 fact (has_share progress.state repair.0 fact)) among keeps
 
   -- what comes in a Routed frame
   returned_resv-keeps : (v : Resv) → AreTouched touched (touched_by_returned_resv r s v) → Keeps touched s (returned_resv r s v).after
@@ -540,19 +541,31 @@ module _ (r : Router) (touched : Key → Bool) (s : State) (is : IsSound r s) wh
   unfolding repairs_left bypass_tunnels_of
   step-keeps o chosen same among keeps = by o.is_silent same
     where
-      over : Keeps touched s (taken_over r o.after)
-      over = over-keeps o.after among keeps
+      over : Keeps touched s (promised r o.after)
+      over =
+          let taken = over-keeps o.after among keeps in
+          record {
+            up = taken.up;
+            labels = taken.labels;
+            paths_in_order = taken.paths_in_order;
+            resvs_in_order = taken.resvs_in_order;
+            repairs_in_order = taken.repairs_in_order;
+            over_up = taken.over_up;
+            paths = taken.paths;
+            resvs = taken.resvs;
+            repairs = taken.repairs;
+          }
 
       by : (silent : Bool) → (silent ≡ true → o.after ≡ s) → IsLeft r touched s (if silent then o.after else with_moments r s o (settled r chosen o.after))
       by true same = subst (IsLeft r touched s) (sym (same refl)) left-itself
       by false same =
-          subst (λ (t : State). IsLeft r touched s (with_moments r s o (labelled chosen (left_standing r t)))) (sym (repaired-same r (taken_over r o.after) over.over_up))
+          subst (λ (t : State). IsLeft r touched s (with_moments r s o (labelled r chosen (assignments_left (left_standing r t))))) (sym (repaired-same r (promised r o.after) over.over_up))
           (record {
             up = over.up;
             paths = over.paths;
-            resvs = resv-stays (taken_over r o.after) over;
-            labels = λ key apart. label-stays (taken_over r o.after) over key apart chosen;
-            repairs = repair-stays (taken_over r o.after) over;
+            resvs = resv-stays (promised r o.after) over;
+            labels = λ key apart. label-stays (promised r o.after) over key apart chosen;
+            repairs = repair-stays (promised r o.after) over;
           })
 
 -- a message that is silent changes nothing

@@ -205,7 +205,7 @@ module _ (r : Router) (s : State) (rests : AreSettled r s) where
   path_moves : (link : ℕ) (p : Path) → Moves r s (labelled_path_arrival r s link p).after
   unfolding labelled_path_arrival
   path_moves link p =
-      cond_both (is_done (path_arrival r s.facts link p).reply && is_none (find key_cmp (key_of p) s.facts.paths) && not (has_free_label r s.labels)) (of_paths s (failed r s.facts link p no_label)) (of_paths s (path_arrival r s.facts link p)) (λ (o : Outcome). Moves r s o.after)
+      cond_both (is_done (path_arrival r s.facts link p).reply && is_none (find key_cmp (key_of p) s.facts.paths) && not (has_free_label r s.labels s.resting)) (of_paths s (failed r s.facts link p no_label)) (of_paths s (path_arrival r s.facts link p)) (λ (o : Outcome). Moves r s o.after)
       (λ full. moves_paths (failed r s.facts link p no_label) refl) (λ room. moves_paths (path_arrival r s.facts link p) (path_tunnels link p))
 
   -- a PathTear

@@ -27,6 +27,7 @@ use Rattle.abstract_paths.specs.Relays.{relay, relayed_by}
 use Rattle.abstract_paths.specs.Restarts.{all_cancelled, started}
 use Rattle.abstract_paths.specs.Routing.{next_hop, route_to}
 use Rattle.abstract_paths.specs.Soundness.{IsStanding}
+use Rattle.router_soundness.specs.Assigned.{AreStanding}
 use Rattle.abstract_router.specs.Arrivals.{lost, outcome}
 use Rattle.abstract_router.specs.Outcomes.{of_paths, replied}
 use Rattle.abstract_router.specs.Soundness.{IsSound}
@@ -59,10 +60,10 @@ event_changes r s number true = refl
 event_changes r s number false = refl
 
 -- A link that is so already stays, and nothing is sent.
-pub link_repeats : (r : Router) (before after : State) (made : Made) (number : ℕ) (so : Bool) → IsRouter r → IsSound r before → AreSettled r before → HasLink r number → is_up before.facts.up number ≡ so → Step r before made after → made.event ≡ link_event number so → (made.reply ≡ replies.Done) × (made.outputs ≡ []) × (after ≡ before)
-link_repeats r before after made number so router sound rests there up x is =
+pub link_repeats : (r : Router) (before after : State) (made : Made) (number : ℕ) (so : Bool) → IsRouter r → IsSound r before → AreSettled r before → AreStanding r before → HasLink r number → is_up before.facts.up number ≡ so → Step r before made after → made.event ≡ link_event number so → (made.reply ≡ replies.Done) × (made.outputs ≡ []) × (after ≡ before)
+link_repeats r before after made number so router sound rests stand there up x is =
     still_step r before after made (link_event number so) (replied replies.Done [] before) x is
-    (event_changes r before number so ∙ ap (of_paths before) (link_stays r before.facts number so router sound.paths there up)) (done-still r before sound rests)
+    (event_changes r before number so ∙ ap (of_paths before) (link_stays r before.facts number so router sound.paths there up)) (done-still r before sound rests stand)
 
 -- The way of a path is kept where the explicit route is the same.
 pub way_kept : (n : Place) (fact : PathFact) (p : Path) → is_same_route fact.given p.route ≡ true → way_for n (Some fact) p ≡ Ok (way_of fact)
@@ -83,9 +84,9 @@ start_rest r before after made x is =
     (answered r before after made events.Start o x is refl, sends r before after made events.Start o x is refl, led r before after made events.Start o x is refl)
 
 -- A message for another router.
-relay_kept : (r : Router) (s : State) (labels : List (Key × ℕ)) (m : Relay) → IsSound r s → AreSettled r s → known_after r s labels (of_paths s (relay r s.facts m)) ≡ s
+relay_kept : (r : Router) (s : State) (labels : List (Key × ℕ)) (m : Relay) → IsSound r s → AreSettled r s → AreStanding r s → known_after r s labels (of_paths s (relay r s.facts m)) ≡ s
 unfolding relay
-relay_kept r s labels m sound rests =
+relay_kept r s labels m sound rests stand =
     cond_both (is_none (link_at r m.link)) _ _ Kept (λ none. refl)
     (λ there. cond_both (not (is_up s.facts.up m.link)) _ _ Kept (λ down. refl) (λ up. by (route_to (place_of r s.facts) m.to)))
   where
@@ -94,7 +95,7 @@ relay_kept r s labels m sound rests =
 
     by : (way : Option ℕ) → Kept (option_map_or (λ link. paths.done (relayed_by m link ∷ []) s.facts) way (paths.refused s.facts NoMatch))
     by None = refl
-    by (Some link) = known-same r s sound rests replies.Done (relayed_by m link ∷ []) labels
+    by (Some link) = known-same r s sound rests stand replies.Done (relayed_by m link ∷ []) labels
 
-pub relay_rest : (r : Router) (before after : State) (made : Made) (m : Relay) → IsSound r before → AreSettled r before → Step r before made after → made.event ≡ events.Relay m → after ≡ before
-relay_rest r before after made m sound rests x is = led r before after made (events.Relay m) (of_paths before (relay r before.facts m)) x is refl ∙ relay_kept r before made.labels m sound rests
+pub relay_rest : (r : Router) (before after : State) (made : Made) (m : Relay) → IsSound r before → AreSettled r before → AreStanding r before → Step r before made after → made.event ≡ events.Relay m → after ≡ before
+relay_rest r before after made m sound rests stand x is = led r before after made (events.Relay m) (of_paths before (relay r before.facts m)) x is refl ∙ relay_kept r before made.labels m sound rests stand

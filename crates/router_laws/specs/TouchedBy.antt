@@ -1,5 +1,5 @@
 -- The LSPs that a message touches.
-use Rattle.std.specs.Prelude.{◌++◌, ℕ, false, true, List, [], ◌∷◌, filter, find as find_first, map, Option, None}
+use Rattle.std.specs.Prelude.{◌++◌, ℕ, false, List, [], ◌∷◌, filter, find as find_first, map, Option, None}
 use Rattle.std.specs.Option.{option_map, option_map_or, option_to_list}
 use Rattle.rsvp_contents.specs.declared.message.Reading.TheVariants as readings
 use Rattle.rsvp_contents.specs.declared.message.Reading.{Reading}
@@ -20,6 +20,7 @@ use Rattle.abstract_paths.specs.declared.ways.Arrive.{Arrive}
 use Rattle.abstract_paths.specs.Merging.{came_through, may_join}
 use Rattle.abstract_paths.specs.Outcomes.{lsp}
 use Rattle.abstract_paths.specs.Paths.{key_of}
+use Rattle.abstract_router.specs.Assigning.{has_share}
 use Rattle.abstract_router.specs.Preempting.{giving_way}
 use Rattle.abstract_router.specs.Reserving.{Failed, Granted, PassedOver, Progress, Verdict, key_in, next_descriptor, resv_by, verdict_by_style, verdict_of}
 use Rattle.abstract_router.specs.Returning.{next_returned, repair_from, returned_keys, the_one}
@@ -89,7 +90,8 @@ touched_by_renewal key Granted = key ∷ []
 
 abbrev pub touched_by_renewed : Router → ResvStyle → Resv → FlowDescriptor → State → Key × Repair → List Key
 touched_by_renewed r style v d s repair =
-    touched_by_renewal repair.0 (verdict_by_style r s repair.0 (resv_by s.facts.moment repair.1.resv.link style v d) true)
+    let fact = resv_by s.facts.moment repair.1.resv.link style v d in
+    touched_by_renewal repair.0 (verdict_by_style r s repair.0 fact (has_share s repair.0 fact))
 
 -- those that the descriptors of a Resv from the end of a bypass touch, one after the other
 abbrev pub touched_by_returned : Router → ResvStyle → Resv → Progress → List FlowDescriptor → List Key

@@ -1,5 +1,5 @@
 -- What the laws speak of.
-use Rattle.std.specs.Prelude.{◌<◌, ℕ, Bool, true, false, is_some, Option}
+use Rattle.std.specs.Prelude.{◌<◌, ◌≢◌, ℕ, Bool, true, false, is_some, Option}
 use Rattle.std.specs.Bool.{then_some}
 use Rattle.std.specs.List.{AllByRecursion}
 use Rattle.std.specs.declared.net.ipv4_addr.Ipv4Addr.{Ipv4Addr}
@@ -11,8 +11,13 @@ use Rattle.lsr_facts.specs.declared.repair.Repair.{Repair}
 pub use Rattle.abstract_paths.specs.Arrivals.{comes}
 use Rattle.abstract_paths.specs.declared.events.Event.{Event}
 use Rattle.abstract_paths.specs.declared.events.Event.TheVariants as events
+use Rattle.abstract_paths.specs.declared.events.Made.{Made}
 use Rattle.abstract_router.specs.BypassTunnels.{bypass_tunnels_of, over_at}
 use Rattle.abstract_router.specs.States.{State}
+
+-- what happened isn't a restart
+abbrev pub IsNoRestart : Made → Type 0
+IsNoRestart made = made.event ≢ events.Restart
 
 -- a link comes up, or it goes down
 abbrev pub link_event : ℕ → Bool → Event

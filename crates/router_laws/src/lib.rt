@@ -2,7 +2,9 @@
 //! contract of a function that does nothing.
 #![tactic(auto)]
 
+pub mod labels;
 pub mod moments;
+pub mod promises;
 pub mod reservations;
 pub mod stays;
 pub mod tunnels;

@@ -18,6 +18,7 @@ ghost use Rattle.lsr_facts.specs.declared.repair.Over.{Over};
 ghost use Rattle.lsr_facts.specs.declared.repair.Repair.{Repair};
 ghost use Rattle.lsr_facts.specs.declared.resv_fact.ResvFact.{ResvFact};
 ghost use Rattle.lsr_facts.specs.declared.resv_fact.ResvStyle.{ResvStyle};
+ghost use Rattle.router_soundness.specs.Assigned.{AreStanding};
 ghost use Rattle.router_laws.specs.TouchedBy.{touched_by};
 ghost use Rattle.router_laws.specs.Words.{where_up};
 ghost use Rattle.abstract_router.specs.BypassTunnels.{bypass_tunnels_of, over_at};
@@ -93,7 +94,7 @@ pub fn a_message_touches_its_own_lsps()
 /// at the same moment, while each of its LSPs has the very reservation that it asks for.
 pub fn repeated_reservations_are_silent()
     ensures { (r : Router) (before after : State) (made : Made) (link : ℕ) (v : Resv) (style : ResvStyle) →
-        IsSound r before → AreSettled r before → Step r before made after →
+        IsSound r before → AreSettled r before → AreStanding r before → Step r before made after →
         made.event ≡ comes link (contents.Resv v) →
         style_of v.style ≡ Some style →
         All (λ d. find key_cmp (key_in v d) before.resvs ≡ Some (resv_by before.facts.moment link style v d))

@@ -23,6 +23,7 @@ ghost use Rattle.abstract_router.specs.Steps.{AreSettled, Step};
 ghost use Rattle.abstract_router.specs.Touched.{IsSameElsewhere};
 ghost use Rattle.abstract_router.specs.Upstreams.{upstream_of};
 ghost use Rattle.abstract_router.specs.Wanted.{items_of};
+ghost use Rattle.router_soundness.specs.Assigned.{AreStanding};
 ghost use Rattle.router_laws.specs.Words.{comes, link_event};
 
 /// A Path that is done, and comes again over the same link at the same moment, is done again; nothing is sent for
@@ -39,7 +40,7 @@ pub fn paths_repeat_silently()
 /// nothing changes.
 pub fn links_repeat_silently()
     ensures { (r : Router) (before after : State) (made : Made) (number : ℕ) (so : Bool) →
-        IsRouter r → IsSound r before → AreSettled r before → HasLink r number → is_up before.facts.up number ≡ so →
+        IsRouter r → IsSound r before → AreSettled r before → AreStanding r before → HasLink r number → is_up before.facts.up number ≡ so →
         Step r before made after → made.event ≡ link_event number so →
         (made.reply ≡ replies.Done) × (made.outputs ≡ []) × (after ≡ before) }
 {}
@@ -51,9 +52,9 @@ pub fn same_routes_keep_their_way()
         is_same_route fact.given p.route ≡ true → way_for n (Some fact) p ≡ Ok (way_of fact) }
 {}
 
-/// A restart takes what messages set up, paths, reservations, repairs and labels, and leaves the router cold; links,
-/// static routes, bypasses and the moment stay, and so do tunnels, but their changes are given up. No message goes out for
-/// it, no tear either.
+/// A restart takes what messages set up, paths, reservations, repairs, labels and what bypasses promised, and leaves the
+/// router cold; no label rests then. Links, static routes, bypasses and the moment stay, and so do tunnels, but their
+/// changes are given up. No message goes out for it, no tear either.
 pub fn restarts_lose_what_messages_set_up()
     ensures { (r : Router) (before after : State) (made : Made) →
         Step r before made after → made.event ≡ events.Restart →
@@ -77,14 +78,14 @@ pub fn starts_change_nothing_else()
 /// A message for another router changes nothing that is known, be it passed on or refused.
 pub fn relays_change_nothing()
     ensures { (r : Router) (before after : State) (made : Made) (message : Relay) →
-        IsSound r before → AreSettled r before →
+        IsSound r before → AreSettled r before → AreStanding r before →
         Step r before made after → made.event ≡ events.Relay message → after ≡ before }
 {}
 
 /// What is wanted of an LSP comes of what is known of it, and of what all LSPs share: where the same links are up, the
 /// same static routes stand, and bypasses run over what they ran over, before and after, each LSP that isn't touched has
 /// the same Paths and Resvs wanted of it. An LSP that isn't touched has the path, the label, the reservation and the repair
-/// that it had, but for when they expire.
+/// that it had, but for when they expire, and is promised what it was of a bypass.
 pub fn what_is_wanted_comes_of_its_lsps()
     ensures paths { (r : Router) (touched : Key → Bool) (before after : State) →
         T (is_sorted key_cmp before.facts.paths) → T (is_sorted key_cmp after.facts.paths) →

@@ -36,6 +36,7 @@ ghost use Rattle.abstract_router.specs.Soundness.{IsSound};
 ghost use Rattle.abstract_router.specs.States.{State, with_facts};
 ghost use Rattle.abstract_router.specs.Steps.{AreSettled, Run, Step, opening};
 ghost use Rattle.abstract_router.specs.Tables.{look_tunnel};
+ghost use Rattle.router_soundness.specs.Assigned.{AreStanding};
 ghost use Rattle.router_laws.specs.Words.{comes};
 
 /// No LSP that is to take the place of a tunnel's current one is reserved and waits: not when the router is opened, and
@@ -137,7 +138,7 @@ pub fn a_path_for_a_heads_key_is_refused()
 /// changes (RFC 2205, 3.1.7 and A.5): no LSP goes for it, and no change is given up.
 pub fn errors_at_the_head_are_noted()
     ensures { (r : Router) (before after : State) (made : Made) (link : ℕ) (e : PathErr) (fact : PathFact) →
-        IsSound r before → AreSettled r before → is_up before.facts.up link ≡ true →
+        IsSound r before → AreSettled r before → AreStanding r before → is_up before.facts.up link ≡ true →
         find key_cmp (lsp e.session e.sender) before.facts.paths ≡ Some fact → leaves_by link fact ≡ true →
         is_head r before.facts.tunnels (lsp e.session e.sender) ≡ true →
         Step r before made after → made.event ≡ comes link (contents.PathErr e) →

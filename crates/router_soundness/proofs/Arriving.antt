@@ -53,8 +53,8 @@ module _ (r : Router) (s : State) (p : Path) (is : IsSound r s) where
       ap not (subst (λ (o : Option PathFact). IfSome o (λ f. standing.IsHeadOf r s.facts.tunnels (key_of p, f))) found (head_known r s.facts.tunnels (key_of p) s.facts.paths is.paths.heads) ∙ other)
 
   -- the path that is put can be labelled
-  can : (fact : PathFact) (o : Option PathFact) → is_head r s.facts.tunnels (key_of p) ≡ false → find key_cmp (key_of p) s.facts.paths ≡ o → (true && is_none o && not (has_free_label r s.labels)) ≡ false → CanLabel r s.labels (put key_cmp (key_of p) fact s.facts.paths)
-  can fact (Some old) other found room = inl (put_known r s.labels s.facts (labelled r s is) (key_of p) old fact found (ours old other found))
+  can : (fact : PathFact) (o : Option PathFact) → is_head r s.facts.tunnels (key_of p) ≡ false → find key_cmp (key_of p) s.facts.paths ≡ o → (true && is_none o && not (has_free_label r s.labels s.resting)) ≡ false → CanLabel r s (put key_cmp (key_of p) fact s.facts.paths)
+  can fact (Some old) other found room = inl (put_known r s (labelled r s is) (key_of p) old fact found (ours old other found))
   can fact None other found room =
       inr (
         key_of p,
@@ -63,22 +63,22 @@ module _ (r : Router) (s : State) (p : Path) (is : IsSound r s) where
         not-false _ room,
       )
 
-  path-keeps : (o : paths.PathOutcome) → Puts r s.facts p o → (is_done o.reply && is_none (find key_cmp (key_of p) s.facts.paths) && not (has_free_label r s.labels)) ≡ false → Keeps r s.labels s.facts o
+  path-keeps : (o : paths.PathOutcome) → Puts r s.facts p o → (is_done o.reply && is_none (find key_cmp (key_of p) s.facts.paths) && not (has_free_label r s.labels s.resting)) ≡ false → Keeps r s o
   path-keeps o puts room = by_silence o.is_silent puts
     where
-      by : ((o.after.paths ≡ s.facts.paths) ⊎ PutsOwn r s.facts p o) → CanLabel r s.labels o.after.paths
+      by : ((o.after.paths ≡ s.facts.paths) ⊎ PutsOwn r s.facts p o) → CanLabel r s o.after.paths
       by (inl same) = inl (subst (λ ps. AllByRecursion (HasLabel s.labels) ps) (sym same) (labelled r s is))
-      by (inr made) = subst (CanLabel r s.labels) (sym made.3) (can made.0 (find key_cmp (key_of p) s.facts.paths) made.1 refl (subst (λ d. (d && is_none (find key_cmp (key_of p) s.facts.paths) && not (has_free_label r s.labels)) ≡ false) made.2 room))
+      by (inr made) = subst (CanLabel r s) (sym made.3) (can made.0 (find key_cmp (key_of p) s.facts.paths) made.1 refl (subst (λ d. (d && is_none (find key_cmp (key_of p) s.facts.paths) && not (has_free_label r s.labels s.resting)) ≡ false) made.2 room))
 
-      by_silence : (silent : Bool) → PutsBy r s.facts p silent o → KeepsBy r s.labels s.facts silent o.after
+      by_silence : (silent : Bool) → PutsBy r s.facts p silent o → KeepsBy r s silent o.after
       by_silence true same = same
-      by_silence false made = (made.0, by made.1)
+      by_silence false made = (made.0, made.1, by made.2)
 
 -- a Path
 path-leaves : (r : Router) (s : State) (link : ℕ) (p : Path) → IsSound r s → LeavesStanding r (path_arrival r s.facts link p) → Leaves r s (labelled_path_arrival r s link p)
 unfolding labelled_path_arrival
 path-leaves r s link p is leaves =
-    cond_both (is_done (path_arrival r s.facts link p).reply && is_none (find key_cmp (key_of p) s.facts.paths) && not (has_free_label r s.labels)) _ _ (Leaves r s)
+    cond_both (is_done (path_arrival r s.facts link p).reply && is_none (find key_cmp (key_of p) s.facts.paths) && not (has_free_label r s.labels s.resting)) _ _ (Leaves r s)
     (λ full. unchanged r s is)
     (λ room. of_paths-leaves r s (path_arrival r s.facts link p) is leaves (path-keeps r s p is (path_arrival r s.facts link p) (puts_path r s.facts link p) room))
 
@@ -88,10 +88,10 @@ unfolding path_err_arrival path_tear_arrival
 message-leaves r s link (contents.Path p) router runs there is message = path-leaves r s link p is (path_arrival-stands r s.facts link p router runs is.paths there (path_fits p message))
 message-leaves r s link (contents.Resv v) router runs there is message = resv-leaves r s link v is (resv_fits v message)
 message-leaves r s link (contents.PathErr e) router runs there is message =
-    of_paths-leaves r s (path_err_arrival r s.facts link e) is (path_err_passed_on-stands r s.facts link e (find key_cmp (lsp e.session e.sender) s.facts.paths) is.paths) (keeps_passed r s.labels s.facts (labelled r s is) link e (find key_cmp (lsp e.session e.sender) s.facts.paths))
+    of_paths-leaves r s (path_err_arrival r s.facts link e) is (path_err_passed_on-stands r s.facts link e (find key_cmp (lsp e.session e.sender) s.facts.paths) is.paths) (keeps_passed r s (labelled r s is) link e (find key_cmp (lsp e.session e.sender) s.facts.paths))
 message-leaves r s link (contents.ResvErr e) router runs there is message = resv_err-leaves r s link e is
 message-leaves r s link (contents.PathTear t) router runs there is message =
-    of_paths-leaves r s (path_tear_arrival s.facts link t) is (torn-stands r s.facts link t (find key_cmp (lsp t.session t.sender) s.facts.paths) runs is.paths refl) (keeps_torn r s.labels s.facts (labelled r s is) link t (find key_cmp (lsp t.session t.sender) s.facts.paths) refl)
+    of_paths-leaves r s (path_tear_arrival s.facts link t) is (torn-stands r s.facts link t (find key_cmp (lsp t.session t.sender) s.facts.paths) runs is.paths refl) (keeps_torn r s (labelled r s is) link t (find key_cmp (lsp t.session t.sender) s.facts.paths) refl)
 message-leaves r s link (contents.ResvTear t) router runs there is message = resv_tear-leaves r s link t is
 
 -- or with an object that it doesn't know
@@ -107,11 +107,11 @@ reading-leaves r s link (readings.Unknown (contents.ResvTear t) class ctype) rou
 
 -- a message that comes through a stack of labels
 stack-leaves : (r : Router) (s : State) (content : Content) → s.facts.cold ≡ false → IsSound r s → Leaves r s (stack_arrival r s content)
-stack-leaves r s (contents.Path p) runs is = of_paths-leaves r s (stack_path_arrival s.facts p) is (stack_path-stands r s.facts p runs is.paths) (keeps_stack_path r s.labels s.facts (labelled r s is) p is.paths.paths.in_order)
+stack-leaves r s (contents.Path p) runs is = of_paths-leaves r s (stack_path_arrival s.facts p) is (stack_path-stands r s.facts p runs is.paths) (keeps_stack_path r s (labelled r s is) p is.paths.paths.in_order)
 stack-leaves r s (contents.Resv v) runs is = is
 stack-leaves r s (contents.PathErr e) runs is = is
 stack-leaves r s (contents.ResvErr e) runs is = stack_err-leaves r s e is
-stack-leaves r s (contents.PathTear t) runs is = of_paths-leaves r s (stack_tear_arrival s.facts t) is (stack_tear-stands r s.facts t runs is.paths) (keeps_stack_tear r s.labels s.facts (labelled r s is) t is.paths.paths.in_order)
+stack-leaves r s (contents.PathTear t) runs is = of_paths-leaves r s (stack_tear_arrival s.facts t) is (stack_tear-stands r s.facts t runs is.paths) (keeps_stack_tear r s (labelled r s is) t is.paths.paths.in_order)
 stack-leaves r s (contents.ResvTear t) runs is = is
 
 -- one that comes in a Routed frame

@@ -25,8 +25,8 @@ sound_bare r facts is = record {
   repaired = record { in_order = tt; each = tt; apart = tt };
   repairs_standing = tt;
   labels = record { of_lsps = refl; from_first = tt; to_last = tt; apart = tt };
-  no_assignments = refl;
-  no_rests = refl;
+  assigned = record { in_order = tt; held = tt; capable = tt; within = λ number. omega arith; served = tt };
+  resting = record { in_order = tt; each = tt; apart = tt };
   sent = refl;
   sent_upstream = refl;
 }

@@ -36,20 +36,20 @@ found_in p from (suc count) any =
     ] refl any
 
 -- where a label is free, it may be given
-free_label : (r : Router) (labels : List (Key × ℕ)) → r.labels.first ≤ r.labels.last → has_free_label r labels ≡ true → (label : ℕ) × MayBeGiven r labels label
+free_label : (r : Router) (before : State) → r.labels.first ≤ r.labels.last → has_free_label r before.labels before.resting ≡ true → (label : ℕ) × MayBeGiven r before.labels before.resting label
 unfolding has_free_label
-free_label r labels some free =
-    let found = found_in (is_free labels) r.labels.first (r.labels.last + 1 - r.labels.first) free in
+free_label r before some free =
+    let found = found_in (is_free before.labels before.resting) r.labels.first (r.labels.last + 1 - r.labels.first) free in
     (found.0, record { from_first = found.1; to_last = omega (arith, found.2, some); free = found.3 })
 
 -- Labels can be chosen.
-pub labels_to_choose : (r : Router) (labels : List (Key × ℕ)) (paths : List (Key × PathFact)) → r.labels.first ≤ r.labels.last → T (is_sorted key_cmp paths) → CanLabel r labels paths → (chosen : List (Key × ℕ)) × IsLabelling r labels paths chosen
+pub labels_to_choose : (r : Router) (before : State) (paths : List (Key × PathFact)) → r.labels.first ≤ r.labels.last → T (is_sorted key_cmp paths) → CanLabel r before paths → (chosen : List (Key × ℕ)) × IsLabelling r before paths chosen
 unfolding IsDistinct
-labels_to_choose r labels paths some sorted can = by (new_keys-few r labels paths sorted can)
+labels_to_choose r before paths some sorted can = by (new_keys-few r before paths sorted can)
   where
-    given : (key : Key) → new_keys labels paths ≡ key ∷ [] → ((label : ℕ) × MayBeGiven r labels label) → (chosen : List (Key × ℕ)) × IsLabelling r labels paths chosen
+    given : (key : Key) → new_keys before.labels paths ≡ key ∷ [] → ((label : ℕ) × MayBeGiven r before.labels before.resting label) → (chosen : List (Key × ℕ)) × IsLabelling r before paths chosen
     given key one label = ((key, label.0) ∷ [], record { of_new = sym one; given = (label.1, tt); apart = (tt, tt) })
 
-    by : ((new_keys labels paths ≡ []) ⊎ ((key : Key) × (new_keys labels paths ≡ key ∷ []) × (has_free_label r labels ≡ true))) → (chosen : List (Key × ℕ)) × IsLabelling r labels paths chosen
+    by : ((new_keys before.labels paths ≡ []) ⊎ ((key : Key) × (new_keys before.labels paths ≡ key ∷ []) × (has_free_label r before.labels before.resting ≡ true))) → (chosen : List (Key × ℕ)) × IsLabelling r before paths chosen
     by (inl none) = ([], record { of_new = sym none; given = tt; apart = tt })
-    by (inr one) = given one.0 one.1 (free_label r labels some one.2)
+    by (inr one) = given one.0 one.1 (free_label r before some one.2)

@@ -3,7 +3,7 @@ use Rattle.std.specs.Prelude.{◌≡◌, ℕ, ◌^◌, Bool, true, false, not, n
 use Rattle.std.specs.List.{AllByRecursion}
 use Rattle.std.specs.Option.{option_map_or}
 use Rattle.std.proofs.Common.{refl, ap, sym, subst, inl, arith}
-use Rattle.std.proofs.lemmas.Bool.{cond_both, ltb-true}
+use Rattle.std.proofs.lemmas.Bool.{cond_both, ltb-false, ltb-true}
 use Rattle.sorted_rows.specs.ListLaws.{all-map, all-both, all-filter, all-filter_passes}
 use Rattle.lsr_facts.specs.Lifetimes as lifetimes
 use Rattle.lsr_facts.specs.Routers.{IsRouter, link_at}
@@ -41,16 +41,19 @@ use Rattle.abstract_paths.specs.Time.{tick}
 use Rattle.router_soundness.proofs.Holding.{held_where, held_with_facts, held_with_repairs}
 use Rattle.router_soundness.proofs.Repairing.{repaired_resvs_where, repaired_where, repaired_with_facts}
 use Rattle.router_soundness.proofs.Beside.{sound_cold}
+use Rattle.router_soundness.proofs.Capacities.{capacities_commanded}
+use Rattle.router_soundness.proofs.Serving.{served_beside, served_sound, served_where, served_with_facts, within_in_use}
 use Rattle.router_soundness.proofs.Settling.{Leaves}
 use Rattle.router_soundness.proofs.Bare.{sound_bare}
 use Rattle.router_soundness.specs.Drafted.{IsDrafted}
 use Rattle.abstract_router.specs.Arrivals.{command_comes, commanded_by, for_reservations, lost, moment_comes, outcome, takes_used_bypass}
+use Rattle.label_space.specs.Rests.{resting_past}
 use Rattle.abstract_router.specs.Choosing.{HasLabel}
 use Rattle.abstract_router.specs.Outcomes.{Outcome, of_paths, refused}
 use Rattle.abstract_router.specs.Soundness.{IsResv, IsSound}
 use Rattle.abstract_router.specs.States.{State, is_one_of, with_facts, with_repairs_where, with_resvs_where, without_held, without_resvs}
 use Rattle.router_soundness.proofs.Arriving.{arrival-leaves}
-use Rattle.router_soundness.proofs.Keeping.{keeps_link, labelled, of_paths-leaves, unchanged}
+use Rattle.router_soundness.proofs.Keeping.{keeps_link, labelled, of_paths-leaves, rest_now, unchanged}
 
 -- the path of a tunnel's LSP needs no label
 head_has : (labels : List (Key × ℕ)) (key : Key) (tunnel : Tunnel) (lsp : TunnelLsp) (way : Choice) → HasLabel labels (key, head_path tunnel lsp way)
@@ -69,7 +72,7 @@ relay-leaves r s m is =
     by (Some link) = unchanged r s is
 
 -- a router runs that is awake for another event than its start
-runs_for : (cold : Bool) (event : Event) → (event ≡ events.Start → ⊥) → (cold ≡ true → event ≡ events.Start) → cold ≡ false
+pub runs_for : (cold : Bool) (event : Event) → (event ≡ events.Start → ⊥) → (cold ≡ true → event ≡ events.Start) → cold ≡ false
 runs_for true event other wakes = absurd (other (wakes refl))
 runs_for false event other wakes = refl
 
@@ -102,16 +105,24 @@ tick-leaves r s n is =
     let living = record s.facts { moment = n; paths = lifetimes.expire n s.facts.paths } in
     let moment = sym (ap (λ (x : Facts). x.moment) (signalled-same r living)) in
     let resvs = with_resvs_where (λ resv. resv_lives_past n resv.1) s in
+    let kept = with_repairs_where (λ repair. resv_lives_past n repair.1.resv) s in
+    let served = served_beside kept (signalled r living) (ap (λ (x : Facts). x.bypasses) (signalled-same r living)) (served_where s (λ repair. resv_lives_past n repair.1.resv) (served_sound r s is)) in
+    let held = held_with_facts r resvs (signalled r living) (held_where r s (λ resv. resv_lives_past n resv.1) is.held) (subst (λ (m : ℕ). AllByRecursion (IsResv m) resvs.resvs) moment (living_resvs r s n is)) in
+    let repaired =
+    repaired_with_facts (with_repairs_where (λ repair. resv_lives_past n repair.1.resv) resvs) (signalled r living)
+    (repaired_where resvs (λ repair. resv_lives_past n repair.1.resv) (repaired_resvs_where s (λ resv. resv_lives_past n resv.1) is.held.in_order is.repaired))
+    (subst (λ (m : ℕ). AllByRecursion (λ repair. IsResv m (repair.0, repair.1.resv)) (filter (λ (repair : Key × Repair). resv_lives_past n repair.1.resv) s.repairs)) moment (living_repairs r s n is)) in
     record {
+      later = omega (arith, ltb-false n s.facts.moment later, moment);
       paths = leaves;
-      held = held_with_repairs r (with_facts (signalled r living) resvs) (filter (λ repair. resv_lives_past n repair.1.resv) s.repairs)
-          (held_with_facts r resvs (signalled r living) (held_where r s (λ resv. resv_lives_past n resv.1) is.held) (subst (λ (m : ℕ). AllByRecursion (IsResv m) resvs.resvs) moment (living_resvs r s n is)));
-      repaired = repaired_with_facts (with_repairs_where (λ repair. resv_lives_past n repair.1.resv) resvs) (signalled r living)
-          (repaired_where resvs (λ repair. resv_lives_past n repair.1.resv) (repaired_resvs_where s (λ resv. resv_lives_past n resv.1) is.held.in_order is.repaired))
-          (subst (λ (m : ℕ). AllByRecursion (λ repair. IsResv m (repair.0, repair.1.resv)) (filter (λ (repair : Key × Repair). resv_lives_past n repair.1.resv) s.repairs)) moment (living_repairs r s n is));
+      held = record { in_order = held.in_order; each = held.each; one_style = held.one_style; within = held.within };
+      repaired = record { in_order = repaired.in_order; each = repaired.each; apart = repaired.apart };
       labels = refl;
       assignments = refl;
-      resting = refl;
+      served = served.1;
+      enough = served.2;
+      within = within_in_use (with_facts (signalled r living) kept) served;
+      resting = ap (λ m. resting_past m s.resting) moment;
       choice = inl (signalled-all r (HasLabel s.labels) (head_has s.labels) living
           (all-map (HasLabel s.labels) (lifetimes.with_living n) (filter (lifetimes.lives_on n) s.facts.paths) (all-filter (HasLabel s.labels) (lifetimes.lives_on n) s.facts.paths (labelled r s is))));
     }))
@@ -119,32 +130,37 @@ tick-leaves r s n is =
 -- a command
 command-leaves : (r : Router) (s : State) (c : Command) → IsSound r s → LeavesStanding r (command r s.facts c) → Leaves r s (command_comes r s c)
 unfolding command_comes command
-command-leaves r s c is = by (refusal_of r s.facts c)
+command-leaves r s c is = by (refusal_of r s.facts c) refl
   where
     done_by : paths.PathOutcome → Outcome
     done_by o = if o.is_silent then of_paths s o else commanded_by r s c (of_paths s o)
 
     -- it drops no bypass that is used
-    left : IsStanding r (commanded r s.facts c) → IsDrafted r s (without_held (option_to_list (begun_by r s.facts c)) (with_facts (commanded r s.facts c) s))
-    left leaves =
+    left : refusal_of r s.facts c ≡ None → takes_used_bypass s c ≡ false → IsStanding r (commanded r s.facts c) → IsDrafted r s (without_held (option_to_list (begun_by r s.facts c)) (with_facts (commanded r s.facts c) s))
+    left done other leaves =
         let after = with_facts (commanded r s.facts c) s in
+        let served = served_where after (λ repair. not (is_one_of (option_to_list (begun_by r s.facts c)) repair.0)) (served_with_facts s (commanded r s.facts c) (capacities_commanded r s c is done other) (served_sound r s is)) in
         let keys = option_to_list (begun_by r s.facts c) in
         let moment = sym (commanded-time r s.facts c).moment in
         let held = held_with_facts r s after.facts is.held (subst (λ (m : ℕ). AllByRecursion (IsResv m) s.resvs) moment is.held.each) in
         let repaired = repaired_with_facts s after.facts is.repaired (subst (λ (m : ℕ). AllByRecursion (λ repair. IsResv m (repair.0, repair.1.resv)) s.repairs) moment is.repaired.each) in
         record {
+          later = omega (arith, moment);
           paths = leaves;
           held = held_with_repairs r (without_resvs keys after) (filter (λ repair. not (is_one_of keys repair.0)) s.repairs) (held_where r after (λ resv. not (is_one_of keys resv.0)) held);
           repaired = repaired_where (without_resvs keys after) (λ repair. not (is_one_of keys repair.0)) (repaired_resvs_where after (λ resv. not (is_one_of keys resv.0)) is.held.in_order repaired);
           labels = refl;
           assignments = refl;
-          resting = refl;
+          served = served.1;
+          enough = served.2;
+          within = within_in_use (without_held keys after) served;
+          resting = subst (λ (m : ℕ). s.resting ≡ resting_past m s.resting) moment (rest_now r s is);
           choice = inl (commanded-all r (HasLabel s.labels) (head_has s.labels) s.facts c (labelled r s is));
         }
 
-    by : (refusal : Option Refusal) → LeavesStanding r (option_map_or (paths.refused s.facts) refusal (paths.done [] (commanded r s.facts c))) → Leaves r s (done_by (option_map_or (paths.refused s.facts) refusal (paths.done [] (commanded r s.facts c))))
-    by (Some refusal) leaves = is
-    by None leaves = cond_both (takes_used_bypass s c) (refused s InUse) _ (Leaves r s) (λ used. is) (λ other. left leaves)
+    by : (refusal : Option Refusal) → refusal_of r s.facts c ≡ refusal → LeavesStanding r (option_map_or (paths.refused s.facts) refusal (paths.done [] (commanded r s.facts c))) → Leaves r s (done_by (option_map_or (paths.refused s.facts) refusal (paths.done [] (commanded r s.facts c))))
+    by (Some refusal) some leaves = is
+    by None none leaves = cond_both (takes_used_bypass s c) (refused s InUse) _ (Leaves r s) (λ used. is) (λ other. left none other leaves)
 
 -- What is lost by a restart leaves nothing but links, static routes and the moment.
 lost-sound : (r : Router) (s : State) → IsSound r s → IsSound r (lost s).after
@@ -160,9 +176,9 @@ outcome-leaves r s (events.Arrive a) router is possible awake = arrival-leaves r
 outcome-leaves r s (events.Relay m) router is possible awake = relay-leaves r s m is
 outcome-leaves r s (events.Tick n) router is possible awake = tick-leaves r s n is (tick-stands r s.facts n router (runs_for s.facts.cold (events.Tick n) (λ e. cc) awake) is.paths)
 outcome-leaves r s (events.LinkUp number) router is possible awake =
-    of_paths-leaves r s (link_change r s.facts number true) is (link_change-stands r s.facts number true router is.paths) (keeps_link r s.labels s.facts (labelled r s is) number true)
+    of_paths-leaves r s (link_change r s.facts number true) is (link_change-stands r s.facts number true router is.paths) (keeps_link r s (labelled r s is) number true)
 outcome-leaves r s (events.LinkDown number) router is possible awake =
-    of_paths-leaves r s (link_change r s.facts number false) is (link_change-stands r s.facts number false router is.paths) (keeps_link r s.labels s.facts (labelled r s is) number false)
+    of_paths-leaves r s (link_change r s.facts number false) is (link_change-stands r s.facts number false router is.paths) (keeps_link r s (labelled r s is) number false)
 outcome-leaves r s (events.Command c) router is possible awake =
     command-leaves r s c is (command-stands r s.facts router (runs_for s.facts.cold (events.Command c) (λ e. cc) awake) is.paths c possible)
 outcome-leaves r s events.Restart router is possible awake = lost-sound r s is

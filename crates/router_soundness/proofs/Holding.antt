@@ -9,6 +9,7 @@ use Rattle.sorted_rows.specs.ListLaws.{all-filter}
 use Rattle.sorted_rows.specs.RowsLaws.{find-filter, is_sorted-filter}
 use Rattle.lsr_facts.specs.OrderLaws.{key_exact, key_total}
 use Rattle.lsr_facts.specs.Orders.{key_cmp}
+use Rattle.lsr_facts.specs.declared.assignment.Assignment.{Assignment}
 use Rattle.lsr_facts.specs.declared.facts.Facts.{Facts}
 use Rattle.lsr_facts.specs.declared.key.Key.{Key}
 use Rattle.lsr_facts.specs.declared.router.Router.{Router}
@@ -52,6 +53,10 @@ held_where r s test held = record {
 -- Whatever is known of repairs.
 pub held_with_repairs : (r : Router) (s : State) (repairs : List (Key × Repair)) → AreHeld r s → AreHeld r (record s { repairs = repairs })
 held_with_repairs r s repairs held = record { in_order = held.in_order; each = held.each; one_style = held.one_style; within = held.within }
+
+-- Whatever LSPs are promised of bypasses.
+pub held_with_assignments : (r : Router) (s : State) (assignments : List (Key × Assignment)) → AreHeld r s → AreHeld r (record s { assignments = assignments })
+held_with_assignments r s assignments held = record { in_order = held.in_order; each = held.each; one_style = held.one_style; within = held.within }
 
 -- Other things are known of links, time and paths, and no reservation has expired by that.
 pub held_with_facts : (r : Router) (s : State) (facts : Facts) → AreHeld r s → AllByRecursion (IsResv facts.moment) s.resvs → AreHeld r (with_facts facts s)

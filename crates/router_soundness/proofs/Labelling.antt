@@ -1,16 +1,17 @@
 -- The labels after a step are held by exactly the LSPs that don't begin here, each by one.
-use Rattle.std.specs.Prelude.{◌≡◌, ℕ, ◌≤◌, ◌==◌, ◌||◌, Bool, true, false, cond, not, nat_eq, T, List, [], ◌∷◌, filter, filter_map, Option, Some, None, is_none, is_some, IfSome}
+use Rattle.std.specs.Prelude.{◌≡◌, ℕ, ◌≤◌, ◌==◌, Bool, true, false, cond, not, nat_eq, T, List, [], ◌∷◌, filter, filter_map, Option, Some, None, is_none, is_some, IfSome}
 use Rattle.std.specs.FinMap.Entries.{find, is_sorted}
-use Rattle.std.specs.List.{AllByRecursion, IsDistinct, cons_option, list_any}
-use Rattle.std.specs.Option.{option_map, option_or}
+use Rattle.std.specs.List.{AllByRecursion, IsDistinct, cons_option}
+use Rattle.std.specs.Bool.{then_some}
+use Rattle.std.specs.Option.{option_and_then, option_map, option_map_or, option_or}
 use Rattle.std.specs.Ordering.{eq_by_cmp, is_eq}
 use Rattle.std.specs.declared.cmp.Ordering.TheVariants.{Less}
 use Rattle.std.proofs.Common.{refl, sym, ap, subst, ◌∙◌}
 use Rattle.std.proofs.lemmas.Bool.{eqb-false, ne_eqb}
 use Rattle.std.proofs.lemmas.Cmp.{tied_itself}
-use Rattle.std.proofs.lemmas.Map.Keys.{IsDistinct-head, IsDistinct-tail, IsDistinct-cons}
+use Rattle.std.proofs.lemmas.Map.Keys.{IsDistinct-cons}
 use Rattle.sorted_rows.specs.Rows.{keys_of, values_of}
-use Rattle.sorted_rows.specs.RowsLaws.{all-below, find-all, first, is_some-find_both, is_sorted-filter, second, ties}
+use Rattle.sorted_rows.specs.RowsLaws.{all-below, find-all, find-filter, first, is_some-find_both, is_sorted-filter, second}
 use Rattle.sorted_rows.specs.ListLaws.{all-weaker}
 use Rattle.lsr_facts.specs.Lifetimes.{begins_here}
 use Rattle.lsr_facts.specs.OrderLaws.{key_exact, key_total}
@@ -18,9 +19,12 @@ use Rattle.lsr_facts.specs.Orders.{key_cmp}
 use Rattle.lsr_facts.specs.declared.key.Key.{Key}
 use Rattle.lsr_facts.specs.declared.path_fact.PathFact.{PathFact}
 use Rattle.lsr_facts.specs.declared.router.Router.{Router}
+use Rattle.label_space.specs.BindingLaws.{free-unheld, one_key, unheld-not_found}
+use Rattle.abstract_paths.specs.TouchedLaws.{find-made, is_sorted-made}
 use Rattle.abstract_router.specs.Soundness.{AreLabelled}
 use Rattle.abstract_router.specs.States.{State}
-use Rattle.abstract_router.specs.Labels.{IsLabelling, MayBeGiven, labelled_keys, labels_after, new_keys}
+use Rattle.abstract_router.specs.Labels.{IsLabelling, MayBeGiven, is_labelled, labelled_keys, labels_after, new_keys}
+use Rattle.abstract_router.specs.Steps.{labelled}
 
 -- a number is itself
 pub eqb-same : (n : ℕ) → (n == n) ≡ true
@@ -40,7 +44,7 @@ marked [] = []
 marked (k ∷ ks) = (k, tt {0}) ∷ marked ks
 
 -- what a key has of two tables, the first before the second
-abbrev label_of : List (Key × ℕ) → List (Key × ℕ) → Key → Option ℕ
+abbrev pub label_of : List (Key × ℕ) → List (Key × ℕ) → Key → Option ℕ
 label_of labels chosen key = option_or (find key_cmp key labels) (find key_cmp key chosen)
 
 -- a key in front of others doesn't hide what is found of these
@@ -87,76 +91,27 @@ if-or : {A : Type 0} (P : A → Type 0) (a b : Option A) → IfSome a P → IfSo
 if-or P None b p q = q
 if-or P (Some x) b p q = p
 
--- the value found under a key isn't one that all others differ from
-found-apart : (v : ℕ) (q : Key) (es : List (Key × ℕ)) → AllByRecursion (λ y. nat_eq v y ≡ false) (values_of es) → IfSome (find key_cmp q es) (λ w. nat_eq v w ≡ false)
-found-apart v q es h = find-all key_cmp (λ w. nat_eq v w ≡ false) q es (all-from_values es h)
-  where
-    all-from_values : (es : List (Key × ℕ)) → AllByRecursion (λ y. nat_eq v y ≡ false) (values_of es) → AllByRecursion (λ e. nat_eq v e.1 ≡ false) es
-    all-from_values [] h = tt
-    all-from_values (e ∷ es) h = (h.0, all-from_values es h.1)
-
--- Where no value stands twice, one value is found under one key alone.
-one_key : (es : List (Key × ℕ)) → IsDistinct nat_eq (values_of es) → (a b : Key) (v : ℕ) → find key_cmp a es ≡ Some v → find key_cmp b es ≡ Some v → a ≡ b
-one_key [] apart a b v = λ at_a at_b. absurd (let e = at_a in cc)
-one_key (e ∷ es) apart a b v =
-    elim (eq_by_cmp key_cmp a e.0) as (λ p. eq_by_cmp key_cmp a e.0 ≡ p → cond p (Some e.1) (find key_cmp a es) ≡ Some v → find key_cmp b (e ∷ es) ≡ Some v → a ≡ b) [
-      | true ↦ λ p. λ at_a. first (key_exact a e.0 (ties _ p)) (let h = at_a in cc)
-      | false ↦ λ p. λ at_a. behind (one_key es (IsDistinct-tail nat_eq e.1 (values_of es) apart) a b v at_a) at_a
-    ] refl
-  where
-    -- a value of the others isn't that of the first
-    not_first : (q : Key) (w : ℕ) → e.1 ≡ w → find key_cmp q es ≡ Some w → ⊥
-    not_first q w same found =
-        let far : nat_eq e.1 w ≡ false = subst (λ o. IfSome o (λ y. nat_eq e.1 y ≡ false)) found (found-apart e.1 q es (IsDistinct-head nat_eq e.1 (values_of es) apart)) in
-        absurd (let near : nat_eq e.1 w ≡ true = subst (λ y. nat_eq e.1 y ≡ true) same (eqb-same e.1) in cc)
-
-    first : a ≡ e.0 → e.1 ≡ v → find key_cmp b (e ∷ es) ≡ Some v → a ≡ b
-    first is same =
-        elim (eq_by_cmp key_cmp b e.0) as (λ q. eq_by_cmp key_cmp b e.0 ≡ q → cond q (Some e.1) (find key_cmp b es) ≡ Some v → a ≡ b) [
-          | true ↦ λ q. λ at_b. is ∙ sym (key_exact b e.0 (ties _ q))
-          | false ↦ λ q. λ at_b. absurd (not_first b v same at_b)
-        ] refl
-
-    behind : (find key_cmp b es ≡ Some v → a ≡ b) → find key_cmp a es ≡ Some v → find key_cmp b (e ∷ es) ≡ Some v → a ≡ b
-    behind among at_a =
-        elim (eq_by_cmp key_cmp b e.0) as (λ q. eq_by_cmp key_cmp b e.0 ≡ q → cond q (Some e.1) (find key_cmp b es) ≡ Some v → a ≡ b) [
-          | true ↦ λ q. λ at_b. absurd (not_first a v (let h = at_b in cc) at_a)
-          | false ↦ λ q. λ at_b. among at_b
-        ] refl
-
--- a value that is found is held
-found-held : (q : Key) (v : ℕ) (es : List (Key × ℕ)) → find key_cmp q es ≡ Some v → list_any (λ held. held.1 == v) es ≡ true
-found-held q v [] = λ found. absurd (let e = found in cc)
-found-held q v (e ∷ es) =
-    elim (eq_by_cmp key_cmp q e.0) as (λ p. cond p (Some e.1) (find key_cmp q es) ≡ Some v → list_any (λ held. held.1 == v) (e ∷ es) ≡ true) [
-      | true ↦ λ found. any-first e es v (let h = found in cc)
-      | false ↦ λ found. any-behind e es v (found-held q v es found)
-    ]
-  where
-    any-first : (e : Key × ℕ) (es : List (Key × ℕ)) (v : ℕ) → e.1 ≡ v → list_any (λ held. held.1 == v) (e ∷ es) ≡ true
-    any-first e es v same = subst (λ w. ((e.1 == w) || list_any (λ held. held.1 == w) es) ≡ true) same (subst (λ b. (b || list_any (λ held. held.1 == e.1) es) ≡ true) (sym (eqb-same e.1)) refl)
-
-    any-behind : (e : Key × ℕ) (es : List (Key × ℕ)) (v : ℕ) → list_any (λ held. held.1 == v) es ≡ true → list_any (λ held. held.1 == v) (e ∷ es) ≡ true
-    any-behind e es v h = elim (e.1 == v) as (λ b. (b || list_any (λ held. held.1 == v) es) ≡ true) [ true ↦ refl | false ↦ h ]
+-- what is chosen for a key may be given
+pub given_at : (r : Router) (before : State) (chosen : List (Key × ℕ)) → AllByRecursion (λ row. MayBeGiven r before.labels before.resting row.1) chosen → (key : Key) (v : ℕ) → find key_cmp key chosen ≡ Some v → MayBeGiven r before.labels before.resting v
+given_at r before chosen given key v found =
+    subst (λ o. IfSome o (MayBeGiven r before.labels before.resting)) found (find-all key_cmp (MayBeGiven r before.labels before.resting) key chosen given)
 
 -- a label that is given is held by no LSP
-given-free : (r : Router) (labels chosen : List (Key × ℕ)) → AllByRecursion (λ row. MayBeGiven r labels row.1) chosen → (a b : Key) (v : ℕ) → find key_cmp a labels ≡ Some v → find key_cmp b chosen ≡ Some v → ⊥
-given-free r labels chosen given a b v at_a at_b =
-    let may : MayBeGiven r labels v = subst (λ o. IfSome o (MayBeGiven r labels)) at_b (find-all key_cmp (MayBeGiven r labels) b chosen given) in
-    let held = found-held a v labels at_a in
-    absurd (let free = may.free in cc)
+given-free : (r : Router) (before : State) (chosen : List (Key × ℕ)) → AllByRecursion (λ row. MayBeGiven r before.labels before.resting row.1) chosen → (a b : Key) (v : ℕ) → find key_cmp a before.labels ≡ Some v → find key_cmp b chosen ≡ Some v → ⊥
+given-free r before chosen given a b v at_a at_b =
+    unheld-not_found before.labels v (free-unheld before.labels before.resting v (given_at r before chosen given b v at_b).free) a at_a
 
 -- one label, one LSP
-one_lsp : (r : Router) (labels chosen : List (Key × ℕ)) → IsDistinct nat_eq (values_of labels) → IsDistinct nat_eq (values_of chosen) → AllByRecursion (λ row. MayBeGiven r labels row.1) chosen
-    → (a b : Key) (v : ℕ) → label_of labels chosen a ≡ Some v → label_of labels chosen b ≡ Some v → a ≡ b
-one_lsp r labels chosen apart new given a b v =
-    elim (find key_cmp a labels) as (λ o. find key_cmp a labels ≡ o → option_or o (find key_cmp a chosen) ≡ Some v → option_or (find key_cmp b labels) (find key_cmp b chosen) ≡ Some v → a ≡ b) [
-      | Some x ↦ λ at_a. λ is_a. elim (find key_cmp b labels) as (λ o. find key_cmp b labels ≡ o → option_or o (find key_cmp b chosen) ≡ Some v → a ≡ b) [
-        | Some y ↦ λ at_b. λ is_b. one_key labels apart a b v (at_a ∙ is_a) (at_b ∙ is_b)
-        | None ↦ λ at_b. λ is_b. absurd (given-free r labels chosen given a b v (at_a ∙ is_a) is_b)
+one_lsp : (r : Router) (before : State) (chosen : List (Key × ℕ)) → IsDistinct nat_eq (values_of before.labels) → IsDistinct nat_eq (values_of chosen) → AllByRecursion (λ row. MayBeGiven r before.labels before.resting row.1) chosen
+    → (a b : Key) (v : ℕ) → label_of before.labels chosen a ≡ Some v → label_of before.labels chosen b ≡ Some v → a ≡ b
+one_lsp r before chosen apart new given a b v =
+    elim (find key_cmp a before.labels) as (λ o. find key_cmp a before.labels ≡ o → option_or o (find key_cmp a chosen) ≡ Some v → option_or (find key_cmp b before.labels) (find key_cmp b chosen) ≡ Some v → a ≡ b) [
+      | Some x ↦ λ at_a. λ is_a. elim (find key_cmp b before.labels) as (λ o. find key_cmp b before.labels ≡ o → option_or o (find key_cmp b chosen) ≡ Some v → a ≡ b) [
+        | Some y ↦ λ at_b. λ is_b. one_key before.labels apart a b v (at_a ∙ is_a) (at_b ∙ is_b)
+        | None ↦ λ at_b. λ is_b. absurd (given-free r before chosen given a b v (at_a ∙ is_a) is_b)
       ] refl
-      | None ↦ λ at_a. λ is_a. elim (find key_cmp b labels) as (λ o. find key_cmp b labels ≡ o → option_or o (find key_cmp b chosen) ≡ Some v → a ≡ b) [
-        | Some y ↦ λ at_b. λ is_b. absurd (given-free r labels chosen given b a v (at_b ∙ is_b) is_a)
+      | None ↦ λ at_a. λ is_a. elim (find key_cmp b before.labels) as (λ o. find key_cmp b before.labels ≡ o → option_or o (find key_cmp b chosen) ≡ Some v → a ≡ b) [
+        | Some y ↦ λ at_b. λ is_b. absurd (given-free r before chosen given b a v (at_b ∙ is_b) is_a)
         | None ↦ λ at_b. λ is_b. one_key chosen new a b v is_a is_b
       ] refl
     ] refl
@@ -204,21 +159,50 @@ each_labelled labels chosen paths of_new = by (labelled_keys paths) (found-filte
     by [] h = tt
     by (k ∷ ks) h = (has k (find key_cmp k labels) h.0, by ks h.1)
 
+-- what g gives of the keys of rows
+of_keys : {X : Type 0} (g : Key → Option ℕ) (rows : List (Key × X)) → filter_map {Y = Key × ℕ} (λ key. option_map (λ label. (key, label)) (g key)) (keys_of rows) ≡ filter_map {Y = Key × ℕ} (λ row. option_map (λ label. (row.0, label)) (g row.0)) rows
+of_keys g [] = refl
+of_keys {X} g (row ∷ rows) = ap (cons_option (option_map {U = Key × ℕ} (λ label. (row.0, label)) (g row.0))) (of_keys g rows)
+
+module _ (labels chosen : List (Key × ℕ)) (paths : List (Key × PathFact)) (sorted : T (is_sorted key_cmp paths)) where
+  abbrev ours : Key × PathFact → Bool
+  ours path = not (begins_here path.1.role)
+
+  -- An LSP that doesn't begin here has the label that it had, or the one that was chosen for it.
+  pub find-labels_after : (key : Key) → find key_cmp key (labels_after labels chosen paths) ≡ cond (is_labelled paths key) (label_of labels chosen key) None
+  unfolding labels_after
+  find-labels_after key =
+      ap (find key_cmp key) (of_keys (label_of labels chosen) (filter ours paths))
+      ∙ find-made key_cmp key_total key_exact (λ row. label_of labels chosen row.0) key (filter ours paths) (sorted_keys paths sorted)
+      ∙ ap (option_and_then (λ path. label_of labels chosen key)) (find-filter key_cmp key_total ours key (λ k v tied. refl) paths sorted)
+      ∙ given (find key_cmp key paths)
+    where
+      given : (o : Option PathFact) → option_and_then (λ path. label_of labels chosen key) (option_and_then (λ path. then_some (ours (key, path)) path) o) ≡ cond (option_map_or (λ path. not (begins_here path.role)) o false) (label_of labels chosen key) None
+      given None = refl
+      given (Some path) = elim (ours (key, path)) as (λ b. option_and_then (λ (path : PathFact). label_of labels chosen key) (then_some b path) ≡ cond b (label_of labels chosen key) None) [ true ↦ refl | false ↦ refl ]
+
+  -- And so labels stand in the order of keys.
+  pub is_sorted-labels_after : T (is_sorted key_cmp (labels_after labels chosen paths))
+  unfolding labels_after
+  is_sorted-labels_after =
+      subst (λ rows. T (is_sorted key_cmp rows)) (sym (of_keys (label_of labels chosen) (filter ours paths)))
+      (is_sorted-made key_cmp key_total key_exact (λ row. label_of labels chosen row.0) (filter ours paths) (sorted_keys paths sorted))
+
 -- The labels after a step, where those before it were as they should be.
-pub labelled_after : (r : Router) (before after : State) (chosen : List (Key × ℕ)) → AreLabelled r before → after.labels ≡ before.labels → T (is_sorted key_cmp after.facts.paths) → IsLabelling r before.labels after.facts.paths chosen
-    → AreLabelled r (record after { labels = labels_after after.labels chosen after.facts.paths })
+pub labelled_after : (r : Router) (before after : State) (chosen : List (Key × ℕ)) → AreLabelled r before → after.labels ≡ before.labels → T (is_sorted key_cmp after.facts.paths) → IsLabelling r before after.facts.paths chosen
+    → AreLabelled r (labelled r chosen after)
 unfolding labels_after
 labelled_after r before after chosen are same sorted may =
-    subst (λ old. AreLabelled r (record after { labels = labels_after old chosen after.facts.paths })) (sym same) (
     let paths = after.facts.paths in
     let f = label_of before.labels chosen in
-    record {
+    let in_range = subst (λ old. AreLabelled r (record after { labels = labels_after old chosen paths })) (sym same) (record {
       of_lsps = keys-given f (labelled_keys paths) (each_labelled before.labels chosen paths may.of_new);
       from_first = all-given (λ v. r.labels.first ≤ v) f (λ k. if-or (λ v. r.labels.first ≤ v) (find key_cmp k before.labels) (find key_cmp k chosen)
           (find-all key_cmp (λ v. r.labels.first ≤ v) k before.labels are.from_first)
-          (find-all key_cmp (λ v. r.labels.first ≤ v) k chosen (all-weaker (λ row. MayBeGiven r before.labels row.1) (λ row. r.labels.first ≤ row.1) (λ row given. given.from_first) chosen may.given))) (labelled_keys paths);
+          (find-all key_cmp (λ v. r.labels.first ≤ v) k chosen (all-weaker (λ row. MayBeGiven r before.labels before.resting row.1) (λ row. r.labels.first ≤ row.1) (λ row given. given.from_first) chosen may.given))) (labelled_keys paths);
       to_last = all-given (λ v. v ≤ r.labels.last) f (λ k. if-or (λ v. v ≤ r.labels.last) (find key_cmp k before.labels) (find key_cmp k chosen)
           (find-all key_cmp (λ v. v ≤ r.labels.last) k before.labels are.to_last)
-          (find-all key_cmp (λ v. v ≤ r.labels.last) k chosen (all-weaker (λ row. MayBeGiven r before.labels row.1) (λ row. row.1 ≤ r.labels.last) (λ row given. given.to_last) chosen may.given))) (labelled_keys paths);
-      apart = apart-given f (one_lsp r before.labels chosen are.apart may.apart may.given) (filter (λ path. not (begins_here path.1.role)) paths) (sorted_keys paths sorted);
-    })
+          (find-all key_cmp (λ v. v ≤ r.labels.last) k chosen (all-weaker (λ row. MayBeGiven r before.labels before.resting row.1) (λ row. row.1 ≤ r.labels.last) (λ row given. given.to_last) chosen may.given))) (labelled_keys paths);
+      apart = apart-given f (one_lsp r before chosen are.apart may.apart may.given) (filter (λ path. not (begins_here path.1.role)) paths) (sorted_keys paths sorted);
+    }) in
+    record { of_lsps = in_range.of_lsps; from_first = in_range.from_first; to_last = in_range.to_last; apart = in_range.apart }

@@ -1,6 +1,14 @@
 pub mod Arriving
+pub mod Assigning
+pub mod AssigningAgain
+pub mod AssigningRepairs
+pub mod AssigningStands
+pub mod AssigningTaken
+pub mod AssigningWays
 pub mod Bare
 pub mod Beside
+pub mod BypassTunnels
+pub mod Capacities
 pub mod Choosing
 pub mod Claiming
 pub mod Drafting
@@ -12,9 +20,11 @@ pub mod Labelling
 pub mod OtherWays
 pub mod Repairing
 pub mod Reserving
+pub mod Resting
 pub mod Returning
 pub mod Running
 pub mod Selecting
+pub mod Serving
 pub mod Settling
 pub mod Silence
 pub mod Standing

@@ -14,6 +14,7 @@ use Rattle.sorted_rows.specs.ListLaws.{all-both, all-filter, all-weaker}
 use Rattle.sorted_rows.specs.RowsLaws.{all-put_row, all_found, find-filter, is_sorted-filter, ties}
 use Rattle.lsr_facts.specs.OrderLaws.{key_exact, key_total}
 use Rattle.lsr_facts.specs.Orders.{key_cmp}
+use Rattle.lsr_facts.specs.declared.assignment.Assignment.{Assignment}
 use Rattle.lsr_facts.specs.declared.facts.Facts.{Facts}
 use Rattle.lsr_facts.specs.declared.key.Key.{Key}
 use Rattle.lsr_facts.specs.declared.path_fact.PathFact.{PathFact}
@@ -40,6 +41,10 @@ use Rattle.abstract_router.specs.Steps.{left_standing, resvs_left, stands}
 pub repaired_with_facts : (s : State) (facts : Facts) → AreRepaired s → AllByRecursion (λ repair. IsResv facts.moment (repair.0, repair.1.resv)) s.repairs → AreRepaired (with_facts facts s)
 repaired_with_facts s facts is each = record { in_order = is.in_order; each = each; apart = is.apart }
 
+-- Whatever LSPs are promised of bypasses.
+pub repaired_with_assignments : (s : State) (assignments : List (Key × Assignment)) → AreRepaired s → AreRepaired (record s { assignments = assignments })
+repaired_with_assignments s assignments is = record { in_order = is.in_order; each = is.each; apart = is.apart }
+
 -- Repairs that pass a test are kept, and the others go.
 pub repaired_where : (s : State) (test : Key × Repair → Bool) → AreRepaired s → AreRepaired (with_repairs_where test s)
 repaired_where s test is = record {
@@ -49,7 +54,7 @@ repaired_where s test is = record {
 }
 
 -- an LSP that isn't reserved isn't so among the reservations that pass a test
-none-kept : (test : Key × ResvFact → Bool) (q : Key) (resvs : List (Key × ResvFact)) → T (is_sorted key_cmp resvs) → find key_cmp q resvs ≡ None → find key_cmp q (filter test resvs) ≡ None
+pub none-kept : (test : Key × ResvFact → Bool) (q : Key) (resvs : List (Key × ResvFact)) → T (is_sorted key_cmp resvs) → find key_cmp q resvs ≡ None → find key_cmp q (filter test resvs) ≡ None
 none-kept test q resvs h none = by (find key_cmp q (filter test resvs)) refl
   where
     by : (o : Option ResvFact) → find key_cmp q (filter test resvs) ≡ o → o ≡ None
@@ -114,7 +119,7 @@ record IsNew (s : State) (repair : Key × Repair) : Type 0 where
 
 module _ (r : Router) (s : State) (held : AreHeld r s) where
   -- a reservation on a link that is down doesn't stand
-  falls_down : (key : Key) (resv : ResvFact) → find key_cmp key s.resvs ≡ Some resv → is_up s.facts.up resv.link ≡ false → find key_cmp key (filter (stands s.facts) s.resvs) ≡ None
+  pub falls_down : (key : Key) (resv : ResvFact) → find key_cmp key s.resvs ≡ Some resv → is_up s.facts.up resv.link ≡ false → find key_cmp key (filter (stands s.facts) s.resvs) ≡ None
   falls_down key resv found down =
       find-filter key_cmp key_total (stands s.facts) key (λ k v tied. ap (λ k. stands s.facts (k, v)) (sym (key_exact key k tied))) s.resvs held.in_order
       ∙ ap (option_and_then (λ v. then_some (stands s.facts (key, v)) v)) found
@@ -136,7 +141,7 @@ module _ (r : Router) (s : State) (held : AreHeld r s) where
       on_path : (path : PathFact) → IfSome (repair_on r s resv.0 resv.1 path) (λ repair. IsNew s (resv.0, repair))
       on_path path =
           cond_both (leaves_by resv.1.link path && not (is_up s.facts.up resv.1.link)) _ _ (λ (o : Option Repair). IfSome o (λ repair. IsNew s (resv.0, repair)))
-          (λ lost. relabelled resv.0 resv.1 is (is_down (is_up s.facts.up resv.1.link) (and_parts (leaves_by resv.1.link path) (not (is_up s.facts.up resv.1.link)) lost).1) found (selected (around_of r s) resv.0 path resv.1) (selected-is resv.1 is.label (around_of r s) resv.0 path))
+          (λ lost. relabelled resv.0 resv.1 is (is_down (is_up s.facts.up resv.1.link) (and_parts (leaves_by resv.1.link path) (not (is_up s.facts.up resv.1.link)) lost).1) found (selected (around_of r s) resv.0 path (find key_cmp resv.0 s.assignments) resv.1) (selected-is resv.1 is.label (around_of r s) resv.0 path (find key_cmp resv.0 s.assignments)))
           (λ other. tt)
         where
           is_down : (b : Bool) → not b ≡ true → b ≡ false

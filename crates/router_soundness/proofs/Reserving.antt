@@ -2,7 +2,7 @@
 use Rattle.std.specs.Prelude.{◌≡◌, ℕ, Bool, true, false, not, List, [], ◌∷◌, filter_map, fold, nat_le, Option, Some, None, IsTrue}
 use Rattle.std.specs.List.{AllByRecursion, list_any}
 use Rattle.std.specs.Option.{option_map_or}
-use Rattle.std.proofs.Common.{refl, sym, subst, inl, arith}
+use Rattle.std.proofs.Common.{refl, sym, ap, subst, ◌∙◌, inl, arith}
 use Rattle.std.proofs.lemmas.Bool.{and_parts, cond_both}
 use Rattle.rsvp_contents.proofs.Fitted.{message_fits}
 use Rattle.rsvp_contents.specs.declared.messages.Content.TheVariants as contents
@@ -15,17 +15,20 @@ use Rattle.rsvp_contents.specs.Spelling.{IsMessage}
 use Rattle.rsvp_contents.specs.declared.descriptors.FlowDescriptor.{FlowDescriptor}
 use Rattle.rsvp_contents.specs.Flows.{fits_style}
 use Rattle.lsr_facts.specs.declared.errors.RsvpError.{RsvpError}
+use Rattle.lsr_facts.specs.declared.facts.Facts.{Facts}
 use Rattle.lsr_facts.specs.declared.key.Key.{Key}
 use Rattle.lsr_facts.specs.declared.refusal.Refusal.TheVariants.{NoMatch}
 use Rattle.lsr_facts.specs.declared.router.Router.{Router}
 use Rattle.lsr_facts.specs.declared.resv_fact.ResvStyle.{ResvStyle}
 use Rattle.lsr_facts.specs.Reservations.{style_of}
+use Rattle.label_space.specs.Rests.{resting_past}
 use Rattle.abstract_paths.specs.declared.events.Output.{Output}
 use Rattle.abstract_paths.specs.Soundness.{IsStanding}
 use Rattle.router_soundness.proofs.Granting.{granted_means, held_granted, IsAccepted}
 use Rattle.router_soundness.proofs.Holding.{held_where}
-use Rattle.router_soundness.proofs.Keeping.{labelled, unchanged}
+use Rattle.router_soundness.proofs.Keeping.{labelled, rest_now, unchanged}
 use Rattle.router_soundness.proofs.Repairing.{repaired_resvs_where, repaired_with_resv}
+use Rattle.router_soundness.proofs.Serving.{AreServed, served_sound, within_in_use}
 use Rattle.router_soundness.proofs.Settling.{Leaves}
 use Rattle.router_soundness.specs.Drafted.{IsDrafted}
 use Rattle.abstract_router.specs.Choosing.{HasLabel}
@@ -34,7 +37,7 @@ use Rattle.abstract_router.specs.Outcomes.{refused}
 use Rattle.abstract_router.specs.Preempting.{giving_way, fits_link}
 use Rattle.abstract_router.specs.Reserving.{Progress, Verdict, Failed, PassedOver, Granted, all_descriptors, carried_on, key_in, next_descriptor, resv_arrival, resv_by, resv_failed, resv_replied, verdict_of}
 use Rattle.abstract_router.specs.Soundness.{AreHeld, AreRepaired, IsResv, IsSound}
-use Rattle.abstract_router.specs.States.{State, is_one_of, without_resvs}
+use Rattle.abstract_router.specs.States.{State, is_one_of, with_resvs_where, without_resvs}
 use Rattle.abstract_router.specs.Tearing.{is_resv_torn_by, resv_err_passed_on, err_onward, resv_err_arrival, resv_tear_arrival, stack_err_arrival, stack_err_onward}
 
 -- What some descriptors of a Resv lead to is as it should be, and touches reservations and repairs alone.
@@ -44,6 +47,7 @@ pub record IsCarried (r : Router) (s : State) (after : State) : Type 0 where
   pub facts : after.facts ≡ s.facts
   pub labels : after.labels ≡ s.labels
   pub assignments : after.assignments ≡ s.assignments
+  pub served : AreServed after
   pub resting : after.resting ≡ s.resting
 
 -- what a Resv carries that is a message fits
@@ -81,7 +85,7 @@ asked_is s link style v d key has_room fit short may = record {
 
 -- so it is before any descriptor
 pub carried_none : (r : Router) (s : State) → IsSound r s → IsCarried r s s
-carried_none r s is = record { held = is.held; repaired = is.repaired; facts = refl; labels = refl; assignments = refl; resting = refl }
+carried_none r s is = record { held = is.held; repaired = is.repaired; facts = refl; labels = refl; assignments = refl; served = served_sound r s is; resting = refl }
 
 module _ (r : Router) (s : State) (link : ℕ) (style : ResvStyle) (v : Resv) (fit : Fits v) where
   -- one descriptor more
@@ -100,6 +104,7 @@ module _ (r : Router) (s : State) (link : ℕ) (style : ResvStyle) (v : Resv) (f
         facts = is.facts;
         labels = is.labels;
         assignments = is.assignments;
+        served = is.served;
         resting = is.resting;
       }
 
@@ -112,12 +117,16 @@ module _ (r : Router) (s : State) (link : ℕ) (style : ResvStyle) (v : Resv) (f
 -- a state whose reservations changed as they should
 pub drafted : (r : Router) (s after : State) → IsSound r s → IsCarried r s after → IsDrafted r s after
 drafted r s after is carried = record {
+  later = omega (arith, ap (λ (facts : Facts). facts.moment) carried.facts);
   paths = subst (IsStanding r) (sym carried.facts) is.paths;
   held = carried.held;
   repaired = carried.repaired;
   labels = carried.labels;
   assignments = carried.assignments;
-  resting = carried.resting;
+  served = carried.served.1;
+  enough = carried.served.2;
+  within = within_in_use after carried.served;
+  resting = subst (λ (facts : Facts). after.resting ≡ resting_past facts.moment s.resting) (sym carried.facts) (carried.resting ∙ rest_now r s is);
   choice = inl (subst (λ facts. AllByRecursion (HasLabel s.labels) facts.paths) (sym carried.facts) (labelled r s is));
 }
 
@@ -141,15 +150,17 @@ pub resv_tear-leaves : (r : Router) (s : State) (link : ℕ) (t : ResvTear) → 
 unfolding resv_tear_arrival
 resv_tear-leaves r s link t is =
     cond_both (list_any (is_resv_torn_by link t) s.resvs) _ (refused s NoMatch) (Leaves r s)
-    (λ some. record {
-      paths = is.paths;
+    (λ some.
+    drafted r s (with_resvs_where (λ resv. not (is_resv_torn_by link t resv)) s) is
+    (record {
       held = held_where r s (λ resv. not (is_resv_torn_by link t resv)) is.held;
       repaired = repaired_resvs_where s (λ resv. not (is_resv_torn_by link t resv)) is.held.in_order is.repaired;
+      facts = refl;
       labels = refl;
       assignments = refl;
+      served = served_sound r s is;
       resting = refl;
-      choice = inl (labelled r s is);
-    })
+    }))
     (λ none. is)
 
 -- what comes of the descriptors of a ResvErr that matched

@@ -1,6 +1,7 @@
 -- What a bypass runs over is a link that is up, and the label that the end of a selected one takes can be written.
-use Rattle.std.specs.Prelude.{◌≡◌, ◌%◌, ◌==◌, ◌&&◌, ℕ, not, true, false, if◌then◌else◌, List, [], ◌∷◌, find as find_first, Option, Some, None, IfSome}
+use Rattle.std.specs.Prelude.{◌≡◌, ◌%◌, ◌==◌, ◌&&◌, ℕ, not, true, false, if◌then◌else◌, List, [], ◌∷◌, filter, Option, Some, None, IfSome}
 use Rattle.std.specs.FinMap.Entries.{find}
+use Rattle.std.specs.List.{AllByRecursion}
 use Rattle.std.specs.Option.{option_and_then, option_map, option_map_or, unwrap_or}
 use Rattle.std.specs.Ordering.{nat_cmp}
 use Rattle.std.specs.declared.net.ipv4_addr.Ipv4Addr.{Ipv4Addr}
@@ -8,9 +9,11 @@ use Rattle.std.proofs.Common.{subst}
 use Rattle.std.proofs.lemmas.Bool.{and_parts, cond_both}
 use Rattle.rsvp_bodies.specs.declared.trace.Trace.{Trace}
 use Rattle.rsvp_bodies.specs.declared.trace.Trace.TheVariants.{Ipv4, Label, Other}
+use Rattle.sorted_rows.specs.ListLaws.{all-append, all-filter}
 use Rattle.sorted_rows.specs.RowsLaws.{find-all}
 use Rattle.lsr_facts.specs.Orders.{key_cmp}
 use Rattle.lsr_facts.specs.Tunnels.{current_key}
+use Rattle.lsr_facts.specs.declared.assignment.Assignment.{Assignment}
 use Rattle.lsr_facts.specs.declared.bypass.Bypass.{Bypass}
 use Rattle.lsr_facts.specs.declared.key.Key.{Key}
 use Rattle.lsr_facts.specs.declared.path_fact.PathFact.{PathFact}
@@ -25,7 +28,7 @@ use Rattle.abstract_paths.specs.Places.{is_up}
 use Rattle.abstract_paths.specs.RowLaws.{find-holds, option_map-holds, option_or-holds}
 use Rattle.abstract_router.specs.BypassTunnels.{bypass_tunnel_by, bypass_tunnel_of, bypass_tunnels_of, over_at, over_by}
 use Rattle.abstract_router.specs.Lsps.{Around}
-use Rattle.abstract_router.specs.Protecting.{candidates_of, ends_at_peer, first_label, is_preferred, is_protected, label_after, leads_around, names_router, selected, selected_by}
+use Rattle.abstract_router.specs.Protecting.{candidates_of, ends_at_peer, first_label, is_preferred, is_protected, label_after, leads_around, may_serve, names_router, selected, selected_by, ways_around}
 use Rattle.abstract_paths.specs.Tears.{leaves_by}
 use Rattle.abstract_router.specs.Standing.{stands}
 use Rattle.abstract_router.specs.States.{State}
@@ -91,16 +94,16 @@ module _ (resv : ResvFact) (is : is_label resv.label ≡ true) where
       (λ around.
       cond_both (ends_at_peer r resv bypass_tunnel.1) _ _ (λ (o : Option Selected). IfSome o HasLabel) (λ next. is)
       (λ later.
-      option_map-holds HasLabel (λ label. record { bypass = bypass_tunnel.0; is_nnhop = true; label = label }) (label_after bypass_tunnel.1.ends_at (unwrap_or resv.recorded []))
+      option_map-holds HasLabel (λ label. record { bypass = bypass_tunnel.0; is_nnhop = true; label = label; capacity = bypass_tunnel.1.capacity }) (label_after bypass_tunnel.1.ends_at (unwrap_or resv.recorded []))
       (label_after-is bypass_tunnel.1.ends_at (unwrap_or resv.recorded []))))
 
   -- The bypass that is selected: the label that its end takes can be written.
-  pub selected-is : (a : Around) (key : Key) (path : PathFact) → IfSome (selected a key path resv) HasLabel
-  unfolding selected candidates_of
-  selected-is a key path =
+  pub selected-is : (a : Around) (key : Key) (path : PathFact) (given : Option Assignment) → IfSome (selected a key path given resv) HasLabel
+  unfolding selected candidates_of ways_around
+  selected-is a key path given =
+      let ways = ways_around a resv in
       let all = all-filter_map HasLabel (selected_by a.place.router resv) (by_bypass_tunnel a.place.router) a.bypass_tunnels in
-      cond_both (is_protected a key path) _ _ (λ (o : Option Selected). IfSome o HasLabel)
-      (λ protected.
-      option_or-holds HasLabel (find_first (is_preferred path) (candidates_of a resv)) (find_first (λ choice. true) (candidates_of a resv))
-      (find-holds HasLabel (is_preferred path) (candidates_of a resv) all) (find-holds HasLabel (λ choice. true) (candidates_of a resv) all))
-      (λ other. tt)
+      find-holds HasLabel (may_serve given) (candidates_of a key path resv)
+      (cond_both (is_protected a key path) _ _ (AllByRecursion HasLabel)
+      (λ protected. all-append HasLabel (filter (is_preferred path) ways) (filter (λ choice. not (is_preferred path choice)) ways) (all-filter HasLabel (is_preferred path) ways all) (all-filter HasLabel (λ choice. not (is_preferred path choice)) ways all))
+      (λ other. tt))

@@ -111,7 +111,7 @@ module _ (r : Router) (s : State) where
   path-keeps : (link : ℕ) (p : Path) → KeepsSilently s (labelled_path_arrival r s link p)
   unfolding labelled_path_arrival
   path-keeps link p =
-      cond_both (is_done (path_arrival r s.facts link p).reply && is_none (find key_cmp (key_of p) s.facts.paths) && not (has_free_label r s.labels)) _ _ (KeepsSilently s)
+      cond_both (is_done (path_arrival r s.facts link p).reply && is_none (find key_cmp (key_of p) s.facts.paths) && not (has_free_label r s.labels s.resting)) _ _ (KeepsSilently s)
       (λ full silent. absurd (let e = silent in cc)) (λ room. of_paths-keeps (path_arrival r s.facts link p) (path_arrival-keeps r s.facts link p))
 
   resv-keeps : (link : ℕ) (v : Resv) → KeepsSilently s (resv_arrival r s link v)

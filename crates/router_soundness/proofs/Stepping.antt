@@ -51,6 +51,7 @@ use Rattle.router_soundness.proofs.Settling.{Leaves, LeavesBy}
 use Rattle.abstract_router.specs.Soundness.{IsSound}
 use Rattle.abstract_router.specs.Arrivals.{arrival, arrival_by, command_comes, commanded_by, for_reservations, is_done, labelled_path_arrival, message_arrival, moment_comes, outcome, reading_arrival, routed_arrival, stack_arrival, takes_used_bypass}
 use Rattle.lsr_facts.specs.Errors.{unknown_style}
+use Rattle.label_space.specs.Rests.{resting_past}
 use Rattle.abstract_router.specs.Labels.{has_free_label}
 use Rattle.abstract_router.specs.Outcomes.{Outcome, of_paths, refused}
 use Rattle.abstract_router.specs.Reserving.{Progress, all_descriptors, resv_arrival, resv_failed, resv_replied, unknown_resv}
@@ -110,7 +111,7 @@ module _ (r : Router) (s : State) where
   path-refuses : (link : ℕ) (p : Path) → RefusesSilently s (labelled_path_arrival r s link p)
   unfolding labelled_path_arrival
   path-refuses link p =
-      cond_both (is_done (path_arrival r s.facts link p).reply && is_none (find key_cmp (key_of p) s.facts.paths) && not (has_free_label r s.labels)) _ _ (RefusesSilently s)
+      cond_both (is_done (path_arrival r s.facts link p).reply && is_none (find key_cmp (key_of p) s.facts.paths) && not (has_free_label r s.labels s.resting)) _ _ (RefusesSilently s)
       (λ full refusal is. cc) (λ room. of_paths-refuses (path_arrival r s.facts link p) (paths.path_arrival-refuses r s.facts link p))
 
   message-refuses : (link : ℕ) (content : Content) → RefusesSilently s (message_arrival r s link content)
@@ -185,7 +186,7 @@ module _ (r : Router) (s : State) where
       ] refl
     where
       comes : Outcome
-      comes = record o { after = record o.after { resvs = expire_resvs n s.resvs; repairs = expire_repairs n s.repairs }; upstream_due = due_items r.refresh_ms s.sent_upstream n }
+      comes = record o { after = record o.after { resvs = expire_resvs n s.resvs; repairs = expire_repairs n s.repairs; resting = resting_past n s.resting }; upstream_due = due_items r.refresh_ms s.sent_upstream n }
 
   tick-refuses : (n : ℕ) → RefusesSilently s (moment_comes r s n)
   unfolding moment_comes
@@ -245,9 +246,9 @@ pub some_labels : (r : Router) (before : State) (event : Event) → IsRouter r �
 some_labels r before event router is possible awake =
     by (outcome r before event) (outcome-leaves r before event router is possible awake)
   where
-    chosen_by : (o : Outcome) (silent : Bool) → LeavesBy r before silent o.after → (labels : List (Key × ℕ)) × MayChooseBy silent r before.labels o.after.facts.paths labels
+    chosen_by : (o : Outcome) (silent : Bool) → LeavesBy r before silent o.after → (labels : List (Key × ℕ)) × MayChooseBy silent r before o.after.facts.paths labels
     chosen_by o true sound = ([], refl)
-    chosen_by o false drafted = labels_to_choose r before.labels o.after.facts.paths router.labels.some drafted.paths.paths.in_order drafted.choice
+    chosen_by o false drafted = labels_to_choose r before o.after.facts.paths router.labels.some drafted.paths.paths.in_order drafted.choice
 
     by : (o : Outcome) → Leaves r before o → (labels : List (Key × ℕ)) × MayChoose r before o labels
     by o leaves = chosen_by o o.is_silent leaves

@@ -13,6 +13,7 @@ use Rattle.std.proofs.lemmas.Option.{same_Some}
 use Rattle.sorted_rows.specs.ListLaws.{all-always, all-both, all-filter, all-filter_passes, all-map, all-weaker}
 use Rattle.sorted_rows.specs.Rows.{keys_of}
 use Rattle.sorted_rows.specs.RowsLaws.{all_found, find-all_row, is_sorted-both, ties}
+use Rattle.lsr_facts.specs.Bypasses.{carries}
 use Rattle.lsr_facts.specs.Lifetimes.{begins_here}
 use Rattle.lsr_facts.specs.OrderLaws.{key_exact, key_total}
 use Rattle.lsr_facts.specs.Orders.{is_one_of, key_cmp}
@@ -23,7 +24,7 @@ use Rattle.lsr_facts.specs.declared.router.Router.{Router}
 use Rattle.lsr_facts.specs.declared.tunnel.Tunnel.{Tunnel}
 use Rattle.lsr_facts.specs.declared.tunnel.TunnelLsp.{TunnelLsp}
 use Rattle.lsr_facts.specs.Changes.{switched, switched_to}
-use Rattle.abstract_paths.proofs.Bypasses.{bypasses_same}
+use Rattle.abstract_paths.proofs.Bypasses.{bypasses_mapped, switched_carries}
 use Rattle.abstract_paths.proofs.Heads.{same_keys}
 use Rattle.abstract_paths.proofs.PathTable.{paths_where}
 use Rattle.abstract_paths.proofs.Pending.{IsPendingBy, pending_all, pending_known}
@@ -72,6 +73,11 @@ found_switched test number (tunnel ∷ tunnels) =
       | true ↦ λ own. ap (λ n. Some (switched_where test (n, tunnel.1)).1) (sym (exact_unsigned number tunnel.0 (ties _ own)))
       | false ↦ λ other. rest
     ] refl)
+
+-- a tunnel carries what it did once it has gone over
+carries_still : (test : ℕ × Tunnel → Bool) (number capacity : ℕ) (tunnel : Tunnel) → carries capacity tunnel ≡ true → carries capacity (switched_where test (number, tunnel)).1 ≡ true
+carries_still test number capacity tunnel is =
+    elim (test (number, tunnel)) as (λ b. carries capacity (cond {A = ℕ × Tunnel} b (number, switched tunnel) (number, tunnel)).1 ≡ true) [ true ↦ switched_carries capacity tunnel is | false ↦ is ]
 
 -- one of two is true, or both are false
 neither : (a b : Bool) → (a || b) ≡ false → (a ≡ false) × (b ≡ false)
@@ -246,7 +252,7 @@ module _ (r : Router) (s : State) (is : IsStanding r s.facts) where
     links = is.links;
     routes = is.routes;
     tunnels = switched-all r (is_ready r s) s.facts.tunnels is.tunnels;
-    bypasses = bypasses_same r s.facts.tunnels (map (switched_where (is_ready r s)) s.facts.tunnels) s.facts.bypasses (switched-numbers (is_ready r s) s.facts.tunnels) is.bypasses;
+    bypasses = bypasses_mapped r s.facts.tunnels (map (switched_where (is_ready r s)) s.facts.tunnels) s.facts.bypasses (λ number tunnel. (switched_where (is_ready r s) (number, tunnel)).1) (λ number. found_switched (is_ready r s) number s.facts.tunnels) (carries_still (is_ready r s)) is.bypasses;
     paths = paths_where r s.facts.moment (λ k. not (is_one_of (given_up r s) k)) s.facts.paths is.paths;
     heads = all-both (IsHeadOf r s.facts.tunnels) (λ path. not (is_one_of (given_up r s) path.0) ≡ true) (IsHeadOf r (map (switched_where (is_ready r s)) s.facts.tunnels))
         (λ path head kept. head ∙ sym (heads_kept r (is_ready r s) path.0 s.facts.tunnels (all-always (HasPending (is_ready r s)) (ready_pending r s) s.facts.tunnels) (not-true _ kept)))

@@ -7,6 +7,7 @@ use Rattle.lsr_facts.specs.Orders.{key_cmp}
 use Rattle.lsr_facts.specs.declared.key.Key.{Key}
 use Rattle.lsr_facts.specs.declared.path_fact.PathFact.{PathFact}
 use Rattle.lsr_facts.specs.Reservations as resvs
+use Rattle.label_space.specs.Rests.{resting_past}
 use Rattle.abstract_router.specs.States.{State}
 
 -- what a moment leaves of a path: nothing, or the path with the origins that live past it
@@ -21,10 +22,12 @@ left_at moment paths key = option_map (λ fact. left_of moment (key, fact)) (fin
 abbrev pub expiry_at : ℕ → List (Key × PathFact) → Key → Option (Key × Option PathFact)
 expiry_at moment paths key = option_map (λ left. (key, left)) (left_at moment paths key)
 
--- what a moment leaves of all that is known: what expires of paths, of reservations and of repairs goes
+-- what a moment leaves of all that is known: what expires of paths, of reservations and of repairs goes, and labels are free
+-- whose rest is over
 abbrev pub expired : ℕ → State → State
 expired moment s = record s {
   facts = record s.facts { moment = moment; paths = expire moment s.facts.paths };
   resvs = resvs.expire_resvs moment s.resvs;
   repairs = resvs.expire_repairs moment s.repairs;
+  resting = resting_past moment s.resting;
 }

@@ -104,8 +104,8 @@ fn repair_expiries<V: WholeState>(
     without_rows(Table::new(alloc), keys.as_slice())
 }
 
-/// The edits by which a moment comes, and that goes of paths, of reservations and of repairs which has expired. The only
-/// error is out of memory.
+/// The edits by which a moment comes, that goes of paths, of reservations and of repairs which has expired, and labels are
+/// free whose rest is over. The only error is out of memory.
 fn expiries<V: WholeState>(alloc: Global, view: &V, moment: u64) -> Result<Edits, AllocError>
     requires paths { T (is_sorted key_cmp (V.state view.now).facts.paths) }
     requires resvs { T (is_sorted key_cmp (V.state view.now).resvs) }
@@ -122,7 +122,8 @@ fn expiries<V: WholeState>(alloc: Global, view: &V, moment: u64) -> Result<Edits
 }
 
 /// What it does that a moment comes, in milliseconds: what has expired goes of paths, of reservations and of repairs,
-/// tunnels without a path are tried, and messages are due. The only error is out of memory.
+/// labels are free whose rest is over, tunnels without a path are tried, and messages are due. The only error is out of
+/// memory.
 #[tactic(auto, unfolding(abstract_paths::specs::Time::tick, abstract_router::specs::Arrivals::moment_comes))]
 pub(crate) fn tick<V: WholeState>(alloc: Global, view: &V, moment: u64) -> Result<Draft, AllocError>
     requires paths { T (is_sorted key_cmp (V.state view.now).facts.paths) }

@@ -14,6 +14,8 @@ use Rattle.abstract_router.specs.Soundness.{IsSound}
 use Rattle.abstract_router.specs.States.{State}
 use Rattle.abstract_router.specs.Steps.{opening}
 use Rattle.abstract_router.specs.Tables.{tunnel_table_of}
+use Rattle.router_soundness.specs.Assigned.{AreStanding}
+use Rattle.router_soundness.proofs.AssigningStands.{stands_opening}
 use Rattle.router_soundness.proofs.Running.{sound_opening}
 use Rattle.router_tables.specs.States.{AreOpened, AreTables, RouterState, state_of}
 use Rattle.router_tables.specs.declared.rows.Rows.{Rows}
@@ -30,10 +32,12 @@ opened_tables c t is =
     record {
       router = subst IsRouter (sym router) is.config.router;
       sound = subst (λ (s : RouterState). IsSound s.router s.state) (sym is.is) sound;
+      standing = subst (λ (s : RouterState). AreStanding s.router s.state) (sym is.is) (stands_opening c.router c.routes c.tunnels c.bypasses);
       period = is.period ∙ ap (λ (r : Router). r.refresh_ms) (sym router);
       upstream_period = is.upstream_period ∙ ap (λ (r : Router). r.refresh_ms) (sym router);
       claims = is.claims ∙ ap (λ (s : State). claims_of s.facts.paths s.resvs) (sym state);
       range = is.range ∙ ap (λ (r : Router). r.labels) (sym router);
+      moment = is.moment;
       table = subst (λ (s : RouterState). IsTableOf s.router s.state t.table.labels) (sym is.is) actions;
       tunnel_table = ap (λ (x : Actions). x.tunnels) is.table ∙ sym (ap (λ (s : RouterState). tunnel_table_of s.router s.state) is.is ∙ tunnel_table-none c.router first refl refl);
     }

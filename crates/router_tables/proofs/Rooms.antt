@@ -3,8 +3,9 @@ use Rattle.std.specs.Prelude.{◌≡◌, ◌+◌, ◌≤◌, ◌&&◌, ◌⊎◌
 use Rattle.std.specs.FinMap.Entries.{find, is_sorted, same_entries}
 use Rattle.std.specs.List.{cons_option}
 use Rattle.std.specs.Option.{option_and_then, option_map, option_map_or}
-use Rattle.std.proofs.Common.{refl, ap, arith, ◌∙◌, inl, inr}
+use Rattle.std.proofs.Common.{refl, ap, arith, subst, ◌∙◌, inl, inr}
 use Rattle.std.proofs.lemmas.List.{length-append, length-map}
+use Rattle.std.proofs.lemmas.Option.{IfSome_then}
 use Rattle.sorted_rows.specs.RowsLaws.{find-all_row}
 use Rattle.lsr_facts.specs.Limits.{max_lsps, max_tunnels}
 use Rattle.lsr_facts.specs.OrderLaws.{key_exact, key_total}
@@ -25,7 +26,7 @@ use Rattle.abstract_router.specs.BypassTunnels.{bypass_tunnels_of, over_at}
 use Rattle.abstract_router.specs.Lsps.{Around, Lsp, around_of, lsp_of, lsps_of}
 use Rattle.abstract_router.specs.Repairing.{repair_stands}
 use Rattle.abstract_router.specs.Wanted.{backup_row, downstream_row, items_of}
-use Rattle.abstract_router.specs.Soundness.{IsSound}
+use Rattle.abstract_router.specs.Soundness.{IsHolding, IsSound}
 use Rattle.abstract_router.specs.States.{State}
 use Rattle.abstract_router.specs.Steps.{stands}
 use Rattle.abstract_router.specs.Through.{backup_of}
@@ -99,23 +100,34 @@ module _ (r : Router) (s : State) (is : IsSound r s) where
   pub few_tunnels : length s.facts.tunnels ≤ max_tunnels
   few_tunnels = is.paths.tunnels.few
 
+  -- the path of an LSP that is reserved is known, and of one that is repaired
+  known_resv : (key : Key) → IfSome (find key_cmp key s.resvs) (λ resv. is_some (find key_cmp key s.facts.paths) ≡ true)
+  known_resv key =
+      all_known (λ (resv : ResvFact). leaves_by resv.link) (λ resv. is_up s.facts.up resv.link) (find key_cmp key s.facts.paths) (find key_cmp key s.resvs) (find-all_row key_cmp key_exact (λ resv. stands s.facts resv ≡ true) key s.resvs is.standing)
+
+  known_repair : (key : Key) → IfSome (find key_cmp key s.repairs) (λ repair. is_some (find key_cmp key s.facts.paths) ≡ true)
+  known_repair key =
+      all_known (λ (repair : Repair). leaves_by repair.resv.link) (λ repair. is_some (over_at (bypass_tunnels_of r s) repair.bypass)) (find key_cmp key s.facts.paths) (find key_cmp key s.repairs) (find-all_row key_cmp key_exact (λ repair. repair_stands r s repair ≡ true) key s.repairs is.repairs_standing)
+
+  -- and so of one that is promised bandwidth of a bypass
+  known_given : (key : Key) → IfSome (find key_cmp key s.assignments) (λ given. is_some (find key_cmp key s.facts.paths) ≡ true)
+  known_given key =
+      IfSome_then (find key_cmp key s.assignments) (find-all_row key_cmp key_exact (IsHolding s) key s.assignments is.assigned.held) (λ given holds. elim holds [
+        | inl resv ↦ subst (λ o. IfSome o (λ x. is_some (find key_cmp key s.facts.paths) ≡ true)) resv.1 (known_resv key)
+        | inr repair ↦ subst (λ o. IfSome o (λ x. is_some (find key_cmp key s.facts.paths) ≡ true)) repair.1 (known_repair key)
+      ])
+
   pub few_resvs : length s.resvs ≤ max_lsps
-  few_resvs =
-      let standing = λ (key : Key). find-all_row key_cmp key_exact (λ resv. stands s.facts resv ≡ true) key s.resvs is.standing in
-      let known = λ (key : Key). all_known (λ (resv : ResvFact). leaves_by resv.link) (λ resv. is_up s.facts.up resv.link) (find key_cmp key s.facts.paths) (find key_cmp key s.resvs) (standing key) in
-      omega (arith, few_rows s.facts.paths is.paths.paths.in_order s.resvs is.held.in_order known, few_paths)
+  few_resvs = omega (arith, few_rows s.facts.paths is.paths.paths.in_order s.resvs is.held.in_order known_resv, few_paths)
 
   pub few_repairs : length s.repairs ≤ max_lsps
-  few_repairs =
-      let standing = λ (key : Key). find-all_row key_cmp key_exact (λ repair. repair_stands r s repair ≡ true) key s.repairs is.repairs_standing in
-      let known = λ (key : Key). all_known (λ (repair : Repair). leaves_by repair.resv.link) (λ repair. is_some (over_at (bypass_tunnels_of r s) repair.bypass)) (find key_cmp key s.facts.paths) (find key_cmp key s.repairs) (standing key) in
-      omega (arith, few_rows s.facts.paths is.paths.paths.in_order s.repairs is.repaired.in_order known, few_paths)
+  few_repairs = omega (arith, few_rows s.facts.paths is.paths.paths.in_order s.repairs is.repaired.in_order known_repair, few_paths)
 
   pub few_labels : length s.labels ≤ max_lsps
   few_labels = omega (arith, length-labelled r s is.labels, few_paths)
 
   pub few_assignments : length s.assignments ≤ max_lsps
-  few_assignments = omega (arith, ap length is.no_assignments)
+  few_assignments = omega (arith, few_rows s.facts.paths is.paths.paths.in_order s.assignments is.assigned.in_order known_given, few_paths)
 
   pub few_moments : length s.facts.sent ≤ max_lsps
   unfolding items_of lsps_of

@@ -10,6 +10,7 @@ use Rattle.abstract_router.specs.States.{State, bare}
 use Rattle.abstract_router.specs.Steps.{opening}
 use Rattle.abstract_router.specs.Tables.{tunnel_table_of}
 use Rattle.label_table.specs.Rows.{IsTableOf}
+use Rattle.router_soundness.specs.Assigned.{AreStanding}
 use Rattle.router_tables.specs.declared.rows.Rows.{Rows}
 
 -- what the rows of a running router say of links, tunnels and paths
@@ -32,21 +33,24 @@ state_of t = record (bare (facts_of t)) {
   repairs = t.repairs;
   labels = t.labels.labels;
   assignments = t.assignments;
+  resting = t.labels.resting;
   sent_upstream = t.upstream.sent;
 }
 
 abbrev pub router_state_of : Rows → RouterState
 router_state_of t = record { router = t.router; state = state_of t }
 
--- The rows are those of a sound router: claims, free labels and actions are what its state says, and messages are
--- refreshed as often as it says.
+-- The rows are those of a sound router with nothing left to promise of the bandwidth of bypasses: claims, free labels and actions
+-- are what its state says, labels rest by its moment, and messages are refreshed as often as it says.
 pub record AreTables (t : Rows) : Type 0 where
   pub router : IsRouter t.router
   pub sound : IsSound t.router (state_of t)
+  pub standing : AreStanding t.router (state_of t)
   pub period : t.timers.refresh_ms ≡ t.router.refresh_ms
   pub upstream_period : t.upstream.refresh_ms ≡ t.router.refresh_ms
   pub claims : t.bandwidth.claims ≡ claims_of t.paths t.bandwidth.resvs
   pub range : t.labels.range ≡ t.router.labels
+  pub moment : t.labels.moment ≡ t.moment
   pub table : IsTableOf t.router (state_of t) t.table.labels
   pub tunnel_table : t.table.tunnels ≡ tunnel_table_of t.router (state_of t)
 
@@ -62,4 +66,5 @@ pub record AreOpened (c : Setup) (t : Rows) : Type 0 where
   pub upstream_period : t.upstream.refresh_ms ≡ c.router.refresh_ms
   pub claims : t.bandwidth.claims ≡ []
   pub range : t.labels.range ≡ c.router.labels
+  pub moment : t.labels.moment ≡ t.moment
   pub table : t.table ≡ record { labels = []; tunnels = [] }

@@ -6,7 +6,7 @@ ghost use Rattle.router_tables.specs.States.{state_of};
 use crate::rows::Rows;
 use crate::tunnels::tunnels_copied;
 use lsr_facts::{Facts, State};
-use sorted_rows::{Table, TryCopy};
+use sorted_rows::TryCopy;
 use std::alloc::{AllocError, Global};
 
 /// A copy of the facts that rows say. The only error is out of memory.
@@ -35,7 +35,7 @@ pub(crate) fn export(alloc: Global, rows: &Rows) -> Result<State, AllocError>
         repairs: rows.repairs.copied(alloc)?,
         labels: rows.labels.copied(alloc)?,
         assignments: rows.assignments.copied(alloc)?,
-        resting: Table::new(alloc),
+        resting: rows.labels.resting(alloc)?,
         sent_upstream: rows.upstream.copied(alloc)?,
     })
 }

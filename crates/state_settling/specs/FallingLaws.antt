@@ -1,4 +1,4 @@
--- By these edits exactly those reservations and those repairs go that stand no more.
+-- By these edits exactly those reservations, repairs and promises of bandwidth go that stand no more.
 use Rattle.std.specs.Prelude.{◌≡◌, ◌++◌, ◌&&◌, ◌||◌, not, Bool, true, false, cond, if◌then◌else◌, T, List, [], ◌∷◌, filter, filter_map, Option, Some, None, IfSome, is_some}
 use Rattle.std.specs.Cmp.{both_ways}
 use Rattle.std.specs.FinMap.Entries.{find, is_sorted}
@@ -14,6 +14,7 @@ use Rattle.sorted_rows.specs.EditLaws.{is_sorted-edited}
 use Rattle.sorted_rows.specs.Edits as rows
 use Rattle.lsr_facts.specs.OrderLaws.{key_exact, key_total}
 use Rattle.lsr_facts.specs.Orders.{key_cmp}
+use Rattle.lsr_facts.specs.declared.assignment.Assignment.{Assignment}
 use Rattle.lsr_facts.specs.declared.key.Key.{Key}
 use Rattle.lsr_facts.specs.declared.repair.Repair.{Repair}
 use Rattle.lsr_facts.specs.declared.resv_fact.ResvFact.{ResvFact}
@@ -23,7 +24,8 @@ use Rattle.abstract_paths.specs.Tears.{leaves_by}
 use Rattle.abstract_router.specs.BypassTunnels.{over_at}
 use Rattle.abstract_router.specs.Lsps.{around_of}
 use Rattle.abstract_router.specs.Repairing.{repair_stands, repairs_left}
-use Rattle.abstract_router.specs.States.{State, is_one_of}
+use Rattle.abstract_router.specs.Assigning.{assignments_left}
+use Rattle.abstract_router.specs.States.{State, is_held, is_one_of}
 use Rattle.abstract_router.specs.Steps.{resvs_left, stands}
 use Rattle.state_views.specs.EditLaws.{row_edited, rows_without}
 use Rattle.state_views.specs.Edits.{edited, without_rows}
@@ -76,6 +78,43 @@ among-both p q es fs known =
     ∙ (λ i. among-passing p q es i || among-passing p q fs i)
     ∙ both-either (is_some (find key_cmp q es)) (is_some (find key_cmp q fs)) (p q)
     ∙ by (is_some (find key_cmp q es) || is_some (find key_cmp q fs)) (p q) known
+  where
+    by : (has passes : Bool) → (passes ≡ true → has ≡ true) → (has && passes) ≡ passes
+    by true passes h = refl
+    by false true h = h refl
+    by false false h = refl
+
+-- one of three tests, and another
+any-either : (a b c d : Bool) → (((a && d) || (b && d)) || (c && d)) ≡ ((a || (b || c)) && d)
+any-either true true true true = refl
+any-either true true true false = refl
+any-either true true false true = refl
+any-either true true false false = refl
+any-either true false true true = refl
+any-either true false true false = refl
+any-either true false false true = refl
+any-either true false false false = refl
+any-either false true true true = refl
+any-either false true true false = refl
+any-either false true false true = refl
+any-either false true false false = refl
+any-either false false true true = refl
+any-either false false true false = refl
+any-either false false false d = refl
+
+-- and so of three tables' rows
+pub among-all : {E F G : Type 0} (p : Key → Bool) (q : Key) (es : List (Key × E)) (fs : List (Key × F)) (gs : List (Key × G))
+    → (p q ≡ true → (is_some (find key_cmp q es) || (is_some (find key_cmp q fs) || is_some (find key_cmp q gs))) ≡ true)
+    → is_one_of ((filter_map (λ e. if p e.0 then Some e.0 else None) es ++ filter_map (λ f. if p f.0 then Some f.0 else None) fs) ++ filter_map (λ g. if p g.0 then Some g.0 else None) gs) q ≡ p q
+among-all p q es fs gs known =
+    let e_keys = filter_map (λ e. if p e.0 then Some e.0 else None) es in
+    let f_keys = filter_map (λ f. if p f.0 then Some f.0 else None) fs in
+    let g_keys = filter_map (λ g. if p g.0 then Some g.0 else None) gs in
+    list_any-append (λ k. is_eq (key_cmp k q)) (e_keys ++ f_keys) g_keys
+    ∙ ap (λ b. b || is_one_of g_keys q) (list_any-append (λ k. is_eq (key_cmp k q)) e_keys f_keys)
+    ∙ (λ i. (among-passing p q es i || among-passing p q fs i) || among-passing p q gs i)
+    ∙ any-either (is_some (find key_cmp q es)) (is_some (find key_cmp q fs)) (is_some (find key_cmp q gs)) (p q)
+    ∙ by (is_some (find key_cmp q es) || (is_some (find key_cmp q fs) || is_some (find key_cmp q gs))) (p q) known
   where
     by : (has passes : Bool) → (passes ≡ true → has ≡ true) → (has && passes) ≡ passes
     by true passes h = refl
@@ -174,7 +213,43 @@ unfolding repairs_left
 repairs_standing_left r s e gone sorted exactly =
     λ i. record (edited e s) { repairs = rows_left (repair_stands r (edited e s)) e.repairs s.repairs gone sorted exactly i }
 
--- Labels stay as they are.
-pub labels-repairs_left : (r : Router) (s : State) → (repairs_left r s).labels ≡ s.labels
-unfolding repairs_left
-labels-repairs_left r s = refl
+-- Of the edits of promises, of reservations and of repairs, and of what was held before, what is held by nobody.
+module _ (s : State) (e : Edits) (held : AllByRecursion (λ given. is_held s given.0 ≡ true) s.assignments) where
+  -- what of an LSP isn't edited is as it was
+  kept_row : {X : Type 0} (q : Key) (es : List (Key × Option X)) (before : List (Key × X)) → find key_cmp q es ≡ None → find key_cmp q (rows.edited key_cmp es before) ≡ find key_cmp q before
+  kept_row q es before none = row_edited q es before ∙ ap (λ edit. rows.over edit (find key_cmp q before)) none
+
+  -- a promise that is held by nobody is edited, or its reservation or its repair is
+  one_edited : (q : Key) → fails_at (λ given. is_held (edited e s) given.0) (edited e s).assignments q ≡ true
+      → (is_some (find key_cmp q e.assignments) || (is_some (find key_cmp q e.resvs) || is_some (find key_cmp q e.repairs))) ≡ true
+  one_edited q = by (find key_cmp q e.assignments) (find key_cmp q e.resvs) (find key_cmp q e.repairs) refl refl refl
+    where
+      contradiction : (o : Option Assignment) → IfSome o (λ given. is_held s q ≡ true) → is_held (edited e s) q ≡ is_held s q → option_map_or (λ given. not (is_held (edited e s) q)) o false ≡ true → false ≡ true
+      contradiction None so same fails = fails
+      contradiction (Some given) so same fails = sym (ap not (same ∙ so)) ∙ fails
+
+      by : (promise : Option (Option Assignment)) (resv : Option (Option ResvFact)) (repair : Option (Option Repair)) → find key_cmp q e.assignments ≡ promise → find key_cmp q e.resvs ≡ resv → find key_cmp q e.repairs ≡ repair
+          → fails_at (λ given. is_held (edited e s) given.0) (edited e s).assignments q ≡ true → (is_some promise || (is_some resv || is_some repair)) ≡ true
+      by (Some now) resv repair is_promise is_resv is_repair fails = refl
+      by None (Some now) repair is_promise is_resv is_repair fails = refl
+      by None None (Some now) is_promise is_resv is_repair fails = refl
+      by None None None is_promise is_resv is_repair fails =
+          contradiction (find key_cmp q s.assignments)
+          (find-all_row key_cmp key_exact (λ given. is_held s given.0 ≡ true) q s.assignments held)
+          (λ i. is_some (kept_row q e.resvs s.resvs is_resv i) || is_some (kept_row q e.repairs s.repairs is_repair i))
+          (ap (λ o. option_map_or (λ given. not (is_held (edited e s) q)) o false) (sym (kept_row q e.assignments s.assignments is_promise)) ∙ fails)
+
+  -- All of them are found.
+  pub unheld_all : (keys : List Key)
+      → keys ≡ (filter_map (λ row. failing_key (λ given. is_held (edited e s) given.0) (edited e s).assignments row.0) e.assignments ++ filter_map (λ row. failing_key (λ given. is_held (edited e s) given.0) (edited e s).assignments row.0) e.resvs)
+      ++ filter_map (λ row. failing_key (λ given. is_held (edited e s) given.0) (edited e s).assignments row.0) e.repairs
+      → (q : Key) → is_one_of keys q ≡ fails_at (λ given. is_held (edited e s) given.0) (edited e s).assignments q
+  unheld_all keys all q =
+      ap (λ ks. is_one_of ks q) all
+      ∙ among-all (fails_at (λ given. is_held (edited e s) given.0) (edited e s).assignments) q e.assignments e.resvs e.repairs (one_edited q)
+
+-- So exactly those promises go whose LSP is neither reserved nor repaired.
+pub assignments_held : (s : State) (e : Edits) (gone : List Key) → T (is_sorted key_cmp s.assignments) → ((q : Key) → is_one_of gone q ≡ fails_at (λ given. is_held (edited e s) given.0) (edited e s).assignments q)
+    → edited (record e { assignments = without_rows e.assignments gone }) s ≡ assignments_left (edited e s)
+assignments_held s e gone sorted exactly =
+    λ i. record (edited e s) { assignments = rows_left (λ given. is_held (edited e s) given.0) e.assignments s.assignments gone sorted exactly i }

@@ -1,6 +1,8 @@
 pub mod Falling
 pub mod FallingLaws
 pub mod Keeping
+pub mod Promises
+pub mod PromisesLaws
 pub mod Relabelling
 pub mod RelabellingLaws
 pub mod Repairs

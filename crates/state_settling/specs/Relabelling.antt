@@ -1,5 +1,5 @@
 -- What becomes of labels by edits of paths (RFC 3031, 3.1 and 3.14).
-use Rattle.std.specs.Prelude.{ℕ, not, Bool, true, false, ◌&&◌, List, filter_map, Option, Some, None, is_none}
+use Rattle.std.specs.Prelude.{ℕ, ◌+◌, ◌==◌, not, Bool, true, false, ◌&&◌, if◌then◌else◌, List, filter_map, Option, Some, None, is_none}
 use Rattle.std.specs.FinMap.Entries.{find}
 use Rattle.std.specs.Option.{option_map, option_map_or}
 use Rattle.lsr_facts.specs.Lifetimes.{begins_here}
@@ -30,3 +30,7 @@ label_edit labels chosen edit = label_becomes (needs_label edit.1) (find key_cmp
 -- the edits of labels that edits of paths call for
 abbrev pub label_edits : List (Key × ℕ) → List (Key × ℕ) → List (Key × Option PathFact) → List (Key × Option ℕ)
 label_edits labels chosen edits = filter_map (λ edit. option_map (λ now. (edit.0, now)) (label_edit labels chosen edit)) edits
+
+-- until when labels rest that are freed at a moment, by how long labels rest
+abbrev pub rest_until : ℕ → ℕ → Option ℕ
+rest_until moment label_rest_ms = if label_rest_ms == 0 then None else Some (moment + label_rest_ms)

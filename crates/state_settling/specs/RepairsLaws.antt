@@ -124,11 +124,6 @@ unfolding repaired
 repaired_by r s e repairs h are =
     λ i. record (edited e s) { repairs = (put_after e.repairs repairs s.repairs h ∙ ap (λ new. rows.edited key_cmp (map put_repair new) (edited e s).repairs) are) i }
 
--- Labels stay as they are.
-pub labels-repaired : (r : Router) (s : State) → (repaired r s).labels ≡ s.labels
-unfolding repaired
-labels-repaired r s = refl
-
 -- Each path that is left when tunnels have gone over to their new LSPs leaves room for an error that names it.
 pub rooms-taken_over : (r : Router) (s : State) → ArePaths r s.facts.moment s.facts.paths → AllByRecursion (λ path. LeavesRoom (Some path.1.tspec)) (taken_over r s).facts.paths
 unfolding taken_over

@@ -2,19 +2,20 @@
 
 ghost use Rattle.std.specs.FinMap.Entries.{is_sorted};
 ghost use Rattle.std.specs.Option.{option_map};
-ghost use Rattle.std.specs.Prelude.{◌≡◌, ◌∷◌, [], IfOk, OnOk, T, filter_map, find as find_first, not};
+ghost use Rattle.std.specs.Prelude.{◌≡◌, ◌≤◌, ◌^◌, ◌∷◌, [], IfOk, OnOk, T, filter_map, find as find_first, not};
 ghost use Rattle.sorted_rows.specs.Rows.{keys_of};
 ghost use Rattle.sorted_rows.specs.Edits as rows;
 ghost use Rattle.lsr_facts.specs.Orders.{key_cmp};
+ghost use Rattle.label_space.specs.Rests.{resting_past};
 ghost use Rattle.abstract_router.specs.Choosing.{CanLabel};
 ghost use Rattle.abstract_router.specs.Labels.{IsLabelling, labelled_keys};
 ghost use Rattle.abstract_router.specs.Steps.{labelled};
 ghost use Rattle.state_views.specs.Edits.{edited};
-ghost use Rattle.state_settling.specs.Relabelling.{is_new, label_edit, label_edits, needs_label};
+ghost use Rattle.state_settling.specs.Relabelling.{is_new, label_edit, label_edits, needs_label, rest_until};
 
 use lsr_facts::{Key, PathFact, begins_here};
 use sorted_rows::Table;
-use state_views::{Edits, StateView, WholeState};
+use state_views::{Changed, Edits, StateView, WholeState};
 use std::alloc::{AllocError, Global};
 
 /// Whether an LSP is to have a label of which this is known from now on: it has a path, which doesn't begin here.
@@ -65,9 +66,9 @@ pub fn chosen_labels<V: WholeState>(
     requires order { T (is_sorted key_cmp paths.now) }
     requires known { T (is_sorted key_cmp (V.state view.now).facts.paths) }
     requires held { keys_of (V.state view.now).labels ≡ labelled_keys (V.state view.now).facts.paths }
-    requires choice { CanLabel (V.router view.now) (V.state view.now).labels
+    requires choice { CanLabel (V.router view.now) (V.state view.now)
         (rows.edited key_cmp paths.now (V.state view.now).facts.paths) }
-    ensures chosen { IfOk result (IsLabelling (V.router view.now) (V.state view.now).labels
+    ensures chosen { IfOk result (IsLabelling (V.router view.now) (V.state view.now)
         (rows.edited key_cmp paths.now (V.state view.now).facts.paths)) }
 {
     let Some(key) = new_lsp(view, paths) else {
@@ -113,8 +114,21 @@ fn label_edits<V: StateView>(
     Ok(Table::from_rows(labels))
 }
 
-/// Edits, and then an LSP that is new has the label that was chosen for it, and the labels of those that went are free. It
-/// asks for edits that leave the labels as they are. The only error is out of memory.
+/// Until when labels rest that are freed at a moment, in milliseconds; `None` where labels don't rest.
+fn rest_until(moment: u64, label_rest_ms: u32) -> Option<u64>
+    requires { moment ≤ 2 ^ 62 }
+    ensures { result ≡ rest_until moment label_rest_ms }
+{
+    if label_rest_ms == 0 {
+        None
+    } else {
+        Some(moment + u64::from(label_rest_ms))
+    }
+}
+
+/// Edits, and then an LSP that is new has the label that was chosen for it, and the labels of those that went rest for as long
+/// as the router has them rest. It asks for edits that leave the labels as they are, and those that rest past the moment. The
+/// only error is out of memory.
 #[tactic(auto, using(crate::specs::RelabellingLaws::labels_given))]
 pub(crate) fn give_labels<V: StateView>(
     alloc: Global,
@@ -125,9 +139,15 @@ pub(crate) fn give_labels<V: StateView>(
     requires order { T (is_sorted key_cmp (V.state view.now).facts.paths) }
     requires held { keys_of (V.state view.now).labels ≡ labelled_keys (V.state view.now).facts.paths }
     requires labels { (edited edits.old (V.state view.now)).labels ≡ (V.state view.now).labels }
+    requires past { resting_past (V.state view.now).facts.moment (V.state view.now).resting ≡ (V.state view.now).resting }
+    requires resting { (edited edits.old (V.state view.now)).resting
+        ≡ resting_past (edited edits.old (V.state view.now)).facts.moment (V.state view.now).resting }
+    requires moment { (edited edits.old (V.state view.now)).facts.moment ≤ 2 ^ 62 }
     ensures { OnOk result (edited edits.new (V.state view.now)
-        ≡ labelled chosen.now (edited edits.old (V.state view.now))) }
+        ≡ labelled (V.router view.now) chosen.now (edited edits.old (V.state view.now))) }
 {
+    let moment = Changed { under: view, edits }.moment();
     edits.labels = label_edits(alloc, view, chosen, edits.paths.as_slice())?;
+    edits.rest_until = rest_until(moment, view.label_rest_ms());
     Ok(())
 }

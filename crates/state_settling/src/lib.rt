@@ -4,6 +4,7 @@
 
 mod claims;
 mod labels;
+mod promises;
 mod repair;
 mod settling;
 mod standing;

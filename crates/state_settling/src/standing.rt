@@ -1,4 +1,4 @@
-//! What LSPs have that stands no more: reservations, and then repairs.
+//! What LSPs have that stands no more: reservations, then repairs, then promises of bandwidth.
 
 ghost use Rattle.std.specs.FinMap.Entries.{find, is_sorted};
 ghost use Rattle.std.specs.List.{AllByRecursion};
@@ -8,8 +8,9 @@ ghost use Rattle.sorted_rows.specs.Edits as edit_rows;
 ghost use Rattle.lsr_facts.specs.Orders.{key_cmp};
 ghost use Rattle.lsr_facts.specs.declared.key.Key.{Key};
 ghost use Rattle.lsr_facts.specs.declared.router.Router.{Router};
+ghost use Rattle.abstract_router.specs.Assigning.{assignments_left};
 ghost use Rattle.abstract_router.specs.Repairing.{repair_stands, repairs_left};
-ghost use Rattle.abstract_router.specs.States.{State, is_one_of};
+ghost use Rattle.abstract_router.specs.States.{State, is_held, is_one_of};
 ghost use Rattle.abstract_router.specs.Steps.{resvs_left};
 ghost use Rattle.abstract_router.specs.Standing.{stands};
 ghost use Rattle.state_views.specs.Edits.{edited};
@@ -17,59 +18,63 @@ ghost use Rattle.state_views.specs.declared.edits.Edits.{Edits};
 ghost use Rattle.state_settling.specs.Falling.{failing_key, fails_at};
 
 use facility_backup::{is_same_around, repair_stands, stands};
-use lsr_facts::{Key, Repair, ResvFact};
+use lsr_facts::{Assignment, Key, Repair, ResvFact};
 use sorted_rows::Table;
 use state_views::{Changed, Edits, StateView, WholeState, without_rows};
 use std::alloc::{AllocError, Global};
 use std::mem;
 
 /// What an LSP has as long as it stands.
-trait Standing {
+trait Falling {
     ghost rows: { State → List (Key × Self) };
 
     ghost row_stands: { Router → State → Key × Self → Bool };
 
-    ghost row_edits: { Edits → List (Key × Option Self) };
+    /// Whether an LSP has one that stands no more.
+    fn falls<V: StateView>(view: &V, key: &Key) -> bool
+        ensures { result ≡ fails_at (row_stands (V.router view.now) (V.state view.now)) (rows (V.state view.now)) key.now };
+}
 
-    /// That of an LSP.
-    fn row_of<'a, V: StateView>(view: &'a V, key: &Key) -> Option<&'a Self>
-        ensures { option_copied result ≡ find key_cmp key.now (rows (V.state view.now)) };
+/// What an LSP has as long as it stands by links, by bypasses and by its path.
+trait Standing: Falling {
+    ghost row_edits: { Edits → List (Key × Option Self) };
 
     /// How many there are.
     fn row_count<V: WholeState>(view: &V) -> usize
-        ensures { result ≡ length (rows (V.state view.now)) };
+        ensures { result ≡ length (Self.rows (V.state view.now)) };
 
     /// The one at a place, in the order of the LSPs; `None` past the last.
     fn row_at<'a, V: WholeState>(view: &'a V, place: usize) -> Option<&'a (Key, Self)>
-        ensures { option_copied result ≡ slice_get (rows (V.state view.now)) place };
+        ensures { option_copied result ≡ slice_get (Self.rows (V.state view.now)) place };
 
     /// Those that are edited.
     fn edited_rows(edits: &Edits) -> &[(Key, Option<Self>)]
         ensures { result.now ≡ row_edits edits.now };
 
-    /// Whether it stands.
-    fn stands<V: StateView>(&self, view: &V, key: &Key) -> bool
-        ensures { result ≡ row_stands (V.router view.now) (V.state view.now) (key.now, self.now) };
-
     /// Whether after edits each stands that stood, unless the path of its LSP is edited. It says no wherever that isn't plain.
     fn stand_still<V: StateView>(view: &V, edits: &Edits) -> bool
         ensures { result ≡ true → (key : Key) (row : Self) → find key_cmp key edits.now.paths ≡ None
-            → row_stands (V.router view.now) (V.state view.now) (key, row) ≡ true
-            → row_stands (V.router view.now) (edited edits.now (V.state view.now)) (key, row) ≡ true };
+            → Self.row_stands (V.router view.now) (V.state view.now) (key, row) ≡ true
+            → Self.row_stands (V.router view.now) (edited edits.now (V.state view.now)) (key, row) ≡ true };
 
-    ghost rows_edited: { (s : State) (e : Edits) → rows (edited e s) ≡ edit_rows.edited key_cmp (row_edits e) (rows s) };
+    ghost rows_edited: { (s : State) (e : Edits) → Self.rows (edited e s) ≡ edit_rows.edited key_cmp (row_edits e) (Self.rows s) };
 }
 
-impl Standing for ResvFact {
+impl Falling for ResvFact {
     ghost rows = { λ s. s.resvs };
 
     ghost row_stands = { λ r s. stands s.facts };
 
-    ghost row_edits = { λ e. e.resvs };
-
-    fn row_of<'a, V: StateView>(view: &'a V, key: &Key) -> Option<&'a ResvFact> {
-        view.resv(key)
+    fn falls<V: StateView>(view: &V, key: &Key) -> bool {
+        match view.resv(key) {
+            Some(resv) => !stands(view, key, resv),
+            None => false,
+        }
     }
+}
+
+impl Standing for ResvFact {
+    ghost row_edits = { λ e. e.resvs };
 
     fn row_count<V: WholeState>(view: &V) -> usize {
         view.resv_count()
@@ -83,10 +88,6 @@ impl Standing for ResvFact {
         edits.resvs.as_slice()
     }
 
-    fn stands<V: StateView>(&self, view: &V, key: &Key) -> bool {
-        stands(view, key, self)
-    }
-
     /// No link came up or went down.
     #[tactic(auto, using(crate::specs::FallingLaws::resvs_stand_still))]
     fn stand_still<V: StateView>(_view: &V, edits: &Edits) -> bool {
@@ -96,16 +97,21 @@ impl Standing for ResvFact {
     ghost rows_edited = { λ s e. refl };
 }
 
-impl Standing for Repair {
+impl Falling for Repair {
     ghost rows = { λ s. s.repairs };
 
     ghost row_stands = { repair_stands };
 
-    ghost row_edits = { λ e. e.repairs };
-
-    fn row_of<'a, V: StateView>(view: &'a V, key: &Key) -> Option<&'a Repair> {
-        view.repair(key)
+    fn falls<V: StateView>(view: &V, key: &Key) -> bool {
+        match view.repair(key) {
+            Some(repair) => !repair_stands(view, key, repair),
+            None => false,
+        }
     }
+}
+
+impl Standing for Repair {
+    ghost row_edits = { λ e. e.repairs };
 
     fn row_count<V: WholeState>(view: &V) -> usize {
         view.repair_count()
@@ -119,10 +125,6 @@ impl Standing for Repair {
         edits.repairs.as_slice()
     }
 
-    fn stands<V: StateView>(&self, view: &V, key: &Key) -> bool {
-        repair_stands(view, key, self)
-    }
-
     /// No bypass changed.
     #[tactic(auto, using(crate::specs::FallingLaws::repairs_stand_still))]
     fn stand_still<V: StateView>(view: &V, edits: &Edits) -> bool {
@@ -132,20 +134,33 @@ impl Standing for Repair {
     ghost rows_edited = { λ s e. refl };
 }
 
+/// A promise of bandwidth stands while its LSP is reserved or repaired.
+impl Falling for Assignment {
+    ghost rows = { λ s. s.assignments };
+
+    ghost row_stands = { λ r s given. is_held s given.0 };
+
+    fn falls<V: StateView>(view: &V, key: &Key) -> bool {
+        match view.assignment(key) {
+            Some(_) => !(view.resv(key).is_some() || view.repair(key).is_some()),
+            None => false,
+        }
+    }
+}
+
 /// The LSP, where what it has stands no more.
-fn fallen_key<S: Standing, V: StateView>(view: &V, key: &Key) -> Option<Key>
+fn fallen_key<S: Falling, V: StateView>(view: &V, key: &Key) -> Option<Key>
     ensures { result ≡ failing_key (S.row_stands (V.router view.now) (V.state view.now)) (S.rows (V.state view.now)) key.now }
 {
-    let row = S::row_of(view, key)?;
-    if row.stands(view, key) {
-        None
-    } else {
+    if S::falls(view, key) {
         Some(*key)
+    } else {
+        None
     }
 }
 
 /// LSPs, and then those of these rows for which what they have stands no more. The only error is out of memory.
-fn with_fallen<S: Standing, A: StateView, E>(
+fn with_fallen<S: Falling, A: StateView, E>(
     mut keys: Vec<Key>,
     after: &A,
     edits: &[(Key, E)],
@@ -248,5 +263,37 @@ pub(crate) fn take_repairs<V: WholeState>(
     let gone = fallen::<Repair, V>(alloc, view, edits)?;
     let repairs = mem::replace(&mut edits.repairs, Table::new(alloc));
     edits.repairs = without_rows(repairs, &gone)?;
+    Ok(())
+}
+
+/// The LSPs that these edits leave a promise of bandwidth and neither a reservation nor a repair. It asks that before them there
+/// was none. The only error is out of memory.
+fn unheld<V: StateView>(alloc: Global, view: &V, edits: &Edits) -> Result<Vec<Key>, AllocError>
+    requires { AllByRecursion (λ given. is_held (V.state view.now) given.0 ≡ true) (V.state view.now).assignments }
+    ensures { IfOk result (λ keys. (key : Key) → is_one_of keys.items key
+        ≡ fails_at (λ given. is_held (edited edits.now (V.state view.now)) given.0) (edited edits.now (V.state view.now)).assignments key) }
+{
+    let after = Changed { under: view, edits };
+    let promised = edits.assignments.as_slice();
+    let keys = with_fallen::<Assignment, _, _>(Vec::new(alloc), &after, promised)?;
+    let keys = with_fallen::<Assignment, _, _>(keys, &after, edits.resvs.as_slice())?;
+    with_fallen::<Assignment, _, _>(keys, &after, edits.repairs.as_slice())
+}
+
+/// Edits, and then the promises of bandwidth go of LSPs that are neither reserved nor repaired. It asks that before the edits
+/// there were none. The only error is out of memory.
+#[tactic(auto, using(crate::specs::FallingLaws::assignments_held))]
+pub(crate) fn take_assignments<V: StateView>(
+    alloc: Global,
+    view: &V,
+    edits: &mut Edits,
+) -> Result<(), AllocError>
+    requires order { T (is_sorted key_cmp (V.state view.now).assignments) }
+    requires held { AllByRecursion (λ given. is_held (V.state view.now) given.0 ≡ true) (V.state view.now).assignments }
+    ensures { OnOk result (edited edits.new (V.state view.now) ≡ assignments_left (edited edits.old (V.state view.now))) }
+{
+    let gone = unheld(alloc, view, edits)?;
+    let assignments = mem::replace(&mut edits.assignments, Table::new(alloc));
+    edits.assignments = without_rows(assignments, &gone)?;
     Ok(())
 }

@@ -17,8 +17,6 @@ use Rattle.lsr_facts.specs.declared.key.Key.{Key}
 use Rattle.lsr_facts.specs.declared.path_fact.PathFact.{PathFact}
 use Rattle.lsr_facts.specs.declared.tunnel.Tunnel.{Tunnel}
 use Rattle.lsr_facts.specs.Reservations.{timeless_repair, timeless_resv}
-use Rattle.lsr_facts.specs.declared.repair.Repair.{Repair}
-use Rattle.lsr_facts.specs.declared.resv_fact.ResvFact.{ResvFact}
 use Rattle.abstract_paths.specs.StampLaws.{none-is}
 use Rattle.abstract_paths.specs.Touched.{is_among}
 use Rattle.abstract_router.specs.Labels.{labelled_keys}
@@ -72,20 +70,22 @@ pub neither : (a b : Bool) → (a || b) ≡ false → (a ≡ false) × (b ≡ fa
 neither true b e = absurd (let f = e in cc)
 neither false b e = (refl, e)
 
--- The same is known of an LSP where path, label, reservation and repair are the same, but for when they expire.
+-- The same is known of an LSP where path, label, reservation, repair and what it is promised are the same, but for when they
+-- expire.
 pub same_lsp : (s t : State) (key : Key) → find key_cmp key s.labels ≡ find key_cmp key t.labels
     → option_map timeless_resv (find key_cmp key s.resvs) ≡ option_map timeless_resv (find key_cmp key t.resvs)
     → option_map timeless_repair (find key_cmp key s.repairs) ≡ option_map timeless_repair (find key_cmp key t.repairs)
     → option_map timeless_path (find key_cmp key s.facts.paths) ≡ option_map timeless_path (find key_cmp key t.facts.paths)
+    → find key_cmp key s.assignments ≡ find key_cmp key t.assignments
     → lsp_at s key ≡ lsp_at t key
-same_lsp s t key label resv repair path =
+same_lsp s t key label resv repair path assignment =
     of_path s (find key_cmp key s.facts.paths)
-    ∙ (λ i. option_map (λ (p : PathFact). record { path = p; label = label i; resv = resv i; repair = repair i }) (path i))
+    ∙ (λ i. option_map (λ (p : PathFact). record { path = p; label = label i; resv = resv i; repair = repair i; assignment = assignment i }) (path i))
     ∙ sym (of_path t (find key_cmp key t.facts.paths))
   where
     of_path : (x : State) (o : Option PathFact)
-        → option_map {U = Lsp} (λ p. record { path = timeless_path p; label = find key_cmp key x.labels; resv = option_map timeless_resv (find key_cmp key x.resvs); repair = option_map timeless_repair (find key_cmp key x.repairs) }) o
-        ≡ option_map {U = Lsp} (λ p. record { path = p; label = find key_cmp key x.labels; resv = option_map timeless_resv (find key_cmp key x.resvs); repair = option_map timeless_repair (find key_cmp key x.repairs) }) (option_map timeless_path o)
+        → option_map {U = Lsp} (λ p. record { path = timeless_path p; label = find key_cmp key x.labels; resv = option_map timeless_resv (find key_cmp key x.resvs); repair = option_map timeless_repair (find key_cmp key x.repairs); assignment = find key_cmp key x.assignments }) o
+        ≡ option_map {U = Lsp} (λ p. record { path = p; label = find key_cmp key x.labels; resv = option_map timeless_resv (find key_cmp key x.resvs); repair = option_map timeless_repair (find key_cmp key x.repairs); assignment = find key_cmp key x.assignments }) (option_map timeless_path o)
     of_path x None = refl
     of_path x (Some p) = refl
 
@@ -97,9 +97,10 @@ as_before key edits before none =
 -- So it is where the LSP has no edit.
 pub same_unedited : (s : State) (e : Edits) (key : Key) → is_edited e key ≡ false → lsp_at s key ≡ lsp_at (edited e s) key
 same_unedited s e key none =
-    let labels = neither (is_among key_cmp e.labels key) (is_among key_cmp e.repairs key || (is_among key_cmp e.resvs key || is_among key_cmp e.paths key)) none in
+    let assignments = neither (is_among key_cmp e.assignments key) (is_among key_cmp e.labels key || (is_among key_cmp e.repairs key || (is_among key_cmp e.resvs key || is_among key_cmp e.paths key))) none in
+    let labels = neither (is_among key_cmp e.labels key) (is_among key_cmp e.repairs key || (is_among key_cmp e.resvs key || is_among key_cmp e.paths key)) assignments.1 in
     let repairs = neither (is_among key_cmp e.repairs key) (is_among key_cmp e.resvs key || is_among key_cmp e.paths key) labels.1 in
     let resvs = neither (is_among key_cmp e.resvs key) (is_among key_cmp e.paths key) repairs.1 in
     same_lsp s (edited e s) key (as_before key e.labels s.labels labels.0)
     (ap (option_map timeless_resv) (as_before key e.resvs s.resvs resvs.0)) (ap (option_map timeless_repair) (as_before key e.repairs s.repairs repairs.0))
-    (ap (option_map timeless_path) (as_before key e.paths s.facts.paths resvs.1))
+    (ap (option_map timeless_path) (as_before key e.paths s.facts.paths resvs.1)) (as_before key e.assignments s.assignments assignments.0)

@@ -36,6 +36,8 @@ pub struct Edits {
     pub labels: Table<Key, Option<u32>>,
     /// Of LSPs what each is promised of a bypass's bandwidth from now on: `None` where a promise goes.
     pub assignments: Table<Key, Option<Assignment>>,
+    /// Until when the labels rest that these edits free, in milliseconds, where they rest at all.
+    pub rest_until: Option<u64>,
 }
 
 /// The parts of edits, each to be moved on: edits themselves are dropped by one call, so nobody else takes them apart.
@@ -61,6 +63,8 @@ pub struct EditParts {
     pub labels: Table<Key, Option<u32>>,
     /// As [`Edits::assignments`].
     pub assignments: Table<Key, Option<Assignment>>,
+    /// As [`Edits::rest_until`].
+    pub rest_until: Option<u64>,
 }
 
 /// Written out, so that they are dropped by one call, whatever they hold.
@@ -77,6 +81,7 @@ impl Drop for Edits {
             repairs: _repairs,
             labels: _labels,
             assignments: _assignments,
+            rest_until: _rest_until,
         } = self;
     }
 }
@@ -97,6 +102,7 @@ impl Edits {
             repairs: Table::new(alloc),
             labels: Table::new(alloc),
             assignments: Table::new(alloc),
+            rest_until: None,
         }
     }
 
@@ -115,6 +121,7 @@ impl Edits {
             repairs,
             labels,
             assignments,
+            rest_until,
         } = self;
         EditParts {
             moment,
@@ -127,6 +134,7 @@ impl Edits {
             repairs,
             labels,
             assignments,
+            rest_until,
         }
     }
 }
@@ -196,6 +204,10 @@ impl<'a, V: StateView> StateView for Changed<'a, V> {
 
     fn refresh_ms(&self) -> u32 {
         self.under.refresh_ms()
+    }
+
+    fn label_rest_ms(&self) -> u32 {
+        self.under.label_rest_ms()
     }
 
     fn moment(&self) -> u64 {

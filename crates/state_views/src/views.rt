@@ -4,7 +4,7 @@ ghost use Rattle.std.specs.FinMap.Entries.{find};
 ghost use Rattle.std.specs.List.{list_any};
 ghost use Rattle.std.specs.Option.{option_copied, option_map};
 ghost use Rattle.std.specs.Ordering.{nat_cmp};
-ghost use Rattle.std.specs.Prelude.{◌≡◌, ◌≤◌, ◌^◌, IfOk, IfSome, T, filter, find as find_first, is_some, length, not, slice_get};
+ghost use Rattle.std.specs.Prelude.{◌≡◌, ◌≤◌, ◌^◌, IfOk, IfSome, T, true, filter, find as find_first, is_some, length, not, slice_get};
 ghost use Rattle.lsr_facts.specs.Lifetimes.{due_items, expires};
 ghost use Rattle.lsr_facts.specs.Orders.{item_cmp, key_cmp};
 ghost use Rattle.lsr_facts.specs.declared.router.Router.{Router};
@@ -14,6 +14,7 @@ ghost use Rattle.lsr_facts.specs.Reservations.{resv_lives_past};
 ghost use Rattle.lsr_facts.specs.Upstreams.{upstream_cmp};
 ghost use Rattle.sorted_rows.specs.Rows.{keys_of};
 ghost use Rattle.abstract_paths.specs.Places.{place_at, place_of};
+ghost use Rattle.abstract_router.specs.Assigning.{assignments_of};
 ghost use Rattle.abstract_router.specs.Labels.{MayBeGiven, has_free_label};
 ghost use Rattle.abstract_router.specs.Preempting.{claims_of, limit_of};
 ghost use Rattle.abstract_router.specs.Reserving.{conflicts};
@@ -42,6 +43,10 @@ pub trait StateView {
     /// How often the router refreshes its state at its neighbours, in milliseconds.
     fn refresh_ms(&self) -> u32
         ensures refresh { result ≡ (router self.now).refresh_ms };
+
+    /// For how long a label rests that an LSP gave back, in milliseconds: so long it isn't given again.
+    fn label_rest_ms(&self) -> u32
+        ensures rest { result ≡ (router self.now).label_rest_ms };
 
     /// The moment that the router was told last, in milliseconds.
     fn moment(&self) -> u64
@@ -105,6 +110,19 @@ pub trait WholeState: StateView {
     /// The repair at a place, in the order of the LSPs; `None` past the last.
     fn repair_at(&self, place: usize) -> Option<&(Key, Repair)>
         ensures row { option_copied result ≡ slice_get (Self.state self.now).repairs place };
+
+    /// How many LSPs are promised bandwidth of a bypass.
+    fn assignment_count(&self) -> usize
+        ensures count { result ≡ length (Self.state self.now).assignments };
+
+    /// The promise at a place, in the order of the LSPs; `None` past the last.
+    fn assignment_at(&self, place: usize) -> Option<&(Key, Assignment)>
+        ensures row { option_copied result ≡ slice_get (Self.state self.now).assignments place };
+
+    /// Whether the promises, made anew of what is known, would be the same. It says no wherever that isn't plain.
+    fn assignments_stand(&self) -> bool
+        ensures stand { result ≡ true → assignments_of (Self.router self.now) (Self.state self.now)
+            ≡ (Self.state self.now).assignments };
 
     /// When a Path was sent last that is kept alive at a neighbour, in milliseconds; `None` for any other.
     fn sent_at(&self, item: &Item) -> Option<u64>
@@ -170,10 +188,12 @@ pub trait WholeState: StateView {
         ensures claims { IfOk result (λ claims. claims
             ≡ claims_of (Self.state self.now).facts.paths (Self.state self.now).resvs) };
 
-    /// A label of the router's range that no LSP has, or `None` where all are held.
+    /// A label of the router's range that no LSP has and that doesn't rest, or `None` where there is none.
     fn free_label(&self) -> Option<u32>
-        ensures given { IfSome result (MayBeGiven (Self.router self.now) (Self.state self.now).labels) }
-        ensures free { is_some result ≡ has_free_label (Self.router self.now) (Self.state self.now).labels };
+        ensures given { IfSome result (MayBeGiven (Self.router self.now) (Self.state self.now).labels
+            (Self.state self.now).resting) }
+        ensures free { is_some result ≡ has_free_label (Self.router self.now) (Self.state self.now).labels
+            (Self.state self.now).resting };
 }
 
 /// Where the router stands.

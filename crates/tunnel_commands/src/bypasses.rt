@@ -27,7 +27,7 @@ pub(crate) fn with_bypass<V: StateView>(
         Bypass {
             tunnel: asked.tunnel,
             link: asked.link,
-            capacity: 0,
+            capacity: asked.capacity,
         },
     )?;
     let mut edits = Edits::none(alloc);

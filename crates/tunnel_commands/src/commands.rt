@@ -3,6 +3,7 @@
 ghost use Rattle.std.specs.FinMap.Entries.{is_sorted};
 ghost use Rattle.std.specs.Prelude.{◌≡◌, IfOk, None, OnErr, T, false};
 ghost use Rattle.lsr_facts.specs.Orders.{key_cmp};
+ghost use Rattle.lsr_facts.specs.Tunnels.{AreTunnels};
 ghost use Rattle.abstract_paths.specs.Commands.{commanded, refusal_of};
 ghost use Rattle.abstract_router.specs.Arrivals.{command_comes};
 ghost use Rattle.abstract_router.specs.States.{with_facts};
@@ -80,15 +81,16 @@ fn edits_of<V: StateView>(alloc: Global, view: &V, command: &Command) -> Result<
     }
 }
 
-/// What a command does. It asks that the paths that are known are in order; the only error is out of memory, and it comes
-/// for none that is refused.
+/// What a command does. It asks that the paths that are known are in order, and that tunnels are as they should be; the only
+/// error is out of memory, and it comes for none that is refused.
 #[tactic(auto, unfolding(abstract_router::specs::Arrivals::command_comes, abstract_paths::specs::Commands::command))]
 pub fn command<V: WholeState>(
     alloc: Global,
     view: &V,
     command: &Command,
 ) -> Result<Draft, AllocError>
-    requires { T (is_sorted key_cmp (V.state view.now).facts.paths) }
+    requires order { T (is_sorted key_cmp (V.state view.now).facts.paths) }
+    requires tunnels { AreTunnels (V.router view.now) (V.state view.now).facts.tunnels }
     ensures draft { IfOk result (λ draft. IsDraft draft
         (command_comes (V.router view.now) (V.state view.now) command.now) (V.router view.now) (V.state view.now)) }
     ensures memory { OnErr result

@@ -1,7 +1,8 @@
-//! What bypasses ask of tunnels: a bypass may not run over the link that it protects (RFC 4090, 3.2).
+//! What bypasses ask of tunnels: a bypass may not run over the link that it protects (RFC 4090, 3.2), and its tunnel carries
+//! its capacity (RFC 4090, 4.3).
 
 ghost use Rattle.std.specs.Prelude.{◌≡◌};
-ghost use Rattle.lsr_facts.specs.Bypasses.{is_for_bypass, is_to_protect};
+ghost use Rattle.lsr_facts.specs.Bypasses.{is_above_rate, is_for_bypass, is_to_protect};
 ghost use Rattle.abstract_paths.specs.Commands.{is_onto_its_link, runs_over};
 ghost use Rattle.explicit_routes.specs.Choosing.{choice_of};
 
@@ -26,6 +27,14 @@ fn is_to_protect(bypasses: &Table<u16, Bypass>, tunnel: u16, link: u16) -> bool
     ensures { result ≡ is_to_protect bypasses.now tunnel link }
 {
     bypasses.as_slice().iter().any(|bypass| bypass.1.tunnel == tunnel && bypass.1.link == link)
+}
+
+/// Whether a bypass that runs in the tunnel of this number has more capacity than this rate, in bytes per second (RFC 4090,
+/// 4.3).
+pub(crate) fn is_above_rate(bypasses: &Table<u16, Bypass>, tunnel: u16, rate: u64) -> bool
+    ensures { result ≡ is_above_rate bypasses.now tunnel rate }
+{
+    bypasses.as_slice().iter().any(|bypass| bypass.1.tunnel == tunnel && rate < bypass.1.capacity)
 }
 
 /// Whether the current LSP of a tunnel has a path, and leaves by the link.

@@ -3,12 +3,13 @@
 ghost use Rattle.std.specs.List.{list_any};
 ghost use Rattle.std.specs.Option.{option_map_or};
 ghost use Rattle.std.specs.Prelude.{◌≡◌, ◌≤◌, ◌==◌, false, slice_get};
+ghost use Rattle.lsr_facts.specs.Tunnels.{AreTunnels};
 ghost use Rattle.abstract_paths.specs.Commands.{has_route, refusal_of};
 ghost use Rattle.abstract_paths.specs.Heads.{is_full};
 ghost use Rattle.abstract_router.specs.Arrivals.{takes_used_bypass};
 ghost use Rattle.abstract_paths.specs.declared.commands.Command.TheVariants.{AddTunnel, ChangeTunnel, CancelChange, DropTunnel, AddBypass, DropBypass, AddRoute, DropRoute};
 
-use crate::protecting::{is_for_bypass, is_onto_its_link, runs_over};
+use crate::protecting::{is_above_rate, is_for_bypass, is_onto_its_link, runs_over};
 use crate::requests::{is_bad_tunnel, requested_way};
 use crate::routes::{MAX_LENGTH, masked_prefix};
 use abstract_paths::{Command, NewBypass, NewTunnel, TunnelChange};
@@ -61,6 +62,9 @@ fn of_change<V: WholeState>(view: &V, change: &TunnelChange) -> Option<Refusal>
     if is_onto_its_link(view.bypasses(), change.number, &way) {
         return Some(Refusal::BypassOnItsLink);
     }
+    if is_above_rate(view.bypasses(), change.number, change.tspec.rate_asked()) {
+        return Some(Refusal::BadCapacity);
+    }
     None
 }
 
@@ -89,6 +93,7 @@ fn of_old_tunnel<V: StateView>(view: &V, number: u16) -> Option<Refusal>
 
 /// Why a bypass isn't added, if it isn't.
 fn of_new_bypass<V: StateView>(view: &V, asked: &NewBypass) -> Option<Refusal>
+    requires { AreTunnels (V.router view.now) (V.state view.now).facts.tunnels }
     ensures { result ≡ refusal_of (V.router view.now) (V.state view.now).facts (AddBypass asked.now) }
 {
     if link_at(view.node().router, asked.link).is_none() {
@@ -106,6 +111,9 @@ fn of_new_bypass<V: StateView>(view: &V, asked: &NewBypass) -> Option<Refusal>
     }
     if runs_over(view, asked.link, asked.tunnel, tunnel) {
         return Some(Refusal::BypassOnItsLink);
+    }
+    if !tunnel.carries(asked.capacity) {
+        return Some(Refusal::BadCapacity);
     }
     None
 }
@@ -158,6 +166,7 @@ fn of_old_route<V: StateView>(view: &V, prefix: Prefix) -> Option<Refusal>
 
 /// Why a command is refused, if it is. Takes no memory.
 pub(crate) fn refusal_of<V: WholeState>(view: &V, command: &Command) -> Option<Refusal>
+    requires { AreTunnels (V.router view.now) (V.state view.now).facts.tunnels }
     ensures { result ≡ refusal_of (V.router view.now) (V.state view.now).facts command.now }
 {
     match command {

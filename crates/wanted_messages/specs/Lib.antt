@@ -1,4 +1,5 @@
 pub mod Fitting
+pub mod PassingLaws
 pub mod PathLaws
 pub mod ResvLaws
 pub mod Telling

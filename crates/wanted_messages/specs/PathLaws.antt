@@ -1,5 +1,5 @@
 -- What is known of the paths of a router goes on as messages.
-use Rattle.std.specs.Prelude.{◌≡◌, ℕ, ◌+◌, ◌≤◌, ◌==◌, Bool, true, List, Option, Some, None, IfSome, IsTrue, count_by}
+use Rattle.std.specs.Prelude.{◌≡◌, ℕ, ◌+◌, ◌≤◌, ◌==◌, not, Bool, true, List, Option, Some, None, IfSome, IsTrue, count_by}
 use Rattle.std.specs.FinMap.Entries.{find}
 use Rattle.std.specs.List.{AllByRecursion}
 use Rattle.std.specs.Option.{option_and_then, option_map, option_map_or}
@@ -33,9 +33,10 @@ use Rattle.abstract_paths.specs.Soundness.{ArePaths, IsPath, IsWithinLimits, beg
 use Rattle.abstract_router.specs.BypassTunnels.{bypass_tunnels_of}
 use Rattle.abstract_router.specs.Soundness.{IsResv}
 use Rattle.abstract_router.specs.States.{State}
-use Rattle.abstract_router.specs.Through.{backup_path}
+use Rattle.abstract_router.specs.Through.{backup_path, passing_through}
 use Rattle.facility_backup.specs.OverLaws.{over_is}
 use Rattle.wanted_messages.specs.Fitting.{CanGoOn, CanGoThrough}
+use Rattle.wanted_messages.specs.PassingLaws.{some_adspec_last, some_count, some_passed_on, some_short}
 
 -- what is known of a path, if it is, goes on as messages
 goes_on : (r : Router) (moment : ℕ) (key : Key) (known : Option PathFact) → IfSome known (λ fact. IsPath r moment (key, fact)) → IfSome known (CanGoOn r key)
@@ -60,12 +61,12 @@ rest_fits : (endpoint far : Ipv4Addr) (is_nnhop : Bool) (rest : Option (List Ste
 rest_fits endpoint far is_nnhop None endpoint_four far_four short begins = refl
 rest_fits endpoint far is_nnhop (Some steps) endpoint_four far_four short begins = route_after-short endpoint far is_nnhop steps endpoint_four far_four short begins
 
--- with no FAST_REROUTE of its own a Path has none too many
-none_more : (own : Option FastReroute) (passing : List Raw) → IsTrue (has_one_fast_reroute own passing) → IsTrue (has_one_fast_reroute None passing)
+-- through a bypass goes one object of class FAST_REROUTE at most: none
+none_more : (own : Option FastReroute) (passing : List Raw) → IsTrue (has_one_fast_reroute own passing) → IsTrue (has_one_fast_reroute None (passing_through passing))
 none_more own passing one =
     let passed = count_by (λ (o : Raw). o.class == 205) passing in
     let few : option_map_or (λ (f : FastReroute). 1) own 0 + passed ≤ 1 = leb-true (option_map_or (λ (f : FastReroute). 1) own 0 + passed) 1 one in
-    le-leb (0 + passed) 1 (omega (arith, few))
+    le-leb (0 + count_by (λ (o : Raw). o.class == 205) (passing_through passing)) 1 (omega (arith, few, some_count (λ o. not (o.class == 205)) (λ o. o.class == 205) passing))
 
 -- The parts of the Path fit that goes through a bypass, where the path is within the limits.
 backup_fits : (r : Router) (key : Key) (fact : PathFact) (repair : Repair) (bypass_tunnel : BypassTunnel) (link : Link) → IsAddress key.session.endpoint → IsAddress bypass_tunnel.ends_at → IsWithinLimits fact
@@ -76,9 +77,9 @@ backup_fits r key fact repair bypass_tunnel link endpoint far is =
     and_from (option_map_or is_short_route (option_map (route_after key.session.endpoint bypass_tunnel.ends_at repair.is_nnhop) fact.rest) true) _
     (rest_fits key.session.endpoint bypass_tunnel.ends_at repair.is_nnhop fact.rest endpoint far is.rest is.begins)
     (and_from (option_map_or is_short_record (option_and_then (grown r) fact.recorded) true) _ recorded.0
-    (and_from (is_short_passing fact.passing) _ is.passing
-    (and_from (are_passed_on fact.passing) _ is.passed_on
-    (and_from (has_adspec_last fact.passing) _ is.adspec_last (none_more fact.fast_reroute fact.passing is.one_fast_reroute)))))
+    (and_from (is_short_passing (passing_through fact.passing)) _ (some_short (λ o. not (o.class == 205)) fact.passing is.passing)
+    (and_from (are_passed_on (passing_through fact.passing)) _ (some_passed_on (λ o. not (o.class == 205)) fact.passing is.passed_on)
+    (and_from (has_adspec_last (passing_through fact.passing)) _ (some_adspec_last (λ o. not (o.class == 205)) fact.passing is.adspec_last) (none_more fact.fast_reroute fact.passing is.one_fast_reroute)))))
 
 -- So a path of a router goes through a bypass as messages. All addresses have four octets.
 pub goes_through : (r : Router) (moment : ℕ) (key : Key) (fact : PathFact) (repair : Repair) (bypass_tunnel : BypassTunnel) → IsAddress key.session.endpoint → IsAddress bypass_tunnel.ends_at → IsPath r moment (key, fact) → CanGoThrough r key fact repair bypass_tunnel

@@ -9,7 +9,7 @@ ghost use Rattle.abstract_paths.specs.BackupRoutes.{route_after};
 ghost use Rattle.abstract_paths.specs.Soundness.{IsPath};
 ghost use Rattle.abstract_router.specs.Lsps.{around_of, lsp_of};
 ghost use Rattle.abstract_router.specs.Soundness.{IsResv};
-ghost use Rattle.abstract_router.specs.Through.{backup_of, backup_over, backup_path};
+ghost use Rattle.abstract_router.specs.Through.{backup_of, backup_over, backup_path, passing_through};
 ghost use Rattle.abstract_router.specs.Wanted.{backup_row};
 ghost use Rattle.wanted_messages.specs.Fitting.{CanGoThrough};
 
@@ -21,7 +21,8 @@ use facility_backup::bypass_tunnel_at;
 use lsr_facts::{BypassTunnel, Item, Key, Link, Node, PathFact, Repair};
 use message_rules::{head_through, hop_through, labelled_by, link_at, path_onward};
 use rsvp_bodies::Route;
-use rsvp_contents::{Content, Message, Path};
+use rsvp_contents::{Content, Message, Passing, Path};
+use rsvp_objects::numbers::CLASS_FAST_REROUTE;
 use state_views::{StateView, node_of};
 use std::alloc::{AllocError, Global};
 
@@ -55,6 +56,20 @@ fn route_through(
     }
 }
 
+/// What goes on unread through a bypass: all but objects of class FAST_REROUTE, of any C-Type (RFC 4090, 4.1). The only
+/// error is out of memory.
+fn passing_through(alloc: Global, passing: &Passing) -> Result<Passing, AllocError>
+    ensures { IfOk result (λ through. through ≡ passing_through passing.now) }
+{
+    let mut through = Passing::new(alloc);
+    for object in passing.as_slice() {
+        if object.class() != CLASS_FAST_REROUTE {
+            through.push(object.clone()?)?;
+        }
+    }
+    Ok(through)
+}
+
 /// The Path of a repaired LSP: from another sender and another hop, on from the bypass's end, with no FAST_REROUTE; all
 /// else is as in the Path that went over the link (RFC 4090, 6.4.3 and 6.4.4). The only error is out of memory.
 fn backup_path(
@@ -76,6 +91,7 @@ fn backup_path(
         hop: hop_through(node.router, repair),
         route: route_through(alloc, key, &path.rest, repair, bypass_tunnel)?,
         fast_reroute: None,
+        passing: passing_through(alloc, &path.passing)?,
         sender: head_through(key.sender, link),
         ..onward
     })

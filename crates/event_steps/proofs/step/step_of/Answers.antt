@@ -20,7 +20,7 @@ chosen_labels-requires-clause-choice g c =
     let r = g.V.StateView.router c.args.view.now in
     let s = g.V.StateView.state c.args.view.now in
     let drafted = draft_leaves r s c.args.event.now c.in_ok-draft.draft c.requires.running c.is_possible.ensures c.requires.passes c.in_ok-draft.ensures.draft c.requires.router c.requires.sound c.if-draft.false in
-    subst (λ (paths : List (Key × Option PathFact)). CanLabel r s.labels (rows.edited key_cmp paths s.facts.paths)) (sym c.as_slice.ensures.rows) drafted.choice
+    subst (λ (paths : List (Key × Option PathFact)). CanLabel r s (rows.edited key_cmp paths s.facts.paths)) (sym c.as_slice.ensures.rows) drafted.choice
 
 pub step_by-requires-clause-draft : goal.step_by-requires-clause-draft
 step_by-requires-clause-draft g c =

@@ -1,4 +1,3 @@
-use Rattle.std.proofs.Common.{refl}
 use Rattle.std.proofs.lemmas.Result.{err_from_is_err_and}
 use Rattle.toml.specs.View.{view}
 use Rattle.lsr_config.specs.Configs.{setup}
@@ -87,15 +86,15 @@ returns-in_err-bypass_table c =
 pub invariant_of-result : goal.invariant_of-result
 invariant_of-result c =
     (parts_open (view c.args.document.now)
-    (setup (record { id = c.in_ok-top.top.id; refresh_ms = c.in_ok-top.top.refresh_ms; labels = c.in_ok-top.top.labels; label_rest_ms = 0; links = c.in_ok-link_table.link_table }) c.in_ok-route_table.route_table c.in_ok-tunnel_table.tunnel_table c.in_ok-bypass_table.bypass_table)
+    (setup (record { id = c.in_ok-top.top.id; refresh_ms = c.in_ok-top.top.refresh_ms; labels = c.in_ok-top.top.labels; label_rest_ms = c.in_ok-top.top.label_rest_ms; links = c.in_ok-link_table.link_table }) c.in_ok-route_table.route_table c.in_ok-tunnel_table.tunnel_table c.in_ok-bypass_table.bypass_table)
     c.in_ok-links.links.items c.in_ok-routes.routes.items c.in_ok-tunnels.tunnels.items c.in_ok-bypasses.bypasses.items
-    c.in_ok-top.ensures refl c.in_ok-links.ensures c.in_ok-routes.ensures c.in_ok-tunnels.ensures c.in_ok-bypasses.ensures c.in_ok-check_keys.ensures.0
+    c.in_ok-top.ensures c.in_ok-links.ensures c.in_ok-routes.ensures c.in_ok-tunnels.ensures c.in_ok-bypasses.ensures c.in_ok-check_keys.ensures.0
     c.in_ok-link_table.ensures c.in_ok-route_table.ensures c.in_ok-tunnel_table.ensures c.in_ok-bypass_table.ensures).1
 
 pub returns : goal.returns
 returns c =
     (parts_open (view c.args.document.now)
-    (setup (record { id = c.in_ok-top.top.id; refresh_ms = c.in_ok-top.top.refresh_ms; labels = c.in_ok-top.top.labels; label_rest_ms = 0; links = c.in_ok-link_table.link_table }) c.in_ok-route_table.route_table c.in_ok-tunnel_table.tunnel_table c.in_ok-bypass_table.bypass_table)
+    (setup (record { id = c.in_ok-top.top.id; refresh_ms = c.in_ok-top.top.refresh_ms; labels = c.in_ok-top.top.labels; label_rest_ms = c.in_ok-top.top.label_rest_ms; links = c.in_ok-link_table.link_table }) c.in_ok-route_table.route_table c.in_ok-tunnel_table.tunnel_table c.in_ok-bypass_table.bypass_table)
     c.in_ok-links.links.items c.in_ok-routes.routes.items c.in_ok-tunnels.tunnels.items c.in_ok-bypasses.bypasses.items
-    c.in_ok-top.ensures refl c.in_ok-links.ensures c.in_ok-routes.ensures c.in_ok-tunnels.ensures c.in_ok-bypasses.ensures c.in_ok-check_keys.ensures.0
+    c.in_ok-top.ensures c.in_ok-links.ensures c.in_ok-routes.ensures c.in_ok-tunnels.ensures c.in_ok-bypasses.ensures c.in_ok-check_keys.ensures.0
     c.in_ok-link_table.ensures c.in_ok-route_table.ensures c.in_ok-tunnel_table.ensures c.in_ok-bypass_table.ensures).0

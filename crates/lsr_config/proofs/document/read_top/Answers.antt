@@ -27,12 +27,23 @@ returns-in_err-labels c =
     (turn_past _ _ _ c.in_ok-refresh_ms.ensures.judged.0
     (turn_front _ _ _ c.in_err-labels.ensures)))
 
+pub returns-in_err-label_rest_ms : goal.returns-in_err-label_rest_ms
+unfolding router_rules
+returns-in_err-label_rest_ms c =
+    let p = err_from_is_err_and c.from_residual-in_err-label_rest_ms.result c.from_residual-in_err-label_rest_ms.ensures.1 in
+    rw (p.1, p.2)
+    (turn_past _ _ _ c.in_ok-id.ensures.0
+    (turn_past _ _ _ c.in_ok-refresh_ms.ensures.judged.0
+    (turn_past _ _ _ c.in_ok-labels.ensures.0
+    (turn_front _ _ _ c.in_err-label_rest_ms.ensures.judged))))
+
 pub returns : goal.returns
 unfolding router_rules
 returns c = (
   (turn_kept _ _ c.in_ok-id.ensures.0
       (turn_kept _ _ c.in_ok-refresh_ms.ensures.judged.0
       (turn_kept _ _ c.in_ok-labels.ensures.0
-      turn_end))),
-  (c.in_ok-id.ensures.1, c.in_ok-refresh_ms.ensures.judged.1, c.in_ok-labels.ensures.1),
+      (turn_kept _ _ c.in_ok-label_rest_ms.ensures.judged.0
+      turn_end)))),
+  (c.in_ok-id.ensures.1, c.in_ok-refresh_ms.ensures.judged.1, c.in_ok-labels.ensures.1, c.in_ok-label_rest_ms.ensures.judged.1),
 )

@@ -1,5 +1,5 @@
 -- A change of a sound router finds room, and leaves the tables of one.
-use Rattle.std.proofs.Common.{◌≡◌, ◌≤◌, [], ap, arith, nat_cmp, length, subst, sym, ℕ, List, ◌∙◌}
+use Rattle.std.proofs.Common.{◌≡◌, ◌≤◌, ap, arith, max, nat_cmp, length, subst, sym, ℕ, List, ◌∙◌}
 use Rattle.std.specs.Option.{unwrap_or}
 use Rattle.std.specs.declared.cmp.Ordering.{Ordering}
 use Rattle.std.specs.declared.cmp.Ordering.TheVariants.{Equal}
@@ -9,6 +9,7 @@ use Rattle.forwarding_table.specs.Actions.{Actions}
 use Rattle.forwarding_table.specs.declared.action.Action.{Action}
 use Rattle.abstract_router.specs.LabelLaws.{held-labelled}
 use Rattle.label_space.specs.Bindings.{AreHeldOf, Bindings}
+use Rattle.label_space.specs.Rests.{AreApart}
 use Rattle.label_table.specs.TunnelLaws.{length_tunnel_table}
 use Rattle.lsr_facts.specs.OrderLaws.{item_exact, key_exact}
 use Rattle.lsr_facts.specs.Orders.{key_cmp}
@@ -21,7 +22,7 @@ use Rattle.state_views.specs.declared.edits.EditParts.{EditParts}
 use Rattle.router_tables.specs.Changes.{changed}
 use Rattle.router_tables.specs.States.{facts_of, state_of}
 use Rattle.router_tables.specs.declared.rows.Rows.{Rows}
-use Rattle.router_tables.proofs.Applying.{AreEdited, edited_are}
+use Rattle.router_tables.proofs.Applying.{AreEdited, edited_are, rests_are}
 use Rattle.router_tables.proofs.Rooms.{few_assignments, few_labels, few_moments, few_paths, few_repairs, few_resvs, few_tunnels, few_upstream}
 use Rattle.router_tables.proofs.rows.apply.Goals as goal
 
@@ -58,21 +59,30 @@ make_edits-requires-3 c =
           (few_assignments t.router (changed c.args.change (state_of t)) c.requires.change.sound);
     }
 
-pub edit-requires-3-clause-room : goal.edit-requires-3-clause-room
-edit-requires-3-clause-room c =
+pub edit_labels-requires-clause-room : goal.edit_labels-requires-clause-room
+edit_labels-requires-clause-room c =
     let t = c.args.rows.now in
     subst (λ (e : EditParts). length (in_rows.edited key_cmp e.labels t.labels.labels) ≤ 1024) (sym c.into_parts-edits.ensures)
     (few_labels t.router (changed c.args.change (state_of t)) c.requires.change.sound)
 
-pub edit-requires-3-clause-held : goal.edit-requires-3-clause-held
-edit-requires-3-clause-held c =
+pub edit_labels-requires-clause-held : goal.edit_labels-requires-clause-held
+edit_labels-requires-clause-held c =
     let t = c.args.rows.now in
     let after = changed c.args.change (state_of t) in
     subst (λ (e : EditParts). AreHeldOf t.labels.range (in_rows.edited key_cmp e.labels t.labels.labels)) (sym c.into_parts-edits.ensures)
     (subst (λ (range : LabelRange). AreHeldOf range after.labels) (sym c.requires.tables.range) (held-labelled t.router after c.requires.change.sound.labels))
 
-pub edit-requires-4 : goal.edit-requires-4
-edit-requires-4 c =
+pub edit_labels-requires-clause-apart : goal.edit_labels-requires-clause-apart
+edit_labels-requires-clause-apart c =
+    let t = c.args.rows.now in
+    let after = changed c.args.change (state_of t) in
+    let parts = c.into_parts-edits.ensures in
+    let labels = λ (e : EditParts). in_rows.edited key_cmp e.labels t.labels.labels in
+    let rests = rests_are c.args.change t c.requires.tables c.requires.change _ _ parts c.replace.ensures in
+    subst (AreApart _) (sym rests) (subst (λ (e : EditParts). AreApart (labels e) after.resting) (sym parts) c.requires.change.sound.resting.apart)
+
+pub edit-requires-3 : goal.edit-requires-3
+edit-requires-3 c =
     let t = c.args.rows.now in
     let order = c.items_are_in_order.ensures.order in (
       omega arith,
@@ -82,11 +92,11 @@ edit-requires-4 c =
       ),
     )
 
-pub edit-requires-5 : goal.edit-requires-5
-edit-requires-5 c = let t = c.args.rows.now in (omega arith, (upstream_exact, few_upstream t.router (changed c.args.change (state_of t)) c.requires.change.sound))
+pub edit-requires-4 : goal.edit-requires-4
+edit-requires-4 c = let t = c.args.rows.now in (omega arith, (upstream_exact, few_upstream t.router (changed c.args.change (state_of t)) c.requires.change.sound))
 
-pub edit-requires-6-clause-room : goal.edit-requires-6-clause-room
-edit-requires-6-clause-room c = c.requires.change.table.room c.args.rows.now.table.labels c.rows_are_in_order.ensures.labels_sorted c.requires.tables.table
+pub edit-requires-5-clause-room : goal.edit-requires-5-clause-room
+edit-requires-5-clause-room c = c.requires.change.table.room c.args.rows.now.table.labels c.rows_are_in_order.ensures.labels_sorted c.requires.tables.table
 
 pub edit_tunnels-requires-clause-room : goal.edit_tunnels-requires-clause-room
 edit_tunnels-requires-clause-room c =
@@ -94,7 +104,7 @@ edit_tunnels-requires-clause-room c =
     let s = changed c.args.change (state_of t) in
     let edits = c.args.change.tunnel_table in
     let table =
-    ap (λ (a : Actions). in_rows.edited nat_cmp edits a.tunnels) c.edit-6.ensures ∙ ap (λ (tunnels : List (ℕ × Action)). in_rows.edited nat_cmp edits tunnels) c.requires.tables.tunnel_table
+    ap (λ (a : Actions). in_rows.edited nat_cmp edits a.tunnels) c.edit-5.ensures ∙ ap (λ (tunnels : List (ℕ × Action)). in_rows.edited nat_cmp edits tunnels) c.requires.tables.tunnel_table
     ∙ c.requires.change.tunnel_table.table in
     omega (arith, ap length table, length_tunnel_table t.router s, few_tunnels t.router s c.requires.change.sound)
 
@@ -105,7 +115,8 @@ are_edited c =
     let change = c.args.change in
     let parts = c.into_parts-edits.ensures in
     let last = c.advance.ensures in
-    let sent = ap (λ (timers : Timers Item). timers.sent) c.edit-4.ensures ∙ ap (λ (cmp : Item → Item → Ordering). in_rows.edited cmp change.moments t.timers.sent) c.items_are_in_order.ensures.order in
+    let rests = rests_are change t c.requires.tables c.requires.change _ _ parts c.replace.ensures in
+    let sent = ap (λ (timers : Timers Item). timers.sent) c.edit-3.ensures ∙ ap (λ (cmp : Item → Item → Ordering). in_rows.edited cmp change.moments t.timers.sent) c.items_are_in_order.ensures.order in
     record {
       router = ap (λ (rows : Rows). rows.router) last;
       state =
@@ -123,18 +134,21 @@ are_edited c =
             resvs = (c.edit-2.ensures i).resvs;
             repairs = (c.make_edits-2.ensures ∙ ap (λ (e : EditParts). in_rows.edited key_cmp e.repairs t.repairs) parts) i;
             assignments = (c.make_edits-3.ensures ∙ ap (λ (e : EditParts). in_rows.edited key_cmp e.assignments t.assignments) parts) i;
-            labels = (ap (λ (b : Bindings). b.labels) c.edit-3.ensures ∙ ap (λ (e : EditParts). in_rows.edited key_cmp e.labels t.labels.labels) parts) i;
-            resting = [];
-            sent_upstream = (c.edit-5.ensures i).sent;
+            labels = (ap (λ (b : Bindings). b.labels) c.edit_labels.ensures ∙ ap (λ (e : EditParts). in_rows.edited key_cmp e.labels t.labels.labels) parts) i;
+            resting = (ap (λ (b : Bindings). b.resting) c.edit_labels.ensures ∙ rests) i;
+            sent_upstream = (c.edit-4.ensures i).sent;
           });
-      period = ap (λ (rows : Rows). rows.timers.refresh_ms) last ∙ ap (λ (timers : Timers Item). timers.refresh_ms) c.edit-4.ensures;
-      upstream_period = ap (λ (rows : Rows). rows.upstream.refresh_ms) last ∙ ap (λ (timers : Timers Upstream). timers.refresh_ms) c.edit-5.ensures;
+      period = ap (λ (rows : Rows). rows.timers.refresh_ms) last ∙ ap (λ (timers : Timers Item). timers.refresh_ms) c.edit-3.ensures;
+      upstream_period = ap (λ (rows : Rows). rows.upstream.refresh_ms) last ∙ ap (λ (timers : Timers Upstream). timers.refresh_ms) c.edit-4.ensures;
       claims = ap (λ (rows : Rows). rows.bandwidth.claims) last ∙ ap (λ (b : Bandwidth). b.claims) c.edit-2.ensures;
-      range = ap (λ (rows : Rows). rows.labels.range) last ∙ ap (λ (b : Bindings). b.range) c.edit-3.ensures;
-      table = ap (λ (rows : Rows). rows.table.labels) last ∙ ap (λ (a : Actions). a.labels) c.edit_tunnels.ensures ∙ ap (λ (a : Actions). a.labels) c.edit-6.ensures;
+      range = ap (λ (rows : Rows). rows.labels.range) last ∙ ap (λ (b : Bindings). b.range) c.edit_labels.ensures;
+      moment =
+          ap (λ (rows : Rows). rows.labels.moment) last ∙ ap (λ (b : Bindings). b.moment) c.edit_labels.ensures
+          ∙ ap (λ (rows : Rows). max t.labels.moment rows.moment) (sym last);
+      table = ap (λ (rows : Rows). rows.table.labels) last ∙ ap (λ (a : Actions). a.labels) c.edit_tunnels.ensures ∙ ap (λ (a : Actions). a.labels) c.edit-5.ensures;
       tunnel_table =
           ap (λ (rows : Rows). rows.table.tunnels) last ∙ ap (λ (a : Actions). a.tunnels) c.edit_tunnels.ensures
-          ∙ ap (λ (a : Actions). in_rows.edited nat_cmp change.tunnel_table a.tunnels) c.edit-6.ensures;
+          ∙ ap (λ (a : Actions). in_rows.edited nat_cmp change.tunnel_table a.tunnels) c.edit-5.ensures;
     }
 
 pub returns-clause-tables : goal.returns-clause-tables

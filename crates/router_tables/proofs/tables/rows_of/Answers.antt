@@ -53,6 +53,7 @@ returns c =
         repairs = c.in_ok-new-4.ensures i;
         labels = (c.in_ok-new-6.ensures i).labels;
         assignments = c.in_ok-new-5.ensures i;
+        resting = (c.in_ok-new-6.ensures i).resting;
         sent_upstream = (c.in_ok-new-7.ensures i).sent;
       };
     } in
@@ -63,5 +64,6 @@ returns c =
       upstream_period = ap (λ (timers : Timers Upstream). timers.refresh_ms) c.in_ok-new-7.ensures;
       claims = ap (λ (b : Bandwidth). b.claims) c.in_ok-new-3.ensures;
       range = ap (λ (b : Bindings). b.range) c.in_ok-new-6.ensures;
+      moment = ap (λ (b : Bindings). b.moment) c.in_ok-new-6.ensures;
       table = c.in_ok-new-8.ensures;
     })

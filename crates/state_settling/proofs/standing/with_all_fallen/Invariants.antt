@@ -7,4 +7,4 @@ abbrev pub invariant-loop-place : goal.invariant-loop-place
 invariant-loop-place g l =
     let r = g.A.StateView.router l.fn.after in
     let s = g.A.StateView.state l.fn.after in
-    l.keys.items ≡ l.fn.keys.items ++ filter_map (λ row. failing_key (g.S.Standing.row_stands r s) (g.S.Standing.rows s) row.0) (take l.place (g.S.Standing.rows (g.V.StateView.state l.fn.before)))
+    l.keys.items ≡ l.fn.keys.items ++ filter_map (λ row. failing_key (g.S.Falling.row_stands r s) (g.S.Falling.rows s) row.0) (take l.place (g.S.Falling.rows (g.V.StateView.state l.fn.before)))

@@ -11,7 +11,7 @@ pub loop-edit-preserved : goal.loop-edit-preserved
 loop-edit-preserved g c =
     let r = g.A.StateView.router c.args.after.now in
     let s = g.A.StateView.state c.args.after.now in
-    let falls = λ (edit : _ × _). failing_key (g.S.Standing.row_stands r s) (g.S.Standing.rows s) edit.0 in
+    let falls = λ (edit : _ × _). failing_key (g.S.Falling.row_stands r s) (g.S.Falling.rows s) edit.0 in
     let before = c.loop-edit.keys.items in
     let after = c.match-fallen_key.keys.items in
     let edits = c.args.edits.now in

@@ -7,4 +7,4 @@ abbrev pub invariant-loop-edit : goal.invariant-loop-edit
 invariant-loop-edit g l =
     let r = g.A.StateView.router l.fn.after in
     let s = g.A.StateView.state l.fn.after in
-    l.keys.items ≡ l.fn.keys.items ++ filter_map (λ edit. failing_key (g.S.Standing.row_stands r s) (g.S.Standing.rows s) edit.0) (take l.edit-index l.edits)
+    l.keys.items ≡ l.fn.keys.items ++ filter_map (λ edit. failing_key (g.S.Falling.row_stands r s) (g.S.Falling.rows s) edit.0) (take l.edit-index l.edits)

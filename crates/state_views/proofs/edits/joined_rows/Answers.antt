@@ -1,4 +1,4 @@
-use Rattle.std.proofs.Common.{◌≡◌, T, ap, length, subst, sym, ◌∙◌}
+use Rattle.std.proofs.Common.{T, ap, length, subst, sym, ◌∙◌}
 use Rattle.std.proofs.Math.Dec.{eqb→eq}
 use Rattle.state_views.specs.Joining.{joined_none}
 use Rattle.state_views.proofs.edits.joined_rows.Goals as goal

@@ -8,5 +8,7 @@ use Rattle.label_space.proofs.bindings.LabelBindings.hold_all.Given as goal
 abbrev pub invariant-loop-edit : goal.invariant-loop-edit
 invariant-loop-edit l =
     (l.self.range ≡ l.fn.self.range)
+    × (l.self.moment ≡ l.fn.self.moment)
+    × (l.self.resting ≡ l.fn.self.resting)
     × (in_turn (given key_cmp) (drop l.edit-index l.edits) l.self.labels ≡ in_turn (given key_cmp) l.fn.edits l.fn.self.labels)
-    × CanHold l.self.range (drop l.edit-index l.edits) l.self.labels
+    × CanHold l.self.range (drop l.edit-index l.edits) l.self.labels l.self.resting

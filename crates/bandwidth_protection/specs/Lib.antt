@@ -1,0 +1,6 @@
+pub mod Candidates
+pub mod CandidateLaws
+pub mod Resting
+pub mod RestingLaws
+pub mod Wishing
+pub mod WishLaws

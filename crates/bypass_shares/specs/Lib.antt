@@ -1,0 +1,6 @@
+pub mod Left
+pub mod Merged
+pub mod ShareLaws
+pub mod Shares
+pub mod SumLaws
+pub mod TurnLaws

@@ -1,7 +1,0 @@
--- Whenever a reservation expires, its LSP is protected alike.
-use Rattle.std.proofs.Common.{◌∙◌}
-use Rattle.facility_backup.proofs.Rows.{own_ready}
-use Rattle.facility_backup.proofs.selecting.own_flags.Goals as goal
-
-pub returns-in-Some : goal.returns-in-Some
-returns-in-Some g c = c.flags_ready.ensures ∙ own_ready _ (g.V.StateView.state c.args.view.now) _ _ _ c.in-Some.ensures.resv

@@ -1,5 +1,0 @@
-use Rattle.label_space.specs.LabelLaws.{none_given}
-use Rattle.label_space.proofs.laws.none_is_given_where_all_are_held.Goals as goal
-
-pub returns : goal.returns
-returns c = none_given

@@ -1,0 +1,8 @@
+-- The lines of the bypasses so far, after what there was.
+use Rattle.std.proofs.Common.{◌≡◌, ◌++◌, take, string_bytes}
+use Rattle.std.specs.List.{flat_map}
+use Rattle.lsr_session.specs.Requests.{share_text}
+use Rattle.lsr_session.proofs.shown.push_shares.Given as goal
+
+abbrev pub invariant-loop-row : goal.invariant-loop-row
+invariant-loop-row l = string_bytes l.text ≡ string_bytes l.fn.text ++ flat_map (share_text l.state) (take l.row-index l.row-items)

@@ -1,9 +1,0 @@
--- The lines of the links so far, after the counts.
-use Rattle.std.proofs.Common.{◌≡◌, ◌++◌, take, string_bytes}
-use Rattle.std.specs.List.{flat_map}
-use Rattle.lsr_text.specs.Summary.{counts_text}
-use Rattle.lsr_session.specs.Requests.{room_text}
-use Rattle.lsr_session.proofs.shown.show_summary.Given as goal
-
-abbrev pub invariant-loop-row : goal.invariant-loop-row
-invariant-loop-row l = string_bytes l.text ≡ counts_text l.router.router l.router.state ++ flat_map (room_text l.router.state) (take l.row-index l.row-items)

@@ -1,0 +1,9 @@
+-- Where a router is opened, and from then on.
+use Rattle.router_soundness.proofs.AssigningStands.{stands_opening, stands_step}
+use Rattle.router_laws.proofs.promises.nothing_is_left_to_promise.Goals as goal
+
+pub returns-clause-opening : goal.returns-clause-opening
+returns-clause-opening c = stands_opening
+
+pub returns-clause-step : goal.returns-clause-step
+returns-clause-step c = λ r before after made router is stands step. stands_step r before made after router is stands step
