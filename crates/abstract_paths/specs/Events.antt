@@ -103,7 +103,7 @@ pub record IsArrive (a : Arrive) : Type 0 where
   pub message : IsMessage (content_in a.reading)
   pub unknown : IsUnknown a.reading
 
--- A message for another router that can come: it has no more bytes than a frame.
+-- A message for another router that can come: it has at most 4,096 bytes.
 pub record IsRelay (m : Relay) : Type 0 where
   pub link : IsNumber m.link
   pub to : IsAddress m.to

@@ -60,7 +60,7 @@ abbrev pub routed_by : ℕ → Ipv4Addr → Content → Output
 routed_by link to content = record { link = link; frame = frames.Routed to 64 content }
 
 -- A message that goes back to an origin: to a neighbour over its link; to the head of a bypass, whose Paths come through a
--- stack of labels, by the way that leads to its address, and nothing where none does (RFC 4090, 6.4.4).
+-- stack of labels, by the way that leads to its address, and nothing where none does.
 abbrev pub sent_back : Place → Via → Ipv4Addr → Content → Option Output
 sent_back n (vias.Link link) to content = Some (sent_by link content)
 sent_back n vias.Stack to content = option_map (λ link. routed_by link to content) (route_to n to)

@@ -88,7 +88,7 @@ unknown_stack_arrival r s (contents.Path p) class ctype = of_paths s (stack_path
 unknown_stack_arrival r s content class ctype = stack_arrival r s content
 
 -- What a message does that came in a Routed frame: it is about an LSP that this router repairs, from the end of the bypass
--- or beyond (RFC 4090, 6.4.4). No other type comes so.
+-- or beyond. No other type comes so.
 abbrev pub routed_arrival : Router → State → Content → Outcome
 routed_arrival r s (contents.Resv v) = returned_resv r s v
 routed_arrival r s (contents.ResvTear t) = returned_tear r s t

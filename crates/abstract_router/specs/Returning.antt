@@ -1,5 +1,5 @@
--- What the end of a bypass sends back to the point of local repair, in Routed frames: it goes by the repair that it is for
--- (RFC 4090, 6.4.4).
+-- What the end of a bypass sends back to the point of local repair, in Routed frames: it goes by the repair that it is for.
+-- How it finds that repair is this router's choice.
 use Rattle.std.specs.Prelude.{ℕ, ◌&&◌, ◌++◌, not, Bool, true, false, List, [], ◌∷◌, filter, filter_map, fold, option_to_list, Option, Some, None}
 use Rattle.std.specs.FinMap.Entries.{find}
 use Rattle.std.specs.Option.{option_and_then, option_map, option_map_or, option_or}

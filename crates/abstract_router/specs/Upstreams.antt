@@ -1,5 +1,5 @@
 -- The Resvs that the state wants kept alive upstream: at the neighbours, and at the heads of bypasses that end here (RFC
--- 2205, 3.1.4 and 3.7; RFC 3209, 2.2 and 4.4; RFC 4090, 6.4.4).
+-- 2205, 3.1.4 and 3.7; RFC 3209, 2.2 and 4.4).
 use Rattle.std.specs.Prelude.{ℕ, ◌+◌, ◌%◌, ◌/◌, ◌==◌, ◌++◌, Bool, true, false, if◌then◌else◌, List, [], ◌∷◌, filter_map, is_some, Option, Some, None}
 use Rattle.std.specs.FinMap.Entries.{where_key}
 use Rattle.std.specs.List.{flat_map}
@@ -108,8 +108,7 @@ unfoldable pub record_upstream : Router → ℕ → PathFact → ℕ → List Tr
 record_upstream r flags path label recorded = option_and_then (λ came. short_only (own_entries r flags path label ++ recorded)) path.recorded
 
 -- The Resv to an origin: this router is its hop, by this address, with the interface handle that the origin named; its
--- filter names the sender of the origin's Paths; the label is the router's own (RFC 2205, 3.1.4; RFC 3209, 4.1.1; RFC 4090,
--- 6.4.4).
+-- filter names the sender of the origin's Paths; the label is the router's own (RFC 2205, 3.1.4; RFC 3209, 4.1.1).
 abbrev pub resv_to : Router → Key → PathFact → Ipv4Addr × Origin → Ipv4Addr → ℕ → Reserved → Resv
 resv_to r key path origin address label a = record {
   session = key.session;

@@ -1,4 +1,4 @@
-//! Whether a message is for a repair: the LSP is named as the bypass's end knows it (RFC 4090, 6.4.3 and 6.4.4).
+//! Whether a message is for a repair: the LSP is named as the bypass's end knows it (RFC 4090, 6.4.3).
 
 ghost use Rattle.std.specs.Prelude.{◌≡◌};
 ghost use Rattle.abstract_router.specs.Returning.{ends_at, is_known_as};
@@ -36,7 +36,7 @@ fn ends_at<V: StateView>(view: &V, hop: Ipv4Addr, repair: &(Key, Repair)) -> boo
 }
 
 /// Whether a message is for the repair that names this LSP, and comes from the router of this address, if it says which
-/// (RFC 4090, 6.4.3 and 6.4.4). Takes no memory.
+/// (RFC 4090, 6.4.3). Takes no memory.
 pub fn is_for<V: StateView>(
     view: &V,
     hop: Option<Ipv4Addr>,

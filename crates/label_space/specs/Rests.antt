@@ -20,7 +20,7 @@ abbrev pub with_rest : ℕ → List ℕ → List (ℕ × ℕ) → List (ℕ × �
 with_rest until [] resting = resting
 with_rest until (label ∷ more) resting = put nat_cmp label until (with_rest until more resting)
 
--- labels are freed at a moment, and rest until another one; where that isn't later, they don't rest
+-- labels that are freed at a moment rest until another one; where that isn't later, they don't rest
 abbrev pub rested : ℕ → ℕ → List ℕ → List (ℕ × ℕ) → List (ℕ × ℕ)
 rested moment until freed resting = if nat_lt moment until then with_rest until freed resting else resting
 

@@ -15,12 +15,12 @@ use Rattle.lsr_facts.specs.declared.tunnel.Tunnel.{Tunnel}
 abbrev pub is_for_bypass : List (ℕ × Bypass) → ℕ → Bool
 is_for_bypass bypasses tunnel = list_any (λ bypass. bypass.1.tunnel == tunnel) bypasses
 
--- and protects this link
+-- a bypass that runs in the tunnel of this number protects this link
 abbrev pub is_to_protect : List (ℕ × Bypass) → ℕ → ℕ → Bool
 is_to_protect bypasses tunnel link = list_any (λ bypass. (bypass.1.tunnel == tunnel) && (bypass.1.link == link)) bypasses
 
--- a tunnel carries a capacity that is at most the rate of its traffic, and of that of the LSP which is to take its current
--- one's place (no rate is above 2^50)
+-- A tunnel carries a capacity: it is at most the rate of the tunnel's traffic and, where an LSP is to take the current one's
+-- place, at most the rate of that LSP's too (no rate is above 2^50).
 abbrev pub carries : ℕ → Tunnel → Bool
 carries capacity tunnel = nat_le capacity (rate_asked tunnel.current.tspec) && option_map_or (λ lsp. nat_le capacity (rate_asked lsp.tspec)) tunnel.pending true
 

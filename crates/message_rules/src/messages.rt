@@ -57,7 +57,7 @@ pub fn routed_by(link: u16, to: Ipv4Addr, message: Message) -> Output
 }
 
 /// A message that goes back to an origin: to a neighbour over its link; to the head of a bypass by the way that leads to
-/// its address, and nothing where none does (RFC 4090, 6.4.4).
+/// its address, and nothing where none does.
 pub fn sent_back(node: &Node, via: Via, to: Ipv4Addr, message: Message) -> Option<Output>
     ensures { result ≡ sent_back (place_at node.now) via to message }
 {

@@ -56,7 +56,7 @@ fn told_to(
 }
 
 /// An error of a path, told to each of its origins (RFC 2205, 3.1.7): to a neighbour over its link, to the head of a
-/// bypass by the way that leads there, if one does (RFC 4090, 6.4.4). It asks for a Tspec, if any, that leaves room for
+/// bypass by the way that leads there, if one does. It asks for a Tspec, if any, that leaves room for
 /// the rest of the message. The only error is out of memory.
 pub fn told_upstream(
     alloc: Global,

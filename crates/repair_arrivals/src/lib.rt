@@ -1,5 +1,5 @@
 //! What comes back to the point of local repair from the end of a bypass, or from beyond it, and what it does of itself to what
-//! a label switching router knows, whoever keeps it (RFC 4090, 6.4.4). It comes in Routed frames, and goes by the repair that it
+//! a label switching router knows, whoever keeps it. It comes in Routed frames, and goes by the repair that it
 //! is for. Each decision is a draft that holds the answer, the errors and the edits.
 #![tactic(auto)]
 

@@ -1,4 +1,4 @@
-//! Which repair a message is for: the LSP is named as the bypass's end knows it (RFC 4090, 6.4.3 and 6.4.4).
+//! Which repair a message is for: the LSP is named as the bypass's end knows it (RFC 4090, 6.4.3).
 
 ghost use Rattle.std.specs.List.{list_any};
 ghost use Rattle.std.specs.Option.{option_copied, option_map_or};
@@ -56,7 +56,7 @@ fn only_one<'a, V: WholeState>(
     None
 }
 
-/// The repair that a PathErr is for which names this LSP (RFC 4090, 6.4.4). Takes no memory.
+/// The repair that a PathErr is for which names this LSP. Takes no memory.
 #[tactic(auto, using(crate::proofs::Matches::any_hop))]
 pub(crate) fn repair_known_as<'a, V: WholeState>(
     view: &'a V,

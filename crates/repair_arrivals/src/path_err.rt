@@ -1,4 +1,4 @@
-//! What a PathErr does that came back from beyond a bypass (RFC 4090, 6.4.4).
+//! What a PathErr does that came back from beyond a bypass.
 
 ghost use Rattle.std.specs.Prelude.{◌≡◌, IfOk, OnErr, false};
 ghost use Rattle.rsvp_contents.specs.Spelling.{IsMessage};
@@ -14,8 +14,7 @@ use rsvp_contents::PathErr;
 use state_views::{Draft, WholeState, refused};
 use std::alloc::{AllocError, Global};
 
-/// What a PathErr does that came back from beyond a bypass: it is told to the origins of the LSP whose repair it is for (RFC
-/// 4090, 6.4.4). The only error is out of memory, and that never comes for one that is refused.
+/// What a PathErr does that came back from beyond a bypass: it is told to the origins of the LSP whose repair it is for. The only error is out of memory, and that never comes for one that is refused.
 #[tactic(auto, unfolding(abstract_router::specs::Returning::returned_err))]
 pub fn returned_err<V: WholeState>(
     alloc: Global,

@@ -1,4 +1,4 @@
-//! What comes of a flow descriptor of a Resv that came back from the end of a bypass (RFC 4090, 6.4.4).
+//! What comes of a flow descriptor of a Resv that came back from the end of a bypass.
 
 ghost use Rattle.std.specs.FinMap.Entries.{find, is_sorted};
 ghost use Rattle.std.specs.Option.{option_map_or};

@@ -1,4 +1,4 @@
-//! What a Resv does that came back from the end of a bypass (RFC 4090, 6.4.4).
+//! What a Resv does that came back from the end of a bypass.
 
 ghost use Rattle.std.specs.FinMap.Entries.{is_sorted};
 ghost use Rattle.std.specs.Prelude.{◌≡◌, ◌^◌, ◌≤◌, IfOk, OnErr, T, false, true};
@@ -67,7 +67,7 @@ fn replied<V: StateView>(alloc: Global, view: &V, progress: RepairProgress) -> D
 }
 
 /// What a Resv does that came back from the end of a bypass, and is read whole: each flow descriptor renews the repair that it
-/// is for (RFC 4090, 6.4.4). One of another style than FF and SE is for none. It asks for what holds of each state that a router
+/// is for. One of another style than FF and SE is for none. It asks for what holds of each state that a router
 /// comes to. The only error is out of memory, and that never comes for a Resv that is refused.
 #[tactic(auto, using(resv_arrivals::proofs::Hearing::heard_speaks), unfolding(abstract_router::specs::Returning::returned_resv))]
 pub fn returned_resv<V: WholeState>(

@@ -1,4 +1,4 @@
-//! What a ResvTear does that came back from the end of a bypass (RFC 4090, 6.4.4).
+//! What a ResvTear does that came back from the end of a bypass.
 
 ghost use Rattle.std.specs.FinMap.Entries.{is_sorted};
 ghost use Rattle.std.specs.List.{list_any};
@@ -47,7 +47,7 @@ fn returned_keys<V: WholeState>(
     Ok(keys)
 }
 
-/// What a ResvTear does that came back from the end of a bypass: it takes away the repairs that it is for (RFC 4090, 6.4.4).
+/// What a ResvTear does that came back from the end of a bypass: it takes away the repairs that it is for.
 /// The only error is out of memory, and that never comes for one that is refused.
 pub fn returned_tear<V: WholeState>(
     alloc: Global,

@@ -69,7 +69,7 @@ pub fn refused_descriptors_change_nothing()
 /// reserves; a ResvTear those of its filters; a PathErr or a ResvErr none. Of those that come through a stack of labels a
 /// Path touches the LSP of the one path that it may join, and a PathTear that of the path that it came through (RFC 4090,
 /// 7.1). Of those that come in Routed frames a Resv touches the LSPs whose repairs it renews, and a ResvTear those whose
-/// repairs it takes away (RFC 4090, 6.4.4).
+/// repairs it takes away.
 pub fn a_message_touches_its_own_lsps()
     ensures others { (r : Router) (before after : State) (made : Made) (arrived : Arrive) (key : Key) →
         IsSound r before → Step r before made after → made.event ≡ events.Arrive arrived →

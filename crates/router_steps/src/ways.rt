@@ -1,5 +1,5 @@
 //! What a message does that came through a stack of labels, at the end of a bypass, or in a Routed frame, at its head (RFC
-//! 4090, 6.4.4 and 7).
+//! 4090, 7).
 
 ghost use Rattle.std.specs.Prelude.{◌≡◌, IfOk, OnErr, false};
 ghost use Rattle.rsvp_contents.specs.Spelling.{IsMessage};

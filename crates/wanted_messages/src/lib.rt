@@ -1,5 +1,5 @@
 //! What the state wants kept alive at the neighbours and at the ends and heads of bypasses (RFC 2205, 3.7; RFC 4090, 6.4.3
-//! and 6.4.4), by what is known of its LSPs, whoever keeps that: Paths downstream, and Resvs upstream.
+//! and 6.4.4 for backup Paths), by what is known of its LSPs, whoever keeps that: Paths downstream, and Resvs upstream.
 #![tactic(auto)]
 
 mod addresses;

@@ -1,4 +1,4 @@
-//! The Resv that each origin of an LSP is sent (RFC 2205, 3.1.4; RFC 3209, 4.1.1; RFC 4090, 6.4.4).
+//! The Resv that each origin of an LSP is sent (RFC 2205, 3.1.4; RFC 3209, 4.1.1).
 
 ghost use Rattle.std.specs.Prelude.{◌≡◌, IfOk};
 ghost use Rattle.rsvp_contents.specs.declared.messages.Content.TheVariants as contents;

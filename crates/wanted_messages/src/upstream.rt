@@ -1,5 +1,5 @@
 //! The Resvs that LSPs want upstream: at their neighbours, and at the heads of bypasses that end here (RFC 2205, 3.1.4 and
-//! 3.7; RFC 4090, 6.4.4).
+//! 3.7).
 
 ghost use Rattle.std.specs.FinMap.Entries.{is_sorted};
 ghost use Rattle.std.specs.List.{AllByRecursion, flat_map};
