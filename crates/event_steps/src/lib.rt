@@ -4,4 +4,6 @@
 
 mod step;
 
+pub use router_steps::exceeds_hop_limit;
+pub use state_settling::bandwidth_edits;
 pub use step::{EventStep, StepEdits, step_by, step_of};

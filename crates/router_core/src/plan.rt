@@ -17,13 +17,11 @@ ghost use Rattle.router_core.specs.Plans.{IsOutFor, IsPlanOf, after_plan};
 ghost use Rattle.router_core.specs.States.{RouterState};
 
 use abstract_paths::{Event, Outputs};
-use event_steps::{StepEdits, step_of};
+use event_steps::{StepEdits, bandwidth_edits, exceeds_hop_limit, step_of};
 use forwarding_table::Action;
 use lsr_facts::{Key, Refusal, Reply};
-use router_steps::exceeds_hop_limit;
 use router_tables::{Change, Tables, table_edits, tunnel_edits};
 use sorted_rows::Table;
-use state_settling::bandwidth_edits;
 use std::alloc::{AllocError, Global};
 use std::mem;
 
