@@ -1,7 +1,8 @@
 //! A router under its lock, and the ports of those who feed it.
 
-ghost use Rattle.std.specs.Prelude.{◌≡◌, ◌+◌, ◌<◌, ◌≤◌, [], All, IfOk, OnErr, OnOk, length, map};
+ghost use Rattle.std.specs.Prelude.{◌≡◌, ◌+◌, ◌<◌, ◌≤◌, ℕ, All, IfOk, OnErr, OnOk, length, map};
 ghost use Rattle.journal_bytes.specs.Events.{event_bytes};
+ghost use Rattle.lookup_plane.specs.Changes.{new_reader};
 ghost use Rattle.run_journal.specs.Journals.{IsAnswered};
 ghost use Rattle.run_journal.specs.Marks.{Follows, first_marks};
 
@@ -124,7 +125,9 @@ impl<L: Ledger, R: Wait + Drop> Core<L, R> {
     }
 
     /// What never changes of the router.
-    pub fn router(&self) -> &Router {
+    pub fn router(&self) -> &Router
+        ensures { result.now ≡ self.now.router }
+    {
         &self.router
     }
 }
@@ -170,7 +173,7 @@ pub fn open<L: Ledger, R: Wait + Drop>(
     requires readers { readers ≤ 64 }
     ensures ports { IfOk result (λ opened. map (λ port. port.mark) opened.ports.items ≡ first_marks ports) }
     ensures readers { IfOk result (λ opened. length opened.readers.items ≡ readers) }
-    ensures fresh { IfOk result (λ opened. All (λ reader. reader ≡ record { seen = []; at_least = 0 }) opened.readers.items) }
+    ensures fresh { IfOk result (λ opened. (table : ℕ) × All (λ reader. reader ≡ new_reader table) opened.readers.items) }
 {
     let (locked, readers) = Locked::new(alloc, rt, config, ports, readers)?;
     let router = locked.router().try_copy(alloc)?;

@@ -1,8 +1,9 @@
 //! Readers of a core's label table.
 
-ghost use Rattle.std.specs.Prelude.{◌≡◌, ◌≤◌, IfOk, MatchResult, length, max};
+ghost use Rattle.std.specs.Prelude.{◌≡◌, ◌≤◌, ◌<◌, IfErr, IfOk, MatchResult, length, max};
 ghost use Rattle.forwarding_table.specs.Forwarding.{forward_of};
 ghost use Rattle.lookup_plane.specs.Changes.{StartsWith, look, look_tunnel};
+ghost use Rattle.lookup_plane.specs.declared.closed.Closed.TheVariants.{Behind};
 
 use crate::cores::Port;
 use forwarding_table::{Action, Forwarding};
@@ -22,9 +23,9 @@ pub struct CoreReader<L: Ledger> {
 }
 
 impl<L: Ledger> Model for CoreReader<L> {
-    ghost use Rattle.lookup_plane.specs.Changes.{Learnt};
+    ghost use Rattle.lookup_plane.specs.Changes.{Reader};
 
-    ghost Value = { Learnt };
+    ghost Value = { Reader };
 
     ghost view = { λ r. r.reader };
 }
@@ -53,6 +54,7 @@ impl<L: Ledger> CoreReader<L> {
         ensures learnt { self.new.at_least ≡ self.old.at_least }
         ensures answer { IfOk result (λ action. (action ≡ look self.new.seen label)
             × (self.old.at_least ≤ length self.new.seen)) }
+        ensures behind { IfErr result (λ closed. closed ≡ Behind → length self.new.seen < self.old.at_least) }
     {
         self.reader.look(label)
     }
@@ -63,6 +65,7 @@ impl<L: Ledger> CoreReader<L> {
         ensures learnt { self.new.at_least ≡ self.old.at_least }
         ensures answer { IfOk result (λ action. (action ≡ look_tunnel self.new.seen number)
             × (self.old.at_least ≤ length self.new.seen)) }
+        ensures behind { IfErr result (λ closed. closed ≡ Behind → length self.new.seen < self.old.at_least) }
     {
         self.reader.look_tunnel(number)
     }
@@ -74,6 +77,7 @@ impl<L: Ledger> CoreReader<L> {
         ensures learnt { self.new.at_least ≡ self.old.at_least }
         ensures answer { IfOk result (λ forwarding. (forwarding ≡ forward_of (look self.new.seen) stack.now)
             × (self.old.at_least ≤ length self.new.seen)) }
+        ensures behind { IfErr result (λ closed. closed ≡ Behind → length self.new.seen < self.old.at_least) }
     {
         self.reader.forward(stack)
     }
@@ -88,13 +92,13 @@ impl<L: Ledger> CoreReader<L> {
         let Self { reader, name: _ } = self;
         match reader.enter() {
             Ok(lookups) => Ok(lookups),
-            Err(reader) => Err(CoreReader::named(reader)),
+            Err((reader, _)) => Err(CoreReader::named(reader)),
         }
     }
 
     /// The reader of these look-ups, which reads no more.
     pub(crate) fn leave(lookups: Lookups) -> CoreReader<L>
-        ensures { result ≡ lookups }
+        ensures { (result.seen ≡ lookups.seen) × (result.at_least ≡ lookups.at_least) }
     {
         CoreReader::named(lookups.leave())
     }

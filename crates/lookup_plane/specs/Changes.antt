@@ -1,5 +1,5 @@
 -- What is done with labels and with the traffic of tunnels after changes of a label table (RFC 3031, 3.10 to 3.12).
-use Rattle.std.specs.Prelude.{◌≡◌, ℕ, ◌≤◌, Bool, if◌then◌else◌, All, IfSome, List, ◌++◌, Option, None, fold}
+use Rattle.std.specs.Prelude.{◌≡◌, ℕ, ◌≤◌, Bool, if◌then◌else◌, All, IfSome, List, [], ◌++◌, Option, None, fold}
 use Rattle.std.specs.FinMap.Entries.{find}
 use Rattle.std.specs.Ordering.{nat_cmp}
 use Rattle.sorted_rows.specs.Edits.{over}
@@ -28,15 +28,30 @@ pub record IsChangeOf (first_label last_label : ℕ) (change : TableChange) : Ty
 abbrev pub StartsWith : List TableChange → List TableChange → Type 0
 StartsWith changes seen = (later : List TableChange) × (changes ≡ seen ++ later)
 
--- What clauses see of the writer's side: the range of labels, the list of the changes that are published, and those that
--- aren't yet.
+-- What clauses see of the writer's side: the range of labels, the list of the changes that are published, those that aren't yet, and
+-- the name of the table that it publishes, which no other table has.
 pub record Changes : Type 0 where
   pub first_label : ℕ
   pub last_label : ℕ
   pub published : List TableChange
   pub pending : List TableChange
+  pub table : ℕ
 
--- What clauses see of a reader: the published changes that it has seen, and how many it has learnt that there are.
+-- the writer's side as a table of these labels and this name is opened
+abbrev pub opening_changes : ℕ → ℕ → ℕ → Changes
+opening_changes first last table = record { first_label = first; last_label = last; published = []; pending = []; table = table }
+
+-- What clauses see of a reader while it reads: the published changes that it has seen, and how many it has learnt that there are.
 pub record Learnt : Type 0 where
   pub seen : List TableChange
   pub at_least : ℕ
+
+-- What clauses see of a reader: the same, and the name of the table that it reads.
+pub record Reader : Type 0 where
+  pub seen : List TableChange
+  pub at_least : ℕ
+  pub table : ℕ
+
+-- a reader of this table that has seen nothing, and learnt of no change
+abbrev pub new_reader : ℕ → Reader
+new_reader table = record { seen = []; at_least = 0; table = table }

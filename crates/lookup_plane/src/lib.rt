@@ -3,6 +3,7 @@
 #![tactic(auto)]
 
 mod change;
+mod closed;
 pub mod laws;
 mod lookups;
 mod plane;
@@ -11,6 +12,7 @@ mod rule;
 mod slots;
 
 pub use change::TableChange;
-pub use lookups::Lookups;
+pub use closed::Closed;
+pub use lookups::{Inquiry, Lookups};
 pub use plane::{MAX_LABELS, MAX_READERS, OpenFault, Plane};
-pub use reader::{Closed, LookupReader};
+pub use reader::LookupReader;

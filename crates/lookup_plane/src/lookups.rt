@@ -1,11 +1,14 @@
 //! Look-ups by one list of changes.
 
-ghost use Rattle.std.specs.Prelude.{◌≡◌, ◌≤◌, IfSome, MatchResult, length};
+ghost use Rattle.std.specs.Prelude.{◌≡◌, ◌≤◌, ◌<◌, IfSome, List, MatchResult, length};
 ghost use Rattle.forwarding_table.specs.Actions.{WritesLabels};
 ghost use Rattle.forwarding_table.specs.Forwarding.{forward_of};
 ghost use Rattle.left_right.specs.Sides.{view};
 ghost use Rattle.lookup_plane.specs.Changes.{StartsWith, look, look_tunnel};
+ghost use Rattle.lookup_plane.specs.declared.change.TableChange.{TableChange};
+ghost use Rattle.lookup_plane.specs.declared.closed.Closed.TheVariants.{Behind};
 
+use crate::closed::Closed;
 use crate::rule::{Look, TableReader, TableReading};
 use forwarding_table::{Action, Forwarding, LabelActions, forward};
 use label_stacks::Stack;
@@ -41,17 +44,18 @@ impl Drop for Lookups {
 }
 
 /// Begins to read. The reader comes back where the writer is gone, or where there are fewer changes than this.
-pub(crate) fn begin(reader: TableReader, at_least: u64) -> Result<Lookups, TableReader>
+pub(crate) fn begin(reader: TableReader, at_least: u64) -> Result<Lookups, (TableReader, Closed)>
     ensures { MatchResult result
         (λ lookups. StartsWith lookups.seen (view reader.place).seen × (lookups.at_least ≡ at_least)
         × (at_least ≤ length lookups.seen))
-        (λ back. StartsWith (view back.place).seen (view reader.place).seen) }
+        (λ back. StartsWith (view back.0.place).seen (view reader.place).seen
+        × (back.1 ≡ Behind → length (view back.0.place).seen < at_least)) }
 {
-    let reading = reader.enter_as::<Look>()?;
-    if reading.get().count < at_least {
-        return Err(reading.leave());
+    match reader.enter_as::<Look>() {
+        Ok(reading) if reading.get().count < at_least => Err((reading.leave(), Closed::Behind)),
+        Ok(reading) => Ok(Lookups { reading, at_least }),
+        Err(reader) => Err((reader, Closed::WriterGone)),
     }
-    Ok(Lookups { reading, at_least })
 }
 
 impl Lookups {
@@ -92,4 +96,17 @@ impl LabelActions for Lookups {
     fn action_of(&self, label: u32) -> Option<Action> {
         self.look(label)
     }
+}
+
+/// What can be asked of a label table: it is answered by one list of published changes.
+pub trait Inquiry {
+    /// What is answered.
+    type Answer;
+
+    // it is an answer by these changes
+    ghost answered: { Self → List TableChange → Self.Answer → Type 0 };
+
+    /// The answer by the changes that a reader sees while it reads.
+    fn ask(&self, lookups: &Lookups) -> Self::Answer
+        ensures { answered self.now lookups.now.seen result };
 }

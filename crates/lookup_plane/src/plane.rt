@@ -2,7 +2,7 @@
 
 ghost use Rattle.std.specs.Prelude.{◌≡◌, ◌≤◌, ◌<◌, ◌+◌, ◌^◌, ◌∷◌, ◌++◌, [], All, IfOk, MatchResult, drop, length};
 ghost use Rattle.left_right.specs.Sides.{view};
-ghost use Rattle.lookup_plane.specs.Changes.{IsChangeOf};
+ghost use Rattle.lookup_plane.specs.Changes.{IsChangeOf, new_reader, opening_changes};
 ghost use Rattle.lookup_plane.specs.Published.{HasSlots, IsWriting, Shows, content};
 
 use crate::change::TableChange;
@@ -75,7 +75,7 @@ fn publish_by<B: Batch, R: Wait>(
 }
 
 /// The writer's side of a published label table, for a range of labels. It keeps the handle by which it waits. Contracts
-/// see the range, the list of the changes that are published, and those that are appended and not yet published.
+/// see the range, the list of the changes that are published, those that are appended and not yet published, and the table's name.
 pub struct Plane<R: Wait + Drop> {
     writer: Option<TableWriter>,
     rt: R,
@@ -97,6 +97,7 @@ impl<R: Wait + Drop> Model for Plane<R> {
       last_label = p.last_label;
       published = read_or p.writer [] (λ w. (view_of w.desk.place).seen);
       pending = read_or p.writer [] (λ w. drop w.behind w.log.items);
+      table = read_or p.writer 0 (λ w. w.desk.place.table_id.views_name);
     } };
 
     ghost invariant = { λ p. IsSomeAnd p.writer (λ w. IsWriting p.first_label p.last_label
@@ -130,9 +131,9 @@ impl<R: Wait + Drop> Plane<R> {
         requires labels { (first_label ≤ last_label) × (last_label < first_label + 4096) }
         requires readers { readers ≤ 64 }
         ensures plane { IfOk result (λ made.
-            made.0 ≡ record { first_label = first_label; last_label = last_label; published = []; pending = [] }) }
+            made.0 ≡ opening_changes first_label last_label made.0.table) }
         ensures readers { IfOk result (λ made. (length made.1.items ≡ readers)
-            × All (λ reader. reader ≡ record { seen = []; at_least = 0 }) made.1.items) }
+            × All (λ reader. reader ≡ new_reader made.0.table) made.1.items) }
     {
         let writer = open(alloc, first_label, last_label, readers.max(1))?;
         let plane = Plane {
@@ -148,7 +149,7 @@ impl<R: Wait + Drop> Plane<R> {
     /// Readers that have seen nothing yet, this many.
     fn readers(&self, alloc: Global, count: usize) -> Result<Vec<LookupReader>, OpenFault>
         ensures { IfOk result (λ readers. (length readers.items ≡ count)
-            × All (λ reader. reader ≡ record { seen = []; at_least = 0 }) readers.items) }
+            × All (λ reader. reader ≡ new_reader self.now.table) readers.items) }
     {
         let Some(writer) = &self.writer else {
             unreachable!()
@@ -192,7 +193,7 @@ impl<R: Wait + Drop> Plane<R> {
     /// last ones.
     pub fn publish(&mut self)
         requires few { length self.old.published + length self.old.pending < 2 ^ 64 }
-        ensures { self.new ≡ record self.old { published = self.old.published ++ self.old.pending; pending = [] } }
+        ensures { self.new ≡ record self.old { published = self.old.published ++ self.old.pending; pending = []; table = self.new.table } }
     {
         let Some(writer) = self.writer.take() else {
             unreachable!()

@@ -94,7 +94,7 @@ impl Bursts for LookupReader {
                 let links = look_up_all(&mut lookups, turns);
                 (links, lookups.leave())
             }
-            Err(reader) => (0, reader),
+            Err((reader, _)) => (0, reader),
         }
     }
 }

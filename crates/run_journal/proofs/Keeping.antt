@@ -8,13 +8,14 @@ use Rattle.abstract_router.specs.Soundness.{IsSound}
 use Rattle.abstract_router.specs.States.{State}
 use Rattle.run_journal.specs.Entries.{AreRecorded, Recorded}
 use Rattle.lookup_plane.specs.declared.change.TableChange.{TableChange}
-use Rattle.run_journal.specs.Journals.{IsKept, IsOpening, IsSegment, Journal, LeadToTable, rotated, stretch_of}
+use Rattle.run_journal.specs.Journals.{IsKept, IsOpening, IsSegment, IsShownMore, Journal, LeadToTable, rotated, stretch_of}
 use Rattle.run_journal.specs.Marks.{Counts, IsWithin, counted, counted_all, first_counts, first_mark, first_marks, one_if}
 use Rattle.run_journal.specs.declared.entry.CountedEntry.{CountedEntry}
 use Rattle.run_journal.specs.declared.mark.Mark.{Mark}
 use Rattle.run_journal.proofs.Announcing.{lead_opening}
 use Rattle.run_journal.proofs.Marking.{counted_push, one_if-le, within_counted}
 use Rattle.run_journal.proofs.Running.{recorded_push}
+use Rattle.run_journal.proofs.Showing.{shown_append, shown_push}
 
 -- each entry adds one to their number
 counted-number : (n : Counts) (es : List CountedEntry) → (counted_all n es).number ≡ n.number + length es
@@ -29,11 +30,13 @@ first_within n (suc ports) =
     (record { place = omega arith; entry = omega arith; published = omega arith })
 
 -- as it is opened
-pub kept_opened : (r : Router) (s : State) (ports : ℕ) → IsRouter r → IsSound r s → IsOpening r s
-    → IsKept (record { router = r; base = s; from = first_counts ports; entries = []; state = s; counts = first_counts ports; shown = [] })
-kept_opened r s ports is_router sound begun = record {
+pub kept_opened : (r : Router) (s : State) (ports table : ℕ) → IsRouter r → IsSound r s → IsOpening r s
+    → IsKept (record { router = r; opening = s; base = s; from = first_counts ports; entries = []; state = s; counts = first_counts ports; shown = []; table = table })
+kept_opened r s ports table is_router sound begun = record {
   is_router = is_router;
-  begun = λ none. begun;
+  opened = begun;
+  begun = λ none. refl;
+  history = ([], [], (refl, refl), (refl, refl));
   run = refl;
   sound_base = sound;
   sound = sound;
@@ -47,12 +50,14 @@ kept_opened r s ports is_router sound begun = record {
 }
 
 -- after an entry more
-pub kept_push : (j : Journal) (e : CountedEntry) (after : State) (shown : List TableChange) → IsKept j → length j.entries < 4096 → j.counts.number < 2 ^ 62 → e.entry.port - 1 < length j.counts.marks → Recorded j.router j.state e after → IsSound j.router after
-    → length shown ≡ j.counts.published + one_if e.changes_table → LeadToTable j.router after shown
-    → IsKept (record j { entries = j.entries ++ e ∷ []; state = after; counts = counted j.counts e; shown = shown })
-kept_push j e after shown is room low port recorded sound many lead = record {
+pub kept_push : (j : Journal) (e : CountedEntry) (after : State) (shown : List TableChange) (table : ℕ) → IsKept j → length j.entries < 4096 → j.counts.number < 2 ^ 62 → e.entry.port - 1 < length j.counts.marks → Recorded j.router j.state e after → IsSound j.router after
+    → length shown ≡ j.counts.published + one_if e.changes_table → LeadToTable j.router after shown → IsShownMore e.changes_table j.shown shown
+    → IsKept (record j { entries = j.entries ++ e ∷ []; state = after; counts = counted j.counts e; shown = shown; table = table })
+kept_push j e after shown table is room low port recorded sound many lead more = record {
   is_router = is.is_router;
+  opened = is.opened;
   begun = is.begun;
+  history = (is.history.0, is.history.1, is.history.2, shown_push j.router j.entries j.base j.state after is.history.1 j.shown shown e is.history.3 recorded more lead);
   run = recorded_push j.router j.entries j.base j.state after e is.run recorded;
   sound_base = is.sound_base;
   sound = sound;
@@ -66,17 +71,18 @@ kept_push j e after shown is room low port recorded sound many lead = record {
 }
 
 -- where there is no entry yet, the router is as it was opened
-begun_now : (r : Router) (base state : State) (from counts : Counts) (es : List CountedEntry) → (from.number ≡ 0 → IsOpening r base) → AreRecorded r base es state → counts ≡ counted_all from es → counts.number ≡ 0 → IsOpening r state
-begun_now r base state from counts [] begun run is none =
-    subst (IsOpening r) (sym run) (begun (ap (λ (n : Counts). n.number) (sym is) ∙ none))
-begun_now r base state from counts (e ∷ es) begun run is none =
+begun_now : (r : Router) (opening base state : State) (from counts : Counts) (es : List CountedEntry) → (from.number ≡ 0 → base ≡ opening) → AreRecorded r base es state → counts ≡ counted_all from es → counts.number ≡ 0 → state ≡ opening
+begun_now r opening base state from counts [] begun run is none = run ∙ begun (ap (λ (n : Counts). n.number) (sym is) ∙ none)
+begun_now r opening base state from counts (e ∷ es) begun run is none =
     absurd (omega (arith, none, ap (λ (n : Counts). n.number) is, counted-number (counted from e) es))
 
 -- after its entries are taken away
 pub kept_rotated : (j : Journal) → IsKept j → IsKept (rotated j)
 kept_rotated j is = record {
   is_router = is.is_router;
-  begun = begun_now j.router j.base j.state j.from j.counts j.entries is.begun is.run is.counts;
+  opened = is.opened;
+  history = (is.history.0 ++ j.entries, j.shown, shown_append j.router is.history.0 j.entries j.opening j.base j.state [] is.history.1 j.shown is.history.2 is.history.3, (refl, refl));
+  begun = begun_now j.router j.opening j.base j.state j.from j.counts j.entries is.begun is.run is.counts;
   run = refl;
   sound_base = is.sound;
   sound = is.sound;
@@ -91,4 +97,4 @@ kept_rotated j is = record {
 
 -- they are a segment
 pub kept_segment : (j : Journal) → IsKept j → IsSegment (stretch_of j)
-kept_segment j is = record { begun = is.begun; run = is.run; sound_base = is.sound_base; sound_end = is.sound }
+kept_segment j is = record { begun = λ none. subst (IsOpening j.router) (sym (is.begun none)) is.opened; run = is.run; sound_base = is.sound_base; sound_end = is.sound }

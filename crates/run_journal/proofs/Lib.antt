@@ -6,3 +6,4 @@ pub mod Leading
 pub mod Making
 pub mod Marking
 pub mod Running
+pub mod Showing

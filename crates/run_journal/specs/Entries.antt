@@ -3,7 +3,7 @@ use Rattle.std.specs.Prelude.{◌≡◌, List, [], ◌∷◌}
 use Rattle.lsr_facts.specs.declared.router.Router.{Router}
 use Rattle.abstract_paths.specs.declared.events.Made.{Made}
 use Rattle.abstract_router.specs.States.{State}
-use Rattle.abstract_router.specs.Steps.{Step}
+use Rattle.abstract_router.specs.Steps.{Run, Step}
 use Rattle.abstract_router.specs.Tables.{TellsChange}
 use Rattle.journal_bytes.specs.Entries.{IsEntryOf}
 use Rattle.run_journal.specs.declared.entry.CountedEntry.{CountedEntry}
@@ -19,6 +19,10 @@ pub record Recorded (r : Router) (before : State) (e : CountedEntry) (after : St
 abbrev pub AreRecorded : Router → State → List CountedEntry → State → Type 0
 AreRecorded r before [] after = after ≡ before
 AreRecorded r before (e ∷ more) after = (between : State) × Recorded r before e between × AreRecorded r between more after
+
+-- The router knew this once, after steps that it made since it knew that at first.
+abbrev pub Knew : Router → State → State → Type 0
+Knew r first s = (made : List Made) × Run r first made s
 
 -- Entries are those of steps, each of its own.
 abbrev pub AreEntriesOf : List Made → List CountedEntry → Type 0

@@ -22,34 +22,39 @@ use Rattle.journal_bytes.specs.Events.{event_bytes}
 use Rattle.router_core.specs.States.{RouterState}
 use Rattle.router_core.specs.Readies.{IsReady, after_ready, made_of}
 use Rattle.router_core.specs.declared.ready.Ready.{Ready}
-use Rattle.run_journal.specs.Entries.{AreRecorded, Recorded}
+use Rattle.run_journal.specs.Entries.{AreRecorded, Knew, Recorded}
 use Rattle.run_journal.specs.Marks.{Counts, IsWithin, counted, counted_all, is_known, receipt_of}
 use Rattle.run_journal.specs.declared.entry.CountedEntry.{CountedEntry}
 use Rattle.run_journal.specs.declared.mark.Mark.{Mark}
 use Rattle.run_journal.specs.declared.receipt.Receipt.{Receipt}
 
--- What is under the lock: the router, what it knew and what the numbers were at the base, the entries since, what it knows
--- and what the numbers are now, and the changes of its label table that readers are shown.
+-- What is under the lock: the router, what it knew as it was opened, what it knew and what the numbers were at the base, the entries
+-- since, what it knows and what the numbers are now, the changes of its label table that readers are shown, and the name of that table
+-- among all that are published.
 pub record Journal : Type 0 where
   pub router : Router
+  pub opening : State
   pub base : State
   pub from : Counts
   pub entries : List CountedEntry
   pub state : State
   pub counts : Counts
   pub shown : List TableChange
+  pub table : ℕ
 
--- What is under the lock by its parts: the router and what it knows, what it knew and what the numbers were at the base, the entries
--- since, what the numbers are now, and the plane.
-abbrev pub journal_of : RouterState → State → Counts → List CountedEntry → Counts → Changes → Journal
-journal_of s base from entries counts plane = record {
+-- What is under the lock by its parts: the router and what it knows, what it knew as it was opened, what it knew and what the numbers
+-- were at the base, the entries since, what the numbers are now, and the plane.
+abbrev pub journal_of : RouterState → State → State → Counts → List CountedEntry → Counts → Changes → Journal
+journal_of s opening base from entries counts plane = record {
   router = s.router;
+  opening = opening;
   base = base;
   from = from;
   entries = entries;
   state = s.state;
   counts = counts;
   shown = plane.published;
+  table = plane.table;
 }
 
 -- the router, and what it knows now
@@ -65,13 +70,39 @@ pub record LeadToTable (r : Router) (s : State) (changes : List TableChange) : T
   pub labels : (label : ℕ) → planes.look changes label ≡ look r s label
   pub tunnels : (number : ℕ) → planes.look_tunnel changes number ≡ look_tunnel r s number
 
+-- what readers are shown more: one change, where the table changes
+abbrev pub IsShownMore : Bool → List TableChange → List TableChange → Type 0
+IsShownMore true before after = (change : TableChange) × (after ≡ before ++ change ∷ [])
+IsShownMore false before after = after ≡ before
+
+-- Readers are shown what entries change, one after the other: one change more for each entry that changes what is forwarded, and after
+-- each entry the changes lead to the table of what the router knows then.
+abbrev pub AreShown : Router → State → List TableChange → List CountedEntry → State → List TableChange → Type 0
+AreShown r before shown [] after all = (after ≡ before) × (all ≡ shown)
+AreShown r before shown (e ∷ more) after all =
+    (between : State) × (next : List TableChange) × Recorded r before e between × IsShownMore e.changes_table shown next × LeadToTable r between next
+    × AreShown r between next more after all
+
+-- All that was done since the router was opened: entries led from what it knew then to the base, where readers were shown what those
+-- had changed, and the entries since lead from there to what it knows and what readers are shown now.
+abbrev pub IsHistory : Journal → Type 0
+IsHistory j =
+    (earlier : List CountedEntry) × (shown : List TableChange) × AreShown j.router j.opening [] earlier j.base shown
+    × AreShown j.router j.base shown j.entries j.state j.shown
+
+-- After these changes the label table was that of what the router knew once, since it was opened with this.
+abbrev pub IsTableOnce : Router → State → List TableChange → Type 0
+IsTableOnce r opening changes = (s : State) × Knew r opening s × LeadToTable r s changes
+
 -- What holds at any moment: the entries record a run from the base to what the router knows now, both are sound, the numbers
 -- are those at the base and what the entries add, and there are at most 4,096 entries, and 2^62 since the router was opened.
 -- Where no entry was made before them, the base is the router as it was opened. The changes that readers are shown are as many as
--- entries changed what is forwarded, and lead to the router's label table.
+-- entries changed what is forwarded, one for each of these in their order, and lead to the router's label table.
 pub record IsKept (j : Journal) : Type 0 where
   pub is_router : IsRouter j.router
-  pub begun : j.from.number ≡ 0 → IsOpening j.router j.base
+  pub opened : IsOpening j.router j.opening
+  pub begun : j.from.number ≡ 0 → j.base ≡ j.opening
+  pub history : IsHistory j
   pub run : AreRecorded j.router j.base j.entries j.state
   pub sound_base : IsSound j.router j.base
   pub sound : IsSound j.router j.state
@@ -122,11 +153,6 @@ pub record IsChangeFor (ready : Ready) (change : TableChange) : Type 0 where
       → LeadToTable s.router (after_ready ready s.state) (changes ++ change ∷ [])
   pub labels : (s : RouterState) (event : Event) → IsReady s event ready → IsSound s.router s.state → IsChangeOf s.router.labels.first s.router.labels.last change
 
--- what readers are shown more: one change, where the table changes
-abbrev pub IsShownMore : Bool → List TableChange → List TableChange → Type 0
-IsShownMore true before after = (change : TableChange) × (after ≡ before ++ change ∷ [])
-IsShownMore false before after = after ≡ before
-
 -- it is announced: nothing where the label table doesn't change, else the one change of the step
 abbrev pub IsAnnounced : Bool → Ready → Changes → Changes → Type 0
 IsAnnounced false ready old new = new ≡ old
@@ -147,6 +173,7 @@ pub record IsEntered (old : Journal) (event : Event) (entry : CountedEntry) (new
   pub counts : new.counts ≡ counted old.counts entry
   pub shown : IsShownMore entry.changes_table old.shown new.shown
   pub router : new.router ≡ old.router
+  pub opening : new.opening ≡ old.opening
   pub base : new.base ≡ old.base
   pub from : new.from ≡ old.from
 
@@ -189,6 +216,16 @@ stretch_of j = record { router = j.router; base = j.base; from = j.from; entries
 abbrev pub rotated : Journal → Journal
 rotated j = record j { base = j.state; from = j.counts; entries = [] }
 
--- the journal of a router that is opened, with so many ports
-abbrev pub opened_journal : RouterState → Counts → Journal
-opened_journal s n = record { router = s.router; base = s.state; from = n; entries = []; state = s.state; counts = n; shown = [] }
+-- the journal of a router that is opened, with these numbers, whose label table has this name
+abbrev pub opened_journal : RouterState → Counts → ℕ → Journal
+opened_journal s n table = record {
+  router = s.router;
+  opening = s.state;
+  base = s.state;
+  from = n;
+  entries = [];
+  state = s.state;
+  counts = n;
+  shown = [];
+  table = table;
+}

@@ -1,11 +1,11 @@
 //! A router with its journal, as it stands under a lock.
 
-ghost use Rattle.std.specs.Prelude.{◌≡◌, ◌<◌, ◌≤◌, ◌-◌, ◌+◌, ◌^◌, ◌++◌, ◌∷◌, [], All, IfOk, MatchResult, None, OnErr, OnOk, false, length};
+ghost use Rattle.std.specs.Prelude.{◌≡◌, ◌<◌, ◌≤◌, ◌-◌, ◌+◌, ◌^◌, ◌++◌, ◌∷◌, [], All, IfOk, List, MatchResult, None, OnErr, OnOk, false, length};
 ghost use Rattle.router_core.specs.States.{opened};
 ghost use Rattle.router_core.specs.Readies.{IsReady};
-ghost use Rattle.lookup_plane.specs.Changes.{IsChangeOf};
+ghost use Rattle.lookup_plane.specs.Changes.{IsChangeOf, StartsWith, new_reader, opening_changes};
 ghost use Rattle.lookup_plane.specs.declared.change.TableChange.{TableChange};
-ghost use Rattle.run_journal.specs.Journals.{IsAnnounced, IsAnswered, IsChangeFor, IsEntered, IsEntryFor, IsKept, IsOpening, LeadToTable, early_refusal, opened_journal, rotated, router_in, stretch_of};
+ghost use Rattle.run_journal.specs.Journals.{IsAnnounced, IsAnswered, IsChangeFor, IsEntered, IsEntryFor, IsKept, IsOpening, IsTableOnce, LeadToTable, early_refusal, opened_journal, rotated, router_in, stretch_of};
 ghost use Rattle.run_journal.specs.Marks.{Follows, first_counts};
 
 use crate::counts::JournalCounts;
@@ -26,11 +26,12 @@ use std::marker::Model;
 use std::mem;
 use std::sync::Wait;
 
-/// A router with its journal, as it stands under a lock. Contracts see the router, what it knew at the base, the entries since,
-/// and what it knows now. At any moment the entries record a run from the base to what the router knows, both are sound, and
-/// the numbers are what the entries make of those at the base.
+/// A router with its journal, as it stands under a lock. Contracts see the router, what it knew as it was opened and at the base, the
+/// entries since, and what it knows now. At any moment the entries record a run from the base to what the router knows, both are sound,
+/// and the numbers are what the entries make of those at the base.
 pub struct Locked<R: Wait + Drop> {
     machine: Machine,
+    opening: State,
     base: State,
     from: JournalCounts,
     entries: Vec<CountedEntry>,
@@ -43,6 +44,7 @@ impl<R: Wait + Drop> Drop for Locked<R> {
     fn drop(self) {
         let Locked {
             machine: _machine,
+            opening: _opening,
             base: _base,
             from: _from,
             entries: _entries,
@@ -58,10 +60,10 @@ impl<R: Wait + Drop> Model for Locked<R> {
 
     ghost Value = { Journal };
 
-    ghost view = { λ l. journal_of l.machine l.base l.from l.entries.items l.counts l.plane };
+    ghost view = { λ l. journal_of l.machine l.opening l.base l.from l.entries.items l.counts l.plane };
 
     ghost invariant = { λ l.
-        IsKept (journal_of l.machine l.base l.from l.entries.items l.counts l.plane) × (4096 ≤ vec_capacity l.entries) × IsPlaneOf l.machine.router l.plane };
+        IsKept (journal_of l.machine l.opening l.base l.from l.entries.items l.counts l.plane) × (4096 ≤ vec_capacity l.entries) × IsPlaneOf l.machine.router l.plane };
 }
 
 /// The entry of a step that is made ready. The only error is out of memory.
@@ -138,7 +140,7 @@ fn show<R: Wait + Drop>(plane: &mut Plane<R>, machine: &Machine, changes_table: 
     requires made { LeadToTable machine.now.router machine.now.state (plane.old.published ++ plane.old.pending) }
     requires few { length plane.old.published + length plane.old.pending < 2 ^ 64 }
     requires none { changes_table ≡ false → plane.old.pending ≡ [] }
-    ensures { plane.new ≡ record plane.old { published = plane.old.published ++ plane.old.pending; pending = [] } }
+    ensures { plane.new ≡ record plane.old { published = plane.old.published ++ plane.old.pending; pending = []; table = plane.new.table } }
 {
     if changes_table {
         plane.publish();
@@ -157,8 +159,8 @@ impl<R: Wait + Drop> Locked<R> {
         readers: usize,
     ) -> Result<(Locked<R>, Vec<LookupReader>), OpenFault>
         requires { readers ≤ 64 }
-        ensures locked { IfOk result (λ made. made.0 ≡ opened_journal (opened config) (first_counts ports)) }
-        ensures readers { IfOk result (λ made. (length made.1.items ≡ readers) × All (λ reader. reader ≡ record { seen = []; at_least = 0 }) made.1.items) }
+        ensures locked { IfOk result (λ made. made.0 ≡ opened_journal (opened config) (first_counts ports) made.0.table) }
+        ensures readers { IfOk result (λ made. (length made.1.items ≡ readers) × All (λ reader. reader ≡ new_reader made.0.table) made.1.items) }
     {
         let machine = Machine::open(alloc, config)?;
         machine.soundness();
@@ -176,16 +178,18 @@ impl<R: Wait + Drop> Locked<R> {
         plane: Plane<R>,
     ) -> Result<Locked<R>, AllocError>
         requires opening { IsOpening machine.router machine.state }
-        requires plane { plane ≡ record { first_label = machine.router.labels.first; last_label = machine.router.labels.last; published = []; pending = [] } }
-        ensures { IfOk result (λ locked. locked ≡ opened_journal machine (first_counts ports)) }
+        requires plane { plane ≡ opening_changes machine.router.labels.first machine.router.labels.last plane.table }
+        ensures { IfOk result (λ locked. locked ≡ opened_journal machine (first_counts ports) plane.table) }
     {
         machine.soundness();
         let entries = Vec::with_capacity(alloc, MAX_ENTRIES)?;
         let counts = JournalCounts::new(alloc, ports)?;
         let from = counts.try_copy(alloc)?;
+        let opening = machine.export(alloc)?;
         let base = machine.export(alloc)?;
         Ok(Locked {
             machine,
+            opening,
             base,
             from,
             entries,
@@ -295,6 +299,14 @@ impl<R: Wait + Drop> Locked<R> {
         ensures { result.now ≡ self.now.router }
     {
         self.machine.router()
+    }
+
+    /// Each beginning of the changes that readers are shown was the label table of the router once, since it was opened: so what a
+    /// reader answers is what the router forwarded by in a state that it was in. A law: it does nothing when it runs.
+    pub fn tables_were(&self)
+        ensures { (seen : List TableChange) → StartsWith self.now.shown seen → IsTableOnce self.now.router self.now.opening seen }
+    {
+        self.soundness();
     }
 
     /// The entries record a run of the router from the base to what it knows, both are sound, and the numbers are theirs. A

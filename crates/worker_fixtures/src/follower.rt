@@ -162,7 +162,7 @@ impl<L: Ledger> Follower<L> {
     pub fn look(&mut self, label: u32) -> Result<Option<Action>, Closed> {
         match &mut self.reader {
             Some(reader) => reader.look(label),
-            None => Err(Closed),
+            None => Err(Closed::WriterGone),
         }
     }
 

@@ -18,7 +18,7 @@ use Rattle.run_journal.proofs.locked.Locked.record.Goals as goal
 
 -- what was under the lock before
 was : (g : Over) → goal.After-push_reserved g → Journal
-was g c = journal_of c.self.inside.machine c.self.inside.base c.self.inside.from c.self.inside.entries.items c.self.inside.counts c.self.inside.plane
+was g c = journal_of c.self.inside.machine c.self.inside.opening c.self.inside.base c.self.inside.from c.self.inside.entries.items c.self.inside.counts c.self.inside.plane
 
 recorded : (g : Over) (c : goal.After-push_reserved g) → (is : Recorded c.self.inside.machine.router c.self.inside.machine.state c.args.entry c.make.new.self.state) × (is.made.event ≡ c.args.event.now)
 unfolding was
@@ -51,18 +51,20 @@ leads g c =
 
 -- what is under the lock now
 now : (g : Over) → goal.After-push_reserved g → Journal
-now g c = journal_of c.make.new.self c.self.inside.base c.self.inside.from c.push_reserved.new.self.items c.count.new.self c.show.new.plane
+now g c = journal_of c.make.new.self c.self.inside.opening c.self.inside.base c.self.inside.from c.push_reserved.new.self.items c.count.new.self c.show.new.plane
 
-now_is : (g : Over) (c : goal.After-push_reserved g) → now g c ≡ record (was g c) { entries = (was g c).entries ++ c.args.entry ∷ []; state = after_ready c.args.ready (was g c).state; counts = counted (was g c).counts c.args.entry; shown = (was g c).shown ++ c.announce.new.plane.pending }
+now_is : (g : Over) (c : goal.After-push_reserved g) → now g c ≡ record (was g c) { entries = (was g c).entries ++ c.args.entry ∷ []; state = after_ready c.args.ready (was g c).state; counts = counted (was g c).counts c.args.entry; shown = (was g c).shown ++ c.announce.new.plane.pending; table = c.show.new.plane.table }
 unfolding was now
 now_is g c = λ i. record {
   router = (c.make.ensures.after i).router;
+  opening = c.self.inside.opening;
   base = c.self.inside.base;
   from = c.self.inside.from;
   entries = c.push_reserved.ensures.items i;
   state = (c.make.ensures.after i).state;
   counts = c.count.ensures i;
   shown = shown_is g c i;
+  table = c.show.new.plane.table;
 }
 
 entered : (g : Over) (c : goal.After-push_reserved g) → IsEntered (was g c) c.args.event.now c.args.entry (now g c)
@@ -74,6 +76,7 @@ entered g c = record {
   counts = ap (λ (j : Journal). j.counts) (now_is g c);
   shown = subst (IsShownMore c.args.entry.changes_table c.self.inside.plane.published) (sym (shown_is g c)) (leads g c).2;
   router = ap (λ (j : Journal). j.router) (now_is g c);
+  opening = refl;
   base = refl;
   from = refl;
 }
@@ -85,12 +88,12 @@ invariant_of-self-2 g c =
     let router : c.make.new.self.router ≡ c.self.inside.machine.router = ap (λ (s : RouterState). s.router) c.make.ensures.after in
     let sound : IsSound c.self.inside.machine.router (after_ready c.args.ready c.self.inside.machine.state) =
     subst (IsSound c.self.inside.machine.router) state (subst (λ (r : Router). IsSound r c.make.new.self.state) router c.soundness-2.ensures.sound) in
-    let kept = kept_push (was g c) c.args.entry (after_ready c.args.ready c.self.inside.machine.state) (c.self.inside.plane.published ++ c.announce.new.plane.pending) c.self.invariant.0
+    let kept = kept_push (was g c) c.args.entry (after_ready c.args.ready c.self.inside.machine.state) (c.self.inside.plane.published ++ c.announce.new.plane.pending) c.show.new.plane.table c.self.invariant.0
     (subst (λ (j : Journal). length j.entries < 4096) (sym c.self.view_is) c.requires.room)
     (subst (λ (j : Journal). j.counts.number < 2 ^ 62) (sym c.self.view_is) c.requires.low)
     (subst (λ (j : Journal). c.args.entry.entry.port - 1 < length j.counts.marks) (sym c.self.view_is) c.requires.port)
     (subst (Recorded c.self.inside.machine.router c.self.inside.machine.state c.args.entry) state (recorded g c).0) sound
-    (omega (arith, (leads g c).1, c.self.invariant.0.shown)) (leads g c).0 in
+    (omega (arith, (leads g c).1, c.self.invariant.0.shown)) (leads g c).0 (leads g c).2 in
     let parts = announced_parts c.args.entry.changes_table c.args.ready c.self.inside.plane c.announce.new.plane c.in_ok-announce.ensures c.self.invariant.2.settled in (
       subst IsKept (sym (now_is g c)) kept,
       omega (arith, c.self.invariant.1, c.push_reserved.ensures.capacity),
@@ -134,12 +137,12 @@ show-requires-clause-none g c =
 pub returns-in_err-announce : goal.returns-in_err-announce
 returns-in_err-announce g c =
     let p = err_from_is_err_and c.from_residual.result c.from_residual.ensures.1 in
-    let with_plane : Changes → Journal = journal_of c.self.inside.machine c.self.inside.base c.self.inside.from c.self.inside.entries.items c.self.inside.counts in
+    let with_plane : Changes → Journal = journal_of c.self.inside.machine c.self.inside.opening c.self.inside.base c.self.inside.from c.self.inside.entries.items c.self.inside.counts in
     rw p.1 (record { entered = tt; kept = subst (λ (j : Journal). with_plane c.announce.new.plane ≡ j) c.self.view_is (ap with_plane c.in_err-announce.ensures) })
 
 pub invariant_of-self : goal.invariant_of-self
 invariant_of-self g c =
-    let kept : Changes → Type 0 = λ p. IsKept (journal_of c.self.inside.machine c.self.inside.base c.self.inside.from c.self.inside.entries.items c.self.inside.counts p) in
+    let kept : Changes → Type 0 = λ p. IsKept (journal_of c.self.inside.machine c.self.inside.opening c.self.inside.base c.self.inside.from c.self.inside.entries.items c.self.inside.counts p) in
     (subst kept (sym c.in_err-announce.ensures) c.self.invariant.0, c.self.invariant.1, subst (IsPlaneOf c.self.inside.machine.router) (sym c.in_err-announce.ensures) c.self.invariant.2)
 
 pub returns : goal.returns

@@ -9,11 +9,11 @@ use Rattle.run_journal.proofs.locked.Locked.rotate.Goals as goal
 
 -- what was under the lock before
 was : (g : Over) → goal.After-replace-3 g → Journal
-was g c = journal_of c.self.inside.machine c.self.inside.base c.self.inside.from c.self.inside.entries.items c.self.inside.counts c.self.inside.plane
+was g c = journal_of c.self.inside.machine c.self.inside.opening c.self.inside.base c.self.inside.from c.self.inside.entries.items c.self.inside.counts c.self.inside.plane
 
 -- what is under it now
 now : (g : Over) → goal.After-replace-3 g → Journal
-now g c = journal_of c.self.inside.machine c.replace.new.dest c.replace-2.new.dest c.replace-3.new.dest.items c.self.inside.counts c.self.inside.plane
+now g c = journal_of c.self.inside.machine c.self.inside.opening c.replace.new.dest c.replace-2.new.dest c.replace-3.new.dest.items c.self.inside.counts c.self.inside.plane
 
 now_is : (g : Over) (c : goal.After-replace-3 g) → now g c ≡ rotated (was g c)
 unfolding was now
@@ -21,7 +21,7 @@ now_is g c =
     let base : c.replace.new.dest ≡ c.self.inside.machine.state = c.replace.ensures.after ∙ c.in_ok-base.ensures ∙ c.in_ok-end.ensures in
     let from : c.replace-2.new.dest ≡ c.self.inside.counts = c.replace-2.ensures.after ∙ c.in_ok-from.ensures in
     let entries : c.replace-3.new.dest.items ≡ [] = ap (λ v. v.items) c.replace-3.ensures.after ∙ c.in_ok-entries.ensures.items in
-    λ i. journal_of c.self.inside.machine (base i) (from i) (entries i) c.self.inside.counts c.self.inside.plane
+    λ i. journal_of c.self.inside.machine c.self.inside.opening (base i) (from i) (entries i) c.self.inside.counts c.self.inside.plane
 
 -- what was taken away
 taken : (g : Over) → goal.After-replace-3 g → Stretch
