@@ -1,0 +1,6 @@
+pub mod Apart
+pub mod Clauses
+pub mod Labelled
+pub mod Limits
+pub mod Styles
+pub mod Surroundings
