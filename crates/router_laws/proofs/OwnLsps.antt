@@ -66,7 +66,7 @@ use Rattle.router_laws.proofs.Still.{known-same, refused-still, sent-none, still
 use Rattle.router_laws.proofs.TunnelEvents.{noted_rests}
 
 -- a message that comes over a link that is up does what it does
-arrival_over : (r : Router) (s : State) (link : ℕ) (content : Content) → HasLink r link → is_up s.facts.up link ≡ true → arrival r s (hop_arrive link content) ≡ message_arrival r s link content
+pub arrival_over : (r : Router) (s : State) (link : ℕ) (content : Content) → HasLink r link → is_up s.facts.up link ≡ true → arrival r s (hop_arrive link content) ≡ message_arrival r s link content
 unfolding arrival
 arrival_over r s link content there up =
     let does = message_arrival r s link content in

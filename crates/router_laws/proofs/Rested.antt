@@ -53,6 +53,7 @@ pub record GivesLabels (r : Router) (before after : State) : Type 0 where
   pub later : before.facts.moment ≤ after.facts.moment
   pub labels : after.labels ≡ labels_after before.labels chosen paths
   pub resting : after.resting ≡ rests_after r.label_rest_ms after.facts.moment before paths
+  pub known : after.facts.paths ≡ paths
 
 -- A restart takes all.
 abbrev pub MovesLabels : Router → State → State → Type 0
@@ -72,6 +73,7 @@ module _ (r : Router) (before : State) where
         later = drafted.later;
         labels = ap (λ labels. labels_after labels chosen paths) drafted.labels;
         resting = λ i. rested o.after.facts.moment (o.after.facts.moment + r.label_rest_ms) (freed (drafted.labels i) paths) (drafted.resting i);
+        known = refl;
       }
 
   -- what a silent one leaves, but for a restart
@@ -187,7 +189,7 @@ module _ (r : Router) (before after : State) (label : ℕ) (is : IsSound r befor
       by key found false goes = rests key found goes (nat_lt after.facts.moment (after.facts.moment + r.label_rest_ms)) refl
 
 -- what happened is a restart, or it isn't
-cases_restart : (event : Event) → (event ≡ events.Restart) ⊎ (event ≢ events.Restart)
+pub cases_restart : (event : Event) → (event ≡ events.Restart) ⊎ (event ≢ events.Restart)
 cases_restart events.Restart = inl refl
 cases_restart (events.Arrive a) = inr (λ e. cc)
 cases_restart (events.Relay m) = inr (λ e. cc)

@@ -141,7 +141,7 @@ module _ (r : Router) (before after : State) (made : Made) (n : ℕ) (x : Step r
   unfolding ticked
   after_tick = led r before after made (events.Tick n) (ticked r before n) x is does
 
-  sends_then : made.outputs ≡ outputs_of r before (told_repaired r (promised r (ticked r before n).after)) (due_items r.refresh_ms before.facts.sent n) (due_items r.refresh_ms before.sent_upstream n) after
+  pub sends_then : made.outputs ≡ outputs_of r before (told_repaired r (promised r (ticked r before n).after)) (due_items r.refresh_ms before.facts.sent n) (due_items r.refresh_ms before.sent_upstream n) after
   unfolding ticked
   sends_then = sends r before after made (events.Tick n) (ticked r before n) x is does
 
@@ -311,7 +311,7 @@ path_stays r before after made n key fact sender origin sound x is is_done known
     lives_as roles.Head b p = refl
 
 -- what f gives of a row that is found is among what it gives of all
-found_among : {K C O : Type 0} (cmp : K → K → Ordering) (exact : (a b : K) → cmp a b ≡ Equal → a ≡ b) (f : K × C → Option O) (key : K) (value : C) (output : O) (rows : List (K × C)) → find cmp key rows ≡ Some value → f (key, value) ≡ Some output → Contains (filter_map f rows) output
+pub found_among : {K C O : Type 0} (cmp : K → K → Ordering) (exact : (a b : K) → cmp a b ≡ Equal → a ≡ b) (f : K × C → Option O) (key : K) (value : C) (output : O) (rows : List (K × C)) → find cmp key rows ≡ Some value → f (key, value) ≡ Some output → Contains (filter_map f rows) output
 found_among cmp exact f key value output [] found gives = absurd (let e = found in cc)
 found_among {K} {C} {O} cmp exact f key value output (row ∷ rows) found gives =
     elim (eq_by_cmp cmp key row.0) as (λ b. eq_by_cmp cmp key row.0 ≡ b → cond b (Some row.1) (find cmp key rows) ≡ Some value → Contains (cons_option (f row) (filter_map f rows)) output) [

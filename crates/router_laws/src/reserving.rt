@@ -1,0 +1,29 @@
+//! What a Resv reserves (RFC 2205, 3.1.4). The law is the contract of a function that does nothing.
+
+ghost use Rattle.std.specs.Prelude.{◌≡◌, ◌∷◌, ℕ, [], Some};
+ghost use Rattle.std.specs.FinMap.Entries.{find};
+ghost use Rattle.rsvp_contents.specs.declared.descriptors.FlowDescriptor.{FlowDescriptor};
+ghost use Rattle.rsvp_contents.specs.declared.messages.Content.TheVariants as contents;
+ghost use Rattle.rsvp_contents.specs.declared.messages.Resv.{Resv};
+ghost use Rattle.lsr_facts.specs.Orders.{key_cmp};
+ghost use Rattle.lsr_facts.specs.Reservations.{style_of};
+ghost use Rattle.lsr_facts.specs.declared.reply.Reply.TheVariants as replies;
+ghost use Rattle.lsr_facts.specs.declared.resv_fact.ResvStyle.{ResvStyle};
+ghost use Rattle.lsr_facts.specs.declared.router.Router.{Router};
+ghost use Rattle.abstract_paths.specs.declared.events.Made.{Made};
+ghost use Rattle.abstract_router.specs.Reserving.{key_in, resv_by};
+ghost use Rattle.abstract_router.specs.Soundness.{IsSound};
+ghost use Rattle.abstract_router.specs.States.{State};
+ghost use Rattle.abstract_router.specs.Steps.{Step};
+ghost use Rattle.router_laws.specs.Words.{comes};
+
+/// A Resv that is done reserves: where it has one descriptor, and its LSP's path stays, the LSP has just the reservation
+/// that it asks for, on the link that it came over, until the lifetime of its refresh period is over.
+pub fn a_resv_that_is_done_reserves()
+    ensures { (r : Router) (before after : State) (made : Made) (link : ℕ) (v : Resv) (d : FlowDescriptor)
+        (style : ResvStyle) →
+        IsSound r before → Step r before made after → made.event ≡ comes link (contents.Resv v) →
+        v.descriptors ≡ d ∷ [] → style_of v.style ≡ Some style → made.reply ≡ replies.Done →
+        find key_cmp (key_in v d) after.facts.paths ≡ find key_cmp (key_in v d) before.facts.paths →
+        find key_cmp (key_in v d) after.resvs ≡ Some (resv_by before.facts.moment link style v d) }
+{}
