@@ -49,7 +49,7 @@ first_of_those {A} p q (x ∷ xs) =
 -- ---- the ways around a link
 
 -- what is selected by a bypass has its number
-number_of : (r : Router) (resv : ResvFact) (row : ℕ × BypassTunnel) → IfSome (selected_by r resv row) (λ choice. choice.bypass ≡ row.0)
+pub number_of : (r : Router) (resv : ResvFact) (row : ℕ × BypassTunnel) → IfSome (selected_by r resv row) (λ choice. choice.bypass ≡ row.0)
 number_of r resv row =
     cond_both (not (leads_around resv row.1)) _ _ (λ (o : Option Selected). IfSome o (λ choice. choice.bypass ≡ row.0)) (λ other. tt)
     (λ around.

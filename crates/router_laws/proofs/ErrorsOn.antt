@@ -2,7 +2,7 @@
 use Rattle.std.specs.Prelude.{◌≡◌, ℕ, ◌++◌, not, true, false, cond, List, [], ◌∷◌, filter_map, Option, Some, None, find as find_first, if◌then◌else◌, is_none, IfSome}
 use Rattle.std.specs.FinMap.Entries.{find}
 use Rattle.std.specs.List.{AllByRecursion, flat_map}
-use Rattle.std.specs.Option.{option_and_then, option_map, option_or, option_to_list}
+use Rattle.std.specs.Option.{option_and_then, option_map, option_map_or, option_or, option_to_list}
 use Rattle.std.proofs.Common.{refl, sym, ap, subst, ◌∙◌}
 use Rattle.std.proofs.lemmas.Bool.{cond_both}
 use Rattle.std.proofs.lemmas.List.{append-nil}
@@ -17,7 +17,7 @@ use Rattle.rsvp_contents.specs.declared.descriptors.ErrorDescriptor.{ErrorDescri
 use Rattle.sorted_rows.specs.ListLaws.{all-append, all-filter}
 use Rattle.lsr_facts.specs.Lifetimes.{begins_here}
 use Rattle.lsr_facts.specs.Orders.{key_cmp}
-use Rattle.lsr_facts.specs.Routers.{link_at}
+use Rattle.lsr_facts.specs.Routers.{HasLink, link_at}
 use Rattle.lsr_facts.specs.declared.key.Key.{Key}
 use Rattle.lsr_facts.specs.declared.path_fact.PathFact.{PathFact}
 use Rattle.lsr_facts.specs.declared.refusal.Refusal.TheVariants.{LinkDown, NoMatch, UnknownLink}
@@ -50,6 +50,7 @@ use Rattle.abstract_router.specs.Lsps.{around_of}
 use Rattle.abstract_router.specs.Outcomes.{Outcome, of_paths, refused, replied, told_downstream}
 use Rattle.abstract_router.specs.Outputs.{outputs_of}
 use Rattle.abstract_router.specs.Repairing.{told_repaired}
+use Rattle.abstract_router.specs.Returning.{repair_known_as, returned_err}
 use Rattle.abstract_router.specs.Soundness.{IsSound}
 use Rattle.abstract_router.specs.States.{State}
 use Rattle.abstract_router.specs.Steps.{AreSettled, Step, known_after, sent_in}
@@ -217,3 +218,29 @@ path_err_passes r before after made link e fact is rests stand up known leaves e
     let does = arrival_over r before link (contents.PathErr e) (up_known r before link is up) up ∙ passes_on r before link e fact known leaves elsewhere in
     let came = led r before after made (comes link (contents.PathErr e)) o x event does ∙ known-same r before is rests stand replies.Done told made.labels in
     (answered r before after made (comes link (contents.PathErr e)) o x event does, came, sends r before after made (comes link (contents.PathErr e)) o x event does ∙ ap (sent_in r before o) came ∙ sent_errors r before is rests stand replies.Done told)
+
+-- One that came in a Routed frame does what it does of itself, over a link that is up,
+returned_on : (r : Router) (s : State) (a : Arrive) (e : PathErr) (key : Key) (repair : Repair) (fact : PathFact) → HasLink r a.link → is_up s.facts.up a.link ≡ true → a.way ≡ ways.Routed → a.reading ≡ readings.Whole (contents.PathErr e)
+    → repair_known_as r s (lsp e.session e.sender) ≡ Some (key, repair) → find key_cmp key s.facts.paths ≡ Some fact → begins_here fact.role ≡ false → arrival r s a ≡ replied replies.Done (told_upstream (place_of r s.facts) key fact e.tspec e.error) s
+unfolding arrival returned_err
+returned_on r s a e key repair fact there up way reading of known elsewhere =
+    let told = told_upstream (place_of r s.facts) key fact e.tspec e.error in
+    let on = λ (path : PathFact). of_paths s (err_of_path r s.facts key e path) in
+    ap (λ b. cond (not b) (refused s UnknownLink) (cond (not (is_up s.facts.up a.link)) (refused s LinkDown) (arrival_by r s a.way a.link a.reading))) there
+    ∙ ap (λ b. cond (not b) (refused s LinkDown) (arrival_by r s a.way a.link a.reading)) up
+    ∙ (λ i. arrival_by r s (way i) a.link (reading i))
+    ∙ ap (λ o. option_map_or (λ repair. option_map_or (λ path. of_paths s (err_of_path r s.facts repair.0 e path)) (find key_cmp repair.0 s.facts.paths) (refused s NoMatch)) o (refused s NoMatch)) of
+    ∙ ap (λ o. option_map_or on o (refused s NoMatch)) known
+    ∙ ap (λ b. of_paths s (paths.done told (cond b (with_noted e.error e.session.tunnel s.facts) s.facts))) elsewhere
+
+-- and so goes on to the origins of the LSP whose repair it is for.
+pub returned_err_passes : (r : Router) (before after : State) (made : Made) (arrived : Arrive) (e : PathErr) (key : Key) (repair : Repair) (fact : PathFact) → IsSound r before → AreSettled r before → AreStanding r before → is_up before.facts.up arrived.link ≡ true
+    → repair_known_as r before (lsp e.session e.sender) ≡ Some (key, repair) → find key_cmp key before.facts.paths ≡ Some fact → begins_here fact.role ≡ false → Step r before made after → made.event ≡ events.Arrive arrived
+    → arrived.way ≡ ways.Routed → arrived.reading ≡ readings.Whole (contents.PathErr e)
+    → (made.reply ≡ replies.Done) × (after ≡ before) × (made.outputs ≡ errors_out before.facts.up (told_upstream (place_of r before.facts) key fact e.tspec e.error))
+returned_err_passes r before after made arrived e key repair fact is rests stand up of known elsewhere x event way reading =
+    let told = told_upstream (place_of r before.facts) key fact e.tspec e.error in
+    let o = replied replies.Done told before in
+    let does = returned_on r before arrived e key repair fact (up_known r before arrived.link is up) up way reading of known elsewhere in
+    let came = led r before after made (events.Arrive arrived) o x event does ∙ known-same r before is rests stand replies.Done told made.labels in
+    (answered r before after made (events.Arrive arrived) o x event does, came, sends r before after made (events.Arrive arrived) o x event does ∙ ap (sent_in r before o) came ∙ sent_errors r before is rests stand replies.Done told)

@@ -63,11 +63,11 @@ use Rattle.router_laws.proofs.Ticks.{sends_then, ticked}
 
 -- ---- tears are tears, and what is wanted makes state
 
-abbrev IsTear : Output → Type 0
+abbrev pub IsTear : Output → Type 0
 IsTear output = (says is_state output ≡ false) × (says is_tear output ≡ true)
 
 -- it has a tear, too
-abbrev MakesState : Output → Type 0
+abbrev pub MakesState : Output → Type 0
 MakesState output = (says is_state output ≡ true) × (says is_tear output ≡ false) × (is_some (tear_by output.link output.frame) ≡ true)
 
 torn-content : (content : Content) → IfSome (tear_of content) (λ tear. (is_state tear ≡ false) × (is_tear tear ≡ true))
@@ -87,7 +87,7 @@ tear-is_tear link (frames.Routed to limit content) =
     option_map-holds IsTear (λ tear. record { link = link; frame = frames.Routed to limit tear }) (tear_of content) (torn-content content)
 tear-is_tear link (frames.Relayed to limit message) = tt
 
-abbrev IsRowOfState : {I : Type 0} → I × Output → Type 0
+abbrev pub IsRowOfState : {I : Type 0} → I × Output → Type 0
 IsRowOfState wants = MakesState wants.1
 
 module _ (a : Around) where
@@ -122,14 +122,14 @@ module _ (a : Around) where
       by_label (Some label) = by_said label (reserved_for a lsp)
 
 module _ (r : Router) (s : State) where
-  items-state : AllByRecursion IsRowOfState (items_of r s)
+  pub items-state : AllByRecursion IsRowOfState (items_of r s)
   unfolding items_of
   items-state =
       all-append IsRowOfState (filter_map (downstream_row (around_of r s)) (lsps_of s)) (filter_map (backup_row (around_of r s)) (lsps_of s))
       (all-filter_map IsRowOfState (downstream_row (around_of r s)) (downstream-state (around_of r s)) (lsps_of s))
       (all-filter_map IsRowOfState (backup_row (around_of r s)) (backup-state (around_of r s)) (lsps_of s))
 
-  resvs-state : AllByRecursion IsRowOfState (upstream_of r s)
+  pub resvs-state : AllByRecursion IsRowOfState (upstream_of r s)
   unfolding upstream_of
   resvs-state = all-flat_map IsRowOfState (upstream_rows (around_of r s)) (rows-state (around_of r s)) (lsps_of s)
 
@@ -156,7 +156,7 @@ module _ {I : Type 0} (cmp : I → I → Ordering) where
         one true false so = sym (ap (λ b. tears_of (cond b (row.1 ∷ more) more)) so)
         one false on so = refl
 
-    tears-are : (was : List (I × Output)) → AllByRecursion IsTear (between cmp (tear_for up) was is)
+    pub tears-are : (was : List (I × Output)) → AllByRecursion IsTear (between cmp (tear_for up) was is)
     tears-are was =
         all-filter_map IsTear (λ row. tear_for up (find cmp row.0 is) row)
         (λ row. cond_both (is_none (find cmp row.0 is) && is_up up row.1.link) (tear_by row.1.link row.1.frame) None (λ o. IfSome o IsTear) (λ goes. tear-is_tear row.1.link row.1.frame) (λ stays. tt)) was

@@ -1,16 +1,17 @@
 -- What a step of a link that goes down leaves of the LSPs that were reserved on it, and of the others.
 use Rattle.std.specs.Prelude.{◌≡◌, ◌≢◌, ℕ, ◌&&◌, ◌||◌, not, Bool, true, false, cond, List, [], filter, Option, Some, None, is_some, IfSome, ◌++◌, ◌∷◌}
 use Rattle.std.specs.FinMap.Entries.{find}
-use Rattle.std.specs.List.{Contains, flat_map}
-use Rattle.std.proofs.lemmas.List.Elements.{Contains-append_left, Contains-append_right}
+use Rattle.std.specs.List.{All, AllByRecursion, Contains, flat_map}
+use Rattle.std.proofs.lemmas.List.Elements.{All-contains_itself, All-from_recursion, Contains-append_left, Contains-append_right, recursion_from_All}
 use Rattle.std.specs.Option.{option_and_then, option_map, option_map_or}
 use Rattle.std.specs.Ordering.{eq_by_cmp, nat_cmp}
-use Rattle.std.proofs.Common.{refl, ap, sym, subst, ◌∙◌, ⊎_elim}
-use Rattle.std.proofs.lemmas.Bool.{and_parts}
+use Rattle.std.proofs.Common.{refl, ap, sym, subst, ◌∙◌, ⊎_elim, inl, inr}
+use Rattle.std.proofs.lemmas.Bool.{and_parts, cases_eq}
 use Rattle.std.proofs.lemmas.Cmp.{nat_cmp_total}
 use Rattle.std.proofs.lemmas.Map.Lookups.{exact_unsigned}
 use Rattle.std.proofs.lemmas.Option.{same_Some}
-use Rattle.sorted_rows.specs.RowsLaws.{find-put_apart, find-put_same, is_some-find_both, ties}
+use Rattle.sorted_rows.specs.ListLaws.{all-append, all-weaker}
+use Rattle.sorted_rows.specs.RowsLaws.{all_found, find-put_apart, find-put_same, is_some-find_both, ties}
 use Rattle.lsr_facts.specs.OrderLaws.{key_exact, key_total}
 use Rattle.lsr_facts.specs.Orders.{item_cmp, key_cmp}
 use Rattle.lsr_facts.specs.Errors.{locally_repaired}
@@ -29,6 +30,7 @@ use Rattle.lsr_facts.specs.declared.repair.Selected.{Selected}
 use Rattle.lsr_facts.specs.declared.reply.Reply.TheVariants as replies
 use Rattle.lsr_facts.specs.declared.resv_fact.ResvFact.{ResvFact}
 use Rattle.lsr_facts.specs.declared.router.Router.{Router}
+use Rattle.forwarding_table.specs.declared.action.Action.TheVariants.{SwapPush}
 use Rattle.abstract_paths.specs.declared.events.Event.TheVariants as events
 use Rattle.abstract_paths.specs.declared.events.Made.{Made}
 use Rattle.abstract_paths.specs.Changes.{with_link}
@@ -40,7 +42,7 @@ use Rattle.abstract_paths.specs.declared.events.Output.{Output}
 use Rattle.abstract_paths.specs.Places.{Place, is_up, place_of}
 use Rattle.abstract_paths.specs.RowLaws.{find-holds}
 use Rattle.abstract_paths.specs.Tears.{leaves_by}
-use Rattle.abstract_paths.specs.TouchedLaws.{find-made, find-touched}
+use Rattle.abstract_paths.specs.TouchedLaws.{find-made, find-touched, is_sorted-made}
 use Rattle.abstract_router.specs.Arrivals.{outcome}
 use Rattle.abstract_router.specs.Assigning.{assigned_anew, assignments_left}
 use Rattle.abstract_router.specs.BypassTunnels.{bypass_tunnels_of, over_at}
@@ -49,13 +51,14 @@ use Rattle.abstract_router.specs.Outcomes.{Outcome, of_paths, replied}
 use Rattle.abstract_router.specs.Protecting.{candidates_of, may_serve, repair_with, selected}
 use Rattle.abstract_router.specs.Repairing.{new_repairs, repair_of, repair_stands, repaired, repairs_left, told_of, told_repaired}
 use Rattle.abstract_router.specs.Outputs.{outputs_of}
+use Rattle.abstract_router.specs.Tables.{look}
 use Rattle.abstract_router.specs.Upstreams.{upstream_of}
 use Rattle.abstract_router.specs.Wanted.{items_of}
 use Rattle.abstract_router.specs.Soundness.{IsSound}
 use Rattle.abstract_router.specs.States.{State, is_held, with_facts}
 use Rattle.abstract_router.specs.Steps.{AreSettled, Step, labelled, left_standing, resvs_left, stands, with_moments}
 use Rattle.router_soundness.proofs.Assigning.{IsRepairedSo, IsReservedSo, MayPromise, holder, repairs_sorted}
-use Rattle.router_soundness.proofs.AssigningRepairs.{IsNewRepair, found_filter, found_where, lost, new_repair, of_found, old_or_new, passes_filter, repaired_lost}
+use Rattle.router_soundness.proofs.AssigningRepairs.{IsNewRepair, found_filter, found_where, lost, made_of, new_repair, of_found, old_or_new, passes_filter, repaired_lost}
 use Rattle.router_soundness.proofs.AssigningTaken.{may_promise}
 use Rattle.router_soundness.proofs.AssigningWays.{IsWay, candidates-are, tunnels-left}
 use Rattle.router_soundness.proofs.Drafting.{outcome-leaves}
@@ -65,8 +68,13 @@ use Rattle.router_soundness.proofs.Running.{sound_step}
 use Rattle.router_soundness.proofs.Settling.{Leaves}
 use Rattle.router_soundness.proofs.Standing.{repair_on_bypass}
 use Rattle.router_soundness.specs.Drafted.{IsDrafted}
-use Rattle.router_laws.specs.Repairs.{bypass_for}
+use Rattle.router_laws.specs.Repairs.{TellsOfRepair, bypass_for}
+use Rattle.router_laws.specs.Sending.{is_path_err, says}
+use Rattle.router_laws.proofs.Exactly.{IsRowOfState, items-state, resvs-state}
+use Rattle.router_laws.proofs.Holders.{label_of_path, label_stays}
 use Rattle.router_laws.proofs.Led.{led, sends}
+use Rattle.router_laws.proofs.Outgoing.{outputs-hold, state_no_err, tear_no_err}
+use Rattle.router_laws.proofs.OwnEntries.{look_repaired}
 use Rattle.router_laws.proofs.Settled.{taken_over-same}
 
 -- what f gives of a row that is found is among what it gives of all
@@ -86,6 +94,11 @@ up_known r s n is up = sym (is_some-find_both nat_cmp n s.facts.up r.links is.pa
     by : (o : Option Bool) → option_map_or (λ is. is) o false ≡ true → is_some o ≡ true
     by None up = absurd (let e = up in cc)
     by (Some b) up = refl
+
+-- what holds of all that f gives of each holds of all that it gives
+all-flat_map_within : {A B : Type 0} (P : B → Type 0) (f : A → List B) (xs : List A) → AllByRecursion (λ x. AllByRecursion P (f x)) xs → AllByRecursion P (flat_map f xs)
+all-flat_map_within P f [] each = tt
+all-flat_map_within P f (x ∷ xs) each = all-append P (f x) (flat_map f xs) each.0 (all-flat_map_within P f xs each.1)
 
 module _ (r : Router) (before after : State) (made : Made) (n : ℕ) (router : IsRouter r) (is : IsSound r before) (rests : AreSettled r before) (there : HasLink r n)
     (x : Step r before made after) (event : made.event ≡ events.LinkDown n) where
@@ -290,6 +303,65 @@ module _ (r : Router) (before after : State) (made : Made) (n : ℕ) (router : I
         (Contains-append_left (errors ++ between item_cmp (tear_for after.facts.up) (items_of r before) (items_of r after)) _ output
         (Contains-append_left errors _ output (Contains-filter (λ (output : Output). is_up after.facts.up output.link) (told_repaired r p) output up among)))))
 
+  -- ---- who is told
+
+  -- a link that was up, and is down now, is the one that went down
+  on_lost : (link : ℕ) → is_up before.facts.up link ≡ true → is_up facts.up link ≡ false → link ≡ n
+  unfolding is_up
+  on_lost link was down = elim (cases_eq link n) as (λ c. link ≡ n) [
+    | inl same ↦ same
+    | inr other ↦ absurd (let e = sym was ∙ sym (ap (λ o. option_map_or (λ is. is) o false) (find-put_apart nat_cmp nat_cmp_total exact_unsigned link n false before.facts.up other)) ∙ down in cc)
+  ]
+
+  -- a PathErr tells of a repair
+  abbrev pub Tells : Output → Type 0
+  Tells output = says is_path_err output ≡ true → TellsOfRepair r before after n output
+
+  new_tells : (new : Key × Repair) → find key_cmp new.0 (new_repairs r p) ≡ Some new.1 → AllByRecursion Tells (told_of r p new)
+  unfolding new_repairs repaired repairs_left
+  new_tells new found =
+      let key = new.0 in
+      let of = made_of (λ (resv : ResvFact). repair_of r p (key, resv)) (find key_cmp key before.resvs) new.1 (sym (find-made key_cmp key_total key_exact (λ resv. repair_of r p resv) key before.resvs is.held.in_order) ∙ found) in
+      let resv : ResvFact = of.0 in
+      let went = lost r p key resv new.1 of.2 in
+      let stood : stands before.facts (key, resv) ≡ true = of_found (λ resv. stands before.facts resv ≡ true) key resv before.resvs is.standing of.1 in
+      let on = on_lost resv.link (and_parts (is_up before.facts.up resv.link) (option_map_or (leaves_by resv.link) (find key_cmp key before.facts.paths) false) stood).0 went.down in
+      let repairs : find key_cmp key after.repairs ≡ Some new.1 = ap (λ (t : State). find key_cmp key t.repairs) came ∙ left_repair key resv went.path of.1 went.known on went.choice went.selects ∙ sym (ap Some went.made_with) in
+      let same_place : place_of r after.facts ≡ place_of r s.facts = λ i. record { router = r; up = (came i).facts.up; routes = (came i).facts.routes } in
+      let told = λ (place : Place). told_upstream place key went.path (Some went.path.tspec) (found_here r locally_repaired) in
+      subst (λ (o : Option PathFact). AllByRecursion Tells (option_map_or (λ path. told_upstream (place_of r s.facts) key path (Some path.tspec) (found_here r locally_repaired)) o [])) (sym went.known)
+      (all-weaker (Contains (told (place_of r s.facts))) Tells
+      (λ output there err. record { key = key; resv = resv; path = went.path; repair = new.1; reserved = of.1; on = on; known = went.known; repaired = repairs; told = subst (λ place. Contains (told place) output) (sym same_place) there })
+      (told (place_of r s.facts)) (recursion_from_All (Contains (told (place_of r s.facts))) (told (place_of r s.facts)) (All-contains_itself (told (place_of r s.facts)))))
+
+  all_new : AllByRecursion (λ (new : Key × Repair). find key_cmp new.0 (new_repairs r p) ≡ Some new.1) (new_repairs r p)
+  unfolding new_repairs
+  all_new = all_found key_cmp key_total (new_repairs r p) (is_sorted-made key_cmp key_total key_exact (repair_of r p) before.resvs is.held.in_order)
+
+  repairs_tell : AllByRecursion Tells (told_repaired r p)
+  unfolding told_repaired
+  repairs_tell = all-flat_map_within Tells (told_of r p) (new_repairs r p) (all-weaker (λ (new : Key × Repair). find key_cmp new.0 (new_repairs r p) ≡ Some new.1) (λ new. AllByRecursion Tells (told_of r p new)) new_tells (new_repairs r p) all_new)
+
+  -- A PathErr goes to nobody else.
+  pub only_told : All Tells made.outputs
+  only_told =
+      All-from_recursion Tells made.outputs
+      (subst (AllByRecursion Tells) (sym sent_then)
+      (outputs-hold Tells r before (told_repaired r p) [] [] after repairs_tell (λ output tear err. absurd (let e = sym err ∙ tear_no_err output tear.1 in cc))
+      (all-weaker IsRowOfState (λ row. Tells row.1) (λ row state err. absurd (let e = sym err ∙ state_no_err row.1 state.0 in cc)) (items_of r after) (items-state r after))
+      (all-weaker IsRowOfState (λ row. Tells row.1) (λ row state err. absurd (let e = sym err ∙ state_no_err row.1 state.0 in cc)) (upstream_of r after) (resvs-state r after))))
+
+  -- ---- labels
+
+  -- The label of an LSP that is repaired is swapped and pushed.
+  pub swaps_and_pushes : (key : Key) (repair : Repair) (label : ℕ) → find key_cmp key after.repairs ≡ Some repair → find key_cmp key before.labels ≡ Some label
+      → (over : Over) × (over_at (bypass_tunnels_of r after) repair.bypass ≡ Some over) × (look r after label ≡ Some (SwapPush repair.resv.label over.label over.link))
+  unfolding repaired repairs_left
+  swaps_and_pushes key repair label found held =
+      let path = label_of_path r before is key label held in
+      let known : find key_cmp key after.facts.paths ≡ Some path.0 = ap (λ (t : State). find key_cmp key t.facts.paths) came ∙ path.1 in
+      look_repaired r after (sound_step r before made after router is x) key label (label_stays r before after made key label router is x path.0 held known path.2) repair found
+
 -- Of an LSP that was reserved on the link, which was up: so it is one of the router's.
 pub lost_repaired : (r : Router) (before after : State) (made : Made) (n : ℕ) (key : Key) (resv : ResvFact) (path : PathFact) → IsRouter r → IsSound r before → AreSettled r before → Step r before made after → made.event ≡ events.LinkDown n
     → find key_cmp key before.resvs ≡ Some resv → resv.link ≡ n → find key_cmp key before.facts.paths ≡ Some path
@@ -299,3 +371,11 @@ lost_repaired r before after made n key resv path router is rests x event reserv
     let up = (and_parts (is_up before.facts.up resv.link) (option_map_or (leaves_by resv.link) (find key_cmp key before.facts.paths) false) stood).0 in
     let there = up_known r before n is (ap (is_up before.facts.up) (sym on) ∙ up) in
     (resv_goes r before after made n router is rests there x event key resv path reserved known on, repair_as_selected r before after made n router is rests there x event key resv path reserved known on)
+
+-- Where no bypass is selected for it, it is neither reserved nor repaired.
+pub lost_unrepaired : (r : Router) (before after : State) (made : Made) (n : ℕ) (key : Key) (resv : ResvFact) (path : PathFact) → IsRouter r → IsSound r before → AreSettled r before → Step r before made after → made.event ≡ events.LinkDown n
+    → find key_cmp key before.resvs ≡ Some resv → resv.link ≡ n → find key_cmp key before.facts.paths ≡ Some path → bypass_for r after key path resv ≡ None
+    → (find key_cmp key after.resvs ≡ None) × (find key_cmp key after.repairs ≡ None)
+lost_unrepaired r before after made n key resv path router is rests x event reserved on known none =
+    let goes = lost_repaired r before after made n key resv path router is rests x event reserved on known in
+    (goes.0, goes.1 ∙ ap (option_map (repair_with resv)) none)

@@ -122,7 +122,7 @@ module _ (r : Router) (s : State) where
   message-same link (contents.PathTear t) = refl
   message-same link (contents.ResvTear t) = tear-same link t
 
-  reading-same : (link : ℕ) (reading : Reading) → HasSameRepairs (reading_arrival r s link reading)
+  pub reading-same : (link : ℕ) (reading : Reading) → HasSameRepairs (reading_arrival r s link reading)
   unfolding unknown_resv
   reading-same link (readings.Whole content) = message-same link content
   reading-same link (readings.Unknown (contents.Path p) class ctype) = refl
@@ -133,7 +133,7 @@ module _ (r : Router) (s : State) where
   reading-same link (readings.Unknown (contents.ResvTear t) class ctype) = message-same link (contents.ResvTear t)
 
   -- what comes through a stack
-  stack-same : (content : Content) → HasSameRepairs (stack_arrival r s content)
+  pub stack-same : (content : Content) → HasSameRepairs (stack_arrival r s content)
   unfolding stack_err_arrival
   stack-same (contents.Path p) = refl
   stack-same (contents.Resv v) = refl
@@ -145,16 +145,16 @@ module _ (r : Router) (s : State) where
 -- ---- Routed messages
 
 -- what holds of each of a list holds of the one that it is
-the_one-holds : {A : Type 0} (P : A → Type 0) (xs : List A) → AllByRecursion P xs → IfSome (the_one xs) P
+pub the_one-holds : {A : Type 0} (P : A → Type 0) (xs : List A) → AllByRecursion P xs → IfSome (the_one xs) P
 the_one-holds P [] all = tt
 the_one-holds P (x ∷ []) all = all.0
 the_one-holds P (x ∷ y ∷ xs) all = tt
 
 -- the repair that a message from a router is for is known, and its bypass ends there
-abbrev IsOf : Router → State → Ipv4Addr → Key × Repair → Type 0
+abbrev pub IsOf : Router → State → Ipv4Addr → Key × Repair → Type 0
 IsOf r s hop repair = (find key_cmp repair.0 s.repairs ≡ Some repair.1) × (ends_at r s hop repair ≡ true)
 
-repair_from-of : (r : Router) (s : State) (hop : Ipv4Addr) (key : Key) → T (is_sorted key_cmp s.repairs) → IfSome (repair_from r s hop key) (IsOf r s hop)
+pub repair_from-of : (r : Router) (s : State) (hop : Ipv4Addr) (key : Key) → T (is_sorted key_cmp s.repairs) → IfSome (repair_from r s hop key) (IsOf r s hop)
 unfolding repair_from
 repair_from-of r s hop key in_order =
     let test = λ (repair : Key × Repair). is_known_as r key repair && ends_at r s hop repair in

@@ -51,7 +51,7 @@ use Rattle.router_laws.proofs.NoneRepaired.{filter_map-none, left-same, over-up,
 use Rattle.router_laws.proofs.Settled.{filter-none_pass, taken_over-same}
 
 -- between rows and themselves nothing comes of what is quiet
-between-itself : {K C O : Type 0} (cmp : K → K → Ordering) (total : IsTotalOrder cmp) (f : Option C → K × C → Option O) (rows : List (K × C)) → T (is_sorted cmp rows) → ((k : K) (c : C) → f (Some c) (k, c) ≡ None) → between cmp f rows rows ≡ []
+pub between-itself : {K C O : Type 0} (cmp : K → K → Ordering) (total : IsTotalOrder cmp) (f : Option C → K × C → Option O) (rows : List (K × C)) → T (is_sorted cmp rows) → ((k : K) (c : C) → f (Some c) (k, c) ≡ None) → between cmp f rows rows ≡ []
 between-itself cmp total f rows h quiet =
     filter_map-none (λ row. f (find cmp row.0 rows) row) rows
     (all-weaker (λ row. find cmp row.0 rows ≡ Some row.1) (λ row. f (find cmp row.0 rows) row ≡ None) (λ row found. ap (λ o. f o row) found ∙ quiet row.0 row.1) rows (all_found cmp total rows h))
@@ -64,7 +64,7 @@ stamps-same cmp total exact was sent now h known =
     (λ item. stamps-elsewhere cmp total exact [] was sent now was item known refl refl)
 
 -- and nothing is sent for it
-sends-none : {I : Type 0} (cmp : I → I → Ordering) (total : IsTotalOrder cmp) (was : List (I × Output)) → T (is_sorted cmp was) → between cmp (send_for cmp []) was was ≡ []
+pub sends-none : {I : Type 0} (cmp : I → I → Ordering) (total : IsTotalOrder cmp) (was : List (I × Output)) → T (is_sorted cmp was) → between cmp (send_for cmp []) was was ≡ []
 sends-none cmp total was h = between-itself cmp total (send_for cmp []) was h (λ item o. ap (λ b. if b then None else Some o) (rests_same cmp [] item o refl))
 
 -- An outcome after which all is as it was, and nothing is sent.
@@ -81,7 +81,7 @@ module _ (r : Router) (s : State) (is : IsSound r s) (rests : AreSettled r s) (s
   ours path = not (begins_here path.1.role)
 
   -- each label is held still
-  labels-held : (chosen : List (Key × ℕ)) → labels_after s.labels chosen s.facts.paths ≡ s.labels
+  pub labels-held : (chosen : List (Key × ℕ)) → labels_after s.labels chosen s.facts.paths ≡ s.labels
   unfolding labels_after
   labels-held chosen =
       ap (filter_map given) (sym is.labels.of_lsps)
@@ -106,14 +106,14 @@ module _ (r : Router) (s : State) (is : IsSound r s) (rests : AreSettled r s) (s
       by None is there = absurd (let e = ap is_some is ∙ there in cc)
       by (Some path) is there = elim (ours (row.0, path)) as (λ b. is_some (then_some b path) ≡ true → not b ≡ false) [ true ↦ λ t. refl | false ↦ λ t. absurd (let e = t in cc) ] (ap is_some is ∙ there)
 
-  none-rests : rested s.facts.moment (s.facts.moment + r.label_rest_ms) (freed s.labels s.facts.paths) s.resting ≡ s.resting
+  pub none-rests : rested s.facts.moment (s.facts.moment + r.label_rest_ms) (freed s.labels s.facts.paths) s.resting ≡ s.resting
   none-rests =
       let goes = λ (row : Key × ℕ). not (is_labelled s.facts.paths row.0) in
       let none : filter goes s.labels ≡ [] = filter-none_pass goes s.labels (all-weaker (λ row. find key_cmp row.0 s.labels ≡ Some row.1) (λ row. goes row ≡ false) holds s.labels (all_found key_cmp key_total s.labels (labels_in_order r s is.labels is.paths.paths.in_order))) in
       ap (λ rows. rested s.facts.moment (s.facts.moment + r.label_rest_ms) (values_of rows) s.resting) none ∙ rested_none s.facts.moment (s.facts.moment + r.label_rest_ms) s.resting
 
   -- and each LSP that is promised bandwidth is held still
-  shares-held : where_key key_cmp (is_held s) s.assignments ≡ s.assignments
+  pub shares-held : where_key key_cmp (is_held s) s.assignments ≡ s.assignments
   shares-held = filter-all_pass (λ given. is_held s given.0) s.assignments (all-weaker (IsHolding s) (λ given. is_held s given.0 ≡ true) by s.assignments is.assigned.held)
     where
       by : (given : Key × Assignment) → IsHolding s given → is_held s given.0 ≡ true
@@ -140,7 +140,7 @@ module _ (r : Router) (s : State) (is : IsSound r s) (rests : AreSettled r s) (s
   upstream_in_order : T (is_sorted upstream_cmp (upstream_of r s))
   upstream_in_order = is_sorted-upstream_sound r s s.facts.moment is.paths.paths
 
-  sent-same : item_stamps r s [] s ≡ s.facts.sent
+  pub sent-same : item_stamps r s [] s ≡ s.facts.sent
   unfolding item_stamps
   sent-same = stamps-same item_cmp item_total item_exact (items_of r s) s.facts.sent s.facts.moment items_in_order is.sent
 

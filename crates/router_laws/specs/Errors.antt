@@ -1,6 +1,5 @@
 -- The words of the laws on errors.
-use Rattle.std.specs.Prelude.{◌≡◌, Option, Some, None}
-use Rattle.rsvp_contents.specs.declared.messages.Content.{Content}
+use Rattle.std.specs.Prelude.{◌≡◌, Some}
 use Rattle.rsvp_contents.specs.declared.messages.Content.TheVariants as contents
 use Rattle.rsvp_contents.specs.declared.messages.ResvErr.{ResvErr}
 use Rattle.abstract_paths.specs.declared.events.Output.{Output}

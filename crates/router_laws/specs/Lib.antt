@@ -1,4 +1,6 @@
 pub mod Errors
+pub mod LspIds
+pub mod Merging
 pub mod Promises
 pub mod Sending
 pub mod Serving

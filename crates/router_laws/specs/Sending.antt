@@ -34,6 +34,11 @@ is_tear (contents.PathTear t) = true
 is_tear (contents.ResvTear t) = true
 is_tear content = false
 
+-- an error of a path (RFC 2205, 3.1.7)
+abbrev pub is_path_err : Content → Bool
+is_path_err (contents.PathErr e) = true
+is_path_err content = false
+
 -- a message that makes or renews state at a neighbour (RFC 2205, 3.1.3 and 3.1.4)
 abbrev pub is_state : Content → Bool
 is_state (contents.Path p) = true

@@ -7,6 +7,8 @@ pub mod errors;
 pub mod frames;
 pub mod label_holders;
 pub mod labels;
+pub mod lsp_ids;
+pub mod merging;
 pub mod moments;
 pub mod promises;
 pub mod repairs;

@@ -1,5 +1,5 @@
 -- What leaves the state as it was sends its errors, and nothing else.
-use Rattle.router_laws.proofs.ErrorsOn.{path_err_passes, resv_err_passes}
+use Rattle.router_laws.proofs.ErrorsOn.{path_err_passes, resv_err_passes, returned_err_passes}
 use Rattle.router_laws.proofs.errors.errors_pass_through.Goals as goal
 
 pub returns-clause-path_errs : goal.returns-clause-path_errs
@@ -7,3 +7,6 @@ returns-clause-path_errs c = path_err_passes
 
 pub returns-clause-resv_errs : goal.returns-clause-resv_errs
 returns-clause-resv_errs c = resv_err_passes
+
+pub returns-clause-returned : goal.returns-clause-returned
+returns-clause-returned c = returned_err_passes

@@ -1,5 +1,5 @@
 -- Reservations on the link fall, and the bypass that is selected is up.
-use Rattle.router_laws.proofs.LostLinks.{lost_repaired, origin_told, over_another, resv_stays}
+use Rattle.router_laws.proofs.LostLinks.{lost_repaired, lost_unrepaired, only_told, origin_told, over_another, resv_stays, swaps_and_pushes}
 use Rattle.router_laws.proofs.repairs.a_lost_link_is_repaired_at_once.Goals as goal
 
 pub returns-clause-repaired : goal.returns-clause-repaired
@@ -13,3 +13,12 @@ returns-clause-others c = λ r before after made n key resv router is rests ther
 
 pub returns-clause-told : goal.returns-clause-told
 returns-clause-told c = λ r before after made n key resv path repair output router is rests there step event reserved on known. origin_told r before after made n router is rests there step event key resv path reserved known on repair output
+
+pub returns-clause-lost : goal.returns-clause-lost
+returns-clause-lost c = lost_unrepaired
+
+pub returns-clause-entry : goal.returns-clause-entry
+returns-clause-entry c = λ r before after made n key repair label router is rests there step event. swaps_and_pushes r before after made n router is rests there step event key repair label
+
+pub returns-clause-only : goal.returns-clause-only
+returns-clause-only c = λ r before after made n router is rests there step event. only_told r before after made n router is rests there step event
