@@ -1,0 +1,5 @@
+pub mod Given
+pub mod KeptEnds
+pub mod Repaired
+pub mod Reserved
+pub mod Saying
