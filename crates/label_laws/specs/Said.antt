@@ -15,7 +15,11 @@ use Rattle.lsr_facts.specs.declared.repair.Repair.{Repair}
 use Rattle.lsr_facts.specs.declared.resv_fact.ResvFact.{ResvFact}
 use Rattle.lsr_facts.specs.declared.router.Router.{Router}
 use Rattle.abstract_paths.specs.Paths.{goes_on}
+use Rattle.abstract_paths.specs.Relays.{relayed_by}
+use Rattle.abstract_paths.specs.declared.events.Event.{Event}
+use Rattle.abstract_paths.specs.declared.events.Event.TheVariants as events
 use Rattle.abstract_paths.specs.declared.events.Output.{Output}
+use Rattle.abstract_paths.specs.declared.ways.Relay.{Relay}
 use Rattle.abstract_router.specs.States.{State}
 use Rattle.abstract_router.specs.Upstreams.{own_entries}
 use Rattle.router_laws.specs.Sending.{content_of}
@@ -51,3 +55,7 @@ pub record SaysWhatIsHeld (r : Router) (s : State) (output : Output) : Type 0 wh
   pub gives : descriptor.label.number ≡ label
   pub flags : ℕ
   pub recorded : (descriptor.recorded ≡ None) ⊎ (descriptor.recorded ≡ Some (own_entries r flags path label ++ recorded_after s key path))
+
+-- It is the message for another router that came, as it goes on by a link.
+abbrev pub IsPassedOn : Event → Output → Type 0
+IsPassedOn event output = (message : Relay) × (link : ℕ) × (event ≡ events.Relay message) × (output ≡ relayed_by message link)
