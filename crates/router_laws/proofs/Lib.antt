@@ -29,6 +29,7 @@ pub mod Reports
 pub mod Rested
 pub mod Sent
 pub mod ResvDone
+pub mod ResvSome
 pub mod Settled
 pub mod Staying
 pub mod Still

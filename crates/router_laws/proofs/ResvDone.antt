@@ -40,7 +40,7 @@ use Rattle.router_laws.proofs.Led.{answered, led}
 use Rattle.router_laws.proofs.Touching.{Keeps, arrival-keeps, neither}
 
 -- what is granted is for a path that leaves by the link
-granted_leaves : (r : Router) (s : State) (key : Key) (fact : ResvFact) → verdict_of r s key fact ≡ Granted → option_map_or (leaves_by fact.link) (find key_cmp key s.facts.paths) false ≡ true
+pub granted_leaves : (r : Router) (s : State) (key : Key) (fact : ResvFact) → verdict_of r s key fact ≡ Granted → option_map_or (leaves_by fact.link) (find key_cmp key s.facts.paths) false ≡ true
 unfolding verdict_of
 granted_leaves r s key fact =
     cond_both (not (list_any (λ path. is_same_session key.session path.0.session) s.facts.paths)) (Failed no_path) _ (λ (v : Verdict). v ≡ Granted → option_map_or (leaves_by fact.link) (find key_cmp key s.facts.paths) false ≡ true)

@@ -2,6 +2,7 @@
 
 ghost use Rattle.std.specs.Prelude.{◌≡◌, ◌∷◌, ℕ, [], Some};
 ghost use Rattle.std.specs.FinMap.Entries.{find};
+ghost use Rattle.std.specs.List.{Contains};
 ghost use Rattle.rsvp_contents.specs.declared.descriptors.FlowDescriptor.{FlowDescriptor};
 ghost use Rattle.rsvp_contents.specs.declared.messages.Content.TheVariants as contents;
 ghost use Rattle.rsvp_contents.specs.declared.messages.Resv.{Resv};
@@ -18,12 +19,19 @@ ghost use Rattle.abstract_router.specs.Steps.{Step};
 ghost use Rattle.router_laws.specs.Words.{comes};
 
 /// A Resv that is done reserves: where it has one descriptor, and its LSP's path stays, the LSP has just the reservation
-/// that it asks for, on the link that it came over, until the lifetime of its refresh period is over.
+/// that it asks for, on the link that it came over, until the lifetime of its refresh period is over. Where it has
+/// several descriptors, this holds of one of them.
 pub fn a_resv_that_is_done_reserves()
-    ensures { (r : Router) (before after : State) (made : Made) (link : ℕ) (v : Resv) (d : FlowDescriptor)
+    ensures one { (r : Router) (before after : State) (made : Made) (link : ℕ) (v : Resv) (d : FlowDescriptor)
         (style : ResvStyle) →
         IsSound r before → Step r before made after → made.event ≡ comes link (contents.Resv v) →
         v.descriptors ≡ d ∷ [] → style_of v.style ≡ Some style → made.reply ≡ replies.Done →
         find key_cmp (key_in v d) after.facts.paths ≡ find key_cmp (key_in v d) before.facts.paths →
         find key_cmp (key_in v d) after.resvs ≡ Some (resv_by before.facts.moment link style v d) }
+    ensures some { (r : Router) (before after : State) (made : Made) (link : ℕ) (v : Resv) (style : ResvStyle) →
+        IsSound r before → Step r before made after → made.event ≡ comes link (contents.Resv v) →
+        style_of v.style ≡ Some style → made.reply ≡ replies.Done →
+        (d : FlowDescriptor) × Contains v.descriptors d
+        × (find key_cmp (key_in v d) after.facts.paths ≡ find key_cmp (key_in v d) before.facts.paths →
+        find key_cmp (key_in v d) after.resvs ≡ Some (resv_by before.facts.moment link style v d)) }
 {}

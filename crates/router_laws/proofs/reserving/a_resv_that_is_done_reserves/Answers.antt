@@ -1,6 +1,10 @@
--- The one descriptor is granted, and its reservation stands.
+-- A descriptor is granted, and its reservation stands.
 use Rattle.router_laws.proofs.ResvDone.{done_reserves}
+use Rattle.router_laws.proofs.ResvSome.{some_reserved}
 use Rattle.router_laws.proofs.reserving.a_resv_that_is_done_reserves.Goals as goal
 
-pub returns : goal.returns
-returns c = done_reserves
+pub returns-clause-one : goal.returns-clause-one
+returns-clause-one c = done_reserves
+
+pub returns-clause-some : goal.returns-clause-some
+returns-clause-some c = some_reserved
