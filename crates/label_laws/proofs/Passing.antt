@@ -56,7 +56,7 @@ module _ (r : Router) (before after : State) (made : Made) (x : Step r before ma
   loud_passes loud =
       subst (AllByRecursion P) (sym (loud_sends r before after made x loud))
       (outputs-hold P r before told o.due o.upstream_due after
-      (all-append P o.errors (told_repaired r (promised r o.after)) (errors_are P (errors-own made.event) r before made.event (λ m link came none. (m, link, came, refl))) (repairs_are P (errors-own made.event) r (promised r o.after)))
+      (all-append P o.errors (told_repaired r (promised r o.after)) (errors_are P (errors-own made.event) r before made.event (λ m link came none. (m, came, refl))) (repairs_are P (errors-own made.event) r (promised r o.after)))
       (λ output tear none. absurd (own is_tear (content_of output.frame) tear.1 none))
       (all-weaker IsRowOfState (λ row. P row.1) (λ row state none. absurd (own is_state (content_of row.1.frame) state.0 none)) (items_of r after) (items-state r after))
       (all-weaker IsRowOfState (λ row. P row.1) (λ row state none. absurd (own is_state (content_of row.1.frame) state.0 none)) (upstream_of r after) (resvs-state r after)))

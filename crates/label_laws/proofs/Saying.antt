@@ -47,7 +47,7 @@ use Rattle.abstract_router.specs.States.{State}
 use Rattle.abstract_router.specs.Steps.{Step, promised}
 use Rattle.abstract_router.specs.Through.{backup_of}
 use Rattle.abstract_router.specs.UpstreamLaws.{all-filter_map}
-use Rattle.abstract_router.specs.Upstreams.{Reserved, own_entries, own_flags, record_upstream, reserved_by_end, reserved_by_next, reserved_for, resv_to, upstream_of, upstream_row, upstream_rows, upstream_to, upstream_via}
+use Rattle.abstract_router.specs.Upstreams.{Reserved, flagged_entry, label_entry, own_entries, own_flags, record_upstream, records_labels, reserved_by_end, reserved_by_next, reserved_for, resv_to, upstream_of, upstream_row, upstream_rows, upstream_to, upstream_via}
 use Rattle.abstract_router.specs.Wanted.{backup_row, downstream_row, items_of}
 use Rattle.router_soundness.proofs.Running.{sound_step}
 use Rattle.router_laws.specs.Sending.{content_of, is_state, says}
@@ -55,7 +55,7 @@ use Rattle.router_laws.proofs.Outgoing.{outputs-hold}
 use Rattle.router_laws.proofs.OverUp.{always, and_then-holds}
 use Rattle.router_laws.proofs.Reports.{IsReport, event_reports, repaired-reports}
 use Rattle.router_laws.proofs.Sent.{loud_sends}
-use Rattle.label_laws.specs.Said.{SaysWhatIsHeld, held_after, is_resv, recorded_after}
+use Rattle.label_laws.specs.Said.{SaysWhatIsHeld, held_after, is_resv, put_before, recorded_after}
 
 -- ---- what is no Resv
 
@@ -121,13 +121,17 @@ module _ (r : Router) (s : State) (key : Key) (path : PathFact) (known : find ke
   Says row = SaysWhatIsHeld r s row.1
 
   -- a record that is within the limits
+  own-before : (flags label : ℕ) → own_entries r flags path label ≡ put_before r flags path label
+  own-before flags label =
+      elim (records_labels path.attr) as (λ b. cond {A = List Trace} b (flagged_entry r flags ∷ label_entry label ∷ []) (flagged_entry r flags ∷ []) ≡ flagged_entry r flags ∷ cond b (label_entry label ∷ []) []) [ true ↦ refl | false ↦ refl ]
+
   grown : (flags label : ℕ) (recorded : List Trace) → recorded ≡ recorded_after s key path → (came : Option (List Trace))
       → (option_and_then (λ came. if is_short_record (own_entries r flags path label ++ recorded) then Some (own_entries r flags path label ++ recorded) else None) came ≡ None)
-      ⊎ (option_and_then (λ came. if is_short_record (own_entries r flags path label ++ recorded) then Some (own_entries r flags path label ++ recorded) else None) came ≡ Some (own_entries r flags path label ++ recorded_after s key path))
+      ⊎ (option_and_then (λ came. if is_short_record (own_entries r flags path label ++ recorded) then Some (own_entries r flags path label ++ recorded) else None) came ≡ Some (put_before r flags path label ++ recorded_after s key path))
   grown flags label recorded same None = inl refl
   grown flags label recorded same (Some came) =
       let entries = own_entries r flags path label ++ recorded in
-      cond_both (is_short_record entries) (Some entries) None (λ (o : Option (List Trace)). (o ≡ None) ⊎ (o ≡ Some (own_entries r flags path label ++ recorded_after s key path))) (λ short. inr (ap (λ rest. Some (own_entries r flags path label ++ rest)) same)) (λ long. inl refl)
+      cond_both (is_short_record entries) (Some entries) None (λ (o : Option (List Trace)). (o ≡ None) ⊎ (o ≡ Some (put_before r flags path label ++ recorded_after s key path))) (λ short. inr (λ i. Some (own-before flags label i ++ same i))) (λ long. inl refl)
 
   resv-says : (label : ℕ) → find key_cmp key s.labels ≡ Some label → (said : Reserved) → said.recorded ≡ recorded_after s key path → (origin : Ipv4Addr × Origin) (address : Ipv4Addr) → Contains (own_addresses r) address
       → (output : Output) → content_of output.frame ≡ Some (contents.Resv (resv_to r key lsp.1.path origin address label said)) → SaysWhatIsHeld r s output

@@ -1,8 +1,9 @@
 -- What the Resvs that a router sends say.
-use Rattle.std.specs.Prelude.{◌≡◌, ◌⊎◌, ◌++◌, ℕ, if◌then◌else◌, Bool, true, false, Contains, List, [], ◌∷◌, Option, Some, None, option_map, unwrap_or}
+use Rattle.std.specs.Prelude.{◌≡◌, ◌⊎◌, ◌++◌, ◌-◌, ℕ, if◌then◌else◌, Bool, true, false, Contains, List, [], ◌∷◌, Option, Some, None, option_map, unwrap_or}
 use Rattle.std.specs.FinMap.Entries.{find}
 use Rattle.std.specs.Option.{option_and_then, option_or}
 use Rattle.rsvp_bodies.specs.declared.trace.Trace.{Trace}
+use Rattle.rsvp_bodies.specs.declared.trace.Trace.TheVariants as traces
 use Rattle.rsvp_contents.specs.declared.descriptors.FlowDescriptor.{FlowDescriptor}
 use Rattle.rsvp_contents.specs.declared.messages.Content.{Content}
 use Rattle.rsvp_contents.specs.declared.messages.Content.TheVariants as contents
@@ -15,13 +16,13 @@ use Rattle.lsr_facts.specs.declared.repair.Repair.{Repair}
 use Rattle.lsr_facts.specs.declared.resv_fact.ResvFact.{ResvFact}
 use Rattle.lsr_facts.specs.declared.router.Router.{Router}
 use Rattle.abstract_paths.specs.Paths.{goes_on}
-use Rattle.abstract_paths.specs.Relays.{relayed_by}
+use Rattle.abstract_paths.specs.Frame.TheVariants as frames
 use Rattle.abstract_paths.specs.declared.events.Event.{Event}
 use Rattle.abstract_paths.specs.declared.events.Event.TheVariants as events
 use Rattle.abstract_paths.specs.declared.events.Output.{Output}
 use Rattle.abstract_paths.specs.declared.ways.Relay.{Relay}
 use Rattle.abstract_router.specs.States.{State}
-use Rattle.abstract_router.specs.Upstreams.{own_entries}
+use Rattle.abstract_router.specs.Upstreams.{records_labels}
 use Rattle.router_laws.specs.Sending.{content_of}
 
 -- a reservation is asked for (RFC 2205, 3.1.4)
@@ -36,6 +37,11 @@ held_after s key = option_or (find key_cmp key s.resvs) (option_map (λ (repair 
 -- the record that came with it, and none where the LSP ends here
 abbrev pub recorded_after : State → Key → PathFact → List Trace
 recorded_after s key path = if goes_on path.role then unwrap_or (option_and_then (λ (resv : ResvFact). resv.recorded) (held_after s key)) [] else []
+
+-- what this router puts before it: its id, and after that the label that it gives where the Path asks for labels (RFC 3209, 4.4.1
+-- and 4.4.3)
+abbrev pub put_before : Router → ℕ → PathFact → ℕ → List Trace
+put_before r flags path label = traces.Ipv4 (record { address = r.id; length = 32 }) flags ∷ (if records_labels path.attr then traces.Label 0x01 label ∷ [] else [])
 
 -- A Resv is for an LSP that is known, from an address of this router, and gives the label that the LSP holds here. Where it
 -- has a record, that is the one which came to this router, with this router's own entries before it (RFC 3209, 4.4.3).
@@ -54,8 +60,8 @@ pub record SaysWhatIsHeld (r : Router) (s : State) (output : Output) : Type 0 wh
   pub lsp : descriptor.filter.lsp ≡ key.sender.lsp
   pub gives : descriptor.label.number ≡ label
   pub flags : ℕ
-  pub recorded : (descriptor.recorded ≡ None) ⊎ (descriptor.recorded ≡ Some (own_entries r flags path label ++ recorded_after s key path))
+  pub recorded : (descriptor.recorded ≡ None) ⊎ (descriptor.recorded ≡ Some (put_before r flags path label ++ recorded_after s key path))
 
--- It is the message for another router that came, as it goes on by a link.
+-- It is the message for another router that came, unread, its limit one less (RFC 791, 3.2).
 abbrev pub IsPassedOn : Event → Output → Type 0
-IsPassedOn event output = (message : Relay) × (link : ℕ) × (event ≡ events.Relay message) × (output ≡ relayed_by message link)
+IsPassedOn event output = (came : Relay) × (event ≡ events.Relay came) × (output.frame ≡ frames.Relayed came.to (came.limit - 1) came.message)
