@@ -1,0 +1,5 @@
+mod Leading
+mod Refusing
+mod Steps
+mod Telling
+mod Unlabelled

@@ -1,0 +1,4 @@
+pub mod Faulty
+pub mod Labelling
+pub mod Recorded
+pub mod Taking
