@@ -1,0 +1,4 @@
+pub mod Invariant
+pub mod Opening
+pub mod Reads
+pub mod Steps
