@@ -1,6 +1,6 @@
 -- So they are the candidates that have bandwidth to promise.
 use Rattle.std.specs.Prelude.{◌≡◌, ℕ, suc, ◌≤◌, ◌==◌, ◌++◌, not, Bool, true, false, cond, if◌then◌else◌, List, [], ◌∷◌, filter, filter_map, length, map, Option, Some, None, IfSome}
-use Rattle.std.specs.List.{cons_option}
+use Rattle.std.specs.List.{AllByRecursion, cons_option}
 use Rattle.std.specs.Option.{option_map}
 use Rattle.std.proofs.Common.{refl, sym, ap, subst, arith, ◌∙◌}
 use Rattle.std.proofs.lemmas.List.{append_assoc, append-nil, map-append}
@@ -165,3 +165,12 @@ all_promising r s = sym (promising_rows r s s.facts.bypasses)
 -- And they are no more than all bypasses.
 pub few_promising : (r : Router) (s : State) → length (promising_of r s) ≤ length s.facts.bypasses
 few_promising r s = subst (λ all. length all ≤ length s.facts.bypasses) (all_promising r s) (length-filter_map (promising_by r s) s.facts.bypasses)
+
+-- There are none where no bypass has any capacity.
+none_by : (r : Router) (s : State) (bypasses : List (ℕ × Bypass)) → AllByRecursion (λ bypass. bypass.1.capacity ≡ 0) bypasses → filter_map (promising_by r s) bypasses ≡ []
+none_by r s [] none = refl
+none_by r s (bypass ∷ more) none =
+    ap (λ capacity. cons_option (if capacity == 0 then None else row_by r s bypass) (filter_map (promising_by r s) more)) none.0 ∙ none_by r s more none.1
+
+pub none_promising : (r : Router) (s : State) → AllByRecursion (λ bypass. bypass.1.capacity ≡ 0) s.facts.bypasses → promising_of r s ≡ []
+none_promising r s none = sym (all_promising r s) ∙ none_by r s s.facts.bypasses none

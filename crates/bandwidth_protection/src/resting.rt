@@ -11,7 +11,7 @@ ghost use Rattle.bandwidth_protection.specs.Resting.{IsAtRest, is_unconcerned};
 
 use crate::wishes::wants_bandwidth;
 use facility_backup::{is_same_around, leaves_path, leaves_repair, leaves_resv};
-use lsr_facts::{Key, PathFact};
+use lsr_facts::{Bypass, Key, PathFact};
 use state_views::{Changed, Edits, StateView, WholeState};
 
 /// Whether a path is known whose head wants its LSP's bandwidth protected.
@@ -58,9 +58,35 @@ fn are_at_rest<V: StateView, E>(view: &V, edits: &Edits, rows: &[(Key, E)]) -> b
     true
 }
 
+/// Whether none of these bypasses has bandwidth to promise.
+fn have_no_capacity(bypasses: &[(u16, Bypass)]) -> bool
+    ensures { result ≡ true → AllByRecursion (λ bypass. bypass.1.capacity ≡ 0) bypasses.now }
+{
+    for bypass in bypasses {
+        if bypass.1.capacity != 0 {
+            return false;
+        }
+    }
+    true
+}
+
+/// Whether no LSP is promised anything, and after edits no bypass has bandwidth to promise: so nothing is promised then either. It
+/// asks for edits that leave what was promised as it was. Takes no memory.
+fn is_unpromised<V: WholeState>(view: &V, edits: &Edits) -> bool
+    requires kept { (edited edits.now (V.state view.now)).assignments ≡ (V.state view.now).assignments }
+    ensures { result ≡ true → assignments_of (V.router view.now) (edited edits.now (V.state view.now))
+        ≡ (V.state view.now).assignments }
+{
+    if view.assignment_count() != 0 {
+        return false;
+    }
+    let after = Changed { under: view, edits };
+    have_no_capacity(after.bypasses().as_slice())
+}
+
 /// Whether what LSPs are promised after edits, made anew, is what they were promised before. It says no wherever that isn't
 /// plain: where links, static routes or bypasses aren't as they were, or an LSP is edited that asks for something else
-/// than before, or begins or ends to use its promise. It asks for edits that leave what was promised as it was. Takes no memory.
+/// than before, or begins or ends to use its promise; but it says yes wherever no bypass has bandwidth to promise, and nobody was promised any. It asks for edits that leave what was promised as it was. Takes no memory.
 pub fn assignments_rest<V: WholeState>(view: &V, edits: &Edits) -> bool
     requires resvs { T (is_sorted key_cmp (V.state view.now).resvs) }
     requires assignments { T (is_sorted key_cmp (V.state view.now).assignments) }
@@ -68,6 +94,9 @@ pub fn assignments_rest<V: WholeState>(view: &V, edits: &Edits) -> bool
     ensures { result ≡ true → assignments_of (V.router view.now) (edited edits.now (V.state view.now))
         ≡ (V.state view.now).assignments }
 {
+    if is_unpromised(view, edits) {
+        return true;
+    }
     if !view.assignments_stand() || edits.bypasses.is_some() {
         return false;
     }

@@ -3,7 +3,7 @@
 ghost use Rattle.std.specs.FinMap.Entries.{find, is_sorted};
 ghost use Rattle.std.specs.List.{AllByRecursion};
 ghost use Rattle.std.specs.Option.{option_and_then, option_copied};
-ghost use Rattle.std.specs.Prelude.{◌≡◌, ◌++◌, None, true, Bool, IfOk, List, OnOk, Option, T, filter_map, length, refl, slice_get};
+ghost use Rattle.std.specs.Prelude.{◌≡◌, ◌++◌, [], None, true, Bool, IfOk, List, OnOk, Option, T, filter_map, length, refl, slice_get};
 ghost use Rattle.sorted_rows.specs.Edits as edit_rows;
 ghost use Rattle.lsr_facts.specs.Orders.{key_cmp};
 ghost use Rattle.lsr_facts.specs.declared.key.Key.{Key};
@@ -280,10 +280,17 @@ fn unheld<V: StateView>(alloc: Global, view: &V, edits: &Edits) -> Result<Vec<Ke
     with_fallen::<Assignment, _, _>(keys, &after, edits.repairs.as_slice())
 }
 
+/// Whether nobody was promised anything before edits, and they promise nobody anything.
+fn is_unpromised<V: WholeState>(view: &V, edits: &Edits) -> bool
+    ensures { result ≡ true → (edited edits.now (V.state view.now)).assignments ≡ [] }
+{
+    view.assignment_count() == 0 && edits.assignments.as_slice().is_empty()
+}
+
 /// Edits, and then the promises of bandwidth go of LSPs that are neither reserved nor repaired. It asks that before the edits
-/// there were none. The only error is out of memory.
+/// there were none. Takes no memory where nothing is promised; the only error is out of memory.
 #[tactic(auto, using(crate::specs::FallingLaws::assignments_held))]
-pub(crate) fn take_assignments<V: StateView>(
+pub(crate) fn take_assignments<V: WholeState>(
     alloc: Global,
     view: &V,
     edits: &mut Edits,
@@ -292,6 +299,9 @@ pub(crate) fn take_assignments<V: StateView>(
     requires held { AllByRecursion (λ given. is_held (V.state view.now) given.0 ≡ true) (V.state view.now).assignments }
     ensures { OnOk result (edited edits.new (V.state view.now) ≡ assignments_left (edited edits.old (V.state view.now))) }
 {
+    if is_unpromised(view, edits) {
+        return Ok(());
+    }
     let gone = unheld(alloc, view, edits)?;
     let assignments = mem::replace(&mut edits.assignments, Table::new(alloc));
     edits.assignments = without_rows(assignments, &gone)?;

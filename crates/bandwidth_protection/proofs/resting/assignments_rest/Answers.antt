@@ -11,6 +11,9 @@ use Rattle.bandwidth_protection.specs.Resting.{IsAtRest}
 use Rattle.bandwidth_protection.specs.RestingLaws.{all_rest}
 use Rattle.bandwidth_protection.proofs.resting.assignments_rest.Goals as goal
 
+pub returns-then-is_unpromised : goal.returns-then-is_unpromised
+returns-then-is_unpromised g c said = c.is_unpromised.ensures c.if-is_unpromised.true
+
 pub returns : goal.returns
 returns g c said =
     let r = g.V.StateView.router c.args.view.now in
