@@ -17,7 +17,7 @@ returns g c said =
     let r = g.V.StateView.router c.args.view.now in
     let s = g.V.StateView.state c.args.view.now in
     let t = edited c.args.edits.now s in
-    let was : s.assignments ≡ [] = nothing s.assignments (sym c.assignment_count.ensures.count ∙ c.if-not-assignment_count.false) in
+    let was : s.assignments ≡ [] = nothing s.assignments (sym c.assignment_count.ensures.count ∙ c.if-assignment_count-ne0.false) in
     let bypasses = c.as_slice.ensures.rows ∙ c.bypasses.ensures.bypasses in
     let none = none_promising r t (subst (λ (rows : List (ℕ × Bypass)). AllByRecursion (λ bypass. bypass.1.capacity ≡ 0) rows) bypasses (c.have_no_capacity.ensures said)) in
     sym (none_promised r t none) ∙ ap (where_key key_cmp (is_in_use t)) (c.requires.kept ∙ was) ∙ sym was
