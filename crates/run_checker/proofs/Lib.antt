@@ -1,3 +1,4 @@
+mod Keeping
 mod Leading
 mod Refusing
 mod Steps

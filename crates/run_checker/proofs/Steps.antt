@@ -31,6 +31,9 @@ use Rattle.state_views.specs.declared.draft.Draft.{Draft}
 use Rattle.event_steps.specs.EventSteps.{IsSendingStep, after_step, drafted}
 use Rattle.event_steps.specs.declared.step.EventStep.{EventStep}
 use Rattle.journal_bytes.specs.declared.entry.Entry.{Entry}
+use Rattle.event_fields.specs.EventLaws.{one_unread}
+use Rattle.event_fields.specs.Spelled.{SpellsEvent}
+use Rattle.event_fields.proofs.Fields.{one_event_of}
 use Rattle.run_checker.specs.Faulty.{IsMadeBy, IsNoLabelling, IsWrong, StopsAt}
 use Rattle.run_checker.specs.Taking.{IsTaken, changed, quiet}
 use Rattle.run_checker.specs.declared.change.Change.{Change}
@@ -46,8 +49,10 @@ same_lsps true r s paths a b one other = ap keys_of (one ∙ sym other)
 same_lsps false r s paths a b one other = one.of_new ∙ sym other.of_new
 
 -- the labels of a step may be chosen at its event
-may_in : (r : Router) (s : State) (event : Event) (labels : List (Key × ℕ)) (made : Made) → IsMadeBy r s event labels made → MayChoose r s (outcome r s event) labels
-may_in r s event labels made by = subst (λ (x : Event × List (Key × ℕ)). MayChoose r s (outcome r s x.0) x.1) (λ i. (by.happened i, by.chosen i)) by.step.chosen
+may_in : (r : Router) (s : State) (e : Entry) (event : Event) → SpellsEvent e.event event → (labels : List (Key × ℕ)) (made : Made) → IsMadeBy r s e labels made → MayChoose r s (outcome r s event) labels
+may_in r s e event spelled labels made by =
+    let happened = one_event_of one_unread e.event made.event event by.happened spelled in
+    subst (λ (x : Event × List (Key × ℕ)). MayChoose r s (outcome r s x.0) x.1) (λ i. (happened i, by.chosen i)) by.step.chosen
 
 -- no LSP has one of no labels
 none_of : (labels : List (Key × ℕ)) → keys_of labels ≡ [] → labels ≡ []
@@ -71,10 +76,10 @@ module _ (r : Router) (s : State) (event : Event) where
     }
 
     -- and for one that has some.
-    pub quiet_wrong : (e : Entry) (none : List (Key × ℕ)) → none ≡ [] → e.chosen ≢ [] → IsWrong (faults.Choice none) r s event e
-    quiet_wrong e none is some = (
-      (quiet event reply, record { after = changed change s; step = step; happened = refl; chosen = sym is }),
-      λ made by. some (none_of e.chosen (same_lsps (outcome r s event).is_silent r s (outcome r s event).after.facts.paths e.chosen [] (may_in r s event e.chosen made by) step.chosen)),
+    pub quiet_wrong : (e : Entry) (none : List (Key × ℕ)) → SpellsEvent e.event event → none ≡ [] → e.chosen ≢ [] → IsWrong (faults.Choice none) r s e
+    quiet_wrong e none spelled is some = (
+      (quiet event reply, record { after = changed change s; step = step; happened = spelled; chosen = sym is }),
+      λ made by. some (none_of e.chosen (same_lsps (outcome r s event).is_silent r s (outcome r s event).after.facts.paths e.chosen [] (may_in r s e event spelled e.chosen made by) step.chosen)),
     )
 
   module _ (draft : Draft) (runs : s.facts.cold ≡ false) (possible : IsEvent event) (passes : exceeds_hop_limit r s.facts event ≡ false) (is : IsDraft draft (outcome r s event) r s) where
@@ -128,16 +133,17 @@ module _ (r : Router) (s : State) (event : Event) where
     }
 
     -- Where an entry's labels may not be chosen and others may, that is wrong with it.
-    pub no_labelling : (e : Entry) (stop : Stop) → draft.is_silent ≡ false → IsNoLabelling stop r s (edited draft.edits s).facts.paths e.chosen → StopsAt stop r s event e
-    no_labelling e stops.Memory loud none = tt
-    no_labelling e (stops.Wrong (faults.Event refusal)) loud none = absurd none
-    no_labelling e (stops.Wrong (faults.Reply reply)) loud none = absurd none
-    no_labelling e (stops.Wrong (faults.Output frames)) loud none = absurd none
-    no_labelling e (stops.Wrong (faults.Choice others)) loud none =
+    pub no_labelling : (e : Entry) (stop : Stop) → SpellsEvent e.event event → draft.is_silent ≡ false → IsNoLabelling stop r s (edited draft.edits s).facts.paths e.chosen → StopsAt stop r s e
+    no_labelling e stops.Memory spelled loud none = tt
+    no_labelling e (stops.Wrong faults.Unread) spelled loud none = absurd none
+    no_labelling e (stops.Wrong (faults.Event refusal)) spelled loud none = absurd none
+    no_labelling e (stops.Wrong (faults.Reply reply)) spelled loud none = absurd none
+    no_labelling e (stops.Wrong (faults.Output frames)) spelled loud none = absurd none
+    no_labelling e (stops.Wrong (faults.Choice others)) spelled loud none =
         let o = outcome r s event in
         let so : o.is_silent ≡ false = sym is.is_silent ∙ loud in
         let may : MayChoose r s o others = subst (λ (x : Bool × State). MayChooseBy x.0 r s x.1.facts.paths others) (λ i. (sym so i, is.after i)) none.0 in
         let made = step_of r s event others runs possible passes may in (
-          (made.0, record { after = made.3; step = made.4; happened = made.1; chosen = made.2 }),
-          λ made by. none.1 (subst (λ (x : Bool × State). MayChooseBy x.0 r s x.1.facts.paths e.chosen) (λ i. (so i, sym is.after i)) (may_in r s event e.chosen made by)),
+          (made.0, record { after = made.3; step = made.4; happened = subst (SpellsEvent e.event) (sym made.1) spelled; chosen = made.2 }),
+          λ made by. none.1 (subst (λ (x : Bool × State). MayChooseBy x.0 r s x.1.facts.paths e.chosen) (λ i. (so i, sym is.after i)) (may_in r s e event spelled e.chosen made by)),
         )

@@ -11,9 +11,9 @@ use Rattle.abstract_router.specs.States.{State}
 use Rattle.abstract_router.specs.Steps.{IsNoStep, Step}
 use Rattle.journal_bytes.specs.Entries.{written_frame}
 use Rattle.journal_bytes.specs.declared.entry.Entry.{Entry}
+use Rattle.event_fields.specs.Spelled.{SpellsEvent}
 use Rattle.plain_soundness.specs.Clauses.{IsBroken}
 use Rattle.run_checker.specs.Recorded.{IsLed, IsRecorded}
-use Rattle.run_checker.specs.declared.entry.ReadEntry.{ReadEntry}
 use Rattle.run_checker.specs.declared.fault.EntryFault.{EntryFault}
 use Rattle.run_checker.specs.declared.fault.EntryFault.TheVariants as faults
 use Rattle.run_checker.specs.declared.fault.RunFault.{RunFault}
@@ -21,29 +21,28 @@ use Rattle.run_checker.specs.declared.fault.RunFault.TheVariants as runs
 use Rattle.run_checker.specs.declared.fault.Stop.{Stop}
 use Rattle.run_checker.specs.declared.fault.Stop.TheVariants as stops
 
--- The router makes this step at this event, by these labels.
-pub record IsMadeBy (r : Router) (before : State) (event : Event) (labels : List (Key × ℕ)) (made : Made) : Type 0 where
+-- The router makes this step at the event that the entry's bytes spell, by these labels.
+pub record IsMadeBy (r : Router) (before : State) (e : Entry) (labels : List (Key × ℕ)) (made : Made) : Type 0 where
   pub after : State
   pub step : Step r before made after
-  pub happened : made.event ≡ event
+  pub happened : SpellsEvent e.event made.event
   pub chosen : made.labels ≡ labels
 
--- What is wrong with an entry at an event: the event has no step; it has one by other labels, and none by those of the entry; or
--- the step that it has by the entry's labels is answered something else, or sends other frames.
-abbrev pub IsWrong : EntryFault → Router → State → Event → Entry → Type 0
-IsWrong (faults.Event refusal) r s event e = IsNoStep r s event refusal
-IsWrong (faults.Choice labels) r s event e =
-    ((made : Made) × IsMadeBy r s event labels made) × ((made : Made) → IsMadeBy r s event e.chosen made → ⊥)
-IsWrong (faults.Reply reply) r s event e =
-    (made : Made) × IsMadeBy r s event e.chosen made × (reply ≡ made.reply) × (e.reply ≢ made.reply)
-IsWrong (faults.Output frames) r s event e =
-    (made : Made) × IsMadeBy r s event e.chosen made × (frames ≡ map written_frame made.outputs) × (e.reply ≡ made.reply)
+-- What is wrong with an entry: its bytes spell no event; its event has no step; it has one by other labels, and none by those of the
+-- entry; or the step that it has by the entry's labels is answered something else, or sends other frames.
+abbrev pub IsWrong : EntryFault → Router → State → Entry → Type 0
+IsWrong faults.Unread r s e = (event : Event) → SpellsEvent e.event event → ⊥
+IsWrong (faults.Event refusal) r s e = (event : Event) × SpellsEvent e.event event × IsNoStep r s event refusal
+IsWrong (faults.Choice labels) r s e = ((made : Made) × IsMadeBy r s e labels made) × ((made : Made) → IsMadeBy r s e e.chosen made → ⊥)
+IsWrong (faults.Reply reply) r s e = (made : Made) × IsMadeBy r s e e.chosen made × (reply ≡ made.reply) × (e.reply ≢ made.reply)
+IsWrong (faults.Output frames) r s e =
+    (made : Made) × IsMadeBy r s e e.chosen made × (frames ≡ map written_frame made.outputs) × (e.reply ≡ made.reply)
     × (e.outputs ≢ map written_frame made.outputs)
 
 -- why it isn't told what an entry leads to
-abbrev pub StopsAt : Stop → Router → State → Event → Entry → Type 0
-StopsAt stops.Memory r s event e = Unit {0}
-StopsAt (stops.Wrong fault) r s event e = IsWrong fault r s event e
+abbrev pub StopsAt : Stop → Router → State → Entry → Type 0
+StopsAt stops.Memory r s e = Unit {0}
+StopsAt (stops.Wrong fault) r s e = IsWrong fault r s e
 
 -- labels may not be chosen, and others may
 abbrev pub IsNoLabelling : Stop → Router → State → List (Key × PathFact) → List (Key × ℕ) → Type 0
@@ -69,8 +68,8 @@ pub record IsFirstWrong {E S : Type 0} (Leads : S → E → S → Type 0) (Wrong
 
 -- Why entries are no run from a base: it isn't sound, and a clause of that is broken; or it is, and this is wrong with the entry
 -- of this number, the first with which anything is wrong.
-abbrev pub IsRunFault : Router → State → List ReadEntry → RunFault → Type 0
+abbrev pub IsRunFault : Router → State → List Entry → RunFault → Type 0
 IsRunFault r base entries runs.Memory = Unit {0}
 IsRunFault r base entries (runs.Base clause) = (IsSound r base → ⊥) × IsBroken clause r base
 IsRunFault r base entries (runs.Entry number fault) =
-    IsSound r base × IsFirstWrong (IsRecorded r) (λ s e. IsWrong fault r s e.event e.entry) base entries number
+    IsSound r base × IsFirstWrong (IsRecorded r) (IsWrong fault r) base entries number

@@ -1,4 +1,5 @@
 pub mod Faulty
 pub mod Labelling
+pub mod Names
 pub mod Recorded
 pub mod Taking

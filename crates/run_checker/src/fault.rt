@@ -12,6 +12,8 @@ use std::alloc::AllocError;
 /// What is wrong with an entry, and what it should say instead.
 #[derive(Debug, Drop)]
 pub enum EntryFault {
+    /// Its bytes spell no event.
+    Unread,
     /// What happened has no step: the router refuses it without one, for this.
     Event(Refusal),
     /// The labels may not be chosen: not exactly the LSPs that are new have one, or one isn't free. These may be.

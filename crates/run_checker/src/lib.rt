@@ -4,15 +4,14 @@
 
 mod change;
 mod comparing;
-mod entry;
 mod fault;
 mod labels;
 pub mod laws;
+mod naming;
 mod next;
 mod restart;
 mod run;
 mod taken;
 
-pub use entry::ReadEntry;
 pub use fault::{EntryFault, RunFault};
 pub use run::check;

@@ -8,9 +8,9 @@ ghost use Rattle.run_checker.specs.Faulty.{IsRunFault};
 ghost use Rattle.run_checker.specs.Recorded.{AreRecorded};
 ghost use Rattle.run_checker.specs.declared.fault.RunFault.TheVariants.{Memory};
 
-use crate::entry::ReadEntry;
 use crate::fault::RunFault;
 use crate::next::next;
+use journal_bytes::Entry;
 use lsr_config::Config;
 use lsr_facts::{Router, State};
 use plain_soundness::unsound;
@@ -22,7 +22,7 @@ fn run_from(
     alloc: Global,
     router: &Router,
     base: State,
-    entries: &[ReadEntry],
+    entries: &[Entry],
 ) -> Result<State, RunFault>
     requires router { IsRouter router.now }
     requires sound { IsSound router.now base }
@@ -32,8 +32,7 @@ fn run_from(
 {
     let mut state = base;
     for i in 0..entries.len() {
-        let read = &entries[i];
-        match next(alloc, router, state, &read.event, &read.entry) {
+        match next(alloc, router, state, &entries[i]) {
             Ok(after) => state = after,
             Err(stop) => return Err(stop.at(i + 1)),
         }
@@ -43,13 +42,13 @@ fn run_from(
 
 /// Whether recorded entries are a run of the router of a configuration from a base, each entry a step of it: what it knows at the
 /// end. What is told is right, whoever recorded the entries. The fault is the first there is: that the base isn't sound, and then,
-/// entry by entry, that what happened has no step, that the labels may not be chosen, that another reply is given, or that other
-/// frames are sent; [`RunFault::Memory`] may come at any point. A run from a sound base is never refused, but for want of memory.
+/// entry by entry, that its bytes spell no event or one that has no step, that the labels may not be chosen, that another reply is
+/// given, or that other frames are sent; [`RunFault::Memory`] may come at any point. A run from a sound base is never refused, but for want of memory.
 pub fn check(
     alloc: Global,
     config: &Config,
     base: &State,
-    entries: &[ReadEntry],
+    entries: &[Entry],
 ) -> Result<State, RunFault>
     ensures sound { IfOk result (λ end. IsSound config.now.router base.now) }
     ensures run { IfOk result (AreRecorded config.now.router base.now entries.now) }

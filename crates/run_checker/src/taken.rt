@@ -10,6 +10,7 @@ ghost use Rattle.abstract_paths.specs.declared.events.Event.TheVariants as event
 ghost use Rattle.abstract_router.specs.Soundness.{IsSound};
 ghost use Rattle.abstract_router.specs.States.{State};
 ghost use Rattle.abstract_router.specs.Steps.{Step};
+ghost use Rattle.event_fields.specs.Spelled.{SpellsEvent};
 ghost use Rattle.event_steps.specs.EventSteps.{after_edits, after_step};
 ghost use Rattle.run_checker.specs.Faulty.{StopsAt};
 ghost use Rattle.run_checker.specs.Taking.{IsTaken, changed, quiet};
@@ -41,8 +42,8 @@ pub(crate) struct Taken {
 fn quiet_step(alloc: Global, reply: Reply, change: Change, entry: &Entry) -> Result<Taken, Stop>
     ensures taken { (r : Router) (s : State) (event : Event) → Step r s (quiet event reply) (changed change s) →
         IfOk result (IsTaken r s event entry.now.chosen) }
-    ensures wrong { (r : Router) (s : State) (event : Event) → Step r s (quiet event reply) (changed change s) →
-        IfErr result (λ stop. StopsAt stop r s event entry.now) }
+    ensures wrong { (r : Router) (s : State) (event : Event) → SpellsEvent entry.now.event event → Step r s (quiet event reply) (changed change s) →
+        IfErr result (λ stop. StopsAt stop r s entry.now) }
 {
     if !entry.chosen.as_slice().is_empty() {
         return Err(Stop::Wrong(EntryFault::Choice(Table::new(alloc))));
@@ -89,8 +90,9 @@ fn step_over(
     requires router { IsRouter view.now.router }
     requires running { view.now.state.facts.cold ≡ false }
     requires event { event.now ≢ events.Restart }
+    requires spelled { SpellsEvent entry.now.event event.now }
     ensures taken { IfOk result (IsTaken view.now.router view.now.state event.now entry.now.chosen) }
-    ensures wrong { IfErr result (λ stop. StopsAt stop view.now.router view.now.state event.now entry.now) }
+    ensures wrong { IfErr result (λ stop. StopsAt stop view.now.router view.now.state entry.now) }
 {
     view.soundness();
     is_possible(event);
@@ -117,15 +119,16 @@ fn running_step(
     requires sound { IsSound known.now.router.now known.now.state.now }
     requires running { known.now.state.now.facts.cold ≡ false }
     requires event { event.now ≢ events.Restart }
+    requires spelled { SpellsEvent entry.now.event event.now }
     ensures taken { IfOk result (IsTaken known.now.router.now known.now.state.now event.now entry.now.chosen) }
-    ensures wrong { IfErr result (λ stop. StopsAt stop known.now.router.now known.now.state.now event.now entry.now) }
+    ensures wrong { IfErr result (λ stop. StopsAt stop known.now.router.now known.now.state.now entry.now) }
 {
     let view = SoundView::new(alloc, known.router, known.state)?;
     step_over(alloc, known, &view, event, entry)
 }
 
-/// The step of an event, by the labels of its entry. It asks for a sound state. What stops it is that the event has no step, that
-/// the labels may not be chosen, or that there is no memory.
+/// The step of an event, by the labels of its entry. It asks for a sound state, and for the event that the entry's bytes spell.
+/// What stops it is that the event has no step, that the labels may not be chosen, or that there is no memory.
 pub(crate) fn take_step(
     alloc: Global,
     router: &Router,
@@ -135,8 +138,9 @@ pub(crate) fn take_step(
 ) -> Result<Taken, Stop>
     requires router { IsRouter router.now }
     requires sound { IsSound router.now state.now }
+    requires spelled { SpellsEvent entry.now.event event.now }
     ensures taken { IfOk result (IsTaken router.now state.now event.now entry.now.chosen) }
-    ensures wrong { IfErr result (λ stop. StopsAt stop router.now state.now event.now entry.now) }
+    ensures wrong { IfErr result (λ stop. StopsAt stop router.now state.now entry.now) }
 {
     if state.facts.cold {
         return match event {

@@ -33,8 +33,8 @@ loop-i-preserved c =
     let s = c.loop-i.state in
     let within : c.loop-i.i < length c.args.entries.now = omega arith in
     one_more (IsRecorded r) (IsSound r) c.args.base c.args.entries.now c.loop-i.i s entry c.in-Ok.after within c.index-entries-i.is c.in-Ok.ensures.recorded
-    (recorded_sound r s entry.event entry.entry c.in-Ok.after c.requires.router c.loop-i.invariant.kept c.in-Ok.ensures.recorded)
-    (λ other x. recorded_one r s entry.event entry.entry other c.in-Ok.after x c.in-Ok.ensures.recorded) c.loop-i.invariant
+    (recorded_sound r s entry c.in-Ok.after c.requires.router c.loop-i.invariant.kept c.in-Ok.ensures.recorded)
+    (λ other x. recorded_one r s entry other c.in-Ok.after x c.in-Ok.ensures.recorded) c.loop-i.invariant
 
 pub returns-clause-accepted : goal.returns-clause-accepted
 returns-clause-accepted c = λ end run other.

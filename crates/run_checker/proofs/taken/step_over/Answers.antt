@@ -1,5 +1,6 @@
 -- A draft is a step of its event, by the labels of its entry if these may be chosen.
-use Rattle.std.specs.Prelude.{◌≡◌, ℕ, false, List, Option, Result, IfErr}
+use Rattle.std.specs.FinMap.Entries.{is_sorted}
+use Rattle.std.specs.Prelude.{◌≡◌, ℕ, false, List, Option, Result, IfErr, T}
 use Rattle.std.proofs.Common.{subst, sym, ◌∙◌}
 use Rattle.std.proofs.lemmas.Result.{err_from_is_err_and}
 use Rattle.sorted_rows.specs.Edits as rows
@@ -28,7 +29,7 @@ returns-then-draft-clause-wrong c =
     let s = c.args.view.now.state in
     let event = c.args.event.now in
     let passes : exceeds_hop_limit r s.facts event ≡ false = sym c.exceeds_hop_limit.ensures ∙ c.if-exceeds_hop_limit.false in
-    c.quiet_step.ensures.wrong r s event (silent_step r s event c.in_ok-draft.draft c.requires.running c.is_possible.ensures passes c.in_ok-draft.ensures.draft c.requires.event c.if-draft.true)
+    c.quiet_step.ensures.wrong r s event c.requires.spelled (silent_step r s event c.in_ok-draft.draft c.requires.running c.is_possible.ensures passes c.in_ok-draft.ensures.draft c.requires.event c.if-draft.true)
 
 pub labels_for-requires-clause-choice : goal.labels_for-requires-clause-choice
 labels_for-requires-clause-choice c =
@@ -48,10 +49,10 @@ returns-in_err-labels-clause-wrong c =
     let passes : exceeds_hop_limit r s.facts event ≡ false = sym c.exceeds_hop_limit.ensures ∙ c.if-exceeds_hop_limit.false in
     let none = subst (λ (x : List (Key × Option PathFact) × List (Key × ℕ)). IsNoLabelling stop r s (rows.edited key_cmp x.0 s.facts.paths) x.1)
     (λ i. (c.as_slice-paths.ensures.rows i, c.as_slice.ensures i)) c.in_err-labels.ensures.wrong in
-    let wrong = no_labelling r s event c.in_ok-draft.draft c.requires.running c.is_possible.ensures passes c.in_ok-draft.ensures.draft c.args.entry.now stop c.if-draft.false none in
+    let wrong = no_labelling r s event c.in_ok-draft.draft c.requires.running c.is_possible.ensures passes c.in_ok-draft.ensures.draft c.args.entry.now stop c.requires.spelled c.if-draft.false none in
     let p = err_from_is_err_and c.from_residual-in_err-labels.result c.from_residual-in_err-labels.ensures.1 in
-    subst (λ (result : Result Taken Stop). IfErr result (λ stop. StopsAt stop r s event c.args.entry.now)) (sym p.1)
-    (subst (λ (stop : Stop). StopsAt stop r s event c.args.entry.now) (sym p.2) wrong)
+    subst (λ (result : Result Taken Stop). IfErr result (λ stop. StopsAt stop r s c.args.entry.now)) (sym p.1)
+    (subst (λ (stop : Stop). StopsAt stop r s c.args.entry.now) (sym p.2) wrong)
 
 pub step_by-requires-clause-draft : goal.step_by-requires-clause-draft
 step_by-requires-clause-draft c =
@@ -70,3 +71,6 @@ returns-clause-taken c =
     let step = c.in_ok-step_by in
     loud_taken r s event c.in_ok-draft.draft c.requires.running c.is_possible.ensures passes c.in_ok-draft.ensures.draft step.field-0 c.args.entry.now.chosen c.taken_by.result c.if-draft.false
     step.ensures.step (step.ensures.chosen ∙ c.in_ok-labels.ensures.same ∙ c.as_slice.ensures) c.taken_by.ensures.reply c.taken_by.ensures.outputs (c.taken_by.ensures.change s)
+
+pub labels_for-requires-clause-order : goal.labels_for-requires-clause-order
+labels_for-requires-clause-order c = subst (λ (paths : List (Key × Option PathFact)). T (is_sorted key_cmp paths)) (sym c.as_slice-paths.ensures.rows) c.as_slice-paths.ensures.sorted
