@@ -1,11 +1,9 @@
 -- Receipts of one port, and one more.
-use Rattle.std.proofs.Common.{◌≡◌, ◌≢◌, ◌+◌, ◌≤◌, ◌++◌, ◌∷◌, List, [], ap, arith, length, length-append, refl, subst, sym, vec_capacity}
+use Rattle.std.proofs.Common.{◌≡◌, ◌+◌, ◌≤◌, ◌++◌, ◌∷◌, List, [], ap, arith, length, length-append, refl, subst, sym, vec_capacity}
 use Rattle.run_journal.specs.Marks.{Follows}
 use Rattle.run_journal.specs.declared.mark.Mark.{Mark}
 use Rattle.run_journal.specs.declared.receipt.Receipt.{Receipt}
-use Rattle.interface_workers.specs.Chains.{HasReceiptFor, IsChain, WorkGoesOn}
-use Rattle.interface_workers.specs.declared.handled.Handled.{Handled}
-use Rattle.interface_workers.specs.declared.handled.Handled.TheVariants as handles
+use Rattle.interface_workers.specs.Chains.{IsChain, WorkGoesOn}
 use Rattle.interface_workers.specs.declared.worker.Work.{Work}
 
 -- a receipt that follows on the last mark goes on with the chain
@@ -27,8 +25,3 @@ receipt_more before after last next receipt put follows fed segments receipts_ro
   receipts_room = receipts_room;
   segments_room = segments_room;
 }
-
--- where nothing was fed, work that is as it was has no receipt more
-pub none_fed : (handled : Handled) (work : Work) → handled ≢ handles.Fed → HasReceiptFor handled work work
-none_fed handles.Fed work other = absurd (other refl)
-none_fed handled work other = refl

@@ -1,9 +1,12 @@
 -- Receipts of one port, each after the other, and a worker's work.
-use Rattle.std.specs.Prelude.{◌≡◌, ◌+◌, ◌<◌, ◌≤◌, List, [], ◌∷◌, Result, Ok, Err, length, vec_capacity}
+use Rattle.std.specs.Prelude.{◌≡◌, ◌+◌, ◌-◌, ◌^◌, ◌<◌, ◌≤◌, List, [], ◌∷◌, Result, Ok, Err, length, vec_capacity}
 use Rattle.lsr_facts.specs.declared.refusal.Refusal.{Refusal}
+use Rattle.abstract_paths.specs.declared.events.Event.{Event}
+use Rattle.journal_bytes.specs.Events.{event_bytes}
 use Rattle.run_journal.specs.Marks.{Follows}
 use Rattle.run_journal.specs.declared.mark.Mark.{Mark}
 use Rattle.run_journal.specs.declared.receipt.Receipt.{Receipt}
+use Rattle.interface_workers.specs.Tallies.{IsSum}
 use Rattle.interface_workers.specs.declared.handled.Handled.{Handled}
 use Rattle.interface_workers.specs.declared.handled.Handled.TheVariants.{Fed}
 use Rattle.interface_workers.specs.declared.worker.Work.{Work}
@@ -13,14 +16,21 @@ abbrev pub IsChain : Mark → List Receipt → Mark → Type 0
 IsChain first [] last = last ≡ first
 IsChain first (receipt ∷ receipts) last = Follows first receipt × IsChain receipt.mark receipts last
 
--- an event is fed: the port has the mark of its receipt; or it is refused, and the port has the mark that it had
-abbrev pub IsFed : Mark → Result Receipt Refusal → Mark → Type 0
-IsFed before (Ok receipt) after = Follows before receipt × (after ≡ receipt.mark)
-IsFed before (Err refusal) after = after ≡ before
+-- an event is fed: the receipt is of it, and the port has the receipt's mark; or it is refused, and the port has the mark that it had
+abbrev pub IsFed : Mark → Event → Result Receipt Refusal → Mark → Type 0
+IsFed before event (Ok receipt) after = Follows before receipt × (receipt.event ≡ event_bytes event) × (after ≡ receipt.mark)
+IsFed before event (Err refusal) after = after ≡ before
 
--- there is room for one receipt and one segment more
-abbrev pub HasRoom : Work → Type 0
-HasRoom work = (length work.receipts.items < vec_capacity work.receipts) × (length work.segments.items < vec_capacity work.segments)
+-- the work's tally adds up: each datagram is counted as one of four kinds, and there is a receipt for each that was fed
+abbrev pub AddsUp : Work → Type 0
+AddsUp work = IsSum work.tally (length work.receipts.items)
+
+-- There is room for one receipt and one segment more, the tally adds up, and one datagram more can be counted.
+pub record HasRoom (work : Work) : Type 0 where
+  pub receipts : length work.receipts.items < vec_capacity work.receipts
+  pub segments : length work.segments.items < vec_capacity work.segments
+  pub adds_up : AddsUp work
+  pub datagrams : work.tally.datagrams < 2 ^ 64 - 1
 
 -- Work goes on as the port's mark does: receipts that were a chain up to the mark are one up to the new mark, with at most one receipt
 -- and one segment more, in the same room.

@@ -13,12 +13,12 @@ mod worker;
 
 pub use cores::{Core, Opened, Port, open};
 pub use gate::{Gate, OpenGate};
-pub use handled::{DatagramCounts, Handled};
-pub use journal_bytes::{is_same_router, is_same_state};
+pub use handled::{Handled, Tally};
+pub use journal_bytes::{Exact, is_same_router, is_same_state};
 pub use lookup_plane::{Closed, OpenFault};
 pub use readers::CoreReader;
 pub use reading::read_by;
 pub use reconciling::{Mismatch, OneRun, reconcile, whole_journals_are_runs};
-pub use run_journal::{CountedEntry, Entry, Mark, Receipt, Segment};
+pub use run_journal::{CountedEntry, Entry, JournalCounts, Mark, Receipt, Segment};
 pub use wire::{Wire, WireFault};
 pub use worker::{Work, serve_event, serve_link};

@@ -1,7 +1,7 @@
 //! What carries frames between routers.
 
-ghost use Rattle.std.specs.Prelude.{◌≡◌, ◌<◌, ◌≤◌, ◌-◌, ◌^◌, IfOk, IfSome, ℕ, length};
-ghost use Rattle.interface_workers.specs.Failing.{IsFailing};
+ghost use Rattle.std.specs.Prelude.{◌≡◌, ◌<◌, ◌≤◌, ◌-◌, ◌^◌, ◌∷◌, [], IfOk, IfSome, length};
+ghost use Rattle.interface_workers.specs.Wires.{WireHistory, after, arrival_of, sending_of};
 
 use thiserror::Error;
 
@@ -10,25 +10,26 @@ use thiserror::Error;
 #[error("the wire failed: nothing was carried")]
 pub struct WireFault;
 
-/// What carries frames to a router's neighbours, and theirs to it.
+/// What carries frames to a router's neighbours, and theirs to it. Contracts see how often it failed, and of a wire that keeps a
+/// record what it answered and what it was given. A wire that keeps none, as a socket, has no more to say of it: whoever uses a wire is
+/// proved for all of them.
 pub trait Wire {
-    // how often it failed
-    ghost failed: { Self → ℕ };
+    ghost history: { Self → WireHistory };
 
     /// The next frame that came, put at the front of the buffer: how many bytes it has; `None` where none came in the wire's
     /// time. A fault is answered only where the count of failures rose.
     fn receive(&mut self, buffer: &mut [u8]) -> Result<Option<usize>, WireFault>
-        requires { failed self.old < 2 ^ 64 - 1 }
+        requires { (history self.old).failed < 2 ^ 64 - 1 }
         ensures length { IfOk result (λ came. IfSome came (λ n. n ≤ length buffer.new)) }
-        ensures failed { IsFailing result (failed self.old) (failed self.new) };
+        ensures history { history self.new ≡ after (history self.old) (arrival_of result buffer.new ∷ []) [] };
 
     /// Carries a frame over the link of this number. A fault is answered only where the count of failures rose; the frame is
     /// lost then.
     fn send(&mut self, link: u16, bytes: &[u8]) -> Result<(), WireFault>
-        requires { failed self.old < 2 ^ 64 - 1 }
-        ensures { IsFailing result (failed self.old) (failed self.new) };
+        requires { (history self.old).failed < 2 ^ 64 - 1 }
+        ensures { history self.new ≡ after (history self.old) [] (sending_of link bytes.now result ∷ []) };
 
     /// How often it failed.
     fn failures(&self) -> u64
-        ensures { result ≡ failed self.now };
+        ensures { result ≡ (history self.now).failed };
 }

@@ -1,20 +1,24 @@
 //! A worker: it takes frames from a link's wire, feeds the core what they say, and sends what the core answers.
 
-ghost use Rattle.std.specs.Prelude.{◌≡◌, ◌≢◌, ◌+◌, ◌-◌, ◌^◌, ◌<◌, ◌≤◌, IfOk, length, vec_capacity};
-ghost use Rattle.interface_workers.specs.Chains.{HasReceiptFor, HasRoom, IsChain, IsFed, WorkGoesOn};
-ghost use Rattle.interface_workers.specs.declared.handled.Handled.TheVariants.{Fed};
+ghost use Rattle.std.specs.Prelude.{◌≡◌, ◌+◌, ◌-◌, ◌^◌, ◌<◌, ◌≤◌, ◌⊎◌, ◌∷◌, ℕ, false, true, [], IfOk, List, OnErr, length, vec_capacity};
+ghost use Rattle.interface_workers.specs.Chains.{AddsUp, HasRoom, IsChain, IsFed, WorkGoesOn};
+ghost use Rattle.interface_workers.specs.Tallies.{counted, with_lost};
+ghost use Rattle.interface_workers.specs.Turns.{AreAmongFailures, HasSent, IsEventServed, IsNoWork, IsPassedOn, IsRunOf, IsServed, IsTaken, IsTallyOf, IsTurn};
+ghost use Rattle.interface_workers.specs.Wires.{AreSent, Arrival, Sending, after};
+ghost use Rattle.interface_workers.specs.Wires.Arrival.{Came};
 ghost use Rattle.lookup_plane.specs.Changes.{StartsWith};
 
 use crate::cores::{Core, Port};
 use crate::gate::Gate;
-use crate::handled::{DatagramCounts, Handled};
+use crate::handled::{Handled, Tally};
 use crate::readers::CoreReader;
 use crate::reading::read_by;
 use crate::wire::Wire;
 use abstract_paths::Event;
+use journal_bytes::WrittenFrame;
 use lsr_facts::Refusal;
 use rsvp_messages::frame_bytes;
-use run_journal::{Datagram, Frames, Passed, Receipt, Segment};
+use run_journal::{Datagram, Passed, Receipt, Segment};
 use std::alloc::{AllocError, Global};
 use std::sync::Wait;
 use std::sync::ledger::Ledger;
@@ -22,56 +26,72 @@ use std::sync::ledger::Ledger;
 /// The most bytes of a datagram.
 const BUFFER_LEN: usize = 65_536;
 
-/// What a worker did: the receipts of its entries, the segments that it took where the journal was full, and how many of the
-/// datagrams that it took became what else.
+/// What a worker did: the receipts of its entries, the segments that it took where the journal was full, how many of the datagrams that
+/// it took became what, and how many turns it made.
 #[derive(Debug, Drop)]
 pub struct Work {
     /// The receipts, in the order of its entries.
     pub receipts: Vec<Receipt>,
     /// The segments, in the order in which it took them.
     pub segments: Vec<Segment>,
-    /// How many of the datagrams became what, of those that left no receipt.
-    pub datagrams: DatagramCounts,
+    /// How many of the datagrams became what.
+    pub tally: Tally,
+    /// How many turns were made: in each of them the wire was asked for a frame once.
+    pub turns: u32,
 }
 
 impl Work {
     /// No work yet, with room for that of so many events. The only error is out of memory.
     pub fn new(alloc: Global, events: u32) -> Result<Work, AllocError>
-        ensures receipts { IfOk result (λ work. (length work.receipts.items ≡ 0) × (events ≤ vec_capacity work.receipts)) }
-        ensures segments { IfOk result (λ work. (length work.segments.items ≡ 0) × (events ≤ vec_capacity work.segments)) }
+        ensures none { IfOk result IsNoWork }
+        ensures receipts { IfOk result (λ work. events ≤ vec_capacity work.receipts) }
+        ensures segments { IfOk result (λ work. events ≤ vec_capacity work.segments) }
     {
         Ok(Work {
             receipts: Vec::with_capacity(alloc, events as usize)?,
             segments: Vec::with_capacity(alloc, events as usize)?,
-            datagrams: DatagramCounts::new(),
+            tally: Tally::new(),
+            turns: 0,
         })
     }
 }
 
-/// Carries frames over their links. One that the wire doesn't carry is lost.
-fn send_all<W: Wire>(wire: &mut W, frames: &Frames) {
-    for frame in frames.as_slice() {
-        if wire.failures() < u64::MAX {
-            let _ = wire.send(frame.link, frame.bytes.as_slice());
+/// Whether a wire has failed as often as can be counted.
+fn is_spent<W: Wire>(wire: &W) -> bool
+    ensures spent { result ≡ true → (W.history wire.now).failed ≡ 2 ^ 64 - 1 }
+    ensures not_yet { result ≡ false → (W.history wire.now).failed < 2 ^ 64 - 1 }
+{
+    wire.failures() == u64::MAX
+}
+
+/// Gives frames to a wire, each in its turn, also after one that is lost. A wire that failed as often as can be counted is given no more.
+fn send_all<W: Wire>(wire: &mut W, frames: &[WrittenFrame])
+    ensures { (sendings : List Sending) × AreSent frames.now sendings (W.history wire.old) (W.history wire.new) }
+{
+    for frame in frames {
+        if is_spent(wire) {
+            return;
         }
+        let _ = wire.send(frame.link, frame.bytes.as_slice());
     }
 }
 
-/// Carries a frame that is passed on by its labels, where there is memory for its bytes; else it is lost. A payload that has
-/// arrived goes no further.
+/// Carries a frame that is passed on by its labels, where there is memory for its bytes. A payload that has arrived goes no further.
 fn pass_on<W: Wire>(alloc: Global, wire: &mut W, passed: &Passed) -> Handled
-    ensures { result ≢ Fed }
+    ensures { HasSent (IsPassedOn passed.now result) (W.history wire.old) (W.history wire.new) }
 {
     let Passed::Sent { link, frame } = passed else {
         return Handled::Delivered;
     };
     let Ok(bytes) = frame_bytes(alloc, frame) else {
-        return Handled::Lost;
+        return Handled::Refused(Refusal::NoMemory);
     };
-    if wire.failures() < u64::MAX && wire.send(*link, bytes.as_slice()).is_ok() {
-        Handled::Forwarded
-    } else {
-        Handled::Lost
+    if is_spent(wire) {
+        return Handled::NotCarried;
+    }
+    match wire.send(*link, bytes.as_slice()) {
+        Ok(()) => Handled::Forwarded,
+        Err(_) => Handled::NotCarried,
     }
 }
 
@@ -82,8 +102,8 @@ enum Taken {
     Nothing,
     /// The wire failed, and gave nothing.
     WireFailed,
-    /// A labelled frame came, and the reader wasn't let in to the label table.
-    NotLetIn,
+    /// A labelled frame came, and the reader wasn't shown the label table.
+    NotShown,
     /// A datagram came: what it is, or why it is refused.
     Came(Result<Datagram, Refusal>),
 }
@@ -100,7 +120,7 @@ struct Station<'a, L: Ledger, R: Wait + Drop, T: Wait, G: Gate> {
 impl<'a, L: Ledger, R: Wait + Drop, T: Wait, G: Gate> Station<'a, L, R, T, G> {
     /// Feeds an event once, between the two words of the gate.
     fn feed_once(&self, port: &mut Port<L>, event: &Event) -> Result<Receipt, Refusal>
-        ensures { IsFed port.old.mark result port.new.mark }
+        ensures { IsFed port.old.mark event.now result port.new.mark }
     {
         let mark = port.mark();
         let call = mark.place.saturating_add(1);
@@ -119,7 +139,7 @@ impl<'a, L: Ledger, R: Wait + Drop, T: Wait, G: Gate> Station<'a, L, R, T, G> {
         event: &Event,
     ) -> Result<Receipt, Refusal>
         requires { length segments.old.items < vec_capacity segments.old }
-        ensures fed { IsFed port.old.mark result port.new.mark }
+        ensures fed { IsFed port.old.mark event.now result port.new.mark }
         ensures segments { length segments.new.items ≤ length segments.old.items + 1 }
         ensures room { vec_capacity segments.new ≡ vec_capacity segments.old }
     {
@@ -132,7 +152,7 @@ impl<'a, L: Ledger, R: Wait + Drop, T: Wait, G: Gate> Station<'a, L, R, T, G> {
         }
     }
 
-    /// Feeds an event, keeps its receipt, and sends what the core answers. What is refused leaves no receipt.
+    /// Feeds an event, keeps its receipt, and sends what the core answers. What is refused leaves no receipt. Nothing is counted yet.
     fn serve_event<W: Wire>(
         &self,
         port: &mut Port<L>,
@@ -142,20 +162,21 @@ impl<'a, L: Ledger, R: Wait + Drop, T: Wait, G: Gate> Station<'a, L, R, T, G> {
     ) -> Handled
         requires { HasRoom work.old }
         ensures goes_on { WorkGoesOn work.old port.old.mark work.new port.new.mark }
-        ensures handled { HasReceiptFor result work.old work.new }
+        ensures served { HasSent (IsEventServed event.now result work.old.receipts.items work.new.receipts.items) (W.history wire.old) (W.history wire.new) }
+        ensures tally { (work.new.tally ≡ work.old.tally) × (work.new.turns ≡ work.old.turns) }
     {
         match self.feed_rotating(port, &mut work.segments, event) {
             Ok(receipt) => {
-                send_all(wire, receipt.outputs());
+                send_all(wire, receipt.outputs().as_slice());
                 work.receipts.push_reserved(receipt);
                 Handled::Fed
             }
-            Err(refusal) => Handled::Refused(refusal),
+            Err(refusal) => Handled::of_refusal(refusal),
         }
     }
 
-    /// Takes at most one frame from the wire: what it is, as one that came over the link. The reader comes back: it has seen no
-    /// less.
+    /// Asks the wire for a frame once: what came, as over the link. The label table is asked for labelled frames alone. The reader comes
+    /// back: it has seen no less.
     fn receive<W: Wire>(
         &self,
         reader: CoreReader<L>,
@@ -163,7 +184,9 @@ impl<'a, L: Ledger, R: Wait + Drop, T: Wait, G: Gate> Station<'a, L, R, T, G> {
         wire: &mut W,
         buffer: &mut [u8],
     ) -> (Taken, CoreReader<L>)
-        requires { W.failed wire.old < 2 ^ 64 - 1 }
+        requires { (W.history wire.old).failed < 2 ^ 64 - 1 }
+        ensures took { (arrival : Arrival) × IsTaken self.now.core.now.router result.1.seen link arrival result.0
+            × (W.history wire.new ≡ after (W.history wire.old) (arrival ∷ []) []) }
         ensures later { StartsWith result.1.seen reader.seen }
         ensures learnt { result.1.at_least ≡ reader.at_least }
     {
@@ -176,18 +199,19 @@ impl<'a, L: Ledger, R: Wait + Drop, T: Wait, G: Gate> Station<'a, L, R, T, G> {
 
     /// What a frame is that came over the link. The reader comes back: it has seen no less.
     fn read(&self, reader: CoreReader<L>, link: u16, bytes: &[u8]) -> (Taken, CoreReader<L>)
+        ensures took { IsTaken self.now.core.now.router result.1.seen link (Came bytes.now) result.0 }
         ensures later { StartsWith result.1.seen reader.seen }
         ensures learnt { result.1.at_least ≡ reader.at_least }
     {
         let (answer, reader) = read_by(self.alloc, self.core.router(), reader, link, bytes);
         match answer {
             Some(answer) => (Taken::Came(answer), reader),
-            None => (Taken::NotLetIn, reader),
+            None => (Taken::NotShown, reader),
         }
     }
 
-    /// Serves what came, if anything did: a message is fed, and the reader learns of its receipt; a labelled frame is passed on.
-    fn serve_datagram<W: Wire>(
+    /// Serves what was taken, if anything was. Nothing is counted yet.
+    fn serve_taken<W: Wire>(
         &self,
         port: &mut Port<L>,
         reader: &mut CoreReader<L>,
@@ -197,24 +221,77 @@ impl<'a, L: Ledger, R: Wait + Drop, T: Wait, G: Gate> Station<'a, L, R, T, G> {
     ) -> Handled
         requires { HasRoom work.old }
         ensures goes_on { WorkGoesOn work.old port.old.mark work.new port.new.mark }
-        ensures handled { HasReceiptFor result work.old work.new }
+        ensures served { HasSent (IsServed taken.now result work.old.receipts.items work.new.receipts.items) (W.history wire.old) (W.history wire.new) }
+        ensures tally { (work.new.tally ≡ work.old.tally) × (work.new.turns ≡ work.old.turns) }
+        ensures seen { reader.new.seen ≡ reader.old.seen }
+        ensures learnt { reader.old.at_least ≤ reader.new.at_least }
     {
         match taken {
             Taken::Nothing => Handled::Nothing,
             Taken::WireFailed => Handled::WireFailed,
-            Taken::NotLetIn => Handled::Lost,
-            Taken::Came(Ok(Datagram::Event(event))) => {
+            Taken::NotShown => Handled::NotShown,
+            Taken::Came(answer) => self.serve_answer(port, reader, wire, work, answer),
+        }
+    }
+
+    /// Serves a datagram: a message is fed, and the reader learns of its receipt; a labelled frame is passed on. Nothing is counted yet.
+    fn serve_answer<W: Wire>(
+        &self,
+        port: &mut Port<L>,
+        reader: &mut CoreReader<L>,
+        wire: &mut W,
+        work: &mut Work,
+        answer: &Result<Datagram, Refusal>,
+    ) -> Handled
+        requires { HasRoom work.old }
+        ensures goes_on { WorkGoesOn work.old port.old.mark work.new port.new.mark }
+        ensures served { HasSent (IsServed (Taken.Came answer.now) result work.old.receipts.items work.new.receipts.items) (W.history wire.old) (W.history wire.new) }
+        ensures tally { (work.new.tally ≡ work.old.tally) × (work.new.turns ≡ work.old.turns) }
+        ensures seen { reader.new.seen ≡ reader.old.seen }
+        ensures learnt { reader.old.at_least ≤ reader.new.at_least }
+    {
+        match answer {
+            Ok(Datagram::Event(event)) => {
                 let handled = self.serve_event(port, wire, work, event);
                 reader.learn(port);
                 handled
             }
-            Taken::Came(Ok(Datagram::Passed(passed))) => pass_on(self.alloc, wire, passed),
-            Taken::Came(Err(refusal)) => Handled::Refused(*refusal),
+            Ok(Datagram::Passed(passed)) => pass_on(self.alloc, wire, passed),
+            Err(refusal) => Handled::of_refusal(*refusal),
         }
+    }
+
+    /// A turn: asks the wire for a frame once, as one that came over the link, serves it, and counts what became of it. The reader comes
+    /// back: it has seen and learnt no less.
+    fn turn<W: Wire>(
+        &self,
+        port: &mut Port<L>,
+        reader: CoreReader<L>,
+        link: u16,
+        wire: &mut W,
+        work: &mut Work,
+        buffer: &mut [u8],
+    ) -> CoreReader<L>
+        requires room { HasRoom work.old }
+        requires turns { work.old.turns < 2 ^ 32 - 1 }
+        requires failed { (W.history wire.old).failed < 2 ^ 64 - 1 }
+        ensures turn { IsTurn self.now.core.now.router link
+            (record { work = work.old; mark = port.old.mark; seen = reader.seen; history = W.history wire.old })
+            (record { work = work.new; mark = port.new.mark; seen = result.seen; history = W.history wire.new }) }
+        ensures learnt { reader.at_least ≤ result.at_least }
+    {
+        let (taken, mut reader) = self.receive(reader, link, wire, buffer);
+        let failures = wire.failures();
+        let handled = self.serve_taken(port, &mut reader, wire, work, &taken);
+        work.tally.lose(wire.failures() - failures);
+        work.tally.count(handled);
+        work.turns += 1;
+        reader
     }
 }
 
-/// Feeds an event, keeps its receipt, and sends what the core answers. What is refused leaves no receipt, and is counted.
+/// Feeds an event, keeps its receipt, and sends what the core answers. What is refused leaves no receipt. Which it was is counted, as of a
+/// datagram, and so are the frames that the wire lost.
 pub fn serve_event<L: Ledger, R: Wait + Drop, T: Wait, W: Wire, G: Gate>(
     rt: &T,
     alloc: Global,
@@ -227,7 +304,12 @@ pub fn serve_event<L: Ledger, R: Wait + Drop, T: Wait, W: Wire, G: Gate>(
 ) -> Handled
     requires { HasRoom work.old }
     ensures goes_on { WorkGoesOn work.old port.old.mark work.new port.new.mark }
-    ensures handled { HasReceiptFor result work.old work.new }
+    ensures served { HasSent (IsEventServed event.now result work.old.receipts.items work.new.receipts.items) (W.history wire.old) (W.history wire.new) }
+    ensures tally { (lost : ℕ) × (work.new.tally ≡ counted (with_lost work.old.tally lost) result)
+        × ((W.history wire.new).failed ≡ (W.history wire.old).failed + lost) }
+    ensures adds_up { AddsUp work.new }
+    ensures datagrams { work.new.tally.datagrams ≡ work.old.tally.datagrams + 1 }
+    ensures turns { work.new.turns ≡ work.old.turns }
 {
     let station = Station {
         rt,
@@ -235,13 +317,24 @@ pub fn serve_event<L: Ledger, R: Wait + Drop, T: Wait, W: Wire, G: Gate>(
         core,
         gate,
     };
+    let failures = wire.failures();
     let handled = station.serve_event(port, wire, work, event);
-    work.datagrams.add(handled);
+    work.tally.lose(wire.failures() - failures);
+    work.tally.count(handled);
     handled
 }
 
-/// A worker's run: so many turns, each of which takes at most one frame from the wire and serves it, as one that came over
-/// the link. Labelled frames go by what the reader sees of the label table, which waits for nobody. It ends before where the wire
+/// The room for the work of so many turns, and for a datagram. The only error is out of memory.
+fn make_room(alloc: Global, turns: u32) -> Result<(Work, Vec<u8>), AllocError>
+    ensures none { IfOk result (λ room. IsNoWork room.0) }
+    ensures receipts { IfOk result (λ room. turns ≤ vec_capacity room.0.receipts) }
+    ensures segments { IfOk result (λ room. turns ≤ vec_capacity room.0.segments) }
+{
+    Ok((Work::new(alloc, turns)?, vec![in alloc; 0_u8; BUFFER_LEN]?))
+}
+
+/// A worker's run: so many turns, each of which asks the wire for a frame once and serves it, as one that came over the link. Labelled
+/// frames go by what the reader sees of the label table, which waits for nobody; the reader comes back. It ends before where the wire
 /// failed as often as can be counted. The room for its work is made first: the only error is out of memory, and then no turn was
 /// made. Its receipts are those of the port's entries, each after the other.
 pub fn serve_link<L: Ledger, R: Wait + Drop, T: Wait, W: Wire, G: Gate>(
@@ -254,8 +347,18 @@ pub fn serve_link<L: Ledger, R: Wait + Drop, T: Wait, W: Wire, G: Gate>(
     wire: &mut W,
     gate: &G,
     turns: u32,
-) -> Result<Work, AllocError>
-    ensures chain { IfOk result (λ work. IsChain port.old.mark work.receipts.items port.new.mark) }
+) -> (CoreReader<L>, Result<Work, AllocError>)
+    ensures chain { IfOk result.1 (λ work. IsChain port.old.mark work.receipts.items port.new.mark) }
+    ensures few { IfOk result.1 (λ work. (length work.receipts.items ≤ turns) × (length work.segments.items ≤ turns)) }
+    ensures adds_up { IfOk result.1 AddsUp }
+    ensures turns { IfOk result.1 (λ work. (work.turns ≡ turns) ⊎ ((W.history wire.new).failed ≡ 2 ^ 64 - 1)) }
+    ensures asked { IfOk result.1 (λ work. IsTallyOf work.tally work.turns (W.history wire.old) (W.history wire.new)) }
+    ensures failures { IfOk result.1 (λ work. AreAmongFailures work.tally (W.history wire.old) (W.history wire.new)) }
+    ensures run { IfOk result.1 (λ work. IsRunOf core.now.router link work.turns port.old.mark reader.seen (W.history wire.old)
+        (record { work = work; mark = port.new.mark; seen = result.0.seen; history = W.history wire.new })) }
+    ensures later { StartsWith result.0.seen reader.seen }
+    ensures learnt { reader.at_least ≤ result.0.at_least }
+    ensures kept { OnErr result.1 ((port.new ≡ port.old) × (wire.new ≡ wire.old) × (result.0 ≡ reader)) }
 {
     let station = Station {
         rt,
@@ -263,17 +366,16 @@ pub fn serve_link<L: Ledger, R: Wait + Drop, T: Wait, W: Wire, G: Gate>(
         core,
         gate,
     };
+    let (mut work, mut buffer) = match make_room(alloc, turns) {
+        Ok(room) => room,
+        Err(error) => return (reader, Err(error)),
+    };
     let mut reader = reader;
-    let mut work = Work::new(alloc, turns)?;
-    let mut buffer = vec![in alloc; 0_u8; BUFFER_LEN]?;
     for _turn in 0..turns {
-        if wire.failures() == u64::MAX {
-            break;
+        if is_spent(wire) {
+            return (reader, Ok(work));
         }
-        let (taken, mut next) = station.receive(reader, link, wire, &mut buffer);
-        let handled = station.serve_datagram(port, &mut next, wire, &mut work, &taken);
-        work.datagrams.add(handled);
-        reader = next;
+        reader = station.turn(port, reader, link, wire, &mut work, &mut buffer);
     }
-    Ok(work)
+    (reader, Ok(work))
 }

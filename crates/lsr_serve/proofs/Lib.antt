@@ -1,1 +1,5 @@
+mod Counting
+mod Digits
+mod Ports
+mod SocketTexts
 mod Telling

@@ -1,2 +1,5 @@
+pub mod Local
+pub mod Reports
 pub mod Sockets
 pub mod Told
+pub mod Turns

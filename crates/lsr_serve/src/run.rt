@@ -1,11 +1,12 @@
 //! A router's run: a thread for each link and one for the clock, over any wires.
-ghost use Rattle.std.specs.Prelude.{◌≡◌, ◌+◌, ◌<◌, ◌≤◌, length, vec_capacity};
+ghost use Rattle.std.specs.Prelude.{◌≡◌, ◌+◌, ◌<◌, ◌≤◌, IfOk, OnOk, length};
+ghost use Rattle.lsr_serve.specs.Reports.{IsCounted};
 
 use crate::udp_wire::LinkWire;
 use abstract_paths::Event;
 use interface_workers::{
-    Core, CoreReader, DatagramCounts, Gate, OpenFault, Opened, Port, Receipt, Segment, Wire, Work,
-    open, serve_event, serve_link,
+    Core, CoreReader, Gate, OpenFault, Opened, Port, Receipt, Segment, Tally, Wire, Work, open,
+    serve_event, serve_link,
 };
 use lsr_config::Config;
 use std::alloc::{AllocError, Global};
@@ -24,8 +25,8 @@ pub const TICK_MS: u64 = 100;
 pub struct PortCount {
     /// How many receipts it has.
     pub receipts: usize,
-    /// How many of the datagrams became what that it took, of those that left no receipt.
-    pub datagrams: DatagramCounts,
+    /// How many of the datagrams that it took became what; of the clock's port, of its moments.
+    pub tally: Tally,
 }
 
 /// What a run leaves.
@@ -74,9 +75,10 @@ pub fn run_worker<L: Ledger, R: Wait + Drop, T: Wait, W: Wire + Drop, G: Gate>(
         link,
         mut wire,
     } = worker;
-    serve_link(
+    let (_reader, work) = serve_link(
         rt, alloc, core, &mut port, reader, link, &mut wire, gate, turns,
-    )
+    );
+    work
 }
 
 /// The clock's turns: each waits for the next moment and feeds it, with what it did.
@@ -108,16 +110,23 @@ fn run_clock<L: Ledger, R: Wait + Drop, T: Wait, C: Clock, W: Wire, G: Gate>(
     Ok(work)
 }
 
-/// The workers of the links, each with the port of its place.
+/// The workers of the links, each with the port and the reader of its place. The only error is out of memory, or that there are fewer ports
+/// or readers than links.
 pub fn link_workers<L: Ledger, W: Drop>(
     alloc: Global,
     ports: Vec<Port<L>>,
     readers: Vec<CoreReader<L>>,
     links: Vec<LinkWire<W>>,
-) -> Result<Vec<Worker<L, W>>, AllocError> {
+) -> Result<Vec<Worker<L, W>>, AllocError>
+    ensures { IfOk result (λ workers. length workers.items ≡ length links.items) }
+{
     let mut workers = Vec::with_capacity(alloc, links.len())?;
-    let places = ports.into_iter().zip(readers);
-    for ((port, reader), LinkWire { number, wire }) in places.zip(links) {
+    let mut places = ports.into_iter().zip(readers);
+    for link in links {
+        let Some((port, reader)) = places.next() else {
+            return Err(AllocError);
+        };
+        let LinkWire { number, wire } = link;
         workers.push(Worker {
             port,
             reader,
@@ -128,16 +137,34 @@ pub fn link_workers<L: Ledger, W: Drop>(
     Ok(workers)
 }
 
+impl RunReport {
+    /// Nothing yet.
+    fn new(alloc: Global) -> RunReport
+        ensures ports { length result.ports.items ≡ 0 }
+        ensures counted { IsCounted result }
+    {
+        RunReport {
+            ports: Vec::new(alloc),
+            receipts: Vec::new(alloc),
+            segments: Vec::new(alloc),
+        }
+    }
+}
+
 /// Puts the work of one more port to what the others left. The only error is out of memory.
-fn add_work(served: &mut RunReport, work: Work) -> Result<(), AllocError> {
+fn add_work(served: &mut RunReport, work: Work) -> Result<(), AllocError>
+    ensures ports { OnOk result (length served.new.ports.items ≡ length served.old.ports.items + 1) }
+    ensures counted { IsCounted served.old → OnOk result (IsCounted served.new) }
+{
     let Work {
         mut receipts,
         mut segments,
-        datagrams,
+        tally,
+        turns: _,
     } = work;
     served.ports.push(PortCount {
         receipts: receipts.len(),
-        datagrams,
+        tally,
     })?;
     served.receipts.append(&mut receipts)?;
     served.segments.append(&mut segments)?;
@@ -145,10 +172,11 @@ fn add_work(served: &mut RunReport, work: Work) -> Result<(), AllocError> {
 }
 
 /// Puts the work of more ports to what the others left. The only error is out of memory.
-fn add_works(
-    served: &mut RunReport,
-    works: Vec<Result<Work, AllocError>>,
-) -> Result<(), AllocError> {
+fn add_works(served: &mut RunReport, works: Vec<Result<Work, AllocError>>) -> Result<(), AllocError>
+    requires { IsCounted served.old }
+    ensures ports { OnOk result (length served.new.ports.items ≡ length served.old.ports.items + length works.items) }
+    ensures counted { OnOk result (IsCounted served.new) }
+{
     for work in works {
         add_work(served, work?)?;
     }
@@ -162,27 +190,23 @@ fn sort_segments(segments: &mut Vec<Segment>) -> Result<(), AllocError> {
 }
 
 /// Puts the last segment to the others, all in their order. The only error is out of memory.
-fn add_last(served: &mut RunReport, last: Segment) -> Result<(), AllocError> {
+fn add_last(served: &mut RunReport, last: Segment) -> Result<(), AllocError>
+    ensures ports { served.new.ports ≡ served.old.ports }
+    ensures receipts { served.new.receipts ≡ served.old.receipts }
+{
     served.segments.push(last)?;
     sort_segments(&mut served.segments)
 }
 
 /// Puts the work of the clock's port to what the others left, and the last segment. The only error is out of memory.
-fn add_rest(served: &mut RunReport, clock_work: Work, last: Segment) -> Result<(), AllocError> {
+fn add_rest(served: &mut RunReport, clock_work: Work, last: Segment) -> Result<(), AllocError>
+    requires { IsCounted served.old }
+    ensures ports { OnOk result (length served.new.ports.items ≡ length served.old.ports.items + 1) }
+    ensures counted { OnOk result (IsCounted served.new) }
+{
     match add_work(served, clock_work) {
         Ok(()) => add_last(served, last),
         Err(error) => Err(error),
-    }
-}
-
-impl RunReport {
-    /// Nothing yet.
-    fn new(alloc: Global) -> RunReport {
-        RunReport {
-            ports: Vec::new(alloc),
-            receipts: Vec::new(alloc),
-            segments: Vec::new(alloc),
-        }
     }
 }
 
@@ -192,11 +216,38 @@ fn gather(
     works: Vec<Result<Work, AllocError>>,
     clock_work: Work,
     last: Segment,
-) -> Result<(), AllocError> {
+) -> Result<(), AllocError>
+    requires { IsCounted served.old }
+    ensures ports { OnOk result (length served.new.ports.items ≡ length served.old.ports.items + length works.items + 1) }
+    ensures counted { OnOk result (IsCounted served.new) }
+{
     match add_works(served, works) {
         Ok(()) => add_rest(served, clock_work, last),
         Err(error) => Err(error),
     }
+}
+
+/// The threads of the links: what each worker did, in their order. The only error is out of memory.
+fn run_workers<
+    L: Ledger + Send + Sync,
+    R: Threads + Wait + Send + Sync + Drop,
+    W: Wire + Send + Drop,
+    G: Gate + Sync,
+>(
+    rt: &R,
+    alloc: Global,
+    core: &Core<L, R>,
+    workers: Vec<Worker<L, W>>,
+    gate: &G,
+    turns: u32,
+) -> Result<Vec<Result<Work, AllocError>>, AllocError>
+    ensures { IfOk result (λ works. length works.items ≡ length workers.items) }
+{
+    thread::map_vec(
+        rt,
+        workers,
+        &|worker| run_worker(rt, alloc, core, gate, turns, worker),
+    )
 }
 
 /// The threads of the links and of the clock, and what they leave. The only error is out of memory.
@@ -216,14 +267,13 @@ fn run_threads<
     clock_wire: &mut W,
     gate: &G,
     turns: u32,
-) -> Result<RunReport, AllocError> {
+) -> Result<RunReport, AllocError>
+    ensures ports { IfOk result (λ served. length served.ports.items ≡ length workers.items + 1) }
+    ensures counted { IfOk result IsCounted }
+{
     let (works, clock_work) = thread::join(
         rt,
-        || thread::map_vec(
-            rt,
-            workers,
-            &|worker| run_worker(rt, alloc, core, gate, turns, worker),
-        ),
+        || run_workers(rt, alloc, core, workers, gate, turns),
         || run_clock(rt, clock, alloc, core, clock_port, clock_wire, gate, turns),
     );
     let works = works?;
@@ -255,6 +305,8 @@ fn serve_named<
     requires name { blank.name ≡ L.name }
     requires parts { blank.parts ≡ L.parts }
     requires ports { (length links.items + 1 ≤ L.parts) × (L.parts ≤ 64) }
+    ensures ports { IfOk result (λ served. length served.ports.items ≡ length links.items + 1) }
+    ensures counted { IfOk result IsCounted }
 {
     let count = links.len();
     let Opened {
@@ -283,7 +335,7 @@ fn serve_named<
 /// The run of the router of a configuration. Each link has a port, 1, 2 and so on in their order, and a thread that makes so
 /// many turns on its wire; the last port is the clock's, which feeds as many moments, 100 milliseconds apart, and sends from a
 /// wire of its own. All threads have ended when it returns. Where a thread can't be made, its turns are made after the others'.
-/// The fault is that there is too little memory, or no place for a reader of the label table.
+/// The report has all ports, and the receipts of all. The fault is that there is too little memory, or no place for a reader of the label table.
 pub fn serve_on<
     R: Threads + Wait + Clone + Send + Sync + Drop,
     C: Clock,
@@ -300,6 +352,8 @@ pub fn serve_on<
     turns: u32,
 ) -> Result<RunReport, OpenFault>
     requires { length links.items < 64 }
+    ensures ports { IfOk result (λ served. length served.ports.items ≡ length links.items + 1) }
+    ensures counted { IfOk result IsCounted }
 {
     let blank = Blank::new(links.len() as u64 + 1);
     serve_named::<Brand, R, C, W, G>(

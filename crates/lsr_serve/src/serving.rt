@@ -1,11 +1,13 @@
 //! `lsr serve`: the links of a configuration over sockets, and what is told of the run.
-ghost use Rattle.std.specs.Prelude.{◌≡◌, ◌<◌, ℕ, List, length, IfOk};
+ghost use Rattle.std.specs.Prelude.{◌≡◌, ◌+◌, ◌<◌, ℕ, List, length, IfOk};
 ghost use Rattle.std.specs.Io.KnownBytes.{Appends};
 ghost use Rattle.lsr_serve.specs.Told.{Serves, TellsRun};
 
+use crate::judging::{copy_config, judge};
+use crate::keeping::{KeepSegments, keep_all};
 use crate::run::{PortCount, RunReport, serve_on};
 use crate::udp_wire::{LinkWire, ServeFault, UdpWire, open_clock_wire, open_wires};
-use interface_workers::{Mismatch, OpenGate, Receipt, Segment, reconcile};
+use interface_workers::{Mismatch, OpenGate, Segment};
 use log::sink::Writer;
 use log::{Log, info};
 use lsr_config::{Config, LinkSockets};
@@ -27,10 +29,11 @@ const FAILED: u8 = 1;
 fn tell_ports<L: Log>(log: &L, ports: &[PortCount]) {
     for (before, count) in ports.iter().enumerate() {
         let port = before.saturating_add(1);
+        let tally = count.tally;
         info!(log; "port {port}: {} receipts", count.receipts);
-        info!(log; "port {port}: {} frames forwarded", count.datagrams.forwarded);
-        info!(log; "port {port}: {} datagrams refused", count.datagrams.refused);
-        info!(log; "port {port}: {} frames lost", count.datagrams.lost);
+        info!(log; "port {port}: {} datagrams: {} dropped, {} passed, {} fed, {} refused",
+            tally.datagrams, tally.dropped, tally.passed, tally.fed, tally.refused);
+        info!(log; "port {port}: {} frames lost, {} faults of the wire", tally.lost, tally.faults);
     }
 }
 
@@ -45,18 +48,15 @@ fn tell_end<L: Log>(log: &L, segments: &[Segment]) {
     }
 }
 
-/// Prints whether segments and receipts are those of one run, and gives the status. The error is the stream's.
-pub fn tell_run<W: Write>(
-    segments: &[Segment],
-    receipts: &[Receipt],
-    output: &mut W,
-) -> io::Result<u8>
+/// Prints whether what a run left is one run of the router of this configuration, as [`judge`] says, and how many entries its journal
+/// has; and gives the status, 0 or 1. The error is the stream's.
+pub fn tell_run<W: Write>(config: &Config, served: &RunReport, output: &mut W) -> io::Result<u8>
     ensures { IfOk result (λ status. (text : List ℕ) × Appends (W.contents output.old) (W.contents output.new) text
-        × TellsRun segments.now receipts.now text status) }
+        × TellsRun config.now (length served.now.ports.items) served.now.segments.items served.now.receipts.items text status) }
 {
-    match reconcile(segments, receipts) {
-        Ok(_) => {
-            let count = receipts.len();
+    match judge(config, served) {
+        Ok(()) => {
+            let count = served.receipts.len();
             write!(output, "reconciled {count} entries\n")?;
             Ok(DONE)
         }
@@ -80,30 +80,54 @@ fn open_all<'a, R: Net>(
     Ok((wires, clock_wire))
 }
 
-/// What the run of the links leaves. The fault is that a socket can't be had, and then nothing was started, or that memory
-/// ran out.
-fn served<R: Net + Threads + Wait + Clock + Clone + Send + Sync + Drop>(
+/// What the run of the links leaves, with a port for each and one for the clock; all segments were kept. The fault is that a socket
+/// can't be had, and then nothing was started, that memory ran out, or that a segment wasn't kept.
+fn served<R: Net + Threads + Wait + Clock + Clone + Send + Sync + Drop, K: KeepSegments>(
     rt: &R,
     alloc: Global,
     config: Config,
     links: &Table<u16, LinkSockets>,
     turns: u32,
+    keeper: &mut K,
 ) -> Result<RunReport, ServeFault>
-    requires { length links.now < 64 }
+    requires few { length links.now < 64 }
+    requires none { K.given keeper.old ≡ 0 }
+    ensures ports { IfOk result (λ served. length served.ports.items ≡ length links.now + 1) }
+    ensures kept { IfOk result (λ served. K.given keeper.new ≡ length served.segments.items) }
 {
     let (wires, clock_wire) = open_all(rt, alloc, links)?;
-    match serve_on(rt, rt, alloc, config, wires, clock_wire, &OpenGate, turns) {
-        Ok(served) => Ok(served),
-        Err(_) => Err(ServeFault::Memory),
+    let Ok(served) = serve_on(rt, rt, alloc, config, wires, clock_wire, &OpenGate, turns) else {
+        return Err(ServeFault::Memory);
+    };
+    match keep_all(keeper, served.segments.as_slice()) {
+        Ok(()) => Ok(served),
+        Err(number) => Err(ServeFault::Unkept(number)),
     }
 }
 
+/// Logs what a run left, and prints whether it is one run of the router of this configuration, with its status, as [`tell_run`] does.
+fn tell_served<W: Write, E: Write>(
+    config: &Config,
+    served: &RunReport,
+    output: &mut W,
+    error: &mut E,
+) -> io::Result<u8>
+    ensures { IfOk result (Serves config.now (length served.now.ports.items) (W.contents output.old) (W.contents output.new)) }
+{
+    let log = Writer::new(error);
+    tell_ports(&log, served.ports.as_slice());
+    tell_end(&log, served.segments.as_slice());
+    tell_run(config, served, output)
+}
+
 /// `lsr serve`: the router of the configuration serves these links, its own, over sockets, so many turns each; a turn takes 100
-/// milliseconds at most. Logs how much each port did on the error stream, prints whether what was told is one run, and gives the
-/// status: 0 where it is, 1 where it isn't, where a socket can't be had, or where memory ran out, which the error stream is told.
-/// The error is that a stream could not be written.
+/// milliseconds at most. Who keeps the journal is given all its segments, and was given none before. Logs how much each port did on the error stream, prints
+/// whether what was told is one run of that router from its opening on, and gives the status: 0 where it is, 1 where it isn't, where
+/// a socket can't be had, where a segment isn't kept, or where memory ran out, which the error stream is told. The error is that a
+/// stream could not be written.
 pub fn serve_links<
     R: Net + Threads + Wait + Clock + Clone + Send + Sync + Drop,
+    K: KeepSegments,
     W: Write,
     E: Write,
 >(
@@ -112,26 +136,21 @@ pub fn serve_links<
     config: Config,
     links: &Table<u16, LinkSockets>,
     turns: u32,
+    keeper: &mut K,
     output: &mut W,
     error: &mut E,
 ) -> io::Result<u8>
-    requires { length links.now < 64 }
-    ensures { IfOk result (Serves (W.contents output.old) (W.contents output.new)) }
+    requires few { length links.now < 64 }
+    requires none { K.given keeper.old ≡ 0 }
+    ensures { IfOk result (Serves config (length links.now + 1) (W.contents output.old) (W.contents output.new)) }
 {
-    match served(rt, alloc, config, links, turns) {
-        Ok(served) => {
-            let log = Writer::new(error);
-            tell_ports(&log, served.ports.as_slice());
-            tell_end(&log, served.segments.as_slice());
-            tell_run(
-                served.segments.as_slice(),
-                served.receipts.as_slice(),
-                output,
-            )
-        }
-        Err(fault) => {
-            write!(error, "{fault}\n")?;
-            Ok(FAILED)
-        }
-    }
+    let fault = match copy_config(alloc, &config) {
+        Ok(opened) => match served(rt, alloc, opened, links, turns, keeper) {
+            Ok(served) => return tell_served(&config, &served, output, error),
+            Err(fault) => fault,
+        },
+        Err(_) => ServeFault::Memory,
+    };
+    write!(error, "{fault}\n")?;
+    Ok(FAILED)
 }

@@ -1,5 +1,6 @@
 //! Wires over UDP sockets of this machine.
-ghost use Rattle.std.specs.Prelude.{◌≡◌, ◌+◌, ◌-◌, ◌^◌, ◌<◌, map, take, IfOk};
+ghost use Rattle.std.specs.Prelude.{◌≡◌, ◌+◌, ◌-◌, ◌^◌, ◌<◌, ◌↔◌, map, take, IfOk, IsTrue, OnOk};
+ghost use Rattle.lsr_serve.specs.Local.{IsLocal};
 
 use interface_workers::{Wire, WireFault};
 use lsr_config::LinkSockets;
@@ -18,7 +19,7 @@ const ANY_PORT: u16 = 0;
 /// The number that stands for the clock's wire, which is no link's.
 const CLOCK: u16 = 0;
 
-/// Why there are no wires.
+/// Why links aren't served.
 #[derive(Clone, Copy, Debug, PartialEq, Eq, Error)]
 pub enum ServeFault {
     /// The sockets of the link of this number can't be had, or, of number 0, the one from which the clock's port sends.
@@ -27,6 +28,9 @@ pub enum ServeFault {
     /// There is no memory.
     #[error("memory")]
     Memory,
+    /// The segment of the journal of this number wasn't kept.
+    #[error("segment {0}: not kept")]
+    Unkept(u64),
 }
 
 /// A link's number, and the wire on which its frames come.
@@ -79,7 +83,9 @@ fn is_silence(kind: ErrorKind) -> bool {
 }
 
 impl<'a> Wire for UdpWire<'a> {
-    ghost failed = { λ wire. wire.failures };
+    ghost use Rattle.std.specs.Prelude.{None};
+
+    ghost history = { λ wire. record { failed = wire.failures; answered = None; given = None } };
 
     /// The next frame that came, or none where none came in 100 milliseconds.
     fn receive(&mut self, buffer: &mut [u8]) -> Result<Option<usize>, WireFault> {
@@ -118,7 +124,9 @@ fn any_address(links: &Table<u16, LinkSockets>) -> SocketAddr {
 }
 
 /// Whether the address is this machine's alone, and of the family of the other.
-fn is_local(address: SocketAddr, like: SocketAddr) -> bool {
+fn is_local(address: SocketAddr, like: SocketAddr) -> bool
+    ensures { IsTrue result ↔ IsLocal like address }
+{
     address.ip().is_loopback() && address.is_ipv4() == like.is_ipv4()
 }
 
@@ -130,7 +138,8 @@ fn open_wire<'a, R: Net>(
     number: u16,
     sockets: LinkSockets,
 ) -> Result<LinkWire<UdpWire<'a>>, ServeFault>
-    ensures { IfOk result (λ opened. opened.number ≡ number) }
+    ensures number { IfOk result (λ opened. opened.number ≡ number) }
+    ensures local { OnOk result (IsLocal like sockets.listen × IsLocal like sockets.send) }
 {
     if !is_local(sockets.listen, like) || !is_local(sockets.send, like) {
         return Err(ServeFault::Socket(number));

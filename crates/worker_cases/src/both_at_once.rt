@@ -3,7 +3,6 @@ ghost use Rattle.std.specs.Prelude.{◌≡◌, IfOk, length};
 
 use crate::small_runs::{served_by, tell_served};
 use crate::wires::{Hasty, OneFrame};
-use interface_workers::Gate;
 use lsr_config::BUILT_IN;
 use lsr_serve::{LinkWire, RunReport};
 use std::alloc::{AllocError, Global};
@@ -12,7 +11,7 @@ use std::sync::atomic::{AtomicBool, Ordering};
 use std::thread;
 use std::thread::Threads;
 use std::time::{Clock, Duration};
-use worker_fixtures::{Fault, TEAR_FRAME};
+use worker_fixtures::{Fault, Gate, TEAR_FRAME};
 
 /// How many turns each thread makes: one in which the frame comes, and one in which none comes.
 const TURNS: u32 = 2;
@@ -75,7 +74,7 @@ fn tell_held<R: Print>(
         "port 2 didn't leave while port 1 was held"
     };
     println!(rt; "both at once: {held}")?;
-    tell_served(rt, alloc, "both at once", served)
+    tell_served(rt, alloc, "both at once", BUILT_IN, served)
 }
 
 /// A router with two links is served by a gate that lets port 1 feed only once port 2 has fed: prints whether it did, what each port

@@ -1,8 +1,8 @@
 //! The worked cases.
 
 use crate::{
-    both_at_once, full_journal, reader_row, silent_links, socket_frames, socket_words,
-    strange_receipt, two_routers, two_threads,
+    both_at_once, failing_wire, full_journal, one_thread, reader_row, silent_links, socket_frames,
+    socket_words, strange_receipt, two_routers, two_threads,
 };
 use std::alloc::Global;
 use std::net::Net;
@@ -16,7 +16,9 @@ fn run_routers<R: Threads + Wait + Print + Clone + Send + Sync + Drop>(
     rt: &R,
     alloc: Global,
 ) -> Result<(), Fault> {
+    one_thread::run(rt, alloc)?;
     two_threads::run(rt, alloc)?;
+    failing_wire::run(rt, alloc)?;
     full_journal::run(rt, alloc)?;
     strange_receipt::run(rt, alloc)?;
     reader_row::run(rt, alloc)

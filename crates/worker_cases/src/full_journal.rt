@@ -1,12 +1,11 @@
 //! A journal that is full.
 
 use abstract_paths::Event;
-use interface_workers::{Core, CoreReader, Port};
 use lsr_facts::Refusal;
 use std::alloc::Global;
 use std::sync::Wait;
 use std::sync::ledger::Ledger;
-use worker_fixtures::{Fault, Feed, count_entries, feed_router};
+use worker_fixtures::{Core, CoreReader, Fault, Feed, Port, count_entries, feed_router};
 
 /// How many events are fed.
 const EVENTS: u64 = 4_097;
@@ -25,7 +24,7 @@ fn feed_moment<L: Ledger, R: Wait + Drop>(
     }
 }
 
-/// Feeds so many moments, until one is refused: how many were taken, and why the next was refused.
+/// Feeds moments from 0 on, until one is refused: how many were taken, and why the next was refused.
 fn feed_until<L: Ledger, R: Wait + Drop>(
     rt: &R,
     alloc: Global,
@@ -41,14 +40,14 @@ fn feed_until<L: Ledger, R: Wait + Drop>(
     (count, None)
 }
 
-/// Feeds so many moments and prints what came.
+/// Feeds so many moments and prints what came: how many were taken.
 fn tell_fed<L: Ledger, R: Wait + Print + Drop>(
     rt: &R,
     alloc: Global,
     core: &Core<L, R>,
     port: &mut Port<L>,
     count: u64,
-) -> Result<(), Fault> {
+) -> Result<u64, Fault> {
     let (taken, refusal) = feed_until(rt, alloc, core, port, count);
     match refusal {
         Some(refusal) => {
@@ -59,20 +58,36 @@ fn tell_fed<L: Ledger, R: Wait + Print + Drop>(
         }
         None => println!(rt; "full journal: {taken} of {count} events taken")?,
     }
+    Ok(taken)
+}
+
+/// Feeds a moment that was refused, once more, and prints whether it is taken.
+fn tell_again<L: Ledger, R: Wait + Print + Drop>(
+    rt: &R,
+    alloc: Global,
+    core: &Core<L, R>,
+    port: &mut Port<L>,
+    moment: u64,
+) -> Result<(), Fault> {
+    let taken = match feed_moment(rt, alloc, core, port, moment) {
+        Ok(()) => "taken",
+        Err(_) => "refused again",
+    };
+    println!(rt; "full journal: the event that was refused is {taken}")?;
     Ok(())
 }
 
-/// Fills the journal of this router by a port, and goes on once its entries are taken.
+/// Fills the journal of this router by a port, takes its entries, and feeds the event that was refused once more.
 fn fill<L: Ledger, R: Wait + Print + Drop>(
     rt: &R,
     alloc: Global,
     core: &Core<L, R>,
     port: &mut Port<L>,
 ) -> Result<(), Fault> {
-    tell_fed(rt, alloc, core, port, EVENTS)?;
+    let refused = tell_fed(rt, alloc, core, port, EVENTS)?;
     let entries = count_entries(rt, alloc, core)?;
     println!(rt; "full journal: {entries} entries taken out")?;
-    tell_fed(rt, alloc, core, port, 1)
+    tell_again(rt, alloc, core, port, refused)
 }
 
 /// One port that feeds more than the journal holds.
@@ -96,7 +111,7 @@ impl<R: Wait + Print + Drop> Feed<R> for Fills {
     }
 }
 
-/// Feeds one event more than a journal holds, takes its entries, and feeds one more: prints what came of each.
+/// Feeds one event more than a journal holds, takes its entries, and feeds the one that was refused again: prints what came of each.
 pub fn run<R: Wait + Print + Clone + Drop>(rt: &R, alloc: Global) -> Result<(), Fault> {
     feed_router(rt, alloc, Fills)
 }

@@ -4,8 +4,10 @@
 
 mod both_at_once;
 mod cases;
+mod failing_wire;
 mod full_journal;
 mod link_ends;
+mod one_thread;
 mod reader_row;
 mod silent_links;
 mod small_runs;

@@ -1,14 +1,13 @@
 //! A reader of the label table, beside the events that change it.
 
 use forwarding_table::Action;
-use interface_workers::{Closed, Core, CoreReader, Port};
 use std::alloc::Global;
 use std::fmt;
 use std::sync::Wait;
 use std::sync::ledger::Ledger;
 use worker_fixtures::{
-    Fault, Feed, Follower, IN_LINK, LABELLED_FRAME, OUT_LINK, PATH_FRAME, RESV_FRAME, TEAR_FRAME,
-    feed_router,
+    Closed, Core, CoreReader, Fault, Feed, Follower, IN_LINK, LABELLED_FRAME, OUT_LINK, PATH_FRAME,
+    Port, RESV_FRAME, TEAR_FRAME, feed_router,
 };
 
 /// The label that is looked up: the first that the router gives out.

@@ -1,18 +1,31 @@
-//! A run in which nothing comes but moments.
+//! Runs in which nothing comes but moments.
 ghost use Rattle.std.specs.Prelude.{◌≡◌, IfOk, length};
 
-use crate::small_runs::{served_by, tell_served};
+use crate::small_runs::{served_by, tell_served, tell_status};
 use crate::wires::{Hasty, Silent};
-use interface_workers::OpenGate;
 use lsr_config::BUILT_IN;
-use lsr_serve::LinkWire;
+use lsr_serve::{KeepSegments, LinkWire, NotKept, RunReport, SegmentCount, keep_all};
 use std::alloc::{AllocError, Global};
 use std::sync::Wait;
 use std::thread::Threads;
-use worker_fixtures::Fault;
+use worker_fixtures::{Fault, OpenGate, Segment};
 
-/// How many moments the clock feeds.
-const TURNS: u32 = 3;
+/// What runs are called, and how many moments the clock feeds: few, and more than a segment of the journal holds.
+const RUNS: [(&str, u32); 2] = [("silent links", 3), ("a long run", 5_000)];
+
+/// A router that has the first of the built-in router's links alone.
+const OTHER: &str = r#"
+router = "10.0.0.2"
+refresh_ms = 30000
+labels = [16, 4111]
+
+[[link]]
+number = 1
+address = "10.1.0.2"
+peer = "10.1.0.1"
+peer_router = "10.0.0.1"
+limit = 1250000
+"#;
 
 /// Two links on which nothing comes. The only error is out of memory.
 fn links(alloc: Global) -> Result<Vec<LinkWire<Silent>>, AllocError>
@@ -29,10 +42,51 @@ fn links(alloc: Global) -> Result<Vec<LinkWire<Silent>>, AllocError>
     Ok(Vec::from_array(alloc, [first, second])?)
 }
 
-/// A router with two links on which nothing comes is served for three turns: prints what each port did, and what `lsr serve` prints.
-pub fn run<R: Threads + Wait + Print + Clone + Send + Sync + Drop>(
+/// Keeps one segment, and no more.
+#[derive(Drop)]
+struct KeepsOne {
+    given: u64,
+}
+
+impl KeepSegments for KeepsOne {
+    ghost given = { λ keeper. keeper.given };
+
+    fn keep(&mut self, number: u64, _segment: &Segment) -> Result<(), NotKept> {
+        if number > 1 {
+            return Err(NotKept);
+        }
+        self.given = number;
+        Ok(())
+    }
+}
+
+/// Prints how many segments are kept, and at which one it ends who keeps one alone.
+fn tell_kept<R: Print>(rt: &R, of: &str, segments: &[Segment]) -> Result<(), Fault> {
+    let mut count = SegmentCount::new();
+    if keep_all(&mut count, segments).is_ok() {
+        let kept = count.segments;
+        println!(rt; "{of}: {kept} segments kept")?;
+    }
+    match keep_all(&mut KeepsOne { given: 0 }, segments) {
+        Ok(()) => println!(rt; "{of}: one segment is enough")?,
+        Err(number) => println!(rt; "{of}: segment {number} not kept")?,
+    }
+    Ok(())
+}
+
+/// Prints what a run left, and what is told of it as of a run of another router.
+fn tell_run<R: Print>(rt: &R, alloc: Global, of: &str, served: &RunReport) -> Result<(), Fault> {
+    tell_served(rt, alloc, of, BUILT_IN, served)?;
+    tell_kept(rt, of, served.segments.as_slice())?;
+    tell_status(rt, alloc, of, OTHER, served)
+}
+
+/// A router with two links on which nothing comes is served for so many turns: prints what came.
+fn run_for<R: Threads + Wait + Print + Clone + Send + Sync + Drop>(
     rt: &R,
     alloc: Global,
+    of: &str,
+    turns: u32,
 ) -> Result<(), Fault> {
     match served_by(
         rt,
@@ -42,9 +96,21 @@ pub fn run<R: Threads + Wait + Print + Clone + Send + Sync + Drop>(
         links(alloc)?,
         Silent,
         &OpenGate,
-        TURNS,
+        turns,
     ) {
-        Ok(served) => tell_served(rt, alloc, "silent links", &served),
+        Ok(served) => tell_run(rt, alloc, of, &served),
         Err(fault) => Err(fault),
     }
+}
+
+/// A router with two links on which nothing comes is served for three turns, and for so many that the journal is full: prints what each
+/// port did, what `lsr serve` prints, what becomes of the segments, and what would be told of a run of another router.
+pub fn run<R: Threads + Wait + Print + Clone + Send + Sync + Drop>(
+    rt: &R,
+    alloc: Global,
+) -> Result<(), Fault> {
+    for (of, turns) in RUNS {
+        run_for(rt, alloc, of, turns)?;
+    }
+    Ok(())
 }

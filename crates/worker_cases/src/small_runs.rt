@@ -1,14 +1,13 @@
 //! Runs of a router as `lsr serve` makes them, over any wires and by any clock.
 ghost use Rattle.std.specs.Prelude.{◌<◌, length};
 
-use interface_workers::{Gate, Wire};
 use lsr_config::Config;
 use lsr_serve::{LinkWire, PortCount, RunReport, serve_on, tell_run};
 use std::alloc::Global;
 use std::sync::Wait;
 use std::thread::Threads;
 use std::time::Clock;
-use worker_fixtures::Fault;
+use worker_fixtures::{Fault, Gate, Wire};
 
 /// What a run of the router of this configuration leaves over these links, of so many turns.
 pub fn served_by<
@@ -42,34 +41,40 @@ fn tell_ports<R: Print>(rt: &R, of: &str, ports: &[PortCount]) -> Result<(), Fau
     for (before, count) in ports.iter().enumerate() {
         let port = before.saturating_add(1);
         let receipts = count.receipts;
-        let forwarded = count.datagrams.forwarded;
+        let forwarded = count.tally.passed;
         println!(rt; "{of}: port {port}: {receipts} receipts, {forwarded} frames forwarded")?;
     }
     Ok(())
 }
 
-/// Prints what `lsr serve` prints of a run, and the status that it gives.
-fn tell_status<R: Print>(rt: &R, alloc: Global, of: &str, served: &RunReport) -> Result<(), Fault> {
+/// Prints what `lsr serve` prints of a run, as of a router of this configuration, and the status that it gives.
+pub fn tell_status<R: Print>(
+    rt: &R,
+    alloc: Global,
+    of: &str,
+    text: &str,
+    served: &RunReport,
+) -> Result<(), Fault> {
+    let Ok(config) = Config::read(alloc, text) else {
+        return Err(Fault::Memory);
+    };
     let mut printed = Vec::new(alloc);
-    let status = tell_run(
-        served.segments.as_slice(),
-        served.receipts.as_slice(),
-        &mut printed,
-    )?;
+    let status = tell_run(&config, served, &mut printed)?;
     rt.write_all(printed.as_slice())?;
     println!(rt; "{of}: status {status}")?;
     Ok(())
 }
 
-/// Prints what a run left.
+/// Prints what a run of the router of this configuration left.
 pub fn tell_served<R: Print>(
     rt: &R,
     alloc: Global,
     of: &str,
+    text: &str,
     served: &RunReport,
 ) -> Result<(), Fault> {
     tell_ports(rt, of, served.ports.as_slice())?;
     let segments = served.segments.len();
     println!(rt; "{of}: {segments} segments")?;
-    tell_status(rt, alloc, of, served)
+    tell_status(rt, alloc, of, text, served)
 }

@@ -2,12 +2,11 @@
 ghost use Rattle.std.specs.Prelude.{◌≡◌, ◌<◌, ◌-◌, ◌^◌};
 
 use crate::link_ends::{Ends, FAR, NEAR, free_ends, one_link, open_last};
-use interface_workers::Wire;
 use lsr_serve::{LinkSockets, ServeFault, open_wires};
 use sorted_rows::Table;
 use std::alloc::Global;
 use std::net::Net;
-use worker_fixtures::Fault;
+use worker_fixtures::{Fault, Wire};
 
 /// The number of a link that isn't there.
 const NO_LINK: u16 = 2;

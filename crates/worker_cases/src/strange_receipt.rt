@@ -1,12 +1,13 @@
 //! A receipt of another router.
 
 use abstract_paths::Event;
-use interface_workers::{Core, CoreReader, Port, Receipt, Segment, reconcile};
 use std::alloc::Global;
 use std::slice;
 use std::sync::Wait;
 use std::sync::ledger::Ledger;
-use worker_fixtures::{Fault, Feed, feed_router};
+use worker_fixtures::{
+    Core, CoreReader, Fault, Feed, Port, Receipt, Segment, feed_router, reconcile,
+};
 
 /// The segment of a router that was fed one event, and its receipt.
 struct FedOnce {

@@ -3,7 +3,6 @@ ghost use Rattle.std.specs.Prelude.{◌≡◌, ◌<◌, ◌^◌, ◌-◌, IfOk, 
 
 use crate::link_ends::{Ends, FAR, NEAR, free_ends, open_last};
 use crate::small_runs::served_by;
-use interface_workers::{Gate, OpenGate, Wire, WireFault, reconcile};
 use lsr_facts::State;
 use lsr_serve::{LinkSockets, LinkWire, RunReport, UdpWire, open_clock_wire};
 use sorted_rows::Table;
@@ -14,7 +13,7 @@ use std::sync::atomic::{AtomicBool, Ordering};
 use std::thread::Threads;
 use std::time::{Clock, Duration};
 use std::{io, thread};
-use worker_fixtures::Fault;
+use worker_fixtures::{Fault, Gate, OpenGate, Wire, WireFault, reconcile};
 
 /// The router where the tunnel begins. Nothing that it knows expires in the time of [`TURNS`].
 const HEAD: &str = r#"
@@ -74,7 +73,9 @@ impl<'a, T> UntilUp<'a, T> {
 }
 
 impl<'a, W: Wire> Wire for UntilUp<'a, W> {
-    ghost failed = { λ until. W.failed until.inner };
+    ghost use Rattle.std.specs.Prelude.{None};
+
+    ghost history = { λ until. record { failed = (W.history until.inner).failed; answered = None; given = None } };
 
     /// The next frame that came; none once the tunnel is up.
     fn receive(&mut self, buffer: &mut [u8]) -> Result<Option<usize>, WireFault> {

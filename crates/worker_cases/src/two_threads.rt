@@ -3,7 +3,6 @@ ghost use Rattle.std.specs.Prelude.{◌≡◌};
 
 use crate::wires::Silent;
 use abstract_paths::Event;
-use interface_workers::{Core, OpenGate, Opened, Port, Work, serve_event};
 use lsr_config::BUILT_IN;
 use std::alloc::{AllocError, Global};
 use std::marker::Brand;
@@ -11,7 +10,7 @@ use std::sync::Wait;
 use std::sync::ledger::{Blank, Ledger};
 use std::thread;
 use std::thread::Threads;
-use worker_fixtures::{Fault, Left, open_router};
+use worker_fixtures::{Core, Fault, Left, OpenGate, Opened, Port, Work, open_router, serve_event};
 
 /// How many threads there are.
 const THREADS: u16 = 2;

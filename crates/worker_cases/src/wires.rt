@@ -1,15 +1,17 @@
 //! Wires in memory, and a clock that never waits.
 
-use interface_workers::{Wire, WireFault};
 use std::io;
 use std::time::{Clock, Duration};
+use worker_fixtures::{Wire, WireFault};
 
 /// A wire on which nothing comes.
 #[derive(Clone, Copy)]
 pub struct Silent;
 
 impl Wire for Silent {
-    ghost failed = { λ _. 0 };
+    ghost use Rattle.std.specs.Prelude.{None};
+
+    ghost history = { λ _. record { failed = 0; answered = None; given = None } };
 
     fn receive(&mut self, _buffer: &mut [u8]) -> Result<Option<usize>, WireFault> {
         Ok(None)
@@ -32,7 +34,9 @@ pub struct OneFrame {
 }
 
 impl Wire for OneFrame {
-    ghost failed = { λ _. 0 };
+    ghost use Rattle.std.specs.Prelude.{None};
+
+    ghost history = { λ _. record { failed = 0; answered = None; given = None } };
 
     /// The frame, where it hasn't come yet and the buffer has room for it.
     fn receive(&mut self, buffer: &mut [u8]) -> Result<Option<usize>, WireFault> {

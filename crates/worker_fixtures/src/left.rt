@@ -25,7 +25,7 @@ pub struct Left {
     pub receipts: Vec<Receipt>,
     /// The segments.
     pub segments: Vec<Segment>,
-    /// How many frames went on by their labels.
+    /// How many frames went on by their labels, or have arrived.
     pub forwarded: u64,
 }
 
@@ -44,9 +44,10 @@ impl Left {
         let Work {
             mut receipts,
             mut segments,
-            datagrams,
+            tally,
+            turns: _,
         } = work;
-        self.forwarded = self.forwarded.saturating_add(datagrams.forwarded);
+        self.forwarded = self.forwarded.saturating_add(tally.passed);
         self.receipts.append(&mut receipts)?;
         self.segments.append(&mut segments)?;
         Ok(())

@@ -2,6 +2,7 @@
 //! them.
 #![tactic(auto)]
 
+mod failing_wire;
 mod fault;
 mod feeding;
 mod follower;
@@ -11,11 +12,16 @@ mod sockets;
 mod timing;
 mod words;
 
+pub use failing_wire::{FailingWire, GivenFrame, WirePlan};
 pub use fault::Fault;
 pub use feeding::{Feed, feed_router, open_router};
 pub use follower::{Fate, Follower, followers};
 pub use frames::{
     IN_LINK, LABELLED_FRAME, OUT_LINK, PATH_FRAME, RESV_FRAME, TEAR_FRAME, about_tunnel, put_bytes,
+};
+pub use interface_workers::{
+    Closed, Core, CoreReader, CountedEntry, Entry, Gate, OpenGate, Opened, Port, Receipt, Segment,
+    Wire, WireFault, Work, is_same_state, reconcile, serve_event, serve_link,
 };
 pub use left::{Left, count_entries};
 pub use sockets::free_links;

@@ -3,7 +3,6 @@ ghost use Rattle.std.specs.Prelude.{◌≡◌};
 
 use crate::four_links::{LINKS, Traffic, four_links, open_senders};
 use crate::sending::{CountedWire, Sender};
-use interface_workers::{Core, CoreReader, OpenGate, Opened, Port, Wire, Work};
 use lsr_serve::{
     LinkSockets, LinkWire, ServeFault, UdpWire, Worker, link_workers, open_wires, run_worker,
 };
@@ -17,7 +16,10 @@ use std::sync::ledger::{Blank, Ledger};
 use std::thread;
 use std::thread::Threads;
 use std::time::{Clock, Duration, Instant};
-use worker_fixtures::{Fault, Left, free_links, open_router, per_second};
+use worker_fixtures::{
+    Core, CoreReader, Fault, Left, OpenGate, Opened, Port, Wire, Work, free_links, open_router,
+    per_second,
+};
 
 /// How many turns a worker makes beyond those in which it takes a frame: it waits 100 milliseconds in each for one that is late.
 const SPARE_TURNS: u32 = 600;
@@ -196,7 +198,8 @@ fn wires<'a, R: Net>(
     match open_wires(net, alloc, links) {
         Ok(wires) => Ok(wires),
         Err(ServeFault::Socket(link)) => Err(Fault::Socket(link)),
-        Err(ServeFault::Memory) => Err(Fault::Memory),
+        // (no segment is kept where wires are opened)
+        Err(ServeFault::Memory | ServeFault::Unkept(_)) => Err(Fault::Memory),
     }
 }
 

@@ -1,11 +1,11 @@
 //! A neighbour that sends frames, and the wire that takes them.
 ghost use Rattle.std.specs.Prelude.{◌≡◌};
 
-use interface_workers::{Wire, WireFault};
 use std::net::{SocketAddr, UdpSocket};
 use std::sync::atomic::{AtomicU64, Ordering};
 use std::thread;
 use std::time::{Clock, Duration};
+use worker_fixtures::{Wire, WireFault};
 
 /// How many frames a neighbour sends before the first of them is taken: as many as a socket keeps.
 const WINDOW: u64 = 64;
@@ -76,7 +76,9 @@ pub struct CountedWire<'a, W> {
 }
 
 impl<'a, W: Wire> Wire for CountedWire<'a, W> {
-    ghost failed = { λ counted. W.failed counted.wire };
+    ghost use Rattle.std.specs.Prelude.{None};
+
+    ghost history = { λ counted. record { failed = (W.history counted.wire).failed; answered = None; given = None } };
 
     /// The next frame that came; none where all that were sent are taken.
     fn receive(&mut self, buffer: &mut [u8]) -> Result<Option<usize>, WireFault> {

@@ -1,7 +1,6 @@
 //! Frames that are forwarded while the entry of their label comes and goes.
 ghost use Rattle.std.specs.Prelude.{◌≡◌};
 
-use interface_workers::{Core, CoreReader, Opened, Port};
 use lsr_config::BUILT_IN;
 use lsr_facts::Refusal;
 use std::alloc::Global;
@@ -13,8 +12,8 @@ use std::thread;
 use std::thread::Threads;
 use std::time::{Clock, Duration, Instant};
 use worker_fixtures::{
-    Fate, Fault, Follower, IN_LINK, LABELLED_FRAME, OUT_LINK, PATH_FRAME, RESV_FRAME, TEAR_FRAME,
-    followers, open_router, per_second,
+    Core, CoreReader, Fate, Fault, Follower, IN_LINK, LABELLED_FRAME, OUT_LINK, Opened, PATH_FRAME,
+    Port, RESV_FRAME, TEAR_FRAME, followers, open_router, per_second,
 };
 
 /// How many ports and readers the router has: one that signals, and three that forward.

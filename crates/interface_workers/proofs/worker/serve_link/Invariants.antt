@@ -1,13 +1,13 @@
--- The receipts so far are a chain from the port's mark at the beginning, and there is room for one more in each turn.
-use Rattle.std.proofs.Common.{◌≤◌, length, vec_capacity}
-use Rattle.interface_workers.specs.Chains.{IsChain}
+-- So many turns were made, there is room for the rest, and the reader has learnt no less.
+use Rattle.std.proofs.Common.{◌≤◌, vec_capacity}
+use Rattle.interface_workers.specs.Turns.{IsRunOf}
 use Rattle.interface_workers.proofs.worker.serve_link.Given as goal
 
 abbrev pub invariant-loop-turn : goal.invariant-loop-turn
 invariant-loop-turn g l = record {
-  chain : IsChain l.initial.port.mark l.work.receipts.items l.port.mark;
-  receipts : length l.work.receipts.items ≤ l._turn;
+  run : IsRunOf l.core.router l.link l._turn l.initial.port.mark l.initial.reader.seen (g.W.Wire.history l.initial.wire)
+      (record { work = l.work; mark = l.port.mark; seen = l.reader.seen; history = g.W.Wire.history l.wire });
   receipts_room : l.turns ≤ vec_capacity l.work.receipts;
-  segments : length l.work.segments.items ≤ l._turn;
   segments_room : l.turns ≤ vec_capacity l.work.segments;
+  learnt : l.initial.reader.at_least ≤ l.reader.at_least;
 }

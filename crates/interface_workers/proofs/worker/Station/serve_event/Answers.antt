@@ -1,8 +1,21 @@
--- A receipt that is kept follows on the one before.
+-- A receipt that is kept follows on the one before, and its frames are sent.
+use Rattle.std.proofs.Common.{◌∙◌}
 use Rattle.interface_workers.proofs.Chaining.{receipt_more}
+use Rattle.interface_workers.proofs.TakenKinds.{event_refused}
 use Rattle.interface_workers.proofs.worker.Station.serve_event.Goals as goal
 
 pub returns-in-Ok-clause-goes_on : goal.returns-in-Ok-clause-goes_on
 returns-in-Ok-clause-goes_on g c =
-    receipt_more _ _ _ _ c.in-Ok.receipt c.push_reserved.ensures.items c.in-Ok.ensures.fed.0 c.in-Ok.ensures.fed.1
+    receipt_more _ _ _ _ c.in-Ok.receipt c.push_reserved.ensures.items c.in-Ok.ensures.fed.0 c.in-Ok.ensures.fed.2
     c.in-Ok.ensures.segments c.push_reserved.ensures.capacity c.in-Ok.ensures.room
+
+pub returns-in-Ok-clause-served : goal.returns-in-Ok-clause-served
+returns-in-Ok-clause-served g c = record {
+  frames = c.as_slice.result.now;
+  sendings = c.send_all.ensures.0;
+  is = (c.in-Ok.receipt, c.push_reserved.ensures.items, c.in-Ok.ensures.fed.1, c.as_slice.ensures ∙ c.outputs.ensures);
+  sent = c.send_all.ensures.1;
+}
+
+pub returns-in-Err-clause-served : goal.returns-in-Err-clause-served
+returns-in-Err-clause-served g c = event_refused c.args.event.now c.in-Err.refusal c.of_refusal.result c.args.work.now.receipts.items _ c.of_refusal.ensures

@@ -1,0 +1,32 @@
+-- What was taken is served and counted.
+use Rattle.std.proofs.Common.{◌+◌, ◌∷◌, ℕ, List, [], ap, subst, sym, ◌∙◌}
+use Rattle.lookup_plane.specs.Changes.{StartsWith}
+use Rattle.lookup_plane.specs.declared.change.TableChange.{TableChange}
+use Rattle.interface_workers.specs.Turns.{IsTaken}
+use Rattle.interface_workers.specs.Wires.{WireHistory, after, lost_in}
+use Rattle.interface_workers.proofs.Counting.{lost_is, tally_is}
+use Rattle.interface_workers.proofs.Sendings.{after_twice}
+use Rattle.interface_workers.proofs.worker.Station.turn.Goals as goal
+
+pub returns-clause-turn : goal.returns-clause-turn
+returns-clause-turn g c =
+    let took = c.receive-taken.ensures.took in
+    let served = c.serve_taken-handled.ensures.served in
+    let on = c.serve_taken-handled.ensures.goes_on in
+    record {
+      arrival = took.0;
+      taken = c.receive-taken.result.0;
+      handled = c.serve_taken-handled.result;
+      frames = served.frames;
+      sendings = served.sendings;
+      took = subst (λ (s : List TableChange). IsTaken c.args.self.now.core.now.router s c.args.link took.0 c.receive-taken.result.0) (sym c.serve_taken-handled.ensures.seen) took.1;
+      served = served.is;
+      given = served.sent.given;
+      history = served.sent.history ∙ ap (λ (x : WireHistory). after x [] served.sendings) took.2 ∙ after_twice (g.W.Wire.history c.args.wire.now) (took.0 ∷ []) [] [] served.sendings;
+      tally = tally_is c.args.work.now.tally c.serve_taken-handled.new.work.tally c.lose.new.self c.count.new.self c.serve_taken-handled.result _ (lost_in served.sendings)
+          c.serve_taken-handled.ensures.tally.0 c.lose.ensures c.count.ensures
+          (lost_is c.failures-failures.result c.failures.result _ _ served.sendings c.failures-failures.ensures c.failures.ensures served.sent.history);
+      turns = ap (λ (n : ℕ). n + 1) c.serve_taken-handled.ensures.tally.1;
+      goes_on = record { chain = on.chain; receipts = on.receipts; segments = on.segments; receipts_room = on.receipts_room; segments_room = on.segments_room };
+      seen = subst (λ (s : List TableChange). StartsWith s c.args.reader.seen) (sym c.serve_taken-handled.ensures.seen) c.receive-taken.ensures.later;
+    }

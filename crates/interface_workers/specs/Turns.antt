@@ -1,0 +1,129 @@
+-- A worker's turns: what came, what became of it, and what was sent.
+use Rattle.std.specs.Prelude.{◌≡◌, ◌+◌, ◌-◌, ◌^◌, ◌<◌, ◌≤◌, ◌++◌, ℕ, min, List, [], ◌∷◌, Result, Ok, Err, length}
+use Rattle.lsr_facts.specs.declared.refusal.Refusal.{Refusal}
+use Rattle.lsr_facts.specs.declared.refusal.Refusal.TheVariants.{NoMemory}
+use Rattle.lsr_facts.specs.declared.router.Router.{Router}
+use Rattle.abstract_paths.specs.declared.events.Event.{Event}
+use Rattle.forwarding_table.specs.Forwarding.{forward_of}
+use Rattle.link_frames.specs.Frames.{frame_bytes, kind_of}
+use Rattle.lookup_plane.specs.Changes.{StartsWith, look}
+use Rattle.lookup_plane.specs.declared.change.TableChange.{TableChange}
+use Rattle.datagrams.specs.Datagrams.{IsDatagram}
+use Rattle.datagrams.specs.declared.datagram.Datagram.TheVariants as datagrams
+use Rattle.datagrams.specs.declared.datagram.Passed.{Passed}
+use Rattle.datagrams.specs.declared.datagram.Passed.TheVariants as passes
+use Rattle.journal_bytes.specs.Events.{event_bytes}
+use Rattle.journal_bytes.specs.declared.entry.WrittenFrame.{WrittenFrame}
+use Rattle.run_journal.specs.declared.mark.Mark.{Mark}
+use Rattle.run_journal.specs.declared.receipt.Receipt.{Receipt}
+use Rattle.interface_workers.specs.Chains.{WorkGoesOn}
+use Rattle.interface_workers.specs.Tallies.{counted, handled_for, no_tally, with_lost}
+use Rattle.interface_workers.specs.Wires.{AreGiven, AreSent, Arrival, Sending, WireHistory, after, datagrams_in, faults_in, lost_in}
+use Rattle.interface_workers.specs.Wires.Arrival.{Came, Fault, Silence}
+use Rattle.interface_workers.specs.declared.handled.Handled.{Handled}
+use Rattle.interface_workers.specs.declared.handled.Handled.TheVariants as handles
+use Rattle.interface_workers.specs.declared.handled.Tally.{Tally}
+use Rattle.interface_workers.specs.declared.worker.Taken.{Taken}
+use Rattle.interface_workers.specs.declared.worker.Taken.TheVariants as takes
+use Rattle.interface_workers.specs.declared.worker.Work.{Work}
+
+-- What a turn took is what the wire answered: nothing came; the wire failed; what the datagram is that came over this link, by its own bytes
+-- and by the changes that the reader sees; or it is a labelled frame, and the reader wasn't shown the label table.
+abbrev pub IsTaken : Router → List TableChange → ℕ → Arrival → Taken → Type 0
+IsTaken r seen link Silence taken = taken ≡ takes.Nothing
+IsTaken r seen link Fault taken = taken ≡ takes.WireFailed
+IsTaken r seen link (Came bytes) (takes.Came answer) = IsDatagram r (forward_of (look seen)) link bytes answer
+IsTaken r seen link (Came bytes) takes.NotShown = kind_of bytes ≡ 2
+IsTaken r seen link (Came bytes) taken = ⊥
+
+-- An event is served: it is fed, its receipt is kept behind the others, and its frames are sent; or it is refused, and nothing is sent.
+abbrev pub IsEventServed : Event → Handled → List Receipt → List Receipt → List WrittenFrame → List Sending → Type 0
+IsEventServed event handles.Fed before now frames sendings =
+    (receipt : Receipt) × (now ≡ before ++ receipt ∷ []) × (receipt.event ≡ event_bytes event) × (frames ≡ receipt.outputs)
+IsEventServed event (handles.Dropped refusal) before now frames sendings = (handles.Dropped refusal ≡ handled_for refusal) × (now ≡ before) × (frames ≡ [])
+IsEventServed event (handles.Refused refusal) before now frames sendings = (handles.Refused refusal ≡ handled_for refusal) × (now ≡ before) × (frames ≡ [])
+IsEventServed event handled before now frames sendings = ⊥
+
+-- What goes on by its labels is sent as it leaves, where there is memory for its bytes: it is forwarded exactly where the wire carried it. A
+-- payload that has arrived goes no further.
+abbrev pub IsPassedOn : Passed → Handled → List WrittenFrame → List Sending → Type 0
+IsPassedOn (passes.Delivered content) handled frames sendings = (handled ≡ handles.Delivered) × (frames ≡ [])
+IsPassedOn (passes.Sent link frame) handles.Forwarded frames sendings =
+    (frames ≡ (record { link = link; bytes = frame_bytes frame }) ∷ []) × (length sendings ≡ 1) × (lost_in sendings ≡ 0)
+IsPassedOn (passes.Sent link frame) handles.NotCarried frames sendings =
+    (frames ≡ (record { link = link; bytes = frame_bytes frame }) ∷ []) × (length sendings ≡ lost_in sendings)
+IsPassedOn (passes.Sent link frame) (handles.Refused refusal) frames sendings = (refusal ≡ NoMemory) × (frames ≡ [])
+IsPassedOn (passes.Sent link frame) handled frames sendings = ⊥
+
+-- What was taken is served: what became of it, which receipts there are now, and which frames were sent for it, with which success.
+abbrev pub IsServed : Taken → Handled → List Receipt → List Receipt → List WrittenFrame → List Sending → Type 0
+IsServed takes.Nothing handled before now frames sendings = (handled ≡ handles.Nothing) × (now ≡ before) × (frames ≡ [])
+IsServed takes.WireFailed handled before now frames sendings = (handled ≡ handles.WireFailed) × (now ≡ before) × (frames ≡ [])
+IsServed takes.NotShown handled before now frames sendings = (handled ≡ handles.NotShown) × (now ≡ before) × (frames ≡ [])
+IsServed (takes.Came (Ok (datagrams.Event event))) handled before now frames sendings = IsEventServed event handled before now frames sendings
+IsServed (takes.Came (Ok (datagrams.Passed passed))) handled before now frames sendings = (now ≡ before) × IsPassedOn passed handled frames sendings
+IsServed (takes.Came (Err refusal)) handled before now frames sendings = (handled ≡ handled_for refusal) × (now ≡ before) × (frames ≡ [])
+
+-- Such frames were sent, with such success, and nothing else happened on the wire.
+pub record HasSent (Is : List WrittenFrame → List Sending → Type 0) (before now : WireHistory) : Type 0 where
+  pub frames : List WrittenFrame
+  pub sendings : List Sending
+  pub is : Is frames sendings
+  pub sent : AreSent frames sendings before now
+
+-- Where a worker stands: its work, its port's mark, the changes of the label table that its reader has seen, and what happened on its wire.
+pub record Standing : Type 0 where
+  pub work : Work
+  pub mark : Mark
+  pub seen : List TableChange
+  pub history : WireHistory
+
+-- A turn: the wire was asked for a frame, once; what it gave was served, and counted by what became of it; and nothing else happened on the
+-- wire.
+pub record IsTurn (r : Router) (link : ℕ) (before now : Standing) : Type 0 where
+  pub arrival : Arrival
+  pub taken : Taken
+  pub handled : Handled
+  pub frames : List WrittenFrame
+  pub sendings : List Sending
+  pub took : IsTaken r now.seen link arrival taken
+  pub served : IsServed taken handled before.work.receipts.items now.work.receipts.items frames sendings
+  pub given : AreGiven frames sendings now.history.failed
+  pub history : now.history ≡ after before.history (arrival ∷ []) sendings
+  pub tally : now.work.tally ≡ counted (with_lost before.work.tally (lost_in sendings)) handled
+  pub turns : now.work.turns ≡ before.work.turns + 1
+  pub goes_on : WorkGoesOn before.work before.mark now.work now.mark
+  pub seen : StartsWith now.seen before.seen
+
+-- So many turns were made from here, one after the other, all over this link.
+pub data AreTurns (r : Router) (link : ℕ) (start : Standing) : ℕ → Standing → Type 0 where
+  at_first : AreTurns r link start 0 start
+  one_more : (turns all : ℕ) (before now : Standing) → AreTurns r link start turns before → IsTurn r link before now → all ≡ turns + 1 → AreTurns r link start all now
+
+-- no work yet
+pub record IsNoWork (work : Work) : Type 0 where
+  pub receipts : work.receipts.items ≡ []
+  pub segments : work.segments.items ≡ []
+  pub tally : work.tally ≡ no_tally
+  pub turns : work.turns ≡ 0
+
+-- All that a worker did are so many turns: it began with no work.
+pub record IsRunOf (r : Router) (link turns : ℕ) (mark : Mark) (seen : List TableChange) (history : WireHistory) (now : Standing) : Type 0 where
+  pub work : Work
+  pub begun : IsNoWork work
+  pub made : AreTurns r link (record { work = work; mark = mark; seen = seen; history = history }) turns now
+
+-- The tally and the number of turns tell what happened on the wire: it was asked for a frame once in each turn; so many datagrams came, and
+-- so often it failed; and of the frames that it was given, so many are lost.
+pub record IsTallyOf (t : Tally) (turns : ℕ) (start now : WireHistory) : Type 0 where
+  pub arrivals : List Arrival
+  pub sendings : List Sending
+  pub history : now ≡ after start arrivals sendings
+  pub asked : turns ≡ length arrivals
+  pub datagrams : t.datagrams ≡ datagrams_in arrivals
+  pub faults : t.faults ≡ min (faults_in arrivals) (2 ^ 64 - 1)
+  pub lost : t.lost ≡ min (lost_in sendings) (2 ^ 64 - 1)
+
+-- No more frames are lost, and no more asks failed, than the wire's count of failures rose.
+abbrev pub AreAmongFailures : Tally → WireHistory → WireHistory → Type 0
+AreAmongFailures t start now = t.lost + t.faults + start.failed ≤ now.failed
