@@ -1,5 +1,5 @@
 -- A wire leads to a router that is there.
-use Rattle.std.specs.Prelude.{◌≡◌, ◌⊎◌, ◌<◌, ℕ, suc, if◌then◌else◌, Bool, false, true, List, [], ◌∷◌, length, take, slice_get, Option, Some, None, IfSome, is_some}
+use Rattle.std.specs.Prelude.{◌≡◌, ◌<◌, ℕ, true, List, length, take, slice_get, Option, Some, None, IfSome, is_some}
 use Rattle.std.specs.Option.{option_and_then, option_map_or}
 use Rattle.std.proofs.Common.{refl, ap, subst, sym, inl, inr, ◌∙◌}
 use Rattle.std.proofs.lemmas.Bool.{and_parts}
@@ -8,26 +8,11 @@ use Rattle.std.proofs.lemmas.Option.{slice_get_within}
 use Rattle.lsr_facts.specs.Routers.{link_at}
 use Rattle.lsr_facts.specs.declared.router.Router.{Router}
 use Rattle.abstract_router.specs.States.{RouterState}
-use Rattle.abstract_world.specs.Wires.{AreJoined, can_join, is_same_end, link_of, other_end}
+use Rattle.abstract_world.specs.Wires.{AreJoined, can_join, link_of, other_end}
 use Rattle.abstract_world.specs.Worlds.{WorldState, routers_in}
 use Rattle.abstract_world.specs.declared.joint.End.{End}
 use Rattle.abstract_world.specs.declared.joint.Joint.{Joint}
-use Rattle.lab_world.proofs.Places.{same_some}
-
--- the wire that leads there is one of them
-record IsLedBy (joints : List Joint) (f : End) : Type 0 where
-  place : ℕ
-  joint : Joint
-  there : slice_get joints place ≡ Some joint
-  leads : (joint.other ≡ f) ⊎ (joint.one ≡ f)
-
-found_wire : (joints : List Joint) (e f : End) → other_end joints e ≡ Some f → IsLedBy joints f
-found_wire [] e f is = absurd (let e = is in cc)
-found_wire (j ∷ joints) e f is = by (is_same_end e j.one) (is_same_end e j.other) (λ later. found_wire joints e f later) is where
-  by : (first second : Bool) → (other_end joints e ≡ Some f → IsLedBy joints f) → (if first then Some j.other else if second then Some j.one else other_end joints e) ≡ Some f → IsLedBy (j ∷ joints) f
-  by true second more is = record { place = 0; joint = j; there = refl; leads = inl (same_some j.other f is) }
-  by false true more is = record { place = 0; joint = j; there = refl; leads = inr (same_some j.one f is) }
-  by false false more is = let later = more is in record { place = suc later.place; joint = later.joint; there = later.there; leads = later.leads }
+use Rattle.world_laws.proofs.Wired.{found_wire}
 
 -- where a link is there, its router is
 link_there : (routers : List Router) (e : End) → is_some (link_of routers e) ≡ true → e.router < length routers

@@ -1,7 +1,6 @@
 pub mod Keeping
 pub mod Leading
 pub mod Moving
-pub mod Places
 pub mod Running
 pub mod Stepping
 pub mod Stopping

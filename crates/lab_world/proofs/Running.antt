@@ -24,7 +24,7 @@ use Rattle.abstract_world.specs.declared.told.Answer.{Answer}
 use Rattle.abstract_world.specs.declared.told.Answer.TheVariants as answers
 use Rattle.abstract_world.specs.declared.told.Told.{Told}
 use Rattle.lab_world.specs.Invariant.{IsSoundRouter}
-use Rattle.lab_world.proofs.Places.{at_place, got_other, got_set, same_some}
+use Rattle.world_laws.proofs.Places.{at_place, got_other, got_set, same_some}
 
 -- two runs, one after the other
 run_then : (r : Router) (before : State) (first more : List Made) (between after : State) → Run r before first between → Run r between more after → Run r before (first ++ more) after

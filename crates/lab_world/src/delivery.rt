@@ -1,10 +1,11 @@
 //! Frames that come to the other end of their wire.
 
-ghost use Rattle.std.specs.Prelude.{◌≡◌, ◌<◌, ℕ, List, IfErr, IfOk, IfSome, OnErr, length};
+ghost use Rattle.std.specs.Prelude.{◌≡◌, ◌<◌, ℕ, List, IfErr, IfOk, IfSome, Ok, OnErr, length};
 ghost use Rattle.abstract_paths.specs.declared.events.Made.{Made};
 ghost use Rattle.abstract_world.specs.Moves.{Comes, IsCarriedTo, IsHandedOver, IsPassed, IsStopFor, end_of};
 ghost use Rattle.abstract_world.specs.declared.moves.Move.TheVariants as moves;
-ghost use Rattle.lab_world.specs.Steps.{IsSpelled};
+ghost use Rattle.datagrams.specs.declared.datagram.Datagram.TheVariants as kinds;
+ghost use Rattle.lab_world.specs.Steps.{ComesTrue, IsSpelled};
 
 use crate::joints::other_end;
 use crate::world::World;
@@ -39,7 +40,7 @@ impl World {
     }
 
     /// The frame of this number is handed to the router at the other end of its link: gives the place of that router, and what the
-    /// frame is for it. It is refused where it comes nowhere ([`Refusal::NoFrame`]) or memory runs out.
+    /// frame is for it, which is true in a closed world. It is refused where it comes nowhere ([`Refusal::NoFrame`]) or memory runs out.
     fn carry(
         &self,
         alloc: Global,
@@ -47,6 +48,7 @@ impl World {
     ) -> Result<(usize, Result<Datagram, Refusal>), Refusal>
         ensures carried { IfOk result (λ came. IsCarriedTo self.now number came.0 came.1) }
         ensures there { IfOk result (λ came. came.0 < length self.now.routers) }
+        ensures came { IfOk result (λ came. ComesTrue self.now came.0 came.1) }
         ensures stopped { IfErr result (IsStopFor self.now (moves.Deliver number)) }
     {
         let Some(sent) = self.sent(number) else {
@@ -60,9 +62,10 @@ impl World {
         Ok((end.router, datagram))
     }
 
-    /// The labelled frame goes on, or its payload has arrived, at the router of this place. The only error is out of memory, and
-    /// then nothing changed.
+    /// The labelled frame goes on, or its payload has arrived, at the router of this place. It asks that in a closed world what the
+    /// frame says is true. The only error is out of memory, and then nothing changed.
     fn pass(&mut self, place: usize, passed: Passed) -> Result<Answer, AllocError>
+        requires { ComesTrue self.old place (Ok (kinds.Passed passed)) }
         ensures passed { IfOk result (λ answer. IsPassed self.old place passed answer self.new) }
         ensures kept { OnErr result (self.new ≡ self.old) }
     {
@@ -80,15 +83,16 @@ impl World {
         }
     }
 
-    /// What a datagram is comes to the router of this place, which asks that there is one. The only error is out of memory, and then
-    /// nothing changed.
+    /// What a datagram is comes to the router of this place, which asks that there is one, and that in a closed world the datagram is
+    /// true. The only error is out of memory, and then nothing changed.
     fn come(
         &mut self,
         alloc: Global,
         place: usize,
         datagram: Result<Datagram, Refusal>,
     ) -> Result<Answer, AllocError>
-        requires { place < length self.old.routers }
+        requires there { place < length self.old.routers }
+        requires came { ComesTrue self.old place datagram }
         ensures comes { IfOk result (λ answer. (steps : List (ℕ × Made)) × Comes self.old place datagram answer steps self.new) }
         ensures kept { OnErr result (self.new ≡ self.old) }
     {

@@ -1,10 +1,15 @@
 //! Moves, one after the other, and what is told of them.
 
-ghost use Rattle.std.specs.Prelude.{◌≡◌, ℕ, List, IfErr, IfOk, MatchResult, OnErr};
+ghost use Rattle.std.specs.Prelude.{◌≡◌, ℕ, List, IfErr, IfOk, MatchResult, OnErr, true};
+ghost use Rattle.std.specs.List.{AllByRecursion};
 ghost use Rattle.abstract_paths.specs.declared.events.Made.{Made};
 ghost use Rattle.abstract_world.specs.Moves.{AreMoved, Happens, IsMadeAt, IsMoved, IsRestarted, IsStopFor, StopsAt};
 ghost use Rattle.abstract_world.specs.Runs.{AreRuns};
-ghost use Rattle.lab_world.specs.Steps.{IsStopAt};
+ghost use Rattle.abstract_world.specs.Wires.{is_closed};
+ghost use Rattle.abstract_world.specs.Worlds.{routers_in};
+ghost use Rattle.lab_world.specs.Steps.{HappensTrue, IsStopAt};
+ghost use Rattle.world_laws.specs.Sending.{AreLabelsGiven};
+ghost use Rattle.world_laws.specs.Truths.{IsTruthful};
 
 use crate::world::World;
 use abstract_paths::Event;
@@ -21,14 +26,16 @@ pub struct Report {
 }
 
 impl World {
-    /// An event happens at the router of this place: gives the place, and the router's answer. It is refused, and nothing changed,
-    /// where there is no such router ([`Refusal::NoRouter`]) or memory runs out.
+    /// An event happens at the router of this place: gives the place, and the router's answer. It asks that in a closed world what the
+    /// event says of labels is true. It is refused, and nothing changed, where there is no such router ([`Refusal::NoRouter`]) or
+    /// memory runs out.
     fn happen_at(
         &mut self,
         alloc: Global,
         place: usize,
         event: Event,
     ) -> Result<(usize, Answer), Refusal>
+        requires { HappensTrue self.old place event }
         ensures happens { IfOk result (λ told. (told.0 ≡ place) × ((steps : List (ℕ × Made)) × Happens self.old place event told.1 steps self.new)) }
         ensures stopped { IfErr result (IsStopAt self.old place) }
         ensures kept { OnErr result (self.new ≡ self.old) }
@@ -89,18 +96,8 @@ impl World {
         })
     }
 
-    /// Makes moves, one after the other, and tells of each.
-    ///
-    /// A frame comes to the other end of the link that it was sent over, as any datagram comes; one that is never delivered is lost,
-    /// and one can be delivered again and again. What is sent is kept and numbered, whether a wire joins its link or not.
-    ///
-    /// It stops at the first move that can't be made. That is one that delivers a frame which isn't there, or whose link no wire joins
-    /// ([`Refusal::NoFrame`]); one at a router that isn't there ([`Refusal::NoRouter`]); or one for which memory runs out
-    /// ([`Refusal::NoMemory`]), where all room is made before a step. The moves before it stand, and it changes nothing itself.
-    ///
-    /// Whatever it answers, the steps of each router are a run of the abstract router from what it knew, and what it knows is sound
-    /// after each; and they are the steps that the report tells of.
-    pub fn run(&mut self, alloc: Global, moves: &[Move]) -> Result<Report, Refusal>
+    /// Makes moves, one after the other, and tells of each, as [`World::run`] says.
+    fn make_all(&mut self, alloc: Global, moves: &[Move]) -> Result<Report, Refusal>
         ensures runs { (steps : List (ℕ × Made)) × AreRuns self.old steps self.new × MatchResult result
             (λ report. AreMoved self.old moves.now report.moves.items steps self.new)
             (λ refusal. StopsAt self.old moves.now refusal steps self.new) }
@@ -112,5 +109,36 @@ impl World {
             told.push_reserved(self.make(alloc, one)?);
         }
         Ok(Report { moves: told })
+    }
+
+    /// Makes moves, one after the other, and tells of each.
+    ///
+    /// A frame comes to the other end of the link that it was sent over, as any datagram comes; one that is never delivered is lost,
+    /// and one can be delivered again and again. What is sent is kept and numbered, whether a wire joins its link or not.
+    ///
+    /// It stops at the first move that can't be made. That is one that delivers a frame which isn't there, or whose link no wire joins
+    /// ([`Refusal::NoFrame`]); one at a router that isn't there ([`Refusal::NoRouter`]); or one for which memory runs out
+    /// ([`Refusal::NoMemory`]), where all room is made before a step. The moves before it stand, and it changes nothing itself.
+    ///
+    /// Whatever it answers, the steps of each router are a run of the abstract router from what it knew, and what it knows is sound
+    /// after each; and they are the steps that the report tells of.
+    ///
+    /// In a closed world ([`World::closed`]) each label that a table of a router sends frames under, over a link, was then given by
+    /// the router at the other end for that same LSP (RFC 3209, 4.1). That is said of the past: that router may have taken it back
+    /// since. Where the LSP is repaired, this holds of the outer label and the LSP that carries the bypass; the inner label was given
+    /// for the LSP by the router that the bypass ends at, also after a Resv has renewed the repair (RFC 4090, 6.4).
+    ///
+    /// And in a closed world each frame that was ever sent is truthful: the label in a Resv was given to its LSP by a router that has the address of its
+    /// hop, and each label in its record that directly follows an address by the router with that id (RFC 3209, 4.4).
+    pub fn run(&mut self, alloc: Global, moves: &[Move]) -> Result<Report, Refusal>
+        ensures runs { (steps : List (ℕ × Made)) × AreRuns self.old steps self.new × MatchResult result
+            (λ report. AreMoved self.old moves.now report.moves.items steps self.new)
+            (λ refusal. StopsAt self.old moves.now refusal steps self.new) }
+        ensures labels { is_closed (routers_in self.new.routers) self.new.joints ≡ true → AreLabelsGiven self.new }
+        ensures frames { is_closed (routers_in self.new.routers) self.new.joints ≡ true → AllByRecursion (IsTruthful self.new) self.new.frames }
+    {
+        let report = self.make_all(alloc, moves);
+        self.labels_were_given();
+        report
     }
 }

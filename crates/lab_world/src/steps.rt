@@ -11,7 +11,7 @@ ghost use Rattle.abstract_world.specs.declared.told.Answer.TheVariants as answer
 ghost use Rattle.lsr_facts.specs.declared.refusal.Refusal.TheVariants.{NoMemory};
 ghost use Rattle.router_core.specs.Readies.{IsReady, made_of};
 ghost use Rattle.lab_world.specs.Invariant.{IsSoundRouter};
-ghost use Rattle.lab_world.specs.Steps.{IsReadyAt};
+ghost use Rattle.lab_world.specs.Steps.{HappensTrue, IsReadyAt};
 
 use crate::parts::{give_all, send_all};
 use crate::world::World;
@@ -57,14 +57,16 @@ fn left_out(refusal: Refusal) -> Result<Answer, AllocError>
 
 impl World {
     /// An event happens at the router of this place, which asks that there is one: the router makes its step, or leaves it out.
-    /// All room is made before the step: the only error is out of memory, and then nothing changed.
+    /// It asks that in a closed world what the event says of labels is true. All room is made before the step: the only error is
+    /// out of memory, and then nothing changed.
     pub(crate) fn happen(
         &mut self,
         alloc: Global,
         place: usize,
         event: Event,
     ) -> Result<Answer, AllocError>
-        requires { place < length self.old.routers }
+        requires there { place < length self.old.routers }
+        requires came { HappensTrue self.old place event }
         ensures happens { IfOk result (λ answer. (steps : List (ℕ × Made)) × Happens self.old place event answer steps self.new) }
         ensures kept { OnErr result (self.new ≡ self.old) }
     {

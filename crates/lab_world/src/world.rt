@@ -1,6 +1,7 @@
 //! A world of routers.
 
-ghost use Rattle.std.specs.Prelude.{◌≡◌, IfErr, IfOk, Some, length, map};
+ghost use Rattle.std.specs.Prelude.{◌≡◌, IfErr, IfOk, Some, length, map, true};
+ghost use Rattle.std.specs.List.{AllByRecursion};
 ghost use Rattle.std.specs.Option.{option_copied, option_map};
 ghost use Rattle.abstract_world.specs.Opening.{opened_world};
 ghost use Rattle.abstract_world.specs.Wires.{is_closed};
@@ -9,6 +10,8 @@ ghost use Rattle.router_core.specs.States.{opened};
 ghost use Rattle.lab_world.specs.Invariant.{IsWorld};
 ghost use Rattle.lab_world.specs.Opening.{CanOpen, IsFaultOf};
 ghost use Rattle.lab_world.specs.Reads.{IsUnknown, is_given};
+ghost use Rattle.world_laws.specs.Sending.{AreLabelsGiven};
+ghost use Rattle.world_laws.specs.Truths.{IsTruthful};
 
 use crate::closed::is_closed;
 use crate::fault::WorldFault;
@@ -21,6 +24,7 @@ use router_core::{Machine, Output};
 use rsvp_contents::Session;
 use std::alloc::Global;
 use std::marker::Model;
+use world_laws::labels::sent_labels_were_given;
 
 /// The most routers that a world has.
 pub const MAX_ROUTERS: usize = 16;
@@ -50,13 +54,13 @@ impl Drop for World {
 
 impl Model for World {
     ghost use Rattle.abstract_world.specs.Worlds.{WorldState};
-    ghost use Rattle.lab_world.specs.Invariant.{IsWorld};
+    ghost use Rattle.lab_world.specs.Invariant.{IsSoundWorld};
 
     ghost Value = { WorldState };
 
     ghost view = { λ w. record { routers = w.routers.items; joints = w.joints.items; frames = w.frames.items; given = w.given.items } };
 
-    ghost invariant = { λ w. IsWorld w.routers.items w.joints.items };
+    ghost invariant = { λ w. IsSoundWorld (record { routers = w.routers.items; joints = w.joints.items; frames = w.frames.items; given = w.given.items }) };
 }
 
 impl World {
@@ -162,6 +166,17 @@ impl World {
         ensures { IsWorld self.now.routers self.now.joints }
     {
         // Whoever opens the value sees its invariant.
+        let _routers = &self.routers;
+    }
+
+    /// Where the world is closed ([`World::closed`]), each label that a table of a router sends frames under, over a link, was given
+    /// by the router at the other end for that same LSP (over a bypass: the outer label for the bypass's LSP, the inner one for the
+    /// LSP by the router that the bypass ends at); and each frame that was ever sent is truthful. A law: it does nothing when it runs.
+    pub fn labels_were_given(&self)
+        ensures labels { is_closed (routers_in self.now.routers) self.now.joints ≡ true → AreLabelsGiven self.now }
+        ensures frames { is_closed (routers_in self.now.routers) self.now.joints ≡ true → AllByRecursion (IsTruthful self.now) self.now.frames }
+    {
+        sent_labels_were_given();
         let _routers = &self.routers;
     }
 }

@@ -5,10 +5,13 @@ use Rattle.std.proofs.lemmas.Option.{slice_get_read}
 use Rattle.abstract_router.specs.Tables.{forwarded}
 use Rattle.abstract_world.specs.Worlds.{WorldState}
 use Rattle.datagrams.specs.Datagrams.{IsDatagram}
+use Rattle.world_laws.proofs.Delivering.{carried_true}
+use Rattle.lab_world.specs.Invariant.{IsSoundWorld}
 use Rattle.lab_world.proofs.world.World.carry.Goals as goal
 
-pub returns-clause-carried : goal.returns-clause-carried
-returns-clause-carried c =
+-- the frame as it comes
+carried : goal.returns-clause-carried
+carried c =
     let inside = c.self.inside in
     let end = c.in-Some-end_of.end in
     let q = c.index.result.now in
@@ -27,3 +30,12 @@ returns-clause-carried c =
       carried = c.in_ok-bytes.ensures.carried;
       read = subst (λ (bytes : List ℕ). IsDatagram q.router (forwarded q.router q.state) end.link bytes c.read-datagram.result) (c.as_slice.ensures.value ∙ c.in_ok-bytes.ensures.bytes_are) c.read-datagram.ensures;
     }
+
+pub returns-clause-carried : goal.returns-clause-carried
+returns-clause-carried c = carried c
+
+pub returns-clause-came : goal.returns-clause-came
+returns-clause-came c = λ closed.
+    let w = c.args.self.now in
+    let world : IsSoundWorld w = subst IsSoundWorld c.self.view_is c.self.invariant in
+    carried_true w c.args.number c.in-Some-end_of.end.router c.read-datagram.result (record { joined = world.world.joined; closed = closed }) (world.so closed) (carried c)

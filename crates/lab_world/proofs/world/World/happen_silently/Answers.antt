@@ -1,5 +1,5 @@
 -- A restart and a start make their step, or are left out.
-use Rattle.std.specs.Prelude.{◌≡◌, ◌<◌, [], ◌∷◌, List, Some, length, slice_get}
+use Rattle.std.specs.Prelude.{◌≡◌, ◌<◌, [], ◌∷◌, Some, length, slice_get}
 use Rattle.std.proofs.Common.{ap, refl, subst, sym, ◌∙◌}
 use Rattle.std.proofs.lemmas.List.{length-set}
 use Rattle.std.proofs.lemmas.Option.{slice_get_read}
@@ -8,8 +8,8 @@ use Rattle.abstract_router.specs.States.{RouterState}
 use Rattle.abstract_router.specs.Steps.{Step}
 use Rattle.abstract_world.specs.Worlds.{WorldState, stepped}
 use Rattle.router_core.proofs.Making.{made_same}
-use Rattle.lab_world.specs.Invariant.{IsWorld}
-use Rattle.lab_world.proofs.Keeping.{kept_world}
+use Rattle.lab_world.specs.Invariant.{IsSoundWorld}
+use Rattle.lab_world.proofs.Keeping.{kept_step, quiet_true}
 use Rattle.lab_world.proofs.Stepping.{gives_none, is_quiet, is_step, left_quiet, sends_none, stepped_quietly}
 use Rattle.lab_world.proofs.world.World.happen_silently.Goals as goal
 
@@ -43,11 +43,23 @@ make_at-requires-clause-ready c =
 pub invariant_of-self : goal.invariant_of-self
 invariant_of-self c =
     let inside = c.self.inside in
+    let place = c.args.place in
+    let event = c.args.event in
     let q = c.index.result.now in
-    let there : c.args.place < length inside.routers.items = subst (λ (w : WorldState). c.args.place < length w.routers) (sym c.self.view_is) c.requires.there in
-    let known : slice_get inside.routers.items c.args.place ≡ Some q = slice_get_read inside.routers.items (length inside.routers.items) c.args.place q refl there c.index.ensures in
+    let there : place < length inside.routers.items = subst (λ (w : WorldState). place < length w.routers) (sym c.self.view_is) c.requires.there in
+    let known : slice_get inside.routers.items place ≡ Some q = slice_get_read inside.routers.items (length inside.routers.items) place q refl there c.index.ensures in
     let now = c.make_at.ensures.made q known in
-    subst (λ (routers : List RouterState). IsWorld routers inside.joints.items) (sym now.1) (kept_world inside.routers.items inside.joints.items c.args.place q now.0 c.self.invariant known now.2)
+    let labels = c.make_at.result.0 in
+    let outputs = c.make_at.result.1 in
+    let made : Made = record { event = event; labels = labels; reply = c.reply-reply.result; outputs = outputs } in
+    let then : RouterState = record { router = q.router; state = now.0 } in
+    let same : _ ≡ made = made_same event c.in-Ok.ready labels c.reply-reply.result outputs (c.make_at.ensures.labels event) (c.reply-reply.ensures event) (c.make_at.ensures.outputs event) in
+    let step : Step q.router q.state made now.0 = subst (λ (m : Made). Step q.router q.state m now.0) same (now.3 event c.in-Ok.ensures.ready) in
+    let quiet = is_quiet q.router q.state event c.requires.silent in
+    let view : WorldState = record { routers = inside.routers.items; joints = inside.joints.items; frames = inside.frames.items; given = inside.given.items } in
+    let changed = (λ i. record { routers = now.1 i; joints = inside.joints.items; frames = inside.frames.items; given = inside.given.items })
+    ∙ stepped_quietly view place then made (sends_none q.router q.state made now.0 quiet step) (gives_none q.router q.state made now.0 quiet step) in
+    subst IsSoundWorld (sym changed) (kept_step view place q made now.0 c.self.invariant (quiet_true view place event c.requires.silent) known step now.2)
 
 pub returns-clause-happens : goal.returns-clause-happens
 returns-clause-happens c =

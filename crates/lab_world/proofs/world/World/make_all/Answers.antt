@@ -11,7 +11,7 @@ use Rattle.abstract_world.specs.declared.told.Told.{Told}
 use Rattle.lab_world.proofs.Moving.{moved_more}
 use Rattle.lab_world.proofs.Running.{moves_are_runs}
 use Rattle.lab_world.proofs.Stopping.{stops_at, stops_first}
-use Rattle.lab_world.proofs.world.World.run.Goals as goal
+use Rattle.lab_world.proofs.world.World.make_all.Goals as goal
 
 pub returns-in_err-told : goal.returns-in_err-told
 returns-in_err-told c =
