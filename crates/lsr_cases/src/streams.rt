@@ -1,8 +1,9 @@
 //! Inputs and outputs that fail or are too long, which no file can be.
 ghost use Rattle.std.specs.Prelude.{◌≡◌, ◌≤◌};
 
+use lsr_lines::{Answers, Ending, LiveEnding, Request, serve_lines, step_lines};
 use lsr_tool::{end, run_live, run_step, tell_unread_words};
-use std::alloc::Global;
+use std::alloc::{AllocError, Global};
 use std::io;
 use std::io::{ErrorKind, Read, Write};
 
@@ -12,6 +13,12 @@ const MAX_INPUT_LEN: u64 = 16_777_216;
 const LINES: &[u8] = b"restart\nstart\nno line\n";
 
 const ANSWERS: &[u8] = b"done\ndone\n";
+/// What is told of their third line first.
+const TOLD_BAD_LINE: &[u8] = b"bad line 3\n";
+/// Two lines that are answered, and the first answer.
+const GOOD_LINES: &str = "restart\nstart\n";
+
+const ONE_ANSWER: &[u8] = b"done\n";
 /// How many bytes of a text are UTF-8 that isn't all UTF-8: more than one read brings.
 const TEXT_LEN: u64 = 70_000;
 /// A byte that no UTF-8 has.
@@ -49,6 +56,59 @@ impl<'a> Read for Breaking<'a> {
             return Err(io::Error::from(ErrorKind::BrokenPipe));
         }
         self.left.read(room)
+    }
+}
+
+/// An input that gives one byte at a time, each at the second try: the first is interrupted.
+#[derive(Drop)]
+struct Interrupted<'a> {
+    left: &'a [u8],
+    is_tried: bool,
+}
+
+impl<'a> Read for Interrupted<'a> {
+    fn read(&mut self, room: &mut [u8]) -> io::Result<usize> {
+        self.is_tried = !self.is_tried;
+        if self.is_tried {
+            return Err(io::Error::from(ErrorKind::Interrupted));
+        }
+        let len = room.len().min(1);
+        self.left.read(&mut room[..len])
+    }
+}
+
+/// An output that takes all, and can't be flushed.
+#[derive(Drop)]
+struct Unflushed;
+
+impl Write for Unflushed {
+    fn write(&mut self, bytes: &[u8]) -> io::Result<usize> {
+        Ok(bytes.len())
+    }
+
+    fn flush(&mut self) -> io::Result<()> {
+        Err(io::Error::from(ErrorKind::BrokenPipe))
+    }
+}
+
+/// Who answers so many lines, and has no memory for an answer after them.
+#[derive(Drop)]
+struct Forgetful {
+    left: u32,
+}
+
+impl Answers for Forgetful {
+    ghost answers = { λ _ _ _ _. Unit {0} };
+
+    fn answer(self, alloc: Global, _request: &Request) -> (Forgetful, Result<String, AllocError>) {
+        let left = self.left;
+        if left == 0 {
+            return (self, Err(AllocError));
+        }
+        match format!(in alloc; "done\n") {
+            Ok(text) => (Forgetful { left: left - 1 }, Ok(text)),
+            Err(error) => (self, Err(error)),
+        }
     }
 }
 
@@ -127,6 +187,66 @@ fn is_stopped<R: Read>(
         &mut error,
     )?;
     Ok(status == 1 && output.as_slice() == printed && error.as_slice().starts_with(told))
+}
+
+/// Whether a run over the lines, which come by interrupted reads, ends as over lines that come at once.
+fn are_read_again(alloc: Global) -> io::Result<bool> {
+    let mut input = Interrupted {
+        left: LINES,
+        is_tried: false,
+    };
+    let mut output = Vec::new(alloc);
+    let mut error = Vec::new(alloc);
+    let status = run_step(
+        alloc,
+        crate::CONFIG,
+        crate::NO_CONFIG,
+        false,
+        &mut input,
+        &mut output,
+        &mut error,
+    )?;
+    Ok(status == 1 && output.as_slice() == ANSWERS && error.as_slice().starts_with(TOLD_BAD_LINE))
+}
+
+/// Whether a live run whose output can't be flushed fails.
+fn is_unflushed(alloc: Global) -> bool {
+    let mut lines = LINES;
+    let mut error = Vec::new(alloc);
+    run_live(
+        alloc,
+        crate::CONFIG,
+        crate::NO_CONFIG,
+        false,
+        &mut lines,
+        &mut Unflushed,
+        &mut error,
+    )
+    .is_err()
+}
+
+/// Whether lines, all at once, are answered up to the one for whose answer there is no memory.
+fn is_forgotten(alloc: Global) -> io::Result<bool> {
+    let mut output = Vec::new(alloc);
+    let ending = step_lines(alloc, Forgetful { left: 1 }, false, GOOD_LINES, &mut output)?;
+    Ok(ending == Ending::Memory && output.as_slice() == ONE_ANSWER)
+}
+
+/// Whether the same is so of lines that are answered as they come.
+fn is_forgotten_live(alloc: Global) -> io::Result<bool> {
+    let mut lines = GOOD_LINES.as_bytes();
+    let mut output = Vec::new(alloc);
+    let mut error = Vec::new(alloc);
+    let (ending, is_bad) = serve_lines(
+        alloc,
+        Forgetful { left: 1 },
+        false,
+        &mut lines,
+        &mut output,
+        &mut error,
+    )?;
+    let is_printed = output.as_slice() == ONE_ANSWER && error.is_empty();
+    Ok(ending == LiveEnding::Memory && !is_bad && is_printed)
 }
 
 /// Whether a run over the lines whose output takes so many bytes fails there.
@@ -210,6 +330,34 @@ fn tell_blocks(rt: &HostRuntime) -> io::Result<()> {
     )
 }
 
+/// Tells of reads that are interrupted, of an output that can't be flushed and of answers for which there is no memory whether the run ends
+/// as it should.
+fn tell_interrupted(rt: &HostRuntime) -> io::Result<()> {
+    let alloc = rt.alloc();
+    println!(rt;
+        "an interrupted input {}",
+        crate::word(are_read_again(alloc)?)
+    )?;
+    let mut live = Interrupted {
+        left: LINES,
+        is_tried: false,
+    };
+    let live = is_stopped(alloc, &mut live, ANSWERS, TOLD_BAD_LINE)?;
+    println!(rt; "an interrupted live input {}", crate::word(live))?;
+    println!(rt;
+        "an output that can't be flushed {}",
+        crate::word(is_unflushed(alloc))
+    )?;
+    println!(rt;
+        "an answer without memory {}",
+        crate::word(is_forgotten(alloc)?)
+    )?;
+    println!(rt;
+        "a live answer without memory {}",
+        crate::word(is_forgotten_live(alloc)?)
+    )
+}
+
 /// Tells of inputs that are no text whether the run ends as it should.
 fn tell_odd_inputs(rt: &HostRuntime) -> io::Result<()> {
     let alloc = rt.alloc();
@@ -254,5 +402,6 @@ pub fn tell_streams(rt: &HostRuntime) -> io::Result<()> {
     tell_live_streams(rt)?;
     tell_odd_inputs(rt)?;
     tell_blocks(rt)?;
+    tell_interrupted(rt)?;
     tell_ends(rt)
 }

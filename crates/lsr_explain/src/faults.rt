@@ -54,9 +54,9 @@ Memory
 /// means, in lines that begin with spaces. `N` stands for a number.
 pub const ENDINGS: &str = "\
 bad line N
-  Line N has none of the forms that `lsr step --help` tells. It stands after that, and the form
-  of lines that begin as it does. It ended the run; what the lines before it asked for is done.
-  With --live the run goes on.
+  Line N has none of the forms that `lsr step --help` tells, or of `lsr play` that `lsr play
+  --help` does. It stands after that, and the form of lines that begin as it does. It ended the
+  run; what the lines before it asked for is done. With --live the run goes on.
   What to do: fix the line, and run the whole again; with --live, write it again.
   See: README.md (A short tour)
 unreadable
@@ -67,6 +67,13 @@ unreadable
   `lsr step --live`.
   What to do: look at its name and its permissions; give it as text.
   See: docs/CONFIGURATION.md (Faults); docs/PROGRAM.md (`lsr decode`: what messages are made of)
+world FAULT
+  The routers and wires of the file that `lsr play` was given make no world. Routers: there is no
+  router, or there are more than 16. Joint I: wire I, counted from 1, names a link that its router
+  doesn't have, or one that is joined already. Memory: there is no memory for the routers.
+  What to do: give 1 to 16 routers; look at the numbers of that wire, and at the links of the
+  routers' configurations.
+  See: docs/PROGRAM.md (`lsr play`: a world of routers)
 damaged
   The capture file breaks at the byte that stands after that, and is no capture file where that is
   byte 0. What `lsr decode` printed is all that stands before that byte.

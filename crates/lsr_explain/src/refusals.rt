@@ -192,13 +192,13 @@ pub const REFUSALS: &str = "\
   What to do: of a router that you embed, feed events by the port that it was opened with.
   See: docs/PROGRAM.md (`lsr serve`: a router over sockets); docs/CRATES.md (To embed the router)
 50 NoFrame
-  No frame of this number was sent, or the link that it was sent over leads nowhere.
-  This version runs one router alone, and never says so.
-  What to do: name a frame by the number that stands before it, as `#1`.
-  See: docs/CRATES.md (Still to come)
+  Of `lsr play`: no frame of this number was sent, or no wire joins the link that it was sent over.
+  Nothing changed.
+  What to do: name a frame by the number that stands before it, as 1 for `#1`; join its link by a
+  line `wire NAME LINK NAME LINK`.
+  See: docs/PROGRAM.md (`lsr play`: a world of routers)
 51 NoRouter
-  No router has this name.
-  This version runs one router alone, and never says so.
-  What to do: name one that was declared.
-  See: docs/CRATES.md (Still to come)
+  Of `lsr play`: no router of the world has this name. Nothing changed.
+  What to do: name one that a line `router NAME FILE` declares.
+  See: docs/PROGRAM.md (`lsr play`: a world of routers)
 ";

@@ -3,21 +3,20 @@ use Rattle.std.proofs.Common.{◌≡◌, ℕ, List, [], ◌∷◌, true, false, 
 use Rattle.std.specs.Str.{IsUtf8}
 use Rattle.lsr_lines.specs.Forms.{form_in, is_form_of}
 use Rattle.line_streams.specs.Cuts.{lines_of}
-use Rattle.lsr_lines.specs.declared.forms.TheConstants.{FORMS, OTHER}
 
 -- What a word asks for is still among these lines.
-pub record IsLeft (word rest : List ℕ) : Type 0 where
-  pub same : form_in word (lines_of FORMS.now) ≡ form_in word (lines_of rest)
+pub record IsLeft (forms other word rest : List ℕ) : Type 0 where
+  pub same : form_in other word (lines_of forms) ≡ form_in other word (lines_of rest)
   pub utf8 : IsUtf8 rest
 
-pub form_none : (word : List ℕ) → form_in word [] ≡ OTHER.now
+pub form_none : (other word : List ℕ) → form_in other word [] ≡ other
 unfolding form_in
-form_none word = refl
+form_none other word = refl
 
-pub form_first : (word form : List ℕ) (forms : List (List ℕ)) → is_form_of form word ≡ true → form_in word (form ∷ forms) ≡ form
+pub form_first : (other word form : List ℕ) (forms : List (List ℕ)) → is_form_of form word ≡ true → form_in other word (form ∷ forms) ≡ form
 unfolding form_in
-form_first word form forms e = rw e refl
+form_first other word form forms e = rw e refl
 
-pub form_after : (word form : List ℕ) (forms : List (List ℕ)) → is_form_of form word ≡ false → form_in word (form ∷ forms) ≡ form_in word forms
+pub form_after : (other word form : List ℕ) (forms : List (List ℕ)) → is_form_of form word ≡ false → form_in other word (form ∷ forms) ≡ form_in other word forms
 unfolding form_in
-form_after word form forms e = rw e refl
+form_after other word form forms e = rw e refl

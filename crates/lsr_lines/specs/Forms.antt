@@ -14,21 +14,29 @@ is_first word (first ∷ words) = bytes_eq first word
 abbrev pub is_form_of : List ℕ → List ℕ → Bool
 is_form_of form word = is_first word (words_of form)
 
--- the first of the forms that begins with a word
-unfoldable pub form_in : List ℕ → List (List ℕ) → List ℕ
-form_in word [] = OTHER.now
-form_in word (form ∷ forms) = if is_form_of form word then form else form_in word forms
+-- the first of the forms that begins with a word, or another where none does
+unfoldable pub form_in : List ℕ → List ℕ → List (List ℕ) → List ℕ
+form_in other word [] = other
+form_in other word (form ∷ forms) = if is_form_of form word then form else form_in other word forms
 
--- the form of lines whose words begin as these do
-abbrev pub form_for : List (List ℕ) → List ℕ
-form_for [] = OTHER.now
-form_for (word ∷ words) = form_in word (lines_of FORMS.now)
+-- the form, among these, of lines whose words begin as these do
+abbrev pub form_for : List ℕ → List ℕ → List (List ℕ) → List ℕ
+form_for forms other [] = other
+form_for forms other (word ∷ words) = form_in other word (lines_of forms)
+
+-- the form, among these, that a line should have, by its first word
+abbrev pub form_among : List ℕ → List ℕ → List ℕ → List ℕ
+form_among forms other line = form_for forms other (words_of line)
 
 -- the form that a line should have, by its first word
 abbrev pub expected_form : List ℕ → List ℕ
-expected_form line = form_for (words_of line)
+expected_form line = form_among FORMS.now OTHER.now line
 
 -- a line that asks for nothing, and what was expected
+abbrev pub bad_form_text : ℕ → List ℕ → List ℕ → List ℕ
+bad_form_text number line form =
+    codes "bad line " ++ (decimal number ++ (codes "\n  " ++ (line ++ (codes "\n  expected " ++ (form ++ codes "\n")))))
+
+-- the same where the line is one of an operator's
 abbrev pub bad_line_text : ℕ → List ℕ → List ℕ
-bad_line_text number line =
-    codes "bad line " ++ (decimal number ++ (codes "\n  " ++ (line ++ (codes "\n  expected " ++ (expected_form line ++ codes "\n")))))
+bad_line_text number line = bad_form_text number line (expected_form line)

@@ -128,8 +128,8 @@ fn read_flags(digits: &str) -> Option<u8>
     }
 }
 
-/// Whether a carriage return is in the word.
-fn has_return(word: &str) -> bool
+/// Whether a carriage return is in the text.
+pub fn has_return(word: &str) -> bool
     ensures { result ≡ list_any (λ byte. byte == 13) word.now }
 {
     word.as_bytes().iter().any(|byte| *byte == b'\r')
@@ -400,7 +400,7 @@ fn change_tunnel(alloc: Global, left: Option<&str>) -> Result<Option<Command>, A
 
 /// What the line commands a router; none where it commands nothing. The only error is that there is no memory for a tunnel
 /// that the line brings.
-pub(crate) fn read_command(alloc: Global, line: &str) -> Result<Option<Command>, AllocError>
+pub fn read_command(alloc: Global, line: &str) -> Result<Option<Command>, AllocError>
     ensures command { IfOk result (Finds (SaysCommand (words_of line.now))) }
     ensures memory { OnErr result (BringsTunnel line.now) }
 {

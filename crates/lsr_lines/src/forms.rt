@@ -1,7 +1,7 @@
 //! Which form a line should have that asks for nothing.
 ghost use Rattle.std.specs.Prelude.{◌≡◌, OnOk};
 ghost use Rattle.std.specs.Io.KnownBytes.{Appends};
-ghost use Rattle.lsr_lines.specs.Forms.{bad_line_text, expected_form, form_in, is_form_of};
+ghost use Rattle.lsr_lines.specs.Forms.{bad_form_text, bad_line_text, expected_form, form_among, form_in, is_form_of};
 ghost use Rattle.line_streams.specs.Cuts.{lines_of};
 
 use crate::words::next_word;
@@ -43,34 +43,53 @@ fn is_form_of(form: &str, word: &str) -> bool
     }
 }
 
-/// The form of lines that begin with the word.
-fn form_for(word: &str) -> &'static str
-    ensures { result.now ≡ form_in word.now (lines_of FORMS.now) }
+/// The first of the forms, which stand one in each line, that begins with the word; `other` where none does.
+fn form_for(forms: &'static str, other: &'static str, word: &str) -> &'static str
+    ensures { result.now ≡ form_in other.now word.now (lines_of forms.now) }
 {
-    let mut rest = FORMS;
+    let mut rest = forms;
     while let Some((form, others)) = next_line(rest) {
         if is_form_of(form, word) {
             return form;
         }
         rest = others;
     }
-    OTHER
+    other
+}
+
+/// The form that the line should have, by its first word: the first of the forms, which stand one in each line, that begins
+/// with it, or `other` where none does.
+pub fn form_among(forms: &'static str, other: &'static str, line: &str) -> &'static str
+    ensures { result.now ≡ form_among forms.now other.now line.now }
+{
+    match next_word(Some(line)) {
+        Some((word, _)) => form_for(forms, other, word),
+        None => other,
+    }
 }
 
 /// The form that the line should have, by its first word.
 pub fn expected_form(line: &str) -> &'static str
     ensures { result.now ≡ expected_form line.now }
 {
-    match next_word(Some(line)) {
-        Some((word, _)) => form_for(word),
-        None => OTHER,
-    }
+    form_among(FORMS, OTHER, line)
+}
+
+/// Tells which line is bad, and the form that was expected. The error is the stream's.
+pub fn tell_bad_form<E: Write>(
+    error: &mut E,
+    number: usize,
+    line: &str,
+    form: &str,
+) -> io::Result<()>
+    ensures { OnOk result (Appends (E.contents error.old) (E.contents error.new) (bad_form_text number line.now form.now)) }
+{
+    write!(error, "bad line {number}\n  {line}\n  expected {form}\n")
 }
 
 /// Tells which line is bad, and what was expected. The error is the stream's.
 pub fn tell_bad_line<E: Write>(error: &mut E, number: usize, line: &str) -> io::Result<()>
     ensures { OnOk result (Appends (E.contents error.old) (E.contents error.new) (bad_line_text number line.now)) }
 {
-    let form = expected_form(line);
-    write!(error, "bad line {number}\n  {line}\n  expected {form}\n")
+    tell_bad_form(error, number, line, expected_form(line))
 }

@@ -12,8 +12,11 @@ mod step;
 mod words;
 
 pub use abstract_paths::Command;
-pub use forms::{expected_form, tell_bad_line};
+pub use commands::{has_return, read_command};
+pub use forms::{expected_form, form_among, tell_bad_form, tell_bad_line};
 pub use lines::{Arrival, Request, are_hex_digits, read_request};
 pub use live::{LiveEnding, serve_lines};
 pub use lsps::{LspName, SenderName, SessionName};
-pub use step::{Answers, Ending, step_lines};
+pub use numbers::{read_link, read_whole};
+pub use step::{Answers, Ending, is_remark, put_full, step_lines};
+pub use words::{next_two, next_word, only_word};

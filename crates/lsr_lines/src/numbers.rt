@@ -7,7 +7,7 @@ ghost use Rattle.lsr_lines.specs.Numbers.{NamesLink, NamesWhole, NamesUpTo};
 const SIGN: char = '+';
 
 /// The link that the word names: decimal digits, leading zeros taken, 1 to 65,535.
-pub(crate) fn read_link(digits: &str) -> Option<u16>
+pub fn read_link(digits: &str) -> Option<u16>
     ensures { MatchOption result ((link : ℕ) → ¬ NamesLink digits.now link) (NamesLink digits.now) }
 {
     if digits.starts_with(SIGN) {
@@ -21,7 +21,7 @@ pub(crate) fn read_link(digits: &str) -> Option<u16>
 }
 
 /// The number of 64 bits that the word names: decimal digits, leading zeros taken.
-pub(crate) fn read_whole(digits: &str) -> Option<u64>
+pub fn read_whole(digits: &str) -> Option<u64>
     ensures { MatchOption result ((number : ℕ) → ¬ NamesWhole digits.now number) (NamesWhole digits.now) }
 {
     if digits.starts_with(SIGN) {

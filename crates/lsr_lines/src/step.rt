@@ -49,7 +49,7 @@ pub(crate) enum LineOutcome {
 }
 
 /// Whether the line is a remark: it is empty, or begins with #.
-pub(crate) fn is_remark(line: &str) -> bool
+pub fn is_remark(line: &str) -> bool
     ensures { result ≡ is_remark line.now }
 {
     matches!(line.as_bytes(), [] | [b'#', ..])
@@ -104,7 +104,7 @@ pub(crate) fn step_line<A: Answers, W: Write>(
 }
 
 /// Writes the block, where it has [`BLOCK_LEN`] bytes or more: it is empty then. The error is the output's.
-fn put_full<W: Write>(block: &mut Vec<u8>, output: &mut W) -> io::Result<()>
+pub fn put_full<W: Write>(block: &mut Vec<u8>, output: &mut W) -> io::Result<()>
     ensures { OnOk result (Keeps (append_known (W.contents output.old) block.old.items) (append_known (W.contents output.new) block.new.items)) }
 {
     if block.len() < BLOCK_LEN {

@@ -175,6 +175,20 @@ abbrev pub summary_text : RouterState → List ℕ
 summary_text r =
     counts_text r.router r.state ++ (flat_map (room_text r.state) r.router.links ++ flat_map (share_text r.state) r.state.facts.bypasses)
 
+-- What a router shows for a request that asks for what it knows; no line for another request.
+abbrev pub Shows : RouterState → Request → List ℕ → Type 0
+Shows r requests.ShowPaths printed = printed ≡ paths_text r.state.facts.paths
+Shows r requests.ShowResvs printed = printed ≡ resvs_text r.state.resvs
+Shows r requests.ShowTable printed = PrintsTable r printed
+Shows r requests.ShowLabels printed = printed ≡ labels_text r.router r.state
+Shows r requests.ShowLinks printed = printed ≡ links_text r
+Shows r requests.ShowTunnels printed = printed ≡ tunnels_text r.state.facts.tunnels
+Shows r requests.ShowBypasses printed = printed ≡ bypasses_text r
+Shows r requests.ShowSummary printed = printed ≡ summary_text r
+Shows r (requests.ShowPath lsp) printed = printed ≡ path_lsp_text r.router r.state (key_of lsp)
+Shows r (requests.ShowResv lsp) printed = printed ≡ resv_lsp_text r.state (key_of lsp)
+Shows r request printed = printed ≡ []
+
 -- What is printed for a request, and what the session is then: the answer to an event, whose reply is the newest of
 -- the last ones, be it a command or not; what comes of a datagram, be it a labelled frame or not; or what the session
 -- shows of itself as it stands.
@@ -187,15 +201,5 @@ PrintsAnswer before (requests.LinkDown link) printed after = PrintsEvent before 
 PrintsAnswer before requests.Restart printed after = PrintsEvent before events.Restart printed after
 PrintsAnswer before requests.Start printed after = PrintsEvent before events.Start printed after
 PrintsAnswer before (requests.Command command) printed after = PrintsEvent before (events.Command command) printed after
-PrintsAnswer before requests.ShowPaths printed after = (printed ≡ paths_text before.router.state.facts.paths) × (after ≡ before)
-PrintsAnswer before requests.ShowResvs printed after = (printed ≡ resvs_text before.router.state.resvs) × (after ≡ before)
-PrintsAnswer before requests.ShowTable printed after = PrintsTable before.router printed × (after ≡ before)
-PrintsAnswer before requests.ShowLabels printed after = (printed ≡ labels_text before.router.router before.router.state) × (after ≡ before)
-PrintsAnswer before requests.ShowLinks printed after = (printed ≡ links_text before.router) × (after ≡ before)
-PrintsAnswer before requests.ShowTunnels printed after = (printed ≡ tunnels_text before.router.state.facts.tunnels) × (after ≡ before)
-PrintsAnswer before requests.ShowBypasses printed after = (printed ≡ bypasses_text before.router) × (after ≡ before)
 PrintsAnswer before requests.ShowRecent printed after = (printed ≡ replies_text before.recent) × (after ≡ before)
-PrintsAnswer before requests.ShowSummary printed after = (printed ≡ summary_text before.router) × (after ≡ before)
-PrintsAnswer before (requests.ShowPath lsp) printed after =
-    (printed ≡ path_lsp_text before.router.router before.router.state (key_of lsp)) × (after ≡ before)
-PrintsAnswer before (requests.ShowResv lsp) printed after = (printed ≡ resv_lsp_text before.router.state (key_of lsp)) × (after ≡ before)
+PrintsAnswer before request printed after = Shows before.router request printed × (after ≡ before)

@@ -7,3 +7,4 @@ mod shown;
 
 pub use requests::Session;
 pub use router_core::Machine;
+pub use shown::show;

@@ -6,10 +6,7 @@ ghost use Rattle.abstract_paths.specs.declared.events.Event.TheVariants as event
 ghost use Rattle.lsr_session.specs.Requests.{PrintsAnswer, PrintsArrival, PrintsDatagram, PrintsEvent, remembered, reply_of, served_text};
 
 use crate::passing::passed_text;
-use crate::shown::{
-    show_bypasses, show_labels, show_links, show_path, show_paths, show_resv, show_resvs,
-    show_summary, show_table, show_tunnels,
-};
+use crate::shown::show;
 use abstract_paths::{Command, Event, KIND_HOP, Made};
 use circular_buffer::HeapCircularBuffer;
 use lsr_facts::{Refusal, Reply};
@@ -77,17 +74,17 @@ fn answer(alloc: Global, session: &mut Session, request: &Request) -> Result<Str
         Request::Restart => answer_event(alloc, session, Event::Restart),
         Request::Start => answer_event(alloc, session, Event::Start),
         Request::Command(command) => answer_command(alloc, session, command),
-        Request::ShowPaths => show_paths(alloc, &session.router),
-        Request::ShowResvs => show_resvs(alloc, &session.router),
-        Request::ShowTable => show_table(alloc, &session.router),
-        Request::ShowLabels => show_labels(alloc, &session.router),
-        Request::ShowLinks => show_links(alloc, &session.router),
-        Request::ShowTunnels => show_tunnels(alloc, &session.router),
-        Request::ShowBypasses => show_bypasses(alloc, &session.router),
         Request::ShowRecent => show_recent(alloc, session),
-        Request::ShowSummary => show_summary(alloc, &session.router),
-        Request::ShowPath(lsp) => show_path(alloc, &session.router, lsp),
-        Request::ShowResv(lsp) => show_resv(alloc, &session.router, lsp),
+        Request::ShowPaths
+        | Request::ShowResvs
+        | Request::ShowTable
+        | Request::ShowLabels
+        | Request::ShowLinks
+        | Request::ShowTunnels
+        | Request::ShowBypasses
+        | Request::ShowSummary
+        | Request::ShowPath(_)
+        | Request::ShowResv(_) => show(alloc, &session.router, request),
     }
 }
 

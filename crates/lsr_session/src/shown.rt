@@ -6,11 +6,11 @@ ghost use Rattle.lsr_text.specs.Lsps.{path_lsp_text, resv_lsp_text};
 ghost use Rattle.lsr_text.specs.Rows.{resvs_text};
 ghost use Rattle.lsr_text.specs.Shown.{paths_text};
 ghost use Rattle.lsr_text.specs.Tunnels.{tunnels_text};
-ghost use Rattle.lsr_session.specs.Requests.{PrintsTable, bypass_text, bypasses_text, head_text, heads_text, key_of, link_text, links_text, room_text, share_text, summary_text, sums_of};
+ghost use Rattle.lsr_session.specs.Requests.{PrintsTable, Shows, bypass_text, bypasses_text, head_text, heads_text, key_of, link_text, links_text, room_text, share_text, summary_text, sums_of};
 
 use explicit_routes::is_up;
 use lsr_facts::{Assignment, Bypass, Key, Link, Repair, State, Tunnel, WORST_PRIORITY};
-use lsr_lines::LspName;
+use lsr_lines::{LspName, Request};
 use lsr_text::{
     PRIORITIES, labels_text, path_lsp_text, paths_text, push_assigned_bypass, push_bypass,
     push_counts, push_head, push_link, push_reserved_link, resv_lsp_text, resvs_text, table_text,
@@ -21,7 +21,7 @@ use rsvp_contents::{Session, Template};
 use std::alloc::{AllocError, Global};
 
 /// The lines of the paths that the router knows. The only error is that memory ran out.
-pub(crate) fn show_paths(alloc: Global, router: &Machine) -> Result<String, AllocError>
+fn show_paths(alloc: Global, router: &Machine) -> Result<String, AllocError>
     ensures { IfOk result (λ text. string_bytes text ≡ paths_text router.now.state.facts.paths) }
 {
     let state = router.export(alloc)?;
@@ -29,7 +29,7 @@ pub(crate) fn show_paths(alloc: Global, router: &Machine) -> Result<String, Allo
 }
 
 /// The lines of the reservations that stand. The only error is that memory ran out.
-pub(crate) fn show_resvs(alloc: Global, router: &Machine) -> Result<String, AllocError>
+fn show_resvs(alloc: Global, router: &Machine) -> Result<String, AllocError>
     ensures { IfOk result (λ text. string_bytes text ≡ resvs_text router.now.state.resvs) }
 {
     let state = router.export(alloc)?;
@@ -67,7 +67,7 @@ fn push_heads(
 }
 
 /// The lines of the label table, those of labels and then those of tunnels. The only error is that memory ran out.
-pub(crate) fn show_table(alloc: Global, router: &Machine) -> Result<String, AllocError>
+fn show_table(alloc: Global, router: &Machine) -> Result<String, AllocError>
     ensures { IfOk result (λ text. PrintsTable router.now (string_bytes text)) }
 {
     let actions = router.actions(alloc)?;
@@ -79,7 +79,7 @@ pub(crate) fn show_table(alloc: Global, router: &Machine) -> Result<String, Allo
 
 /// The lines of the labels that LSPs hold and of those that rest, and how many are free. The only error is that memory ran
 /// out.
-pub(crate) fn show_labels(alloc: Global, router: &Machine) -> Result<String, AllocError>
+fn show_labels(alloc: Global, router: &Machine) -> Result<String, AllocError>
     ensures { IfOk result (λ text. string_bytes text ≡ labels_text router.now.router router.now.state) }
 {
     let state = router.export(alloc)?;
@@ -87,7 +87,7 @@ pub(crate) fn show_labels(alloc: Global, router: &Machine) -> Result<String, All
 }
 
 /// The lines of the tunnels that begin at the router. The only error is that memory ran out.
-pub(crate) fn show_tunnels(alloc: Global, router: &Machine) -> Result<String, AllocError>
+fn show_tunnels(alloc: Global, router: &Machine) -> Result<String, AllocError>
     ensures { IfOk result (λ text. string_bytes text ≡ tunnels_text router.now.state.facts.tunnels) }
 {
     let state = router.export(alloc)?;
@@ -147,7 +147,7 @@ fn push_bypass_of(
 }
 
 /// The lines of the bypasses that the router has, in the order of their numbers. The only error is that memory ran out.
-pub(crate) fn show_bypasses(alloc: Global, router: &Machine) -> Result<String, AllocError>
+fn show_bypasses(alloc: Global, router: &Machine) -> Result<String, AllocError>
     ensures { IfOk result (λ text. string_bytes text ≡ bypasses_text router.now) }
 {
     router.soundness();
@@ -191,7 +191,7 @@ fn push_link_of(
 }
 
 /// The lines of the links that the router has, in the order of their numbers. The only error is that memory ran out.
-pub(crate) fn show_links(alloc: Global, router: &Machine) -> Result<String, AllocError>
+fn show_links(alloc: Global, router: &Machine) -> Result<String, AllocError>
     ensures { IfOk result (λ text. string_bytes text ≡ links_text router.now) }
 {
     let state = router.export(alloc)?;
@@ -220,11 +220,7 @@ fn key_of(lsp: &LspName) -> Key
 }
 
 /// All that the router knows of the path of an LSP: nothing where there is no path. The only error is that memory ran out.
-pub(crate) fn show_path(
-    alloc: Global,
-    router: &Machine,
-    lsp: &LspName,
-) -> Result<String, AllocError>
+fn show_path(alloc: Global, router: &Machine, lsp: &LspName) -> Result<String, AllocError>
     ensures { IfOk result (λ text. string_bytes text ≡ path_lsp_text router.now.router router.now.state (key_of lsp.now)) }
 {
     let state = router.export(alloc)?;
@@ -233,11 +229,7 @@ pub(crate) fn show_path(
 
 /// All that the router knows of the reservation of an LSP, or of the one that it is repaired for: nothing where there is
 /// none. The only error is that memory ran out.
-pub(crate) fn show_resv(
-    alloc: Global,
-    router: &Machine,
-    lsp: &LspName,
-) -> Result<String, AllocError>
+fn show_resv(alloc: Global, router: &Machine, lsp: &LspName) -> Result<String, AllocError>
     ensures { IfOk result (λ text. string_bytes text ≡ resv_lsp_text router.now.state (key_of lsp.now)) }
 {
     let state = router.export(alloc)?;
@@ -292,7 +284,7 @@ fn push_shares(router: &Machine, state: &State, text: &mut String) -> Result<(),
 }
 
 /// How much there is of everything, and how much there may be. The only error is that memory ran out.
-pub(crate) fn show_summary(alloc: Global, router: &Machine) -> Result<String, AllocError>
+fn show_summary(alloc: Global, router: &Machine) -> Result<String, AllocError>
     ensures { IfOk result (λ text. string_bytes text ≡ summary_text router.now) }
 {
     let state = router.export(alloc)?;
@@ -301,4 +293,24 @@ pub(crate) fn show_summary(alloc: Global, router: &Machine) -> Result<String, Al
     push_rooms(router, &mut text)?;
     push_shares(router, &state, &mut text)?;
     Ok(text)
+}
+
+/// The lines that the router shows for a request that asks for what it knows; none for another request. The only error is that
+/// memory ran out.
+pub fn show(alloc: Global, router: &Machine, request: &Request) -> Result<String, AllocError>
+    ensures { IfOk result (λ text. Shows router.now request.now (string_bytes text)) }
+{
+    match request {
+        Request::ShowPaths => show_paths(alloc, router),
+        Request::ShowResvs => show_resvs(alloc, router),
+        Request::ShowTable => show_table(alloc, router),
+        Request::ShowLabels => show_labels(alloc, router),
+        Request::ShowLinks => show_links(alloc, router),
+        Request::ShowTunnels => show_tunnels(alloc, router),
+        Request::ShowBypasses => show_bypasses(alloc, router),
+        Request::ShowSummary => show_summary(alloc, router),
+        Request::ShowPath(lsp) => show_path(alloc, router, lsp),
+        Request::ShowResv(lsp) => show_resv(alloc, router, lsp),
+        _ => Ok(String::new(alloc)),
+    }
 }

@@ -1,3 +1,4 @@
 mod Living
 mod Sessions
 mod Printing
+mod Worlds

@@ -1,5 +1,5 @@
 -- What is done of what the words ask for, and the status of words that aren't taken.
-use Rattle.std.specs.Prelude.{◌≡◌, ◌⊎◌, ℕ, List, [], Option, true, false}
+use Rattle.std.specs.Prelude.{◌≡◌, ◌≤◌, ◌⊎◌, ℕ, List, [], Option, true, false}
 use Rattle.std.specs.Option.{option_map}
 use Rattle.std.specs.Io.KnownBytes.{Appends}
 use Rattle.clap.specs.Words.{IsAmong, fault_of}
@@ -10,7 +10,6 @@ use Rattle.lsr_explain.specs.Topics.{Explains}
 use Rattle.lsr_explain.specs.declared.explaining.Answer.{Answer}
 use Rattle.line_streams.specs.Texts.{Stream}
 use Rattle.line_streams.specs.declared.input.InputFault.{InputFault}
-use Rattle.lsr_serve.specs.Told.{Serves}
 use Rattle.lsr_words.specs.Words.{AsksFor, lsr_words}
 use Rattle.lsr_words.specs.declared.words.Asked.{Asked}
 use Rattle.lsr_words.specs.declared.words.Asked.TheVariants as asked
@@ -18,6 +17,8 @@ use Rattle.lsr_tool.specs.Configuring.{Configures}
 use Rattle.lsr_tool.specs.Decoding.{DecodesAny}
 use Rattle.lsr_tool.specs.Endings.{ending_text, status_of}
 use Rattle.lsr_tool.specs.Live.{RunsLive}
+use Rattle.lsr_tool.specs.Playing.{PlaysFile}
+use Rattle.lsr_tool.specs.Serving.{ServesFile}
 use Rattle.lsr_tool.specs.Sessions.{StepsOnFile, name_of}
 use Rattle.lsr_tool.specs.declared.endings.RunEnding.{RunEnding}
 
@@ -25,7 +26,8 @@ use Rattle.lsr_tool.specs.declared.endings.RunEnding.{RunEnding}
 -- the built-in router, which answers lines as they come, or once all have come; or the configuration of such a router is printed; or a word, the lines of the input or a capture file are decoded; or a
 -- word is explained. What is printed and told stands after what the streams held. The input was the first stream, and is the other now: to
 -- print a configuration and to explain a word it isn't read.
--- Or links are served: the input isn't read, and 0 is the status of one run alone, of which it was printed.
+-- Or the links of the router of the file that is named are served: the input isn't read, and 0 is the status of one run of that router alone, of
+-- which it was printed. Or the world of a file is played; the input isn't read then either.
 abbrev pub Does : {F : Type 0} → (List ℕ → F → Type 0) → (List ℕ → InputFault → Type 0) → (F → Stream) → Asked → Stream → Stream → Option (List ℕ) → Option (List ℕ) → Option (List ℕ) → Option (List ℕ) → ℕ → Type 0
 Does opens fails stream (asked.Step file echo true) input left output printed error told status =
     RunsLive opens fails stream echo (option_map (λ f. f.now) file) input left output printed error told status
@@ -39,7 +41,11 @@ Does opens fails stream (asked.Decode word fields) input left output printed err
 Does opens fails stream (asked.Explain word) input left output printed error told status =
     (answer : Answer) × (text : List ℕ) × Explains word.now answer × (status ≡ answer_status answer) × (left ≡ input)
     × Appends output printed (shown_text answer) × IsTold word.now answer text × Appends error told text
-Does opens fails stream (asked.Serve file turns) input left output printed error told status = (left ≡ input) × Serves output printed status
+Does opens fails stream (asked.Serve file turns) input left output printed error told status =
+    (left ≡ input) × ServesFile opens stream file.now (option_map (λ w. w.now) turns) output printed status
+Does opens fails stream (asked.Play file false) input left output printed error told status =
+    (left ≡ input) × PlaysFile opens fails stream file.now output printed error told status
+Does opens fails stream (asked.Play file true) input left output printed error told status = (left ≡ input) × (status ≤ 1)
 
 -- The status of words that aren't taken: 0 for help, 1 where memory ran out, else 2.
 abbrev pub words_status : ErrorKind → ℕ

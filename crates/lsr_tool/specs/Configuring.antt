@@ -1,16 +1,15 @@
 -- What `lsr config` prints, and how it ends.
-use Rattle.std.specs.Prelude.{◌≡◌, ◌⊎◌, ℕ, List, [], Option, Some, None, Ok}
+use Rattle.std.specs.Prelude.{◌≡◌, ◌≢◌, ◌⊎◌, ℕ, List, [], Option, Some, None, Ok}
 use Rattle.std.specs.Io.KnownBytes.{Appends}
-use Rattle.std.specs.Ordering.{nat_cmp}
 use Rattle.config_text.specs.Printing.{config_text}
 use Rattle.lsr_config.specs.Configs.{Setup}
-use Rattle.lsr_config.specs.Documents.{SaysTable, records}
-use Rattle.lsr_config.specs.Reading.{IsOfDocument, IsRead}
-use Rattle.lsr_config.specs.declared.key.Key.TheVariants as key
+use Rattle.lsr_config.specs.Reading.{IsRead}
+use Rattle.lsr_config.specs.declared.fault.ConfigFault.{ConfigFault}
+use Rattle.lsr_config.specs.declared.fault.ConfigFault.TheVariants as fault
 use Rattle.line_streams.specs.Texts.{Stream}
 use Rattle.line_streams.specs.declared.input.InputFault.{InputFault}
 use Rattle.lsr_lines.specs.declared.step.Ending.TheVariants as lines
-use Rattle.lsr_serve.specs.Sockets.{SaysSockets}
+use Rattle.lsr_serve.specs.Sockets.{GivesSockets, LacksSockets}
 use Rattle.lsr_config.specs.declared.sockets.LinkSockets.{LinkSockets}
 use Rattle.lsr_tool.specs.Endings.{ending_text, status_of}
 use Rattle.lsr_tool.specs.Sessions.{IsConfigText, IsMisconfigured, IsUnreadConfig, name_of}
@@ -19,9 +18,10 @@ use Rattle.lsr_tool.specs.declared.endings.RunEnding.{RunEnding}
 use Rattle.lsr_tool.specs.declared.endings.RunEnding.TheVariants as endings
 
 -- The text gives its links these socket addresses, in the order of their numbers. There are none where it doesn't give each
--- link both.
+-- link both, for this fault.
 abbrev pub GivesAddresses : List ℕ → List (ℕ × LinkSockets) → Type 0
-GivesAddresses text rows = (rows ≡ []) ⊎ IsOfDocument text (λ document. SaysTable nat_cmp SaysSockets (records key.Link document) rows)
+GivesAddresses text rows =
+    ((rows ≡ []) × ((f : ConfigFault) × (f ≢ fault.Memory) × LacksSockets text f)) ⊎ GivesSockets text rows
 
 -- what is printed of a text that says a configuration
 abbrev pub Prints : List ℕ → List ℕ → Type 0

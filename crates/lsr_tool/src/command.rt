@@ -12,6 +12,7 @@ use crate::decoding::run_decode_on;
 use crate::endings::FAILED;
 use crate::files::{FilesByName, SystemFiles};
 use crate::live::run_live_of;
+use crate::playing::{run_lab_of, run_play_of};
 use crate::serving::{BAD_WORDS, run_serve_of};
 use crate::session::run_step_of;
 use clap::error::{Error, ErrorKind};
@@ -103,6 +104,8 @@ pub fn run_asked<
         Asked::Serve { file, turns } => {
             run_serve_of(files, rt, alloc, file, turns, output, error)
         }
+        Asked::Play { file, lab: false } => run_play_of(files, alloc, file, output, error),
+        Asked::Play { file, lab: true } => run_lab_of(files, alloc, file, output, error),
     }
 }
 

@@ -1,8 +1,9 @@
 //! `lsr config` on the configuration of a file, or on the built-in one.
 ghost use Rattle.std.specs.Option.{option_map};
-ghost use Rattle.std.specs.Prelude.{◌≡◌, ℕ, List, [], Option, IfOk, IfErr};
+ghost use Rattle.std.specs.Prelude.{◌≡◌, ◌↔◌, ℕ, List, [], Option, IfOk, IfErr, IsTrue};
 ghost use Rattle.std.specs.Io.KnownBytes.{Appends};
 ghost use Rattle.line_streams.specs.Texts.{Stream};
+ghost use Rattle.lsr_config.specs.declared.fault.ConfigFault.TheVariants.{Memory};
 ghost use Rattle.lsr_tool.specs.declared.endings.RunEnding.{RunEnding};
 ghost use Rattle.lsr_tool.specs.Configuring.{Configures, GivesAddresses, Prints, PrintsConfig, done};
 ghost use Rattle.lsr_tool.specs.Endings.{ending_text, status_of};
@@ -19,16 +20,26 @@ use std::alloc::{AllocError, Global};
 use std::io;
 use std::io::Write;
 
+/// Whether memory ran out.
+fn is_memory(fault: &ConfigFault) -> bool
+    ensures { IsTrue result ↔ (fault.now ≡ Memory) }
+{
+    matches!(fault, ConfigFault::Memory)
+}
+
 /// The socket addresses that a configuration's text gives its links, or none where it doesn't give each link both. The only
 /// error is that memory ran out.
 fn read_addresses(alloc: Global, text: &str) -> Result<Vec<(u16, LinkSockets)>, AllocError>
     ensures { IfOk result (λ rows. GivesAddresses text.now rows.items) }
 {
-    match read_sockets(alloc, text) {
-        Ok(sockets) => Ok(sockets.into_rows()),
-        Err(ConfigFault::Memory) => Err(AllocError),
-        Err(_) => Ok(Vec::new(alloc)),
+    let fault = match read_sockets(alloc, text) {
+        Ok(sockets) => return Ok(sockets.into_rows()),
+        Err(fault) => fault,
+    };
+    if is_memory(&fault) {
+        return Err(AllocError);
     }
+    Ok(Vec::new(alloc))
 }
 
 /// What is printed of the configuration that the text says; or how a run ends that prints nothing of it.

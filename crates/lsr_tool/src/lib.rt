@@ -7,6 +7,7 @@ mod decoding;
 mod endings;
 mod files;
 mod live;
+mod playing;
 mod serving;
 mod session;
 
@@ -17,5 +18,6 @@ pub use endings::{RunEnding, Source};
 pub use files::{FilesByName, SystemFiles};
 pub use live::{run_live, run_live_of};
 pub use lsr_decode::run_decode;
+pub use playing::{run_lab_of, run_play_of};
 pub use serving::run_serve_of;
 pub use session::{run_step, run_step_of};

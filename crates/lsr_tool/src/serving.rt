@@ -1,7 +1,9 @@
 //! `lsr serve` on the router of a configuration.
-ghost use Rattle.std.specs.Prelude.{◌≡◌, ◌<◌, length, IfOk, IfErr};
-ghost use Rattle.lsr_serve.specs.Told.{Serves};
+ghost use Rattle.std.specs.Option.{option_map};
+ghost use Rattle.std.specs.Prelude.{◌≡◌, ◌<◌, ℕ, List, length, IfOk, IfErr};
+ghost use Rattle.line_streams.specs.Texts.{IsTextOf};
 ghost use Rattle.lsr_tool.specs.Endings.{status_of};
+ghost use Rattle.lsr_tool.specs.Serving.{SaysRun, ServesFile};
 
 use crate::endings::{RunEnding, Source, status_of, tell_ending};
 use crate::files::FilesByName;
@@ -9,7 +11,7 @@ use crate::session::misconfigured;
 use config_text::link_without;
 use line_streams::read_text;
 use lsr_config::Config;
-use lsr_serve::{LinkSockets, read_sockets, read_turns, serve_links};
+use lsr_serve::{LinkSockets, SegmentCount, read_sockets, read_turns, serve_links};
 use sorted_rows::Table;
 use std::alloc::Global;
 use std::io;
@@ -29,6 +31,7 @@ fn configured<'a>(
     alloc: Global,
     text: &str,
 ) -> Result<(Config, Table<u16, LinkSockets>), RunEnding<'a>>
+    ensures said { IfOk result (λ ready. SaysRun text.now ready.0 ready.1) }
     ensures few { IfOk result (λ ready. length ready.1 < 64) }
     ensures fault { IfErr result (λ ending. status_of ending ≡ 1) }
 {
@@ -51,6 +54,8 @@ fn read_served<'a, F: FilesByName>(
     alloc: Global,
     file: &str,
 ) -> Result<(Config, Table<u16, LinkSockets>), RunEnding<'a>>
+    ensures said { IfOk result (λ ready. (opened : F.File) × (text : List ℕ) × F.opens files.now file.now opened
+        × IsTextOf (F.File.stream opened) text × SaysRun text ready.0 ready.1) }
     ensures few { IfOk result (λ ready. length ready.1 < 64) }
     ensures fault { IfErr result (λ ending. status_of ending ≡ 1) }
 {
@@ -65,7 +70,7 @@ fn read_served<'a, F: FilesByName>(
 }
 
 /// `lsr serve FILE [--turns N]`: the links of the router of the file of this name are served by `rt`, so many turns each, or
-/// without a number 1,000. Prints whether what was told is one run, tells on the error stream why it didn't begin, and gives the status:
+/// without a number 1,000. The journal isn't kept. Prints whether what was told is one run, tells on the error stream why it didn't begin, and gives the status:
 /// 0, 1, or 2 where the word is no number of turns. The error is that a stream could not be written.
 pub fn run_serve_of<
     F: FilesByName,
@@ -81,14 +86,18 @@ pub fn run_serve_of<
     output: &mut W,
     error: &mut E,
 ) -> io::Result<u8>
-    ensures { IfOk result (Serves (W.contents output.old) (W.contents output.new)) }
+    ensures { IfOk result (ServesFile (F.opens files.now) F.File.stream file.now (option_map (λ w. w.now) turns.entry)
+        (W.contents output.old) (W.contents output.new)) }
 {
     let Some(turns) = read_turns(turns) else {
         error.write_all(BAD_TURNS.as_bytes())?;
         return Ok(BAD_WORDS);
     };
     match read_served(files, alloc, file) {
-        Ok((config, links)) => serve_links(rt, alloc, config, &links, turns, output, error),
+        Ok((config, links)) => {
+            let mut count = SegmentCount::new();
+            serve_links(rt, alloc, config, &links, turns, &mut count, output, error)
+        }
         Err(ending) => {
             tell_ending(error, file, &ending)?;
             Ok(status_of(&ending))

@@ -52,6 +52,9 @@ no_word found name given e d none (asked.Explain word) (command, values, f, (is,
 no_word found name given e d none (asked.Serve file turns) (command, values, f, (is, text, count)) =
     let word : codes "decode" ≡ codes "serve" = sym d ∙ same_command name command given values (sym e ∙ f) ∙ is in
     absurd (omega (arith, ap (λ (l : List ℕ). get_or l 0 0) word))
+no_word found name given e d none (asked.Play file lab) (command, values, f, (is, text, said)) =
+    let word : codes "decode" ≡ codes "play" = sym d ∙ same_command name command given values (sym e ∙ f) ∙ is in
+    absurd (omega (arith, ap (λ (l : List ℕ). get_or l 0 0) word))
 
 pub no_topic : (found : Option (Text × List Row)) (name : Text) (given : List Row) → found ≡ Some (name, given) → name ≡ codes "explain" → first_of (codes "WHAT") given ≡ None → (other : Asked) → AsksIn found other → ⊥
 no_topic found name given e d none (asked.Step file echo live) (command, values, f, (is, text, said, kept)) =
@@ -68,6 +71,9 @@ no_topic found name given e d none (asked.Explain word) (command, values, f, (is
 no_topic found name given e d none (asked.Serve file turns) (command, values, f, (is, text, count)) =
     let word : codes "explain" ≡ codes "serve" = sym d ∙ same_command name command given values (sym e ∙ f) ∙ is in
     absurd (omega (arith, ap (λ (l : List ℕ). get_or l 0 0) word))
+no_topic found name given e d none (asked.Play file lab) (command, values, f, (is, text, said)) =
+    let word : codes "explain" ≡ codes "play" = sym d ∙ same_command name command given values (sym e ∙ f) ∙ is in
+    absurd (omega (arith, ap (λ (l : List ℕ). get_or l 0 0) word))
 
 pub no_file : (found : Option (Text × List Row)) (name : Text) (given : List Row) → found ≡ Some (name, given) → name ≡ codes "serve" → first_of (codes "FILE") given ≡ None → (other : Asked) → AsksIn found other → ⊥
 no_file found name given e d none (asked.Step file echo live) (command, values, f, (is, text, said, kept)) =
@@ -83,6 +89,28 @@ no_file found name given e d none (asked.Explain word) (command, values, f, (is,
     let word : codes "serve" ≡ codes "explain" = sym d ∙ same_command name command given values (sym e ∙ f) ∙ is in
     absurd (omega (arith, ap (λ (l : List ℕ). get_or l 0 0) word))
 no_file found name given e d none (asked.Serve file turns) (command, values, f, (is, text, count)) =
+    let t = sym none ∙ ap (first_of (codes "FILE")) (same_values name command given values (sym e ∙ f)) ∙ text in cc
+no_file found name given e d none (asked.Play file lab) (command, values, f, (is, text, said)) =
+    let word : codes "serve" ≡ codes "play" = sym d ∙ same_command name command given values (sym e ∙ f) ∙ is in
+    absurd (omega (arith, ap (λ (l : List ℕ). get_or l 0 0) word))
+
+pub no_world : (found : Option (Text × List Row)) (name : Text) (given : List Row) → found ≡ Some (name, given) → name ≡ codes "play" → first_of (codes "FILE") given ≡ None → (other : Asked) → AsksIn found other → ⊥
+no_world found name given e d none (asked.Step file echo live) (command, values, f, (is, text, said, kept)) =
+    let word : codes "play" ≡ codes "step" = sym d ∙ same_command name command given values (sym e ∙ f) ∙ is in
+    absurd (omega (arith, ap (λ (l : List ℕ). get_or l 0 0) word))
+no_world found name given e d none (asked.Config file) (command, values, f, (is, text)) =
+    let word : codes "play" ≡ codes "config" = sym d ∙ same_command name command given values (sym e ∙ f) ∙ is in
+    absurd (omega (arith, ap (λ (l : List ℕ). get_or l 0 0) word))
+no_world found name given e d none (asked.Decode word fields) (command, values, f, (is, text, said)) =
+    let word : codes "play" ≡ codes "decode" = sym d ∙ same_command name command given values (sym e ∙ f) ∙ is in
+    absurd (omega (arith, ap (λ (l : List ℕ). get_or l 0 0) word))
+no_world found name given e d none (asked.Explain word) (command, values, f, (is, text)) =
+    let word : codes "play" ≡ codes "explain" = sym d ∙ same_command name command given values (sym e ∙ f) ∙ is in
+    absurd (omega (arith, ap (λ (l : List ℕ). get_or l 0 0) word))
+no_world found name given e d none (asked.Serve file turns) (command, values, f, (is, text, count)) =
+    let word : codes "play" ≡ codes "serve" = sym d ∙ same_command name command given values (sym e ∙ f) ∙ is in
+    absurd (omega (arith, ap (λ (l : List ℕ). get_or l 0 0) word))
+no_world found name given e d none (asked.Play file lab) (command, values, f, (is, text, said)) =
     let t = sym none ∙ ap (first_of (codes "FILE")) (same_values name command given values (sym e ∙ f)) ∙ text in cc
 
 -- what a command asks for is what was found, where it asks for anything

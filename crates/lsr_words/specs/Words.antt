@@ -62,15 +62,27 @@ turns_words = record (new_rule (codes "turns")) { long = Some (codes "turns"); v
 abbrev pub serve_words : App
 serve_words = with_rule (with_rule (new_app (codes "serve")) served_word) turns_words
 
+-- `FILE`
+abbrev pub played_word : Rule
+played_word = record (new_rule (codes "FILE")) { required = true }
+
+-- `--lab`
+abbrev pub lab_word : Rule
+lab_word = record (new_rule (codes "lab")) { long = Some (codes "lab"); action = Some SetTrue }
+
+-- `play FILE [--lab]`
+abbrev pub play_words : App
+play_words = with_rule (with_rule (new_app (codes "play")) played_word) lab_word
+
 -- the program's name; a command has to follow, or `--version`
 abbrev pub program_words : App
 program_words = on_top (λ top. record top { has_version = true; subcommand_required = true; arg_required_else_help = true }) (new_app (codes "lsr"))
 
--- the program's name, and one of the five
+-- the program's name, and one of the six
 abbrev pub lsr_words : App
 lsr_words =
-    with_subcommand (with_subcommand (with_subcommand (with_subcommand (with_subcommand program_words
-    step_words.top) config_words.top) decode_words.top) explain_words.top) serve_words.top
+    with_subcommand (with_subcommand (with_subcommand (with_subcommand (with_subcommand (with_subcommand program_words
+    step_words.top) config_words.top) decode_words.top) explain_words.top) serve_words.top) play_words.top
 
 -- whether an option without a value is given: what was found of it is `true`
 abbrev pub is_given : Option (List ℕ) → Bool
@@ -88,6 +100,8 @@ Asks command given (asked.Decode word fields) =
 Asks command given (asked.Explain word) = (command ≡ codes "explain") × (first_of (codes "WHAT") given ≡ Some word.now)
 Asks command given (asked.Serve file turns) =
     (command ≡ codes "serve") × (first_of (codes "FILE") given ≡ Some file.now) × (option_map (λ n. n.now) turns ≡ first_of (codes "turns") given)
+Asks command given (asked.Play file lab) =
+    (command ≡ codes "play") × (first_of (codes "FILE") given ≡ Some file.now) × (lab ≡ is_given (first_of (codes "lab") given))
 
 -- what a command asks for that was found with its values
 abbrev pub AsksIn : Option (Text × List Row) → Asked → Type 0

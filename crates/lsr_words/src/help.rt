@@ -4,7 +4,7 @@ ghost use Rattle.clap.specs.Built.{AddsSubcommand};
 ghost use Rattle.clap.specs.Words.{app_of, new_app, new_rule, rule_of, with_subcommand};
 ghost use Rattle.clap.specs.declared.builder.action.ArgAction.TheVariants.{SetTrue};
 ghost use Rattle.clap.specs.declared.builder.command.Command.{Command, out-Command};
-ghost use Rattle.lsr_words.specs.Words.{config_words, decode_words, digits_word, echo_word, explain_words, fields_word, file_words, live_word, lsr_words, printed_word, program_words, serve_words, served_word, step_words, topic_word, turns_words};
+ghost use Rattle.lsr_words.specs.Words.{config_words, decode_words, digits_word, echo_word, explain_words, fields_word, file_words, lab_word, live_word, lsr_words, play_words, played_word, printed_word, program_words, serve_words, served_word, step_words, topic_word, turns_words};
 
 use clap::{Arg, ArgAction, Command};
 use std::alloc::{AllocError, Global};
@@ -26,6 +26,7 @@ Where to go on:
   lsr decode --help   what messages are made of
   lsr explain --help  what a refusal, an error or a fault means, and what to do about it
   lsr serve --help    a router over sockets
+  lsr play --help     many routers, joined by wires that lose, repeat and reorder
   lsr --version       the version, and what is proved
 
 Example: the router refuses to tear down a path that it doesn't know.
@@ -33,11 +34,13 @@ Example: the router refuses to tear down a path that it doesn't know.
 000c0b070a00000100000001 | lsr step
 
 The status is, of each command:
-  0                   what was asked for is done, or help was. A line of `step` that the router
-                      refuses, or says is an error, is answered: that is 0, too
-  1                   a file, the input, a line of `step` or a message to decode wasn't taken;
-                      a capture is damaged; a socket can't be had, or what `serve` was told
-                      isn't one run; the output can't be written; or memory ran out
+  0                   what was asked for is done, or help was. A line of `step` or a move of
+                      `play` that the router refuses, or says is an error, is answered: that
+                      is 0, too
+  1                   a file, the input, a line of `step` or `play` or a message to decode wasn't
+                      taken; routers and wires make no world; a capture is damaged; a socket
+                      can't be had, or what `serve` was told isn't one run; the output can't be
+                      written; or memory ran out
   2                   the words after `lsr` aren't taken, and nothing was done: too few, too
                       many or unknown ones, HEX that isn't hexadecimal digits, WHAT that asks
                       for nothing, or N that isn't a number of turns
@@ -401,6 +404,78 @@ Example: in two terminals, two routers that set up an LSP from the first to the 
   lsr serve examples/serve-head.toml --turns 100
 ";
 
+const PLAY_ABOUT: &str = "\
+Plays a world of up to sixteen routers, joined by wires that lose, repeat and reorder as the lines
+of a file say, and prints what each router answers and sends";
+
+const PLAY_HELP: &str = "\
+FILE is a text, read whole before its first line is taken. First come its routers and wires:
+  router NAME FILE  there is a router, which FILE configures (docs/CONFIGURATION.md); NAME is any
+                    word that no router above has. All such files are read before all else
+  wire NAME LINK NAME LINK
+                    link LINK of the one router, 1 to 65535, is joined to that of the other
+and then moves, one in each line:
+  deliver I         frame I, 1 to 18446744073709551615, arrives at the other end of its link
+  repeat I          it arrives there once more. A frame that is never delivered is lost
+  tick NAME N       moment N comes at the router, in milliseconds; it is opened at moment 0
+  up NAME LINK      link LINK of the router comes up
+  down NAME LINK    link LINK of the router goes down; its other end is a link of its own, and goes
+                    down by a line of its own
+  restart NAME      the router loses what messages had set up in it, and is started again
+  do NAME COMMAND   the router is commanded: `tunnel ..`, `change ..`, `cancel N`, `drop N`, `bypass
+                    ..`, `unbypass N`, `route PREFIX LINK` or `unroute PREFIX`, as lsr step --help
+                    says
+Words are parted by one space, and nothing else stands in a line: no carriage return, no blank
+before or after them. An empty line is a bad line.
+
+What is printed for a move is what `lsr step` prints, with the name of the router that it happens
+at in front; and before each frame that this router sends stands the frame's number:
+  NAME done
+  NAME error CODE VALUE
+  NAME refused N NAME
+  NAME deliver HEX
+  NAME #I tx LINK HEX
+  NAME #I frame LINK HEX
+Frames are numbered from 1 in the order of sending, all of the world together, and kept, so any of
+them can be delivered at any time. Of moves that can't be made nothing changes, and the run goes on:
+  refused 50 NoFrame   there is no frame I, or no wire joins the link that it was sent over
+  refused 51 NoRouter  no router has this NAME
+  refused 40 NoMemory  there was no memory for the move
+
+With --lab these lines are taken, too:
+  # ..              lines that begin with #, and empty lines, are passed over
+  show NAME WHAT    what lsr step prints for `show WHAT` of this router, each line with its name in
+                    front; WHAT is paths, resvs, table, labels, links, tunnels, bypasses or
+                    summary, or path or resv and a KEY
+  run               frames that weren't delivered yet are, in the order of their numbers, and what
+                    is sent then, too, until none is left or 65536 were: their moves are answered
+                    as any are. Frames over links that no wire joins are passed over
+  seed N MOVES      so many moves of chance, the same for the same N, both 0 to
+                    18446744073709551615. Most deliver the next frame; some lose it, repeat one,
+                    bring one early, take a link down or up, or bring a later moment. Each but a
+                    loss is printed before its answer, as `> deliver 7`, and can be played again
+                    without --lab
+
+The status is 0 where each line was taken, whatever is answered; 1 with one of these on standard
+error; 2 where the words of the command aren't taken:
+  unreadable        FILE, or a file that a line `router NAME FILE` names, can't be opened or read,
+                    isn't UTF-8, or has more than 16777216 bytes; the line after it says which
+  config FAULT KEY  the first fault of the routers' configurations, in the order of their lines
+  bad line N        line N, counted from 1, has none of the forms above, declares a NAME twice,
+                    joins a NAME that isn't declared above, or declares behind a move. What the
+                    lines before it asked for is done. The line and the form of its first word
+                    follow
+  world Routers     there is no router, or there are more than 16
+  world Joint I     wire I, counted from 1, names a link that its router doesn't have, or one that
+                    is joined already
+  world Memory      there is no memory for the routers
+  memory            there is no memory; what was printed before is done
+  unwritable        the output or the error stream can't be written
+
+Example: three routers in a line, between which a tunnel comes up.
+  lsr play examples/world/line.play --lab
+";
+
 const HEX_HELP: &str = "\
 The message's bytes: an even number of hexadecimal digits of either case; `-` for a message in
 each line of standard input, which is read to its end; or the name of a capture file, a word with
@@ -415,6 +490,12 @@ const PRINTED_FILE_HELP: &str =
 
 const FILE_HELP: &str =
     "The file of the router's configuration (TOML); each of its links has `listen` and `send`";
+
+const PLAYED_FILE_HELP: &str =
+    "The file of the world: its routers, its wires and its moves, one in each line";
+
+const LAB_HELP: &str = "\
+Takes remarks, `show NAME WHAT`, `run` and `seed N MOVES`, too";
 
 const TURNS_HELP: &str =
     "How many turns each link makes, of 100 milliseconds at most: 1 to 1000000; without it 1000";
@@ -443,10 +524,14 @@ pub(crate) const EXPLAIN: &str = "explain";
 pub(crate) const SERVE: &str = "serve";
 /// The name of the command that prints a configuration.
 pub(crate) const CONFIG: &str = "config";
-/// The name of the argument of `config` and of `serve`.
+/// The name of the command that plays a world.
+pub(crate) const PLAY: &str = "play";
+/// The name of the argument of `config`, of `serve` and of `play`.
 pub(crate) const FILE: &str = "FILE";
 /// The name of the option of `serve`.
 pub(crate) const TURNS: &str = "turns";
+/// The name of the option of `play`.
+pub(crate) const LAB: &str = "lab";
 /// The name of the argument of `explain`.
 pub(crate) const WHAT: &str = "WHAT";
 /// The name of the argument of `decode`.
@@ -554,6 +639,22 @@ fn served_file<'a>(alloc: Global) -> Arg<'a>
     required_word(alloc, FILE, FILE_HELP)
 }
 
+/// `FILE` of a world.
+fn played_file<'a>(alloc: Global) -> Arg<'a>
+    ensures rule { rule_of result ≡ played_word }
+    ensures local { result.global ≡ false }
+{
+    required_word(alloc, FILE, PLAYED_FILE_HELP)
+}
+
+/// `--lab`.
+fn lab_option<'a>(alloc: Global) -> Arg<'a>
+    ensures rule { rule_of result ≡ lab_word }
+    ensures local { result.global ≡ false }
+{
+    switch(alloc, LAB, LAB_HELP)
+}
+
 /// `--turns N`.
 fn turns_option<'a>(alloc: Global) -> Arg<'a>
     ensures rule { rule_of result ≡ turns_words }
@@ -614,6 +715,15 @@ fn serve_command<'a>(alloc: Global) -> Result<Command<'a>, AllocError>
     file.arg(turns_option(alloc))
 }
 
+/// `play FILE [--lab]`. The only error is that memory ran out.
+fn play_command<'a>(alloc: Global) -> Result<Command<'a>, AllocError>
+    ensures words { IfOk result (λ command. app_of command ≡ play_words) }
+    ensures local { IfOk result (λ command. (out-Command command).has_globals ≡ false) }
+{
+    let file = bare_command(alloc, PLAY, PLAY_ABOUT, PLAY_HELP).arg(played_file(alloc))?;
+    file.arg(lab_option(alloc))
+}
+
 /// The program's name, with the help of all.
 fn bare_program<'a>(alloc: Global) -> Command<'a>
     ensures { app_of result ≡ program_words }
@@ -667,10 +777,19 @@ fn program_with_explain<'a>(alloc: Global) -> Result<Command<'a>, AllocError>
     with_command(program_with_decode(alloc)?, explain_command(alloc))
 }
 
-/// The words that `lsr` takes: `--version`, `step [--config FILE] [--echo] [--live]`, `config [FILE]`, `decode HEX [--fields]`, `explain WHAT`
-/// and `serve FILE [--turns N]`. The only error is that memory ran out.
+/// The program with its first five commands. The only error is that memory ran out.
+fn program_with_serve<'a>(alloc: Global) -> Result<Command<'a>, AllocError>
+    ensures { IfOk result (λ command. app_of command
+        ≡ with_subcommand (with_subcommand (with_subcommand (with_subcommand (with_subcommand program_words
+        step_words.top) config_words.top) decode_words.top) explain_words.top) serve_words.top) }
+{
+    with_command(program_with_explain(alloc)?, serve_command(alloc))
+}
+
+/// The words that `lsr` takes: `--version`, `step [--config FILE] [--echo] [--live]`, `config [FILE]`, `decode HEX [--fields]`, `explain
+/// WHAT`, `serve FILE [--turns N]` and `play FILE [--lab]`. The only error is that memory ran out.
 pub(crate) fn command<'a>(alloc: Global) -> Result<Command<'a>, AllocError>
     ensures { IfOk result (λ command. app_of command ≡ lsr_words) }
 {
-    with_command(program_with_explain(alloc)?, serve_command(alloc))
+    with_command(program_with_serve(alloc)?, play_command(alloc))
 }

@@ -7,8 +7,8 @@ ghost use Rattle.lsr_words.specs.declared.words.Asked.{Asked};
 ghost use Rattle.lsr_words.specs.Words.{Asks, AsksFor, AsksIn, is_given, lsr_words};
 
 use crate::help::{
-    CONFIG, CONFIG_OPTION, DECODE, ECHO, EXPLAIN, FIELDS, FILE, HEX, LIVE, SERVE, STEP, TURNS,
-    WHAT, command,
+    CONFIG, CONFIG_OPTION, DECODE, ECHO, EXPLAIN, FIELDS, FILE, HEX, LAB, LIVE, PLAY, SERVE, STEP,
+    TURNS, WHAT, command,
 };
 use clap::ArgMatches;
 use clap::error::{Error, ErrorKind};
@@ -45,6 +45,13 @@ pub enum Asked<'a> {
         file: &'a str,
         /// How many turns each link has, as the words give it; none where they give no number.
         turns: Option<&'a str>,
+    },
+    /// `play FILE`: the world of the file of this name is played.
+    Play {
+        /// The file's name.
+        file: &'a str,
+        /// Whether lines are taken, too, that remark something, show what a router knows, or deliver all frames.
+        lab: bool,
     },
 }
 
@@ -103,6 +110,21 @@ fn serve_asked<'a>(given: &ArgMatches<'a>) -> Option<Asked<'a>>
     }
 }
 
+/// What `play` asks for; none without its file.
+fn play_asked<'a>(given: &ArgMatches<'a>) -> Option<Asked<'a>>
+    ensures { MatchOption result
+        (first_of (codes "FILE") (rows_of (found_of given.now)) ≡ None)
+        (Asks (codes "play") (rows_of (found_of given.now))) }
+{
+    match given.get_str(FILE) {
+        Some(file) => Some(Asked::Play {
+            file,
+            lab: is_given(given.get_str(LAB)),
+        }),
+        None => None,
+    }
+}
+
 /// What the matches of the program's words ask for; none where they name no command.
 fn asked_in<'a>(matches: &ArgMatches<'a>) -> Option<Asked<'a>>
     ensures { MatchOption result
@@ -119,6 +141,7 @@ fn asked_in<'a>(matches: &ArgMatches<'a>) -> Option<Asked<'a>>
         Some((DECODE, given)) => decode_asked(given),
         Some((EXPLAIN, given)) => explain_asked(given),
         Some((SERVE, given)) => serve_asked(given),
+        Some((PLAY, given)) => play_asked(given),
         _ => None,
     }
 }

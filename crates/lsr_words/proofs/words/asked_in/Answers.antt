@@ -4,7 +4,7 @@ use Rattle.clap.specs.Words.{rows_of}
 use Rattle.clap.specs.Matches.{found_of}
 use Rattle.clap.proofs.WalkLemmas.{first_value-rows}
 use Rattle.lsr_words.specs.Words.{is_given}
-use Rattle.lsr_words.proofs.WordLaws.{asked_or, found_is, no_file, no_topic, no_word}
+use Rattle.lsr_words.proofs.WordLaws.{asked_or, found_is, no_file, no_topic, no_word, no_world}
 use Rattle.lsr_words.proofs.words.asked_in.Goals as goal
 
 pub returns-in-Some-step-default : goal.returns-in-Some-step-default
@@ -48,3 +48,10 @@ returns-in-Some-serve-default c =
     let values = rows_of (found_of found.given.now) in
     let is = found_is c.args.matches.now found.field-0-0.now values found.ensures.name found.ensures.rows in
     asked_or c.serve_asked.result _ (codes "serve") found.field-0-0.now values is (search rules) (no_file _ found.field-0-0.now values is (search rules)) c.serve_asked.ensures
+
+pub returns-in-Some-play-default : goal.returns-in-Some-play-default
+returns-in-Some-play-default c =
+    let found = c.in-Some-play-default in
+    let values = rows_of (found_of found.given.now) in
+    let is = found_is c.args.matches.now found.field-0-0.now values found.ensures.name found.ensures.rows in
+    asked_or c.play_asked.result _ (codes "play") found.field-0-0.now values is (search rules) (no_world _ found.field-0-0.now values is (search rules)) c.play_asked.ensures

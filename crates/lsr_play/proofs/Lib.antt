@@ -1,0 +1,4 @@
+mod DeclaringLaws
+mod PlayLaws
+mod AnswerLaws
+mod LabLaws

@@ -1,0 +1,9 @@
+pub mod Declaring
+pub mod Moving
+pub mod Answers
+pub mod Making
+pub mod Endings
+pub mod Chosen
+pub mod LabLines
+pub mod Playing
+pub mod Labs
