@@ -1,2 +1,4 @@
 pub mod Flags
 pub mod Placing
+pub mod Rounds
+pub mod Turns

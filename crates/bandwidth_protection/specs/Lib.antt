@@ -1,5 +1,6 @@
 pub mod Candidates
 pub mod CandidateLaws
+pub mod Narrowing
 pub mod Resting
 pub mod RestingLaws
 pub mod Wishing

@@ -1,11 +1,12 @@
 -- All wishes, as they are asked for one by one.
-use Rattle.std.specs.Prelude.{◌≡◌, ◌&&◌, Bool, true, false, if◌then◌else◌, T, List, [], filter, map, Option, Some, None, IfSome}
-use Rattle.std.specs.FinMap.Entries.{find, is_sorted, same_entries}
+use Rattle.std.specs.Prelude.{◌≡◌, ℕ, ◌&&◌, Bool, true, false, if◌then◌else◌, T, List, [], filter, filter_map, is_some, map, Option, Some, None, IfSome}
+use Rattle.std.specs.FinMap.Entries.{find, is_sorted}
 use Rattle.std.specs.Option.{option_and_then, option_map, option_or}
 use Rattle.std.proofs.Common.{refl, sym, ap, ◌∙◌}
 use Rattle.sorted_rows.specs.Edits as rows
 use Rattle.lsr_facts.specs.OrderLaws.{key_exact, key_total}
 use Rattle.lsr_facts.specs.Orders.{key_cmp}
+use Rattle.lsr_facts.specs.declared.assignment.Assignment.{Assignment}
 use Rattle.lsr_facts.specs.declared.key.Key.{Key}
 use Rattle.lsr_facts.specs.declared.path_fact.PathFact.{PathFact}
 use Rattle.lsr_facts.specs.declared.repair.Selected.{Selected}
@@ -17,14 +18,15 @@ use Rattle.abstract_paths.specs.Tears.{leaves_by}
 use Rattle.abstract_paths.specs.TouchedLaws.{find-made, is_sorted-made}
 use Rattle.abstract_router.specs.Assigning.{assignments_of, capacity_in, has_capacity, in_use_of, rate_in, wants_bandwidth, wish_of, wish_on, wishes_of}
 use Rattle.abstract_router.specs.Lsps.{Around, around_of}
-use Rattle.abstract_router.specs.Protecting.{candidates_of, is_protected}
+use Rattle.abstract_router.specs.Protecting.{candidates_of, is_protected, selected_by}
 use Rattle.abstract_router.specs.States.{State}
 use Rattle.abstract_router.specs.UpstreamLaws.{all-filter_map}
 use Rattle.state_views.specs.EditLaws.{row_edited}
 use Rattle.state_views.specs.Edits.{edited}
 use Rattle.state_views.specs.declared.edits.Edits.{Edits}
-use Rattle.bandwidth_protection.specs.CandidateLaws.{no_candidates, protected_candidates}
-use Rattle.bandwidth_protection.specs.Candidates.{in_turn, promising_of}
+use Rattle.bandwidth_protection.specs.CandidateLaws.{best_of, no_candidates, numbers, protected_candidates}
+use Rattle.bandwidth_protection.specs.Candidates.{promising_of}
+use Rattle.bandwidth_protection.specs.Narrowing.{of_open, open_by, open_wish}
 use Rattle.bandwidth_protection.specs.Wishing.{wish_at, wish_by}
 
 -- What is found of an LSP is what it asks for.
@@ -35,11 +37,6 @@ found_wish r s key in_order = find-made key_cmp key_total key_exact (wish_of r s
 pub wishes_sorted : (r : Router) (s : State) → T (is_sorted key_cmp s.resvs) → T (is_sorted key_cmp (wishes_of r s))
 unfolding wishes_of
 wishes_sorted r s in_order = is_sorted-made key_cmp key_total key_exact (wish_of r s) s.resvs in_order
-
--- So rows in order are all wishes where that is found in them.
-pub all_wishes : (r : Router) (s : State) (all : List (Key × Wish)) → T (is_sorted key_cmp s.resvs) → T (is_sorted key_cmp all) → ((key : Key) → find key_cmp key all ≡ wish_at r s key) → all ≡ wishes_of r s
-all_wishes r s all in_order sorted found =
-    same_entries key_cmp key_total key_exact all (wishes_of r s) sorted (wishes_sorted r s in_order) (λ key. found key ∙ sym (found_wish r s key in_order))
 
 -- an LSP asks for nothing that has no path,
 unknown : (a : Around) (key : Key) (resv : Option ResvFact) → wish_by a key None resv ≡ None
@@ -58,7 +55,7 @@ module _ (r : Router) (s : State) (e : Edits) where
   asks key = ap (λ path. wish_by (around_of r (edited e s)) key path (find key_cmp key (edited e s).resvs)) (row_edited key e.paths s.facts.paths)
 
   -- nothing, where its path isn't edited and its head doesn't want its bandwidth protected
-  pub unasked : (key : Key) (path : PathFact) → find key_cmp key s.facts.paths ≡ Some path → find key_cmp key e.paths ≡ None → wants_bandwidth path ≡ false → wish_at r (edited e s) key ≡ None
+  unasked : (key : Key) (path : PathFact) → find key_cmp key s.facts.paths ≡ Some path → find key_cmp key e.paths ≡ None → wants_bandwidth path ≡ false → wish_at r (edited e s) key ≡ None
   unasked key path known none isnt =
       asks key
       ∙ (λ i. wish_by (around_of r (edited e s)) key (rows.over (none i) (known i)) (find key_cmp key (edited e s).resvs))
@@ -80,16 +77,27 @@ module _ (r : Router) (s : State) (e : Edits) where
       twice None (Some path) = refl
       twice (Some wish) was = refl
 
-  -- So all are asked, where those are whose paths were known before, and those whose paths are edited.
-  pub wishes_all : (known all : List (Key × Wish))
-      → ((key : Key) → find key_cmp key known ≡ option_or (option_and_then (λ path. wish_at r (edited e s) key) (find key_cmp key s.facts.paths)) None)
-      → ((key : Key) → find key_cmp key all ≡ option_or (option_and_then (λ row. wish_at r (edited e s) key) (find key_cmp key e.paths)) (find key_cmp key known))
-      → (key : Key) → find key_cmp key all ≡ wish_at r (edited e s) key
-  wishes_all known all before after key =
-      after key
-      ∙ ap (option_or (option_and_then (λ (row : Option PathFact). wish_at r (edited e s) key) (find key_cmp key e.paths))) (before key)
-      ∙ asked_all (find key_cmp key e.paths) (find key_cmp key s.facts.paths) (wish_at r (edited e s) key)
-      (λ none. asks key ∙ ap (λ path. wish_by (around_of r (edited e s)) key path (find key_cmp key (edited e s).resvs)) none ∙ unknown (around_of r (edited e s)) key (find key_cmp key (edited e s).resvs))
+  module _ (kept : List (Key × Assignment)) (left : List (ℕ × ℕ)) where
+    -- nothing is asked for in the second round, where nothing is
+    none_open : (key : Key) (wish : Option Wish) → wish ≡ None → open_by kept left key wish ≡ None
+    none_open key wish is =
+        ap (open_by kept left key) is
+        ∙ elim (is_some (find key_cmp key kept)) as (λ b. (if b then None else option_and_then (of_open left) None) ≡ None) [ true ↦ refl | false ↦ refl ]
+
+    pub unopened : (key : Key) (path : PathFact) → find key_cmp key s.facts.paths ≡ Some path → find key_cmp key e.paths ≡ None → wants_bandwidth path ≡ false → open_wish r (edited e s) kept left key ≡ None
+    unopened key path known none isnt = none_open key (wish_at r (edited e s) key) (unasked key path known none isnt)
+
+    -- So all are asked, where those are whose paths were known before, and those whose paths are edited.
+    pub wishes_all : (known all : List (Key × Wish))
+        → ((key : Key) → find key_cmp key known ≡ option_or (option_and_then (λ path. open_wish r (edited e s) kept left key) (find key_cmp key s.facts.paths)) None)
+        → ((key : Key) → find key_cmp key all ≡ option_or (option_and_then (λ row. open_wish r (edited e s) kept left key) (find key_cmp key e.paths)) (find key_cmp key known))
+        → (key : Key) → find key_cmp key all ≡ open_wish r (edited e s) kept left key
+    wishes_all known all before after key =
+        after key
+        ∙ ap (option_or (option_and_then (λ (row : Option PathFact). open_wish r (edited e s) kept left key) (find key_cmp key e.paths))) (before key)
+        ∙ asked_all (find key_cmp key e.paths) (find key_cmp key s.facts.paths) (open_wish r (edited e s) kept left key)
+        (λ none. none_open key (wish_at r (edited e s) key)
+        (asks key ∙ ap (λ path. wish_by (around_of r (edited e s)) key path (find key_cmp key (edited e s).resvs)) none ∙ unknown (around_of r (edited e s)) key (find key_cmp key (edited e s).resvs)))
 
 -- ---- where no bypass has bandwidth to promise
 
@@ -98,8 +106,8 @@ module _ (r : Router) (s : State) (none : promising_of r s ≡ []) where
   none_for : (key : Key) (path : PathFact) (resv : ResvFact) → map (λ (choice : Selected). choice.bypass) (filter has_capacity (candidates_of (around_of r s) key path resv)) ≡ []
   none_for key path resv =
       elim (is_protected (around_of r s) key path) as (λ b. is_protected (around_of r s) key path ≡ b → map (λ (choice : Selected). choice.bypass) (filter has_capacity (candidates_of (around_of r s) key path resv)) ≡ []) [
-        | true ↦ λ is. sym (protected_candidates r s key path resv is) ∙ ap (λ bypasses. in_turn r path resv bypasses [] []) none
-        | false ↦ λ isnt. sym (no_candidates (around_of r s) key path resv isnt)
+        | true ↦ λ is. protected_candidates r s key path resv is ∙ ap (λ bypasses. numbers (best_of path (filter_map (selected_by r resv) bypasses))) none
+        | false ↦ λ isnt. no_candidates (around_of r s) key path resv isnt
       ] refl
 
   -- so none asks for any,

@@ -10,8 +10,8 @@ ghost use Rattle.state_views.specs.Edits.{edited};
 
 use crate::candidates::promising;
 use crate::in_use::{known_assignments, used_of};
-use crate::wishes::wishes;
-use bypass_shares::{assign_shares, left_of};
+use crate::keeping::keep;
+use crate::opening::{given, open_wishes};
 use lsr_facts::{Assignment, Key};
 use sorted_rows::Table;
 use state_views::{Changed, Edits, StateView, WholeState};
@@ -43,7 +43,8 @@ pub fn assign<V: WholeState>(
     if bypasses.is_empty() {
         return Ok(used);
     }
-    let wishes = wishes(alloc, view, edits, bypasses)?;
-    let left = left_of(alloc, after.bypasses(), &used)?;
-    assign_shares(alloc, left, &known, used, wishes.as_slice())
+    let opening = keep(alloc, &after, bypasses, &known, used)?;
+    let wishes = open_wishes(alloc, view, edits, &opening)?;
+    let all = given(alloc, opening, &wishes)?;
+    Ok(all)
 }

@@ -5,6 +5,8 @@
 mod assigning;
 mod candidates;
 mod in_use;
+mod keeping;
+mod opening;
 mod resting;
 mod wishes;
 

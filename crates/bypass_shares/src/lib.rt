@@ -10,5 +10,6 @@ mod turns;
 mod wish;
 
 pub use capacities::left_of;
-pub use passes::assign_shares;
+pub use merging::merge;
+pub use passes::{assign_shares, give_each, keep_each};
 pub use wish::{Candidates, Wish};

@@ -66,8 +66,9 @@ fn give_next(
     Ok(())
 }
 
-/// What LSPs keep, beside what is in use.
-fn keep_each(
+/// What LSPs keep of what they had, beside what is in use: the turns of [`assign_shares`] that come first. `left` is what is left of each
+/// bypass beside what is in use, and then beside what is kept, too. Fails only when out of memory.
+pub fn keep_each(
     alloc: Global,
     left: &mut Table<u16, u64>,
     in_use: &Table<Key, Assignment>,
@@ -86,8 +87,9 @@ fn keep_each(
     Ok(made)
 }
 
-/// What LSPs are given that have none.
-fn give_each(
+/// What LSPs are given that have none among what is kept: the turns of [`assign_shares`] that come after those of [`keep_each`]. `left` is
+/// what is left of each bypass beside what is kept. Fails only when out of memory.
+pub fn give_each(
     alloc: Global,
     left: &mut Table<u16, u64>,
     kept: &Table<Key, Assignment>,

@@ -1,6 +1,5 @@
 -- Nothing was promised, so nothing of that is in use; and no bypass has bandwidth to promise.
-use Rattle.std.proofs.Common.{◌≡◌, ℕ, List, [], ap, length, subst, sym, ◌∙◌}
-use Rattle.std.proofs.lemmas.Bool.{eqb-true}
+use Rattle.std.proofs.Common.{◌≡◌, ℕ, List, [], ap, subst, sym, ◌∙◌}
 use Rattle.std.specs.FinMap.Entries.{where_key}
 use Rattle.std.specs.List.{AllByRecursion}
 use Rattle.lsr_facts.specs.Orders.{key_cmp}
