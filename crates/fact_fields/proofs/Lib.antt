@@ -1,0 +1,4 @@
+pub mod Appended
+pub mod Rising
+pub mod Splitting
+pub mod Untold

@@ -1,0 +1,13 @@
+-- Where its parts aren't read, none is spelled.
+use Rattle.std.proofs.Common.{refl}
+use Rattle.std.proofs.lemmas.Result.{err_from_is_err_and}
+use Rattle.field_bytes.specs.Making.{parts_unread}
+use Rattle.fact_fields.specs.Fitting.{IsAny}
+use Rattle.fact_fields.specs.Laws.{RequestPartsFit, request_part_bytes}
+use Rattle.fact_fields.specs.Paths.{request_bytes, request_parts}
+use Rattle.fact_fields.proofs.paths.PathRequestFieldField.read.Goals as goal
+
+pub returns-in_err-parts : goal.returns-in_err-parts
+returns-in_err-parts c =
+    let p = err_from_is_err_and c.from_residual.result c.from_residual.ensures.1 in
+    rw (p.1, p.2) (parts_unread IsAny request_parts request_bytes RequestPartsFit request_part_bytes (λ x. refl) c.args.bytes.now _ c.in_err-parts.ensures)

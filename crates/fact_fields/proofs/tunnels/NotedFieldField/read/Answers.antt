@@ -1,0 +1,16 @@
+-- Where its parts aren't read, no error is spelled.
+use Rattle.std.proofs.Common.{refl}
+use Rattle.std.proofs.lemmas.Result.{err_from_is_err_and}
+use Rattle.field_bytes.specs.Making.{parts_unread}
+use Rattle.std.specs.Net.Addr.{ipv4_octets}
+use Rattle.field_bytes.specs.PairLaws.{PairFits, pair_bytes}
+use Rattle.event_fields.specs.Fitting.{HasOctets, IsByte, IsShort}
+use Rattle.event_fields.specs.Laws.{byte_bytes, short_bytes}
+use Rattle.fact_fields.specs.Fitting.{IsAny}
+use Rattle.fact_fields.specs.Tunnels.{noted_bytes, noted_parts}
+use Rattle.fact_fields.proofs.tunnels.NotedFieldField.read.Goals as goal
+
+pub returns-in_err-parts : goal.returns-in_err-parts
+returns-in_err-parts c =
+    let p = err_from_is_err_and c.from_residual.result c.from_residual.ensures.1 in
+    rw (p.1, p.2) (parts_unread IsAny noted_parts noted_bytes (PairFits HasOctets (PairFits IsByte IsShort)) (pair_bytes ipv4_octets (pair_bytes byte_bytes short_bytes)) (λ x. refl) c.args.bytes.now _ c.in_err-parts.ensures)

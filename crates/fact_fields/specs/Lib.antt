@@ -1,0 +1,11 @@
+pub mod FieldLaws
+pub mod Fitting
+pub mod IdLaws
+pub mod Keys
+pub mod Laws
+pub mod Origins
+pub mod Paths
+pub mod Resvs
+pub mod Sent
+pub mod Tables
+pub mod Tunnels

@@ -1,0 +1,13 @@
+pub mod Allowing
+pub mod Capacities
+pub mod ConfigLaws
+pub mod Documents
+pub mod FirstRead
+pub mod Mapped
+pub mod Named
+pub mod Parts
+pub mod PendingLaws
+pub mod Recorded
+pub mod Standing
+pub mod Untold
+pub mod Wholes

@@ -1,0 +1,17 @@
+-- Where its parts aren't read, none is spelled.
+use Rattle.std.proofs.Common.{refl}
+use Rattle.std.proofs.lemmas.Result.{err_from_is_err_and}
+use Rattle.field_bytes.specs.Making.{parts_unread}
+use Rattle.fact_fields.specs.Fitting.{IsAny}
+use Rattle.journal_files.specs.FileLaws.{StatePartsFit, state_part_bytes}
+use Rattle.journal_files.specs.States.{state_bytes, state_parts}
+use Rattle.journal_files.proofs.Parts.{of_parts}
+use Rattle.journal_files.proofs.states.StateFieldField.read.Goals as goal
+
+pub returns-in_err-parts : goal.returns-in_err-parts
+returns-in_err-parts g c =
+    let p = err_from_is_err_and c.from_residual.result c.from_residual.ensures.1 in
+    rw (p.1, p.2) (parts_unread IsAny state_parts (state_bytes g.B.Field.spelling g.G.Field.spelling g.Z.Field.spelling) (StatePartsFit g.B.Field.Fits g.B.Field.spelling g.G.Field.Fits g.G.Field.spelling g.Z.Field.Fits g.Z.Field.spelling) (state_part_bytes g.B.Field.Fits g.B.Field.spelling g.G.Field.Fits g.G.Field.spelling g.Z.Field.Fits g.Z.Field.spelling) (λ x. refl) c.args.bytes.now _ c.in_err-parts.ensures)
+
+pub returns : goal.returns
+returns g c = of_parts state_parts (state_bytes g.B.Field.spelling g.G.Field.spelling g.Z.Field.spelling) (StatePartsFit g.B.Field.Fits g.B.Field.spelling g.G.Field.Fits g.G.Field.spelling g.Z.Field.Fits g.Z.Field.spelling) (state_part_bytes g.B.Field.Fits g.B.Field.spelling g.G.Field.Fits g.G.Field.spelling g.Z.Field.Fits g.Z.Field.spelling) (λ x. refl) c.args.bytes.now c.in_ok-parts.rest.now c.in_ok-parts.parts c.state_of.result c.in_ok-parts.ensures.0 c.in_ok-parts.ensures.1 c.state_of.ensures

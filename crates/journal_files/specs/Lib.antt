@@ -1,0 +1,12 @@
+pub mod Entries
+pub mod FileLaws
+pub mod FirstFormat
+pub mod Fitting
+pub mod Formats
+pub mod Pending
+pub mod Recordings
+pub mod Replies
+pub mod Rows
+pub mod States
+pub mod Texts
+pub mod Wholes
