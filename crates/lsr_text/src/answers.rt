@@ -18,8 +18,8 @@ pub fn push_refusal(text: &mut String, refusal: Refusal) -> Result<(), AllocErro
     write!(text, "refused {number} {name}\n")
 }
 
-/// Appends the line of a reply: `done`, `error CODE VALUE` or `refused N NAME`.
-fn push_reply(text: &mut String, reply: Reply) -> Result<(), AllocError>
+/// Appends the line of a reply: `done`, `error CODE VALUE` or `refused N NAME`. The only error is that memory ran out.
+pub fn push_reply(text: &mut String, reply: Reply) -> Result<(), AllocError>
     ensures { OnOk result (string_bytes text.new ≡ string_bytes text.old ++ reply_line reply) }
 {
     match reply {

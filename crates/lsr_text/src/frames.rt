@@ -1,40 +1,57 @@
 //! What is printed of a frame that is sent, and of a payload that is delivered.
-ghost use Rattle.std.specs.Prelude.{◌≡◌, ◌++◌, IfOk, OnOk, string_bytes};
-ghost use Rattle.lsr_text.specs.FrameLines.{delivery_line, sent_line, sent_word, shown_bytes};
+ghost use Rattle.std.specs.Prelude.{◌≡◌, ◌++◌, OnOk, string_bytes};
+ghost use Rattle.lsr_text.specs.FrameLines.{bytes_line, bytes_words, delivery_line, sent_line, written_line};
 
-use link_frames::{Data, Frame};
-use rsvp_messages::{frame_bytes, write_message};
+use link_frames::{Data, Frame, KIND_HOP};
+use rsvp_messages::frame_bytes;
 use std::alloc::{AllocError, Global};
 use std::fmt::Write;
 
-/// The word that the line of a frame begins with.
-fn sent_word(frame: &Frame) -> &'static str
-    ensures { result.now ≡ sent_word frame.now }
+/// Appends bytes that go or came by a link: `WORD LINK HEX`. The only error is that memory ran out.
+pub fn push_bytes_words(
+    alloc: Global,
+    text: &mut String,
+    word: &str,
+    link: u16,
+    bytes: &[u8],
+) -> Result<(), AllocError>
+    ensures { OnOk result (string_bytes text.new ≡ string_bytes text.old ++ bytes_words word.now link bytes.now) }
 {
-    match frame {
-        Frame::Hop(_) => "tx",
-        Frame::Labelled(..) | Frame::Routed { .. } | Frame::Relayed { .. } => "frame",
+    let digits = hex::encode(alloc, bytes)?;
+    write!(text, "{word} {link} {digits}")
+}
+
+/// Appends the line of bytes that go by a link: `WORD LINK HEX`.
+fn push_bytes_line(
+    alloc: Global,
+    text: &mut String,
+    word: &str,
+    link: u16,
+    bytes: &[u8],
+) -> Result<(), AllocError>
+    ensures { OnOk result (string_bytes text.new ≡ string_bytes text.old ++ bytes_line word.now link bytes.now) }
+{
+    push_bytes_words(alloc, text, word, link, bytes)?;
+    text.push_str("\n")
+}
+
+/// Appends the line of a frame's bytes: `tx LINK HEX`, the message of a Hop frame, or `frame LINK HEX`, the whole of another
+/// frame, or of bytes that are none. The only error is that memory ran out.
+pub fn push_written(
+    alloc: Global,
+    text: &mut String,
+    link: u16,
+    bytes: &[u8],
+) -> Result<(), AllocError>
+    ensures { OnOk result (string_bytes text.new ≡ string_bytes text.old ++ written_line link bytes.now) }
+{
+    match bytes {
+        [KIND_HOP, message @ ..] => push_bytes_line(alloc, text, "tx", link, message),
+        _ => push_bytes_line(alloc, text, "frame", link, bytes),
     }
 }
 
-/// What is shown of a frame: of a Hop frame its message, of another the whole.
-fn shown_bytes(alloc: Global, frame: &Frame) -> Result<Vec<u8>, AllocError>
-    ensures { IfOk result (λ bytes. bytes.items ≡ shown_bytes frame.now) }
-{
-    match frame {
-        Frame::Hop(message) => {
-            let mut bytes = Vec::new(alloc);
-            write_message(message, &mut bytes)?;
-            Ok(bytes)
-        }
-        Frame::Labelled(..) | Frame::Routed { .. } | Frame::Relayed { .. } => {
-            frame_bytes(alloc, frame)
-        }
-    }
-}
-
-/// Appends the line of a frame that is sent: `tx LINK HEX`, the message of a Hop frame, or `frame LINK HEX`, the whole
-/// of another frame. The only error is that memory ran out.
+/// Appends the line of a frame that is sent: that of its bytes. The only error is that memory ran out.
 pub fn push_sent(
     alloc: Global,
     text: &mut String,
@@ -43,10 +60,8 @@ pub fn push_sent(
 ) -> Result<(), AllocError>
     ensures { OnOk result (string_bytes text.new ≡ string_bytes text.old ++ sent_line link frame.now) }
 {
-    let bytes = shown_bytes(alloc, frame)?;
-    let word = sent_word(frame);
-    let digits = hex::encode(alloc, bytes.as_slice())?;
-    write!(text, "{word} {link} {digits}\n")
+    let bytes = frame_bytes(alloc, frame)?;
+    push_written(alloc, text, link, bytes.as_slice())
 }
 
 /// Appends the line of a payload that is delivered: `deliver HEX`. The only error is that memory ran out.

@@ -16,8 +16,8 @@ fn push_bytes(alloc: Global, text: &mut String, bytes: &[u8]) -> Result<(), Allo
     write!(text, "0x{digits}")
 }
 
-/// Appends a prefix: `ADDRESS/LENGTH`.
-fn push_prefix(text: &mut String, prefix: Prefix) -> Result<(), AllocError>
+/// Appends a prefix: `ADDRESS/LENGTH`. The only error is that memory ran out.
+pub fn push_prefix(text: &mut String, prefix: Prefix) -> Result<(), AllocError>
     ensures { OnOk result (string_bytes text.new ≡ string_bytes text.old ++ prefix_text prefix) }
 {
     let address = prefix.address;
@@ -43,8 +43,8 @@ fn push_step(alloc: Global, text: &mut String, step: &Step) -> Result<(), AllocE
     }
 }
 
-/// Appends the steps, each after a space.
-fn push_steps(alloc: Global, text: &mut String, steps: &[Step]) -> Result<(), AllocError>
+/// Appends the steps, each after a space. The only error is that memory ran out.
+pub fn push_steps(alloc: Global, text: &mut String, steps: &[Step]) -> Result<(), AllocError>
     ensures { OnOk result (string_bytes text.new ≡ string_bytes text.old ++ flat_map step_words steps.now) }
 {
     for step in steps {
@@ -154,9 +154,9 @@ fn push_letters(alloc: Global, text: &mut String, name: &[u8]) -> Result<(), All
     Ok(())
 }
 
-/// Appends a name, between quotes.
+/// Appends a name, between quotes. The only error is that memory ran out.
 #[tactic(auto, unfolding(crate::specs::Routes::name_text))]
-pub(crate) fn push_name(alloc: Global, text: &mut String, name: &[u8]) -> Result<(), AllocError>
+pub fn push_name(alloc: Global, text: &mut String, name: &[u8]) -> Result<(), AllocError>
     ensures { OnOk result (string_bytes text.new ≡ string_bytes text.old ++ name_text name.now) }
 {
     text.push_str("\"")?;

@@ -17,8 +17,8 @@ pub(crate) fn role_word(role: Role) -> &'static str
     }
 }
 
-/// Appends the text of a key: `ENDPOINT/TUNNEL/EXTENDED SENDER/LSP` (RFC 3209, 4.6).
-pub(crate) fn push_key(text: &mut String, key: &Key) -> Result<(), AllocError>
+/// Appends the text of a key: `ENDPOINT/TUNNEL/EXTENDED SENDER/LSP` (RFC 3209, 4.6). The only error is that memory ran out.
+pub fn push_key(text: &mut String, key: &Key) -> Result<(), AllocError>
     ensures { OnOk result (string_bytes text.new ≡ string_bytes text.old ++ key_text key.now) }
 {
     let session = key.session;
