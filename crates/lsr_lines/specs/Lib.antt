@@ -4,4 +4,5 @@ pub mod Lines
 pub mod Live
 pub mod Lsps
 pub mod Numbers
+pub mod Runs
 pub mod Steps

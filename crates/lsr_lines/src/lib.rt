@@ -8,6 +8,7 @@ mod lines;
 mod live;
 mod lsps;
 mod numbers;
+mod run;
 mod step;
 mod words;
 
@@ -18,5 +19,6 @@ pub use lines::{Arrival, Request, are_hex_digits, read_request};
 pub use live::{LiveEnding, serve_lines};
 pub use lsps::{LspName, SenderName, SessionName};
 pub use numbers::{read_link, read_whole};
+pub use run::{RunStop, Serves, run_lines};
 pub use step::{Answers, Ending, is_remark, put_full, step_lines};
 pub use words::{next_two, next_word, only_word};

@@ -5,8 +5,8 @@ ghost use Rattle.lsr_lines.specs.declared.lines.Request.{Request};
 ghost use Rattle.line_streams.specs.Cuts.{lines_of};
 ghost use Rattle.lsr_lines.specs.Steps.{Becomes, Ends, IsUntold, echo_text, is_passed, is_remark};
 
-use crate::lines::{Request, read_request};
-use line_streams::next_line;
+use crate::lines::Request;
+use crate::run::{RunStop, Serves, run_lines, serve_one};
 use std::alloc::{AllocError, Global};
 use std::io;
 use std::io::Write;
@@ -48,6 +48,37 @@ pub(crate) enum LineOutcome {
     Memory,
 }
 
+/// Who answers every request, as a session that is never over.
+#[derive(Drop)]
+struct Unending<A: Answers> {
+    session: A,
+}
+
+impl<A: Answers> Serves for Unending<A> {
+    ghost use Rattle.std.specs.Option.{MatchOption};
+    ghost use Rattle.std.specs.Prelude.{false};
+
+    ghost serves = { λ before request text after. MatchOption text ⊥ (λ t. A.answers before.session request t after.session) };
+
+    ghost over = { λ _. false };
+
+    fn serve(
+        self,
+        alloc: Global,
+        request: &Request,
+    ) -> (Unending<A>, Result<Option<String>, AllocError>) {
+        let Unending { session } = self;
+        match session.answer(alloc, request) {
+            (session, Ok(text)) => (Unending { session }, Ok(Some(text))),
+            (session, Err(error)) => (Unending { session }, Err(error)),
+        }
+    }
+
+    fn is_over(&self) -> bool {
+        false
+    }
+}
+
 /// Whether the line is a remark: it is empty, or begins with #.
 pub fn is_remark(line: &str) -> bool
     ensures { result ≡ is_remark line.now }
@@ -56,14 +87,14 @@ pub fn is_remark(line: &str) -> bool
 }
 
 /// Whether the line is passed over: where lines are echoed a remark is.
-fn is_passed(echo: bool, line: &str) -> bool
+pub(crate) fn is_passed(echo: bool, line: &str) -> bool
     ensures { result ≡ is_passed echo line.now }
 {
     echo && is_remark(line)
 }
 
 /// Prints the line, where lines are echoed. The error is the output's.
-fn put_echo<W: Write>(echo: bool, line: &str, output: &mut W) -> io::Result<()>
+pub(crate) fn put_echo<W: Write>(echo: bool, line: &str, output: &mut W) -> io::Result<()>
     ensures { OnOk result (Appends (W.contents output.old) (W.contents output.new) (echo_text echo line.now)) }
 {
     if echo {
@@ -85,22 +116,9 @@ pub(crate) fn step_line<A: Answers, W: Write>(
     ensures { IfOk result (λ r. (printed : List ℕ) × Appends (W.contents output.old) (W.contents output.new) printed
         × Becomes A.answers echo session line.now printed r.1 r.0) }
 {
-    if is_passed(echo, line) {
-        return Ok((session, LineOutcome::Done));
-    }
-    let request = match read_request(alloc, line) {
-        Ok(Some(request)) => request,
-        Ok(None) => return Ok((session, LineOutcome::NoRequest)),
-        Err(_) => return Ok((session, LineOutcome::Memory)),
-    };
-    match session.answer(alloc, &request) {
-        (session, Ok(text)) => {
-            put_echo(echo, line, output)?;
-            output.write_all(text.as_bytes())?;
-            Ok((session, LineOutcome::Done))
-        }
-        (session, Err(_)) => Ok((session, LineOutcome::Memory)),
-    }
+    let (after, served) = serve_one(alloc, Unending { session }, echo, line, output)?;
+    let Unending { session } = after;
+    Ok((session, served))
 }
 
 /// Writes the block, where it has [`BLOCK_LEN`] bytes or more: it is empty then. The error is the output's.
@@ -113,64 +131,6 @@ pub fn put_full<W: Write>(block: &mut Vec<u8>, output: &mut W) -> io::Result<()>
     output.write_all(block.as_slice())?;
     block.clear();
     Ok(())
-}
-
-/// Answers the line as [`step_line`] does, and prints the answer to the block, which is written where it is full. The error is
-/// the output's, or that memory ran out for the block: then the answers before this one are written.
-fn step_into<A: Answers, W: Write>(
-    alloc: Global,
-    session: A,
-    echo: bool,
-    line: &str,
-    block: &mut Vec<u8>,
-    output: &mut W,
-) -> io::Result<(A, LineOutcome)>
-    ensures { IfOk result (λ r. (printed : List ℕ)
-        × Appends (append_known (W.contents output.old) block.old.items) (append_known (W.contents output.new) block.new.items) printed
-        × Becomes A.answers echo session line.now printed r.1 r.0) }
-{
-    let len = block.len();
-    match step_line(alloc, session, echo, line, block) {
-        Ok(stepped) => {
-            put_full(block, output)?;
-            Ok(stepped)
-        }
-        Err(fault) => {
-            block.truncate(len);
-            let _ = output.write_all(block.as_slice());
-            Err(fault)
-        }
-    }
-}
-
-/// Answers the lines as [`step_lines`] does. What is printed last and isn't written yet is in the block.
-fn step_all<'a, A: Answers, W: Write>(
-    alloc: Global,
-    session: A,
-    echo: bool,
-    text: &'a str,
-    block: &mut Vec<u8>,
-    output: &mut W,
-) -> io::Result<Ending<'a>>
-    ensures { IfOk result (λ ending. (printed : List ℕ)
-        × Appends (append_known (W.contents output.old) block.old.items) (append_known (W.contents output.new) block.new.items) printed
-        × Ends A.answers echo session (lines_of text.now) printed ending) }
-{
-    let mut session = session;
-    let mut rest = text;
-    let mut number = 0usize;
-    while let Some((line, others)) = next_line(rest) {
-        number += 1;
-        let (next, served) = step_into(alloc, session, echo, line, block, output)?;
-        session = next;
-        match served {
-            LineOutcome::Done => {}
-            LineOutcome::NoRequest => return Ok(Ending::BadLine(number, line)),
-            LineOutcome::Memory => return Ok(Ending::Memory),
-        }
-        rest = others;
-    }
-    Ok(Ending::Done)
 }
 
 /// Answers the lines of the text, one after the other, up to the first that asks for nothing. With `echo` each is printed
@@ -186,8 +146,9 @@ pub fn step_lines<'a, A: Answers, W: Write>(
     ensures { IfOk result (λ ending. (printed : List ℕ) × Appends (W.contents output.old) (W.contents output.new) printed
         × Ends A.answers echo session (lines_of text.now) printed ending) }
 {
-    let mut block = Vec::new(alloc);
-    let ending = step_all(alloc, session, echo, text, &mut block, output)?;
-    output.write_all(block.as_slice())?;
-    Ok(ending)
+    let (_after, stop) = run_lines(alloc, Unending { session }, echo, text, output)?;
+    match stop {
+        RunStop::Lines(ending) => Ok(ending),
+        RunStop::Session => unreachable!(),
+    }
 }

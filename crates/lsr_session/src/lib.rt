@@ -2,9 +2,12 @@
 #![tactic(auto)]
 
 mod passing;
+mod recent;
 mod requests;
 mod shown;
 
-pub use requests::Session;
+pub use passing::passed_text;
+pub use recent::Recent;
+pub use requests::{Session, hop_frame};
 pub use router_core::Machine;
 pub use shown::show;

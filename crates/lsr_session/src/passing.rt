@@ -7,7 +7,7 @@ use router_core::Passed;
 use std::alloc::{AllocError, Global};
 
 /// The line of what became of a labelled frame. The only error is that memory ran out.
-pub(crate) fn passed_text(alloc: Global, passed: &Passed) -> Result<String, AllocError>
+pub fn passed_text(alloc: Global, passed: &Passed) -> Result<String, AllocError>
     ensures { IfOk result (λ text. string_bytes text ≡ passed_text passed.now) }
 {
     let mut text = String::new(alloc);

@@ -1,41 +1,35 @@
 //! What a session answers to a request.
 ghost use Rattle.std.specs.Prelude.{◌≡◌, ◌∷◌, ◌++◌, ℕ, List, [], IfOk, Ok, OnErr, string_bytes};
 ghost use Rattle.lsr_lines.specs.Steps.{IsUntold};
-ghost use Rattle.lsr_text.specs.Answers.{answer_text, refusal_line, replies_text};
+ghost use Rattle.lsr_text.specs.Answers.{answer_text, refusal_line};
 ghost use Rattle.abstract_paths.specs.declared.events.Event.TheVariants as events;
 ghost use Rattle.lsr_session.specs.Requests.{PrintsAnswer, PrintsArrival, PrintsDatagram, PrintsEvent, remembered, reply_of, served_text};
 
 use crate::passing::passed_text;
+use crate::recent::Recent;
 use crate::shown::show;
 use abstract_paths::{Command, Event, KIND_HOP, Made};
-use circular_buffer::HeapCircularBuffer;
 use lsr_facts::{Refusal, Reply};
 use lsr_lines::{Answers, Arrival, Request};
-use lsr_text::{answer_text, push_replies};
+use lsr_text::answer_text;
 use router_core::{Machine, Served};
 use std::alloc::{AllocError, Global};
 use std::marker::Model;
-
-/// How many replies are remembered.
-const RECENT_REPLIES: usize = 32;
 
 /// A session of `lsr step`: its router, and the last replies. Contracts see what the router is and knows, and the list
 /// of these replies.
 #[derive(Drop)]
 pub struct Session {
     router: Machine,
-    recent: HeapCircularBuffer<Reply>,
+    recent: Recent,
 }
 
 impl Model for Session {
-    ghost use Rattle.std.specs.Prelude.{◌≡◌};
     ghost use Rattle.lsr_session.specs.Requests.{SessionState};
 
     ghost Value = { SessionState };
 
-    ghost view = { λ s. record { router = s.router; recent = s.recent.items } };
-
-    ghost invariant = { λ s. s.recent.capacity ≡ 32 };
+    ghost view = { λ s. record { router = s.router; recent = s.recent } };
 }
 
 impl Session {
@@ -45,7 +39,7 @@ impl Session {
     {
         Ok(Session {
             router,
-            recent: HeapCircularBuffer::with_capacity(alloc, RECENT_REPLIES)?,
+            recent: Recent::new(alloc)?,
         })
     }
 }
@@ -74,7 +68,7 @@ fn answer(alloc: Global, session: &mut Session, request: &Request) -> Result<Str
         Request::Restart => answer_event(alloc, session, Event::Restart),
         Request::Start => answer_event(alloc, session, Event::Start),
         Request::Command(command) => answer_command(alloc, session, command),
-        Request::ShowRecent => show_recent(alloc, session),
+        Request::ShowRecent => session.recent.text(alloc),
         Request::ShowPaths
         | Request::ShowResvs
         | Request::ShowTable
@@ -133,20 +127,18 @@ fn served_text(alloc: Global, answer: Result<Served, Refusal>) -> Result<String,
 }
 
 /// Remembers what was answered, if something was: nothing is where a labelled frame is passed on or delivered.
-fn remember(recent: &mut HeapCircularBuffer<Reply>, answer: &Result<Served, Refusal>)
-    requires { recent.old.capacity ≡ 32 }
-    ensures capacity { recent.new.capacity ≡ 32 }
-    ensures items { recent.new.items ≡ remembered recent.old.items answer.now }
+fn remember(recent: &mut Recent, answer: &Result<Served, Refusal>)
+    ensures { recent.new ≡ remembered recent.old answer.now }
 {
     match answer {
-        Ok(Served::Made(made)) => recent.push_back(made.reply),
-        Ok(Served::Passed(_)) => None,
-        Err(refusal) => recent.push_back(Reply::Refused(*refusal)),
-    };
+        Ok(Served::Made(made)) => recent.push(made.reply),
+        Ok(Served::Passed(_)) => {}
+        Err(refusal) => recent.push(Reply::Refused(*refusal)),
+    }
 }
 
-/// The Hop frame that holds the message.
-fn hop_frame(alloc: Global, message: &[u8]) -> Result<Vec<u8>, AllocError>
+/// The Hop frame that holds the message. The only error is that memory ran out.
+pub fn hop_frame(alloc: Global, message: &[u8]) -> Result<Vec<u8>, AllocError>
     ensures { IfOk result (λ frame. frame.items ≡ KIND_HOP ∷ message.now) }
 {
     let mut frame = vec![in alloc; KIND_HOP]?;
@@ -200,7 +192,7 @@ fn answer_event(alloc: Global, session: &mut Session, event: Event) -> Result<St
     ensures untold { OnErr result ((text : List ℕ) × PrintsEvent session.old event text session.new) }
 {
     let answer = session.router.serve_event(alloc, event);
-    session.recent.push_back(reply_of(&answer));
+    session.recent.push(reply_of(&answer));
     answer_text(alloc, &answer)
 }
 
@@ -215,15 +207,4 @@ fn answer_command(
 {
     let command = command.copied(alloc)?;
     answer_event(alloc, session, Event::Command(command))
-}
-
-/// The lines of the last replies, the oldest first.
-fn show_recent(alloc: Global, session: &Session) -> Result<String, AllocError>
-    ensures { IfOk result (λ text. string_bytes text ≡ replies_text session.now.recent) }
-{
-    let (older, newer) = session.recent.as_slices();
-    let mut text = String::new(alloc);
-    push_replies(&mut text, older)?;
-    push_replies(&mut text, newer)?;
-    Ok(text)
 }

@@ -1,26 +1,12 @@
--- The line that was asked for stands before its answer.
-use Rattle.std.proofs.Common.{rules, refl, sym, ◌∙◌, ◌++◌, [], inl, inr}
-use Rattle.std.proofs.KnownBytes.{Appends-nil, Appends-trans}
-use Rattle.lsr_lines.specs.Steps.{echo_text}
-use Rattle.lsr_lines.proofs.Stepping.{answered_line, untold_line}
+-- What becomes of the line for who answers every request.
+use Rattle.std.specs.Option.{MatchOption}
+use Rattle.lsr_lines.proofs.Serving.{becomes_in}
 use Rattle.lsr_lines.proofs.step.step_line.Goals as goal
-
-pub returns-in_default-Ok : goal.returns-in_default-Ok
-returns-in_default-Ok g c =
-    let line = c.args.line.now in
-    let kept = sym c.is_passed.ensures ∙ c.if-is_passed.false in
-    let asks = rw c.in-Ok-Some.field-0-is at c.in-Ok-Some.ensures.request in (
-      echo_text c.args.echo line ++ c.as_bytes.result.now,
-      Appends-trans _ _ _ _ _ (search rules) c.in_ok-write_all-in_default-Ok.ensures.bytes,
-      inl (answered_line g.A.Answers.answers c.args.echo c.args.session line c.answer.result.0 c.in-Ok-Some.request c.as_bytes.result.now kept asks (search rules)),
-    )
 
 pub returns : goal.returns
 returns g c =
-    let line = c.args.line.now in
-    let kept = sym c.is_passed.ensures ∙ c.if-is_passed.false in
-    let asks = rw c.in-Ok-Some.field-0-is at c.in-Ok-Some.ensures.request in (
-      [],
-      Appends-nil _,
-      (refl, inr (c.in-Ok-Some.request, asks), untold_line g.A.Answers.answers c.args.echo c.args.session line c.answer.result.0 c.in-Ok-Some.request kept asks (search rules)),
+    let became = c.in_ok-after.ensures in (
+      became.0,
+      became.1,
+      becomes_in (λ s. s.session) (λ before request text after. MatchOption text ⊥ (λ t. g.A.Answers.answers before.session request t after.session)) g.A.Answers.answers (λ before request text after answered. answered) (λ before request after unserved. unserved) c.args.echo (record { session = c.args.session }) c.args.line.now became.0 c.in_ok-after.served c.in_ok-after.after became.2,
     )
