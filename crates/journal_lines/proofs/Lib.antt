@@ -1,0 +1,4 @@
+mod Entering
+mod Naming
+mod Showing
+mod Told

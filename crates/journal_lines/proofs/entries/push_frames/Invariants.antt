@@ -1,0 +1,8 @@
+-- The frames so far, after what there was.
+use Rattle.std.proofs.Common.{◌≡◌, ◌++◌, take, string_bytes}
+use Rattle.std.specs.List.{flat_map}
+use Rattle.journal_lines.specs.Entries.{frame_line}
+use Rattle.journal_lines.proofs.entries.push_frames.Given as goal
+
+abbrev pub invariant-loop-frame : goal.invariant-loop-frame
+invariant-loop-frame l = string_bytes l.text ≡ string_bytes l.fn.text ++ flat_map frame_line (take l.frame-index l.frames)

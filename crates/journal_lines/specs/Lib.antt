@@ -1,0 +1,5 @@
+pub mod Asking
+pub mod Entries
+pub mod Frames
+pub mod Journals
+pub mod Words

@@ -1,0 +1,4 @@
+pub mod Checking
+pub mod Following
+pub mod Names
+pub mod Telling

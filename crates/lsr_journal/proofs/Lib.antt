@@ -1,0 +1,5 @@
+mod Answering
+pub mod Keeping
+mod Marking
+mod Telling
+pub mod Segmenting

@@ -1,0 +1,12 @@
+-- The reader is the one that the router was opened with.
+use Rattle.std.proofs.Common.{◌≡◌, Some}
+use Rattle.std.proofs.lemmas.List.Elements.{All-pop}
+use Rattle.lookup_plane.specs.Changes.{new_reader}
+use Rattle.lsr_journal.proofs.Answering.{begun_is}
+use Rattle.lsr_journal.proofs.recorded.RecordedSession.new.Goals as goal
+
+pub returns : goal.returns
+returns g c =
+    let opened = c.in_ok-locked.ensures in
+    let reader = (All-pop (λ reader. reader ≡ new_reader c.in_ok-locked.locked.table) _ _ (Some c.in-Some.reader) c.in-Some.ensures.items opened.readers.1).1 in
+    begun_is c.args.config c.in_ok-locked.locked c.in-Some.reader c.in_ok-new.field-0 opened.locked reader c.in_ok-new.ensures

@@ -1,0 +1,12 @@
+//! A session of `lsr step --journal`: a router whose journal is kept, what it answers to requests, and the file of its journal.
+#![tactic(auto)]
+
+mod receipts;
+mod recorded;
+mod seen;
+mod segments;
+
+pub use lookup_plane::OpenFault;
+pub use recorded::RecordedSession;
+pub use run_journal::Segment;
+pub use segments::write_segment;
