@@ -1,8 +1,9 @@
 -- Receipts of one port, each after the other, and a worker's work.
-use Rattle.std.specs.Prelude.{◌≡◌, ◌+◌, ◌-◌, ◌^◌, ◌<◌, ◌≤◌, List, [], ◌∷◌, Result, Ok, Err, length, vec_capacity}
+use Rattle.std.specs.Prelude.{◌≡◌, ◌+◌, ◌-◌, ◌^◌, ◌<◌, ◌≤◌, ℕ, List, [], ◌∷◌, Result, Ok, Err, length, vec_capacity}
 use Rattle.lsr_facts.specs.declared.refusal.Refusal.{Refusal}
 use Rattle.abstract_paths.specs.declared.events.Event.{Event}
 use Rattle.journal_bytes.specs.Events.{event_bytes}
+use Rattle.run_journal.specs.Journals.{Stretch}
 use Rattle.run_journal.specs.Marks.{Follows}
 use Rattle.run_journal.specs.declared.mark.Mark.{Mark}
 use Rattle.run_journal.specs.declared.receipt.Receipt.{Receipt}
@@ -40,6 +41,11 @@ pub record WorkGoesOn (before : Work) (mark : Mark) (after : Work) (new_mark : M
   pub segments : length after.segments.items ≤ length before.segments.items + 1
   pub receipts_room : vec_capacity after.receipts ≡ vec_capacity before.receipts
   pub segments_room : vec_capacity after.segments ≡ vec_capacity before.segments
+
+-- The segments of a worker are as many more as its core has handed out more to its port: before there were these, when so many were handed
+-- out, and now there are these.
+abbrev pub AreHandedOut : ℕ → List Stretch → ℕ → List Stretch → Type 0
+AreHandedOut taken before now_taken now = now_taken + length before ≡ taken + length now
 
 -- There is a receipt more where an event was fed, and none more where anything else was done.
 abbrev pub HasReceiptFor : Handled → Work → Work → Type 0

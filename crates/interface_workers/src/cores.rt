@@ -3,9 +3,10 @@
 ghost use Rattle.std.specs.Prelude.{◌≡◌, ◌+◌, ◌<◌, ◌≤◌, ℕ, All, IfOk, OnErr, OnOk, length, map};
 ghost use Rattle.journal_bytes.specs.Events.{event_bytes};
 ghost use Rattle.lookup_plane.specs.Changes.{new_reader};
-ghost use Rattle.run_journal.specs.Journals.{IsAnswered};
+ghost use Rattle.run_journal.specs.Journals.{IsAnswered, rotated, stretch_of};
 ghost use Rattle.run_journal.specs.Marks.{Follows, first_marks};
 
+use crate::keeping::{KeepSegments, KeptJournal, SegmentCount, TakenSegment};
 use crate::readers::{CoreReader, named_readers};
 use abstract_paths::Event;
 use lookup_plane::OpenFault;
@@ -25,27 +26,31 @@ struct Booked<L: Ledger, R: Wait + Drop> {
     ghost counted: { locked.counts.number ≡ calls.total },
 }
 
-/// A router that many threads feed, each by a port of its own. Its name is that of its ledger: no other core has it.
-pub struct Core<L: Ledger, R: Wait + Drop> {
+/// A router that many threads feed, each by a port of its own, and a `K` that keeps the segments of its journal. Its name is that of its
+/// ledger: no other core has it. The router's lock is taken within the journal's, and never the other way round.
+pub struct Core<L: Ledger, R: Wait + Drop, K: KeepSegments + Drop = SegmentCount> {
     lock: Mutex<Booked<L, R>>,
+    journal: Mutex<KeptJournal<K>>,
     router: Router,
 }
 
 /// Written out, so that it is dropped by one call, whatever it holds.
-impl<L: Ledger, R: Wait + Drop> Drop for Core<L, R> {
+impl<L: Ledger, R: Wait + Drop, K: KeepSegments + Drop> Drop for Core<L, R, K> {
     fn drop(self) {
         let Core {
             lock: _lock,
+            journal: _journal,
             router: _router,
         } = self;
     }
 }
 
-/// Who feeds a core: the numbers of its last entry, and its share of the core's ledger, in which it has as many entries as its
-/// mark says.
+/// Who feeds a core: the numbers of its last entry, how many segments it took, and its share of the core's ledger, in which it has as many
+/// entries as its mark says.
 #[derive(Drop)]
 pub struct Port<L: Ledger> {
     mark: Mark,
+    taken: u64,
     share: Share<L>,
     ghost counted: { share.amount ≡ mark.place },
     ghost backed: { 0 < share.parts },
@@ -53,13 +58,24 @@ pub struct Port<L: Ledger> {
 
 /// A core with its ports, and readers of its label table.
 #[derive(Drop)]
-pub struct Opened<L: Ledger, R: Wait + Drop> {
+pub struct Opened<L: Ledger, R: Wait + Drop, K: KeepSegments + Drop = SegmentCount> {
     /// The core.
-    pub core: Core<L, R>,
+    pub core: Core<L, R, K>,
     /// Its ports, in the order of their numbers.
     pub ports: Vec<Port<L>>,
     /// The readers, with the name of the core.
     pub readers: Vec<CoreReader<L>>,
+}
+
+/// What a core leaves when its run is over.
+#[derive(Drop)]
+pub struct Finished<K: KeepSegments + Drop> {
+    /// The last segment of its journal.
+    pub last: Segment,
+    /// Who keeps the journal.
+    pub keeper: K,
+    /// How many segments are kept: all, or those before the first that couldn't be.
+    pub kept: u64,
 }
 
 impl<L: Ledger> Port<L> {
@@ -82,6 +98,7 @@ impl<L: Ledger, R: Wait + Drop> Booked<L, R> {
         ensures answered { IsAnswered self.old.locked port.old.mark event.now result self.new.locked }
         ensures follows { IfOk result (λ receipt. Follows port.old.mark receipt × (port.new.mark ≡ receipt.mark)) }
         ensures counted { OnOk result (port.new.share.amount ≡ port.old.share.amount + 1) }
+        ensures taken { port.new.taken ≡ port.old.taken }
         ensures kept { OnErr result (port.new ≡ port.old) }
     {
         let receipt = self.locked.apply(alloc, port.mark, event)?;
@@ -89,9 +106,20 @@ impl<L: Ledger, R: Wait + Drop> Booked<L, R> {
         port.mark = receipt.mark();
         Ok(receipt)
     }
+
+    /// Takes the entries away, as a segment that has to be given to who keeps them. The only error is out of memory, and then nothing
+    /// changed.
+    fn take(&mut self, alloc: Global) -> Result<TakenSegment, AllocError>
+        ensures segment { IfOk result (λ taken. taken.segment ≡ stretch_of self.old.locked) }
+        ensures rotated { OnOk result (self.new.locked ≡ rotated self.old.locked) }
+        ensures kept { OnErr result (self.new.locked ≡ self.old.locked) }
+    {
+        let segment = self.locked.rotate(alloc)?;
+        Ok(TakenSegment::new(segment))
+    }
 }
 
-impl<L: Ledger, R: Wait + Drop> Core<L, R> {
+impl<L: Ledger, R: Wait + Drop, K: KeepSegments + Drop> Core<L, R, K> {
     /// Feeds an event of a port, and tells the port of its entry: the port's next place, a later entry than its last one, and
     /// the event that was fed. Waits for others who use the core. It is refused as [`Locked::apply`] refuses it, and then the
     /// port is as it was.
@@ -105,17 +133,57 @@ impl<L: Ledger, R: Wait + Drop> Core<L, R> {
         ensures follows { IfOk result (λ receipt. Follows port.old.mark receipt × (port.new.mark ≡ receipt.mark)) }
         ensures event { IfOk result (λ receipt. receipt.event ≡ event_bytes event.now) }
         ensures counted { OnOk result (port.new.share.amount ≡ port.old.share.amount + 1) }
+        ensures taken { port.new.taken ≡ port.old.taken }
         ensures kept { OnErr result (port.new ≡ port.old) }
     {
         let mut guard = self.lock.lock(rt);
         guard.apply(alloc, port, event)
     }
 
-    /// Takes the entries that were made since the last time. Waits for others who use the core; the only error is out of
-    /// memory.
-    pub fn rotate<W: Wait>(&self, rt: &W, alloc: Global) -> Result<Segment, AllocError> {
+    /// Takes the entries away, under the router's lock.
+    fn take<W: Wait>(&self, rt: &W, alloc: Global) -> Result<TakenSegment, AllocError> {
         let mut guard = self.lock.lock(rt);
-        guard.locked.rotate(alloc)
+        guard.take(alloc)
+    }
+
+    /// Takes the entries that were made since the last time, and counts them as a segment that the port took. The segment is given to who
+    /// keeps the journal before it is handed out, and before anyone takes another one: so the numbers of segments are in the order of their
+    /// entries. The router is fed meanwhile. Waits for others who use the core; the error is out of memory, also where the port took
+    /// 2^64 - 1 segments, and then nothing changed.
+    pub fn rotate<W: Wait>(
+        &self,
+        rt: &W,
+        alloc: Global,
+        port: &mut Port<L>,
+    ) -> Result<Segment, AllocError>
+        ensures taken { OnOk result (port.new.taken ≡ port.old.taken + 1) }
+        ensures mark { port.new.mark ≡ port.old.mark }
+        ensures share { port.new.share ≡ port.old.share }
+        ensures kept { OnErr result (port.new ≡ port.old) }
+    {
+        let Some(count) = port.taken.checked_add(1) else {
+            return Err(AllocError);
+        };
+        let mut journal = self.journal.lock(rt);
+        let taken = self.take(rt, alloc)?;
+        port.taken = count;
+        Ok(journal.give(taken))
+    }
+
+    /// Takes the entries that are left, as the last segment, which is given to who keeps the journal. The only error is out of memory.
+    pub fn finish(self, alloc: Global) -> Result<Finished<K>, AllocError>
+        ensures { IfOk result (λ finished. K.given finished.keeper ≡ finished.kept) }
+    {
+        let Core {
+            lock,
+            journal,
+            router: _router,
+        } = self;
+        let mut booked = lock.into_inner();
+        let mut journal = journal.into_inner();
+        let last = journal.give(booked.take(alloc)?);
+        let (keeper, kept) = journal.into_keeper();
+        Ok(Finished { last, keeper, kept })
     }
 
     /// What the router knows: a copy. Waits for others who use the core; the only error is out of memory.
@@ -151,26 +219,32 @@ fn ports_of<L: Ledger>(
             published: 0,
         };
         let share = rest.split_off(1, 0);
-        all.push(Port { mark, share })?;
+        all.push(Port {
+            mark,
+            taken: 0,
+            share,
+        })?;
     }
     Ok(all)
 }
 
-/// Opens the router of a configuration, with ports of the numbers 1 to `ports`, and so many readers of its label table. The blank
-/// names the core, and has a part for each port. The core keeps `rt`, to wait for readers. The fault is that there is too little
-/// memory, or no place for a reader.
-pub fn open<L: Ledger, R: Wait + Drop>(
+/// Opens the router of a configuration, with ports of the numbers 1 to `ports`, so many readers of its label table, and who keeps its
+/// journal, and has no segment yet. The blank names the core, and has a part for each port. The core keeps `rt`, to wait for readers. The
+/// fault is that there is too little memory, or no place for a reader.
+pub fn open<L: Ledger, R: Wait + Drop, K: KeepSegments + Drop>(
     alloc: Global,
     rt: R,
     blank: Blank,
     config: Config,
     ports: u16,
     readers: usize,
-) -> Result<Opened<L, R>, OpenFault>
+    keeper: K,
+) -> Result<Opened<L, R, K>, OpenFault>
     requires name { blank.name ≡ L.name }
     requires parts { blank.parts ≡ L.parts }
     requires enough { ports ≤ blank.parts }
     requires readers { readers ≤ 64 }
+    requires none { K.given keeper ≡ 0 }
     ensures ports { IfOk result (λ opened. map (λ port. port.mark) opened.ports.items ≡ first_marks ports) }
     ensures readers { IfOk result (λ opened. length opened.readers.items ≡ readers) }
     ensures fresh { IfOk result (λ opened. (table : ℕ) × All (λ reader. reader ≡ new_reader table) opened.readers.items) }
@@ -183,6 +257,7 @@ pub fn open<L: Ledger, R: Wait + Drop>(
     Ok(Opened {
         core: Core {
             lock: Mutex::new(Booked { locked, calls }),
+            journal: Mutex::new(KeptJournal::new(keeper)),
             router,
         },
         ports,

@@ -5,16 +5,18 @@
 mod cores;
 mod gate;
 mod handled;
+mod keeping;
 mod readers;
 mod reading;
 mod reconciling;
 mod wire;
 mod worker;
 
-pub use cores::{Core, Opened, Port, open};
+pub use cores::{Core, Finished, Opened, Port, open};
 pub use gate::{Gate, OpenGate};
 pub use handled::{Handled, Tally};
 pub use journal_bytes::{Exact, is_same_router, is_same_state};
+pub use keeping::{KeepSegments, NotKept, SegmentCount};
 pub use lookup_plane::{Closed, OpenFault};
 pub use readers::CoreReader;
 pub use reading::read_by;

@@ -1,7 +1,7 @@
 //! A worker: it takes frames from a link's wire, feeds the core what they say, and sends what the core answers.
 
 ghost use Rattle.std.specs.Prelude.{◌≡◌, ◌+◌, ◌-◌, ◌^◌, ◌<◌, ◌≤◌, ◌⊎◌, ◌∷◌, ℕ, false, true, [], IfOk, List, OnErr, length, vec_capacity};
-ghost use Rattle.interface_workers.specs.Chains.{AddsUp, HasRoom, IsChain, IsFed, WorkGoesOn};
+ghost use Rattle.interface_workers.specs.Chains.{AddsUp, AreHandedOut, HasRoom, IsChain, IsFed, WorkGoesOn};
 ghost use Rattle.interface_workers.specs.Tallies.{counted, with_lost};
 ghost use Rattle.interface_workers.specs.Turns.{AreAmongFailures, HasSent, IsEventServed, IsNoWork, IsPassedOn, IsRunOf, IsServed, IsTaken, IsTallyOf, IsTurn};
 ghost use Rattle.interface_workers.specs.Wires.{AreSent, Arrival, Sending, after};
@@ -11,6 +11,7 @@ ghost use Rattle.lookup_plane.specs.Changes.{StartsWith};
 use crate::cores::{Core, Port};
 use crate::gate::Gate;
 use crate::handled::{Handled, Tally};
+use crate::keeping::KeepSegments;
 use crate::readers::CoreReader;
 use crate::reading::read_by;
 use crate::wire::Wire;
@@ -110,17 +111,25 @@ enum Taken {
 
 /// Where a worker stands: the core that it feeds, the gate between them, and what it waits and takes memory by.
 #[derive(Drop)]
-struct Station<'a, L: Ledger, R: Wait + Drop, T: Wait, G: Gate> {
+struct Station<'a, L: Ledger, R: Wait + Drop, K: KeepSegments + Drop, T: Wait, G: Gate> {
     rt: &'a T,
     alloc: Global,
-    core: &'a Core<L, R>,
+    core: &'a Core<L, R, K>,
     gate: &'a G,
 }
 
-impl<'a, L: Ledger, R: Wait + Drop, T: Wait, G: Gate> Station<'a, L, R, T, G> {
+impl<'a, L: Ledger, R: Wait + Drop, K: KeepSegments + Drop, T: Wait, G: Gate> Station<
+    'a,
+    L,
+    R,
+    K,
+    T,
+    G,
+> {
     /// Feeds an event once, between the two words of the gate.
     fn feed_once(&self, port: &mut Port<L>, event: &Event) -> Result<Receipt, Refusal>
-        ensures { IsFed port.old.mark event.now result port.new.mark }
+        ensures fed { IsFed port.old.mark event.now result port.new.mark }
+        ensures taken { port.new.taken ≡ port.old.taken }
     {
         let mark = port.mark();
         let call = mark.place.saturating_add(1);
@@ -130,7 +139,7 @@ impl<'a, L: Ledger, R: Wait + Drop, T: Wait, G: Gate> Station<'a, L, R, T, G> {
         answer
     }
 
-    /// Feeds an event. Where the journal is full its entries are taken and kept among the segments, and the event is fed once
+    /// Feeds an event. Where the journal is full its entries are taken and put to the segments, and the event is fed once
     /// more.
     fn feed_rotating(
         &self,
@@ -142,10 +151,11 @@ impl<'a, L: Ledger, R: Wait + Drop, T: Wait, G: Gate> Station<'a, L, R, T, G> {
         ensures fed { IsFed port.old.mark event.now result port.new.mark }
         ensures segments { length segments.new.items ≤ length segments.old.items + 1 }
         ensures room { vec_capacity segments.new ≡ vec_capacity segments.old }
+        ensures handed_out { AreHandedOut port.old.taken segments.old.items port.new.taken segments.new.items }
     {
         match self.feed_once(port, event) {
             Err(Refusal::JournalFull) => {
-                segments.push_reserved(self.core.rotate(self.rt, self.alloc)?);
+                segments.push_reserved(self.core.rotate(self.rt, self.alloc, port)?);
                 self.feed_once(port, event)
             }
             answer => answer,
@@ -162,6 +172,7 @@ impl<'a, L: Ledger, R: Wait + Drop, T: Wait, G: Gate> Station<'a, L, R, T, G> {
     ) -> Handled
         requires { HasRoom work.old }
         ensures goes_on { WorkGoesOn work.old port.old.mark work.new port.new.mark }
+        ensures handed_out { AreHandedOut port.old.taken work.old.segments.items port.new.taken work.new.segments.items }
         ensures served { HasSent (IsEventServed event.now result work.old.receipts.items work.new.receipts.items) (W.history wire.old) (W.history wire.new) }
         ensures tally { (work.new.tally ≡ work.old.tally) × (work.new.turns ≡ work.old.turns) }
     {
@@ -221,6 +232,7 @@ impl<'a, L: Ledger, R: Wait + Drop, T: Wait, G: Gate> Station<'a, L, R, T, G> {
     ) -> Handled
         requires { HasRoom work.old }
         ensures goes_on { WorkGoesOn work.old port.old.mark work.new port.new.mark }
+        ensures handed_out { AreHandedOut port.old.taken work.old.segments.items port.new.taken work.new.segments.items }
         ensures served { HasSent (IsServed taken.now result work.old.receipts.items work.new.receipts.items) (W.history wire.old) (W.history wire.new) }
         ensures tally { (work.new.tally ≡ work.old.tally) × (work.new.turns ≡ work.old.turns) }
         ensures seen { reader.new.seen ≡ reader.old.seen }
@@ -245,6 +257,7 @@ impl<'a, L: Ledger, R: Wait + Drop, T: Wait, G: Gate> Station<'a, L, R, T, G> {
     ) -> Handled
         requires { HasRoom work.old }
         ensures goes_on { WorkGoesOn work.old port.old.mark work.new port.new.mark }
+        ensures handed_out { AreHandedOut port.old.taken work.old.segments.items port.new.taken work.new.segments.items }
         ensures served { HasSent (IsServed (Taken.Came answer.now) result work.old.receipts.items work.new.receipts.items) (W.history wire.old) (W.history wire.new) }
         ensures tally { (work.new.tally ≡ work.old.tally) × (work.new.turns ≡ work.old.turns) }
         ensures seen { reader.new.seen ≡ reader.old.seen }
@@ -279,6 +292,7 @@ impl<'a, L: Ledger, R: Wait + Drop, T: Wait, G: Gate> Station<'a, L, R, T, G> {
             (record { work = work.old; mark = port.old.mark; seen = reader.seen; history = W.history wire.old })
             (record { work = work.new; mark = port.new.mark; seen = result.seen; history = W.history wire.new }) }
         ensures learnt { reader.at_least ≤ result.at_least }
+        ensures handed_out { AreHandedOut port.old.taken work.old.segments.items port.new.taken work.new.segments.items }
     {
         let (taken, mut reader) = self.receive(reader, link, wire, buffer);
         let failures = wire.failures();
@@ -292,10 +306,10 @@ impl<'a, L: Ledger, R: Wait + Drop, T: Wait, G: Gate> Station<'a, L, R, T, G> {
 
 /// Feeds an event, keeps its receipt, and sends what the core answers. What is refused leaves no receipt. Which it was is counted, as of a
 /// datagram, and so are the frames that the wire lost.
-pub fn serve_event<L: Ledger, R: Wait + Drop, T: Wait, W: Wire, G: Gate>(
+pub fn serve_event<L: Ledger, R: Wait + Drop, K: KeepSegments + Drop, T: Wait, W: Wire, G: Gate>(
     rt: &T,
     alloc: Global,
-    core: &Core<L, R>,
+    core: &Core<L, R, K>,
     port: &mut Port<L>,
     wire: &mut W,
     gate: &G,
@@ -304,6 +318,7 @@ pub fn serve_event<L: Ledger, R: Wait + Drop, T: Wait, W: Wire, G: Gate>(
 ) -> Handled
     requires { HasRoom work.old }
     ensures goes_on { WorkGoesOn work.old port.old.mark work.new port.new.mark }
+    ensures handed_out { AreHandedOut port.old.taken work.old.segments.items port.new.taken work.new.segments.items }
     ensures served { HasSent (IsEventServed event.now result work.old.receipts.items work.new.receipts.items) (W.history wire.old) (W.history wire.new) }
     ensures tally { (lost : ℕ) × (work.new.tally ≡ counted (with_lost work.old.tally lost) result)
         × ((W.history wire.new).failed ≡ (W.history wire.old).failed + lost) }
@@ -336,11 +351,12 @@ fn make_room(alloc: Global, turns: u32) -> Result<(Work, Vec<u8>), AllocError>
 /// A worker's run: so many turns, each of which asks the wire for a frame once and serves it, as one that came over the link. Labelled
 /// frames go by what the reader sees of the label table, which waits for nobody; the reader comes back. It ends before where the wire
 /// failed as often as can be counted. The room for its work is made first: the only error is out of memory, and then no turn was
-/// made. Its receipts are those of the port's entries, each after the other.
-pub fn serve_link<L: Ledger, R: Wait + Drop, T: Wait, W: Wire, G: Gate>(
+/// made. Its receipts are those of the port's entries, each after the other, and its segments are all that the core handed out to the
+/// port.
+pub fn serve_link<L: Ledger, R: Wait + Drop, K: KeepSegments + Drop, T: Wait, W: Wire, G: Gate>(
     rt: &T,
     alloc: Global,
-    core: &Core<L, R>,
+    core: &Core<L, R, K>,
     port: &mut Port<L>,
     reader: CoreReader<L>,
     link: u16,
@@ -358,6 +374,7 @@ pub fn serve_link<L: Ledger, R: Wait + Drop, T: Wait, W: Wire, G: Gate>(
         (record { work = work; mark = port.new.mark; seen = result.0.seen; history = W.history wire.new })) }
     ensures later { StartsWith result.0.seen reader.seen }
     ensures learnt { reader.at_least ≤ result.0.at_least }
+    ensures handed_out { IfOk result.1 (λ work. port.new.taken ≡ port.old.taken + length work.segments.items) }
     ensures kept { OnErr result.1 ((port.new ≡ port.old) × (wire.new ≡ wire.old) × (result.0 ≡ reader)) }
 {
     let station = Station {

@@ -2,15 +2,14 @@
 #![tactic(auto)]
 
 mod judging;
-mod keeping;
 mod run;
 mod serving;
 mod sockets;
 mod turns;
 mod udp_wire;
 
+pub use interface_workers::{KeepSegments, NotKept, SegmentCount};
 pub use judging::judge;
-pub use keeping::{KeepSegments, NotKept, SegmentCount, keep_all};
 pub use lsr_config::LinkSockets;
 pub use run::{PortCount, RunReport, TICK_MS, Worker, link_workers, run_worker, serve_on};
 pub use serving::{serve_links, tell_run};

@@ -1,12 +1,12 @@
 //! A router's run: a thread for each link and one for the clock, over any wires.
-ghost use Rattle.std.specs.Prelude.{◌≡◌, ◌+◌, ◌<◌, ◌≤◌, IfOk, OnOk, length};
+ghost use Rattle.std.specs.Prelude.{◌≡◌, ◌+◌, ◌<◌, ◌≤◌, IfNone, IfOk, OnOk, length};
 ghost use Rattle.lsr_serve.specs.Reports.{IsCounted};
 
 use crate::udp_wire::LinkWire;
 use abstract_paths::Event;
 use interface_workers::{
-    Core, CoreReader, Gate, OpenFault, Opened, Port, Receipt, Segment, Tally, Wire, Work, open,
-    serve_event, serve_link,
+    Core, CoreReader, Finished, Gate, KeepSegments, OpenFault, Opened, Port, Receipt, Segment,
+    Tally, Wire, Work, open, serve_event, serve_link,
 };
 use lsr_config::Config;
 use std::alloc::{AllocError, Global};
@@ -38,6 +38,8 @@ pub struct RunReport {
     pub receipts: Vec<Receipt>,
     /// The journal's segments in their order: by the number at their beginning, an empty one first.
     pub segments: Vec<Segment>,
+    /// How many segments are kept: all, or those before the first that couldn't be.
+    pub kept: u64,
 }
 
 /// Written out, so that it is dropped by one call, whatever the run left.
@@ -47,6 +49,7 @@ impl Drop for RunReport {
             ports: _ports,
             receipts: _receipts,
             segments: _segments,
+            kept: _,
         } = self;
     }
 }
@@ -61,10 +64,17 @@ pub struct Worker<L: Ledger, W> {
 }
 
 /// A worker's thread: its turns, with what it did.
-pub fn run_worker<L: Ledger, R: Wait + Drop, T: Wait, W: Wire + Drop, G: Gate>(
+pub fn run_worker<
+    L: Ledger,
+    R: Wait + Drop,
+    K: KeepSegments + Drop,
+    T: Wait,
+    W: Wire + Drop,
+    G: Gate,
+>(
     rt: &T,
     alloc: Global,
-    core: &Core<L, R>,
+    core: &Core<L, R, K>,
     gate: &G,
     turns: u32,
     worker: Worker<L, W>,
@@ -82,11 +92,19 @@ pub fn run_worker<L: Ledger, R: Wait + Drop, T: Wait, W: Wire + Drop, G: Gate>(
 }
 
 /// The clock's turns: each waits for the next moment and feeds it, with what it did.
-fn run_clock<L: Ledger, R: Wait + Drop, T: Wait, C: Clock, W: Wire, G: Gate>(
+fn run_clock<
+    L: Ledger,
+    R: Wait + Drop,
+    K: KeepSegments + Drop,
+    T: Wait,
+    C: Clock,
+    W: Wire,
+    G: Gate,
+>(
     rt: &T,
     clock: &C,
     alloc: Global,
-    core: &Core<L, R>,
+    core: &Core<L, R, K>,
     port: &mut Port<L>,
     wire: &mut W,
     gate: &G,
@@ -147,7 +165,18 @@ impl RunReport {
             ports: Vec::new(alloc),
             receipts: Vec::new(alloc),
             segments: Vec::new(alloc),
+            kept: 0,
         }
+    }
+
+    /// The number of the first segment that isn't kept, or none where all are.
+    pub(crate) fn unkept(&self) -> Option<u64>
+        ensures { IfNone result (self.now.kept ≡ length self.now.segments.items) }
+    {
+        if self.kept == self.segments.len() as u64 {
+            return None;
+        }
+        Some(self.kept.saturating_add(1))
     }
 }
 
@@ -189,54 +218,49 @@ fn sort_segments(segments: &mut Vec<Segment>) -> Result<(), AllocError> {
     Ok(())
 }
 
-/// Puts the last segment to the others, all in their order. The only error is out of memory.
-fn add_last(served: &mut RunReport, last: Segment) -> Result<(), AllocError>
-    ensures ports { served.new.ports ≡ served.old.ports }
-    ensures receipts { served.new.receipts ≡ served.old.receipts }
-{
-    served.segments.push(last)?;
-    sort_segments(&mut served.segments)
-}
-
-/// Puts the work of the clock's port to what the others left, and the last segment. The only error is out of memory.
-fn add_rest(served: &mut RunReport, clock_work: Work, last: Segment) -> Result<(), AllocError>
-    requires { IsCounted served.old }
-    ensures ports { OnOk result (length served.new.ports.items ≡ length served.old.ports.items + 1) }
-    ensures counted { OnOk result (IsCounted served.new) }
-{
-    match add_work(served, clock_work) {
-        Ok(()) => add_last(served, last),
-        Err(error) => Err(error),
-    }
-}
-
-/// Puts together what the run left: the work of all ports, and the last segment. The only error is out of memory.
+/// Puts together what the ports left. The only error is out of memory.
 fn gather(
     served: &mut RunReport,
     works: Vec<Result<Work, AllocError>>,
     clock_work: Work,
-    last: Segment,
 ) -> Result<(), AllocError>
     requires { IsCounted served.old }
     ensures ports { OnOk result (length served.new.ports.items ≡ length served.old.ports.items + length works.items + 1) }
     ensures counted { OnOk result (IsCounted served.new) }
 {
     match add_works(served, works) {
-        Ok(()) => add_rest(served, clock_work, last),
+        Ok(()) => add_work(served, clock_work),
         Err(error) => Err(error),
     }
+}
+
+/// Puts what the core leaves to what the ports left, all segments in their order: who keeps them. The only error is out of memory.
+fn add_finished<K: KeepSegments + Drop>(
+    served: &mut RunReport,
+    finished: Finished<K>,
+) -> Result<K, AllocError>
+    ensures ports { served.new.ports ≡ served.old.ports }
+    ensures receipts { served.new.receipts ≡ served.old.receipts }
+    ensures kept { IfOk result (λ keeper. (keeper ≡ finished.keeper) × (served.new.kept ≡ finished.kept)) }
+{
+    let Finished { last, keeper, kept } = finished;
+    served.segments.push(last)?;
+    sort_segments(&mut served.segments)?;
+    served.kept = kept;
+    Ok(keeper)
 }
 
 /// The threads of the links: what each worker did, in their order. The only error is out of memory.
 fn run_workers<
     L: Ledger + Send + Sync,
     R: Threads + Wait + Send + Sync + Drop,
+    K: KeepSegments + Send + Drop,
     W: Wire + Send + Drop,
     G: Gate + Sync,
 >(
     rt: &R,
     alloc: Global,
-    core: &Core<L, R>,
+    core: &Core<L, R, K>,
     workers: Vec<Worker<L, W>>,
     gate: &G,
     turns: u32,
@@ -254,6 +278,7 @@ fn run_workers<
 fn run_threads<
     L: Ledger + Send + Sync,
     R: Threads + Wait + Clone + Send + Sync + Drop,
+    K: KeepSegments + Send + Drop,
     C: Clock,
     W: Wire + Send + Drop,
     G: Gate + Sync,
@@ -261,7 +286,7 @@ fn run_threads<
     rt: &R,
     clock: &C,
     alloc: Global,
-    core: &Core<L, R>,
+    core: &Core<L, R, K>,
     workers: Vec<Worker<L, W>>,
     clock_port: &mut Port<L>,
     clock_wire: &mut W,
@@ -278,9 +303,8 @@ fn run_threads<
     );
     let works = works?;
     let clock_work = clock_work?;
-    let last = core.rotate(rt, alloc)?;
     let mut served = RunReport::new(alloc);
-    gather(&mut served, works, clock_work, last)?;
+    gather(&mut served, works, clock_work)?;
     Ok(served)
 }
 
@@ -288,6 +312,7 @@ fn run_threads<
 fn serve_named<
     L: Ledger + Send + Sync,
     R: Threads + Wait + Clone + Send + Sync + Drop,
+    K: KeepSegments + Send + Drop,
     C: Clock,
     W: Wire + Send + Drop,
     G: Gate + Sync,
@@ -301,25 +326,36 @@ fn serve_named<
     clock_wire: W,
     gate: &G,
     turns: u32,
-) -> Result<RunReport, OpenFault>
+    keeper: K,
+) -> Result<(RunReport, K), OpenFault>
     requires name { blank.name ≡ L.name }
     requires parts { blank.parts ≡ L.parts }
     requires ports { (length links.items + 1 ≤ L.parts) × (L.parts ≤ 64) }
-    ensures ports { IfOk result (λ served. length served.ports.items ≡ length links.items + 1) }
-    ensures counted { IfOk result IsCounted }
+    requires none { K.given keeper ≡ 0 }
+    ensures ports { IfOk result (λ served. length served.0.ports.items ≡ length links.items + 1) }
+    ensures counted { IfOk result (λ served. IsCounted served.0) }
+    ensures kept { IfOk result (λ served. K.given served.1 ≡ served.0.kept) }
 {
     let count = links.len();
     let Opened {
         core,
         mut ports,
         readers,
-    } = open::<L, R>(alloc, rt.clone()?, blank, config, count as u16 + 1, count)?;
+    } = open::<L, R, K>(
+        alloc,
+        rt.clone()?,
+        blank,
+        config,
+        count as u16 + 1,
+        count,
+        keeper,
+    )?;
     let Some(mut clock_port) = ports.pop() else {
         return Err(OpenFault::Memory);
     };
     let mut clock_wire = clock_wire;
     let workers = link_workers(alloc, ports, readers, links)?;
-    Ok(run_threads(
+    let mut served = run_threads(
         rt,
         clock,
         alloc,
@@ -329,15 +365,20 @@ fn serve_named<
         &mut clock_wire,
         gate,
         turns,
-    )?)
+    )?;
+    let keeper = add_finished(&mut served, core.finish(alloc)?)?;
+    Ok((served, keeper))
 }
 
 /// The run of the router of a configuration. Each link has a port, 1, 2 and so on in their order, and a thread that makes so
 /// many turns on its wire; the last port is the clock's, which feeds as many moments, 100 milliseconds apart, and sends from a
 /// wire of its own. All threads have ended when it returns. Where a thread can't be made, its turns are made after the others'.
-/// The report has all ports, and the receipts of all. The fault is that there is too little memory, or no place for a reader of the label table.
+/// Who keeps the journal has no segment yet. It is given each segment as soon as it is taken, where the journal is full and when all threads
+/// have ended, up to the first that can't be kept; it comes back. The report has all ports, and the receipts of all. The fault is that
+/// there is too little memory, or no place for a reader of the label table.
 pub fn serve_on<
     R: Threads + Wait + Clone + Send + Sync + Drop,
+    K: KeepSegments + Send + Drop,
     C: Clock,
     W: Wire + Send + Drop,
     G: Gate + Sync,
@@ -350,13 +391,16 @@ pub fn serve_on<
     clock_wire: W,
     gate: &G,
     turns: u32,
-) -> Result<RunReport, OpenFault>
-    requires { length links.items < 64 }
-    ensures ports { IfOk result (λ served. length served.ports.items ≡ length links.items + 1) }
-    ensures counted { IfOk result IsCounted }
+    keeper: K,
+) -> Result<(RunReport, K), OpenFault>
+    requires few { length links.items < 64 }
+    requires none { K.given keeper ≡ 0 }
+    ensures ports { IfOk result (λ served. length served.0.ports.items ≡ length links.items + 1) }
+    ensures counted { IfOk result (λ served. IsCounted served.0) }
+    ensures kept { IfOk result (λ served. K.given served.1 ≡ served.0.kept) }
 {
     let blank = Blank::new(links.len() as u64 + 1);
-    serve_named::<Brand, R, C, W, G>(
-        rt, clock, alloc, blank, config, links, clock_wire, gate, turns,
+    serve_named::<Brand, R, K, C, W, G>(
+        rt, clock, alloc, blank, config, links, clock_wire, gate, turns, keeper,
     )
 }

@@ -4,10 +4,9 @@ ghost use Rattle.std.specs.Io.KnownBytes.{Appends};
 ghost use Rattle.lsr_serve.specs.Told.{Serves, TellsRun};
 
 use crate::judging::{copy_config, judge};
-use crate::keeping::{KeepSegments, keep_all};
 use crate::run::{PortCount, RunReport, serve_on};
 use crate::udp_wire::{LinkWire, ServeFault, UdpWire, open_clock_wire, open_wires};
-use interface_workers::{Mismatch, OpenGate, Segment};
+use interface_workers::{KeepSegments, Mismatch, OpenGate, Segment};
 use log::sink::Writer;
 use log::{Log, info};
 use lsr_config::{Config, LinkSockets};
@@ -80,28 +79,33 @@ fn open_all<'a, R: Net>(
     Ok((wires, clock_wire))
 }
 
-/// What the run of the links leaves, with a port for each and one for the clock; all segments were kept. The fault is that a socket
-/// can't be had, and then nothing was started, that memory ran out, or that a segment wasn't kept.
-fn served<R: Net + Threads + Wait + Clock + Clone + Send + Sync + Drop, K: KeepSegments>(
+/// What the run of the links leaves, with a port for each and one for the clock, and who keeps its journal, that has all segments. The
+/// fault is that a socket can't be had, and then nothing was started, that memory ran out, or that a segment wasn't kept.
+fn served<
+    R: Net + Threads + Wait + Clock + Clone + Send + Sync + Drop,
+    K: KeepSegments + Send + Drop,
+>(
     rt: &R,
     alloc: Global,
     config: Config,
     links: &Table<u16, LinkSockets>,
     turns: u32,
-    keeper: &mut K,
-) -> Result<RunReport, ServeFault>
+    keeper: K,
+) -> Result<(RunReport, K), ServeFault>
     requires few { length links.now < 64 }
-    requires none { K.given keeper.old ≡ 0 }
-    ensures ports { IfOk result (λ served. length served.ports.items ≡ length links.now + 1) }
-    ensures kept { IfOk result (λ served. K.given keeper.new ≡ length served.segments.items) }
+    requires none { K.given keeper ≡ 0 }
+    ensures ports { IfOk result (λ served. length served.0.ports.items ≡ length links.now + 1) }
+    ensures kept { IfOk result (λ served. K.given served.1 ≡ length served.0.segments.items) }
 {
     let (wires, clock_wire) = open_all(rt, alloc, links)?;
-    let Ok(served) = serve_on(rt, rt, alloc, config, wires, clock_wire, &OpenGate, turns) else {
+    let Ok((served, keeper)) = serve_on(
+        rt, rt, alloc, config, wires, clock_wire, &OpenGate, turns, keeper,
+    ) else {
         return Err(ServeFault::Memory);
     };
-    match keep_all(keeper, served.segments.as_slice()) {
-        Ok(()) => Ok(served),
-        Err(number) => Err(ServeFault::Unkept(number)),
+    match served.unkept() {
+        None => Ok((served, keeper)),
+        Some(number) => Err(ServeFault::Unkept(number)),
     }
 }
 
@@ -121,13 +125,14 @@ fn tell_served<W: Write, E: Write>(
 }
 
 /// `lsr serve`: the router of the configuration serves these links, its own, over sockets, so many turns each; a turn takes 100
-/// milliseconds at most. Who keeps the journal is given all its segments, and was given none before. Logs how much each port did on the error stream, prints
+/// milliseconds at most. Who keeps the journal has no segment yet, and is given each one as soon as it is taken, while the run goes on, up to the first that can't be kept.
+/// Logs how much each port did on the error stream, prints
 /// whether what was told is one run of that router from its opening on, and gives the status: 0 where it is, 1 where it isn't, where
 /// a socket can't be had, where a segment isn't kept, or where memory ran out, which the error stream is told. The error is that a
 /// stream could not be written.
 pub fn serve_links<
     R: Net + Threads + Wait + Clock + Clone + Send + Sync + Drop,
-    K: KeepSegments,
+    K: KeepSegments + Send + Drop,
     W: Write,
     E: Write,
 >(
@@ -136,17 +141,17 @@ pub fn serve_links<
     config: Config,
     links: &Table<u16, LinkSockets>,
     turns: u32,
-    keeper: &mut K,
+    keeper: K,
     output: &mut W,
     error: &mut E,
 ) -> io::Result<u8>
     requires few { length links.now < 64 }
-    requires none { K.given keeper.old ≡ 0 }
+    requires none { K.given keeper ≡ 0 }
     ensures { IfOk result (Serves config (length links.now + 1) (W.contents output.old) (W.contents output.new)) }
 {
     let fault = match copy_config(alloc, &config) {
         Ok(opened) => match served(rt, alloc, opened, links, turns, keeper) {
-            Ok(served) => return tell_served(&config, &served, output, error),
+            Ok((served, _keeper)) => return tell_served(&config, &served, output, error),
             Err(fault) => fault,
         },
         Err(_) => ServeFault::Memory,

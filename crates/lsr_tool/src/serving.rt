@@ -95,8 +95,8 @@ pub fn run_serve_of<
     };
     match read_served(files, alloc, file) {
         Ok((config, links)) => {
-            let mut count = SegmentCount::new();
-            serve_links(rt, alloc, config, &links, turns, &mut count, output, error)
+            let count = SegmentCount::new();
+            serve_links(rt, alloc, config, &links, turns, count, output, error)
         }
         Err(ending) => {
             tell_ending(error, file, &ending)?;

@@ -11,7 +11,7 @@ use std::sync::atomic::{AtomicBool, Ordering};
 use std::thread;
 use std::thread::Threads;
 use std::time::{Clock, Duration};
-use worker_fixtures::{Fault, Gate, TEAR_FRAME};
+use worker_fixtures::{Fault, Gate, SegmentCount, TEAR_FRAME};
 
 /// How many turns each thread makes: one in which the frame comes, and one in which none comes.
 const TURNS: u32 = 2;
@@ -98,8 +98,9 @@ pub fn run<R: Threads + Wait + Clock + Print + Clone + Send + Sync + Drop>(
         clock_wire,
         &gate,
         TURNS,
+        SegmentCount::new(),
     ) {
-        Ok(served) => {
+        Ok((served, _count)) => {
             let has_waited = gate.has_waited.load(Ordering::SeqCst);
             tell_held(rt, alloc, has_waited, &served)
         }

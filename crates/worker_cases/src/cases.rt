@@ -1,8 +1,8 @@
 //! The worked cases.
 
 use crate::{
-    both_at_once, failing_wire, full_journal, one_thread, reader_row, silent_links, socket_frames,
-    socket_words, strange_receipt, two_routers, two_threads,
+    both_at_once, failing_wire, full_journal, kept_segments, one_thread, reader_row, silent_links,
+    socket_frames, socket_words, strange_receipt, two_routers, two_threads,
 };
 use std::alloc::Global;
 use std::net::Net;
@@ -30,6 +30,7 @@ fn run_served<R: Net + Threads + Wait + Clock + Print + Clone + Send + Sync + Dr
     alloc: Global,
 ) -> Result<(), Fault> {
     silent_links::run(rt, alloc)?;
+    kept_segments::run(rt, alloc)?;
     both_at_once::run(rt, alloc)?;
     socket_frames::run(rt, alloc)?;
     socket_words::run(rt, alloc)?;

@@ -94,15 +94,15 @@ fn feed_moments<L: Ledger, R: Wait + Drop>(
 fn visit_all<L: Ledger, R: Wait + Drop>(
     rt: &R,
     alloc: Global,
-    core: &Core<L, R>,
+    core: Core<L, R>,
     places: &mut Places<L>,
     wire: &mut FailingWire,
 ) -> Result<Left, AllocError> {
     let mut works = Vec::new(alloc);
-    works.push(visit(rt, alloc, core, places, IN_LINK, wire))?;
-    works.push(visit(rt, alloc, core, places, OUT_LINK, wire))?;
-    works.push(feed_moments(rt, alloc, core, places, wire))?;
-    works.push(visit(rt, alloc, core, places, IN_LINK, wire))?;
+    works.push(visit(rt, alloc, &core, places, IN_LINK, wire))?;
+    works.push(visit(rt, alloc, &core, places, OUT_LINK, wire))?;
+    works.push(feed_moments(rt, alloc, &core, places, wire))?;
+    works.push(visit(rt, alloc, &core, places, IN_LINK, wire))?;
     Left::gathered(rt, alloc, core, works)
 }
 
@@ -124,7 +124,7 @@ fn run_named<L: Ledger, R: Wait + Clone + Drop>(
     } = open_router::<L, R>(alloc, rt.clone()?, blank, BUILT_IN, PORTS)?;
     let mut places = Places { ports, readers };
     let mut wire = FailingWire::new(alloc, plan);
-    let left = visit_all(rt, alloc, &core, &mut places, &mut wire)?;
+    let left = visit_all(rt, alloc, core, &mut places, &mut wire)?;
     Ok(WiredRun { left, wire })
 }
 

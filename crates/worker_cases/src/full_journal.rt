@@ -85,7 +85,7 @@ fn fill<L: Ledger, R: Wait + Print + Drop>(
     port: &mut Port<L>,
 ) -> Result<(), Fault> {
     let refused = tell_fed(rt, alloc, core, port, EVENTS)?;
-    let entries = count_entries(rt, alloc, core)?;
+    let entries = count_entries(rt, alloc, core, port)?;
     println!(rt; "full journal: {entries} entries taken out")?;
     tell_again(rt, alloc, core, port, refused)
 }

@@ -6,6 +6,7 @@ mod both_at_once;
 mod cases;
 mod failing_wire;
 mod full_journal;
+mod kept_segments;
 mod link_ends;
 mod one_thread;
 mod reader_row;

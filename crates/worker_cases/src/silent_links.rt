@@ -4,11 +4,11 @@ ghost use Rattle.std.specs.Prelude.{◌≡◌, IfOk, length};
 use crate::small_runs::{served_by, tell_served, tell_status};
 use crate::wires::{Hasty, Silent};
 use lsr_config::BUILT_IN;
-use lsr_serve::{KeepSegments, LinkWire, NotKept, RunReport, SegmentCount, keep_all};
+use lsr_serve::{LinkWire, RunReport};
 use std::alloc::{AllocError, Global};
 use std::sync::Wait;
 use std::thread::Threads;
-use worker_fixtures::{Fault, OpenGate, Segment};
+use worker_fixtures::{Fault, OpenGate, SegmentCount};
 
 /// What runs are called, and how many moments the clock feeds: few, and more than a segment of the journal holds.
 const RUNS: [(&str, u32); 2] = [("silent links", 3), ("a long run", 5_000)];
@@ -42,42 +42,17 @@ fn links(alloc: Global) -> Result<Vec<LinkWire<Silent>>, AllocError>
     Ok(Vec::from_array(alloc, [first, second])?)
 }
 
-/// Keeps one segment, and no more.
-#[derive(Drop)]
-struct KeepsOne {
-    given: u64,
-}
-
-impl KeepSegments for KeepsOne {
-    ghost given = { λ keeper. keeper.given };
-
-    fn keep(&mut self, number: u64, _segment: &Segment) -> Result<(), NotKept> {
-        if number > 1 {
-            return Err(NotKept);
-        }
-        self.given = number;
-        Ok(())
-    }
-}
-
-/// Prints how many segments are kept, and at which one it ends who keeps one alone.
-fn tell_kept<R: Print>(rt: &R, of: &str, segments: &[Segment]) -> Result<(), Fault> {
-    let mut count = SegmentCount::new();
-    if keep_all(&mut count, segments).is_ok() {
-        let kept = count.segments;
-        println!(rt; "{of}: {kept} segments kept")?;
-    }
-    match keep_all(&mut KeepsOne { given: 0 }, segments) {
-        Ok(()) => println!(rt; "{of}: one segment is enough")?,
-        Err(number) => println!(rt; "{of}: segment {number} not kept")?,
-    }
-    Ok(())
-}
-
-/// Prints what a run left, and what is told of it as of a run of another router.
-fn tell_run<R: Print>(rt: &R, alloc: Global, of: &str, served: &RunReport) -> Result<(), Fault> {
+/// Prints what a run left, how many of its segments were counted, and what is told of it as of a run of another router.
+fn tell_run<R: Print>(
+    rt: &R,
+    alloc: Global,
+    of: &str,
+    served: &RunReport,
+    count: SegmentCount,
+) -> Result<(), Fault> {
     tell_served(rt, alloc, of, BUILT_IN, served)?;
-    tell_kept(rt, of, served.segments.as_slice())?;
+    let counted = count.segments;
+    println!(rt; "{of}: {counted} segments counted")?;
     tell_status(rt, alloc, of, OTHER, served)
 }
 
@@ -97,14 +72,15 @@ fn run_for<R: Threads + Wait + Print + Clone + Send + Sync + Drop>(
         Silent,
         &OpenGate,
         turns,
+        SegmentCount::new(),
     ) {
-        Ok(served) => tell_run(rt, alloc, of, &served),
+        Ok((served, count)) => tell_run(rt, alloc, of, &served, count),
         Err(fault) => Err(fault),
     }
 }
 
 /// A router with two links on which nothing comes is served for three turns, and for so many that the journal is full: prints what each
-/// port did, what `lsr serve` prints, what becomes of the segments, and what would be told of a run of another router.
+/// port did, what `lsr serve` prints, how many segments who keeps them was given, and what would be told of a run of another router.
 pub fn run<R: Threads + Wait + Print + Clone + Send + Sync + Drop>(
     rt: &R,
     alloc: Global,

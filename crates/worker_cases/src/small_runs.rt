@@ -1,5 +1,5 @@
 //! Runs of a router as `lsr serve` makes them, over any wires and by any clock.
-ghost use Rattle.std.specs.Prelude.{◌<◌, length};
+ghost use Rattle.std.specs.Prelude.{◌≡◌, ◌<◌, length};
 
 use lsr_config::Config;
 use lsr_serve::{LinkWire, PortCount, RunReport, serve_on, tell_run};
@@ -7,11 +7,12 @@ use std::alloc::Global;
 use std::sync::Wait;
 use std::thread::Threads;
 use std::time::Clock;
-use worker_fixtures::{Fault, Gate, Wire};
+use worker_fixtures::{Fault, Gate, KeepSegments, Wire};
 
-/// What a run of the router of this configuration leaves over these links, of so many turns.
+/// What a run of the router of this configuration leaves over these links, of so many turns, and who keeps its journal.
 pub fn served_by<
     R: Threads + Wait + Clone + Send + Sync + Drop,
+    K: KeepSegments + Send + Drop,
     C: Clock,
     W: Wire + Send + Drop,
     G: Gate + Sync,
@@ -24,11 +25,15 @@ pub fn served_by<
     clock_wire: W,
     gate: &G,
     turns: u32,
-) -> Result<RunReport, Fault>
-    requires { length links.items < 64 }
+    keeper: K,
+) -> Result<(RunReport, K), Fault>
+    requires few { length links.items < 64 }
+    requires none { K.given keeper ≡ 0 }
 {
     match Config::read(alloc, text) {
-        Ok(config) => match serve_on(rt, clock, alloc, config, links, clock_wire, gate, turns) {
+        Ok(config) => match serve_on(
+            rt, clock, alloc, config, links, clock_wire, gate, turns, keeper,
+        ) {
             Ok(served) => Ok(served),
             Err(_) => Err(Fault::Memory),
         },

@@ -24,14 +24,15 @@ impl Drop for FedOnce {
     }
 }
 
-/// Takes the entries of this router, which was told this. The fault is out of memory.
+/// Takes the entries of this router by this port, which was told this. The fault is out of memory.
 fn with_segment<L: Ledger, R: Wait + Drop>(
     rt: &R,
     alloc: Global,
     core: &Core<L, R>,
+    port: &mut Port<L>,
     receipt: Receipt,
 ) -> Result<FedOnce, Fault> {
-    match core.rotate(rt, alloc) {
+    match core.rotate(rt, alloc, port) {
         Ok(segment) => Ok(FedOnce { segment, receipt }),
         Err(_) => Err(Fault::Memory),
     }
@@ -46,7 +47,7 @@ fn feed_one<L: Ledger, R: Wait + Drop>(
     moment: u64,
 ) -> Result<FedOnce, Fault> {
     match core.feed(rt, alloc, port, &Event::Tick(moment)) {
-        Ok(receipt) => with_segment(rt, alloc, core, receipt),
+        Ok(receipt) => with_segment(rt, alloc, core, port, receipt),
         Err(_) => Err(Fault::NotTaken),
     }
 }

@@ -13,7 +13,7 @@ use std::sync::atomic::{AtomicBool, Ordering};
 use std::thread::Threads;
 use std::time::{Clock, Duration};
 use std::{io, thread};
-use worker_fixtures::{Fault, Gate, OpenGate, Wire, WireFault, reconcile};
+use worker_fixtures::{Fault, Gate, OpenGate, SegmentCount, Wire, WireFault, reconcile};
 
 /// The router where the tunnel begins. Nothing that it knows expires in the time of [`TURNS`].
 const HEAD: &str = r#"
@@ -189,7 +189,13 @@ fn serve_end<'a, R: Threads + Wait + Clock + Clone + Send + Sync + Drop, G: Gate
     };
     let wire = UntilUp { inner: wire, is_up };
     let links = only_link(alloc, number, wire)?;
-    served_by(rt, &clock, alloc, text, links, clock_wire, gate, TURNS)
+    let count = SegmentCount::new();
+    match served_by(
+        rt, &clock, alloc, text, links, clock_wire, gate, TURNS, count,
+    ) {
+        Ok((served, _count)) => Ok(served),
+        Err(fault) => Err(fault),
+    }
 }
 
 /// Prints what a router knows of the tunnel at its end: how many paths and reservations, which labels lead over which links, and which

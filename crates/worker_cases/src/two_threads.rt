@@ -47,30 +47,26 @@ fn feed_moments<L: Ledger, R: Wait + Drop>(
 fn feed_all<L: Ledger + Send + Sync, R: Threads + Wait + Send + Sync + Drop>(
     rt: &R,
     alloc: Global,
-    core: &Core<L, R>,
+    core: Core<L, R>,
     ports: Vec<Port<L>>,
 ) -> Result<Left, AllocError> {
+    let shared = &core;
     let works = thread::map_vec(
         rt,
         ports,
-        &|port| feed_moments(rt, alloc, core, port, MOMENTS),
+        &|port| feed_moments(rt, alloc, shared, port, MOMENTS),
     )?;
     Left::gathered(rt, alloc, core, works)
 }
 
 /// Prints whether what the threads left is one run, and whether the router knows what it ends with.
-fn tell_left<L: Ledger, R: Wait + Print + Drop>(
-    rt: &R,
-    alloc: Global,
-    core: &Core<L, R>,
-    left: &Left,
-) -> Result<(), Fault> {
+fn tell_left<R: Print>(rt: &R, left: &Left) -> Result<(), Fault> {
     let run = if left.is_one_run() {
         "reconciled"
     } else {
         "not one run of"
     };
-    let end = if left.ends_as(rt, alloc, core)? {
+    let end = if left.is_end {
         "the router's"
     } else {
         "another"
@@ -84,11 +80,11 @@ fn tell_left<L: Ledger, R: Wait + Print + Drop>(
 fn feed_and_tell<L: Ledger + Send + Sync, R: Threads + Wait + Print + Send + Sync + Drop>(
     rt: &R,
     alloc: Global,
-    core: &Core<L, R>,
+    core: Core<L, R>,
     ports: Vec<Port<L>>,
 ) -> Result<(), Fault> {
     match feed_all(rt, alloc, core, ports) {
-        Ok(left) => tell_left(rt, alloc, core, &left),
+        Ok(left) => tell_left(rt, &left),
         Err(_) => Err(Fault::Memory),
     }
 }
@@ -110,7 +106,7 @@ fn run_named<L: Ledger + Send + Sync, R: Threads + Wait + Print + Clone + Send +
                 ports,
                 readers: _readers,
             },
-        ) => feed_and_tell(rt, alloc, &core, ports),
+        ) => feed_and_tell(rt, alloc, core, ports),
         Err(fault) => Err(fault),
     }
 }

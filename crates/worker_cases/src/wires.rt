@@ -58,6 +58,37 @@ impl Wire for OneFrame {
     }
 }
 
+/// A wire on which one frame comes again and again.
+#[derive(Clone, Copy)]
+pub struct Again {
+    /// The frame.
+    pub frame: &'static [u8],
+}
+
+impl Wire for Again {
+    ghost use Rattle.std.specs.Prelude.{None};
+
+    ghost history = { λ _. record { failed = 0; answered = None; given = None } };
+
+    /// The frame, where the buffer has room for it.
+    fn receive(&mut self, buffer: &mut [u8]) -> Result<Option<usize>, WireFault> {
+        let len = self.frame.len();
+        if len > buffer.len() {
+            return Ok(None);
+        }
+        buffer[..len].copy_from_slice(self.frame);
+        Ok(Some(len))
+    }
+
+    fn send(&mut self, _link: u16, _bytes: &[u8]) -> Result<(), WireFault> {
+        Ok(())
+    }
+
+    fn failures(&self) -> u64 {
+        0
+    }
+}
+
 /// A clock that never waits.
 #[derive(Clone, Copy)]
 pub struct Hasty;

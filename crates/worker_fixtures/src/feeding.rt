@@ -2,7 +2,7 @@
 ghost use Rattle.std.specs.Prelude.{◌≡◌, ◌≤◌};
 
 use crate::fault::Fault;
-use interface_workers::{Core, CoreReader, Opened, Port, open};
+use interface_workers::{Core, CoreReader, Opened, Port, SegmentCount, open};
 use lsr_config::{BUILT_IN, Config};
 use std::alloc::Global;
 use std::marker::Brand;
@@ -10,7 +10,7 @@ use std::sync::Wait;
 use std::sync::ledger::{Blank, Ledger};
 
 /// A router of this configuration, with ports of the numbers 1 to `ports`, and as many readers of its label table: for threads that feed
-/// it. The fault is out of memory.
+/// it. The segments of its journal are counted. The fault is out of memory.
 pub fn open_router<L: Ledger, R: Wait + Drop>(
     alloc: Global,
     rt: R,
@@ -24,7 +24,15 @@ pub fn open_router<L: Ledger, R: Wait + Drop>(
     requires readers { ports ≤ 64 }
 {
     match Config::read(alloc, text) {
-        Ok(config) => match open::<L, R>(alloc, rt, blank, config, ports, ports as usize) {
+        Ok(config) => match open::<L, R, SegmentCount>(
+            alloc,
+            rt,
+            blank,
+            config,
+            ports,
+            ports as usize,
+            SegmentCount::new(),
+        ) {
             Ok(opened) => Ok(opened),
             Err(_) => Err(Fault::Memory),
         },

@@ -93,7 +93,7 @@ fn feed_rotating<L: Ledger, R: Wait + Drop>(
     match feed_event(rt, alloc, core, port, event) {
         Ok(()) => true,
         Err(Refusal::JournalFull) => {
-            count_entries(rt, alloc, core).is_ok()
+            count_entries(rt, alloc, core, port).is_ok()
                 && feed_event(rt, alloc, core, port, event).is_ok()
         }
         Err(_) => false,

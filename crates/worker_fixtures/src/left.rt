@@ -1,18 +1,18 @@
 //! What threads leave that feed a router.
 
-use interface_workers::{Core, Receipt, Segment, Work, is_same_state, reconcile};
-use lsr_facts::State;
+use interface_workers::{Core, Finished, Port, Receipt, Segment, Work, is_same_state, reconcile};
 use std::alloc::{AllocError, Global};
 use std::sync::Wait;
 use std::sync::ledger::Ledger;
 
-/// Takes the entries of a router's journal, and lets them go: how many there were. The only error is out of memory.
+/// Takes the entries of a router's journal by a port, and lets them go: how many there were. The only error is out of memory.
 pub fn count_entries<L: Ledger, R: Wait + Drop>(
     rt: &R,
     alloc: Global,
     core: &Core<L, R>,
+    port: &mut Port<L>,
 ) -> Result<usize, AllocError> {
-    match core.rotate(rt, alloc) {
+    match core.rotate(rt, alloc, port) {
         Ok(segment) => Ok(segment.entries().len()),
         Err(error) => Err(error),
     }
@@ -25,6 +25,8 @@ pub struct Left {
     pub receipts: Vec<Receipt>,
     /// The segments.
     pub segments: Vec<Segment>,
+    /// Whether what the router knew at last is what the last segment ends with.
+    pub is_end: bool,
     /// How many frames went on by their labels, or have arrived.
     pub forwarded: u64,
 }
@@ -35,6 +37,7 @@ impl Left {
         Left {
             receipts: Vec::new(alloc),
             segments: Vec::new(alloc),
+            is_end: false,
             forwarded: 0,
         }
     }
@@ -61,27 +64,37 @@ impl Left {
         Ok(())
     }
 
-    /// Takes the last segment, and puts all in their order: by the number at their beginning, an empty one first. The only error is
+    /// Puts the last segment to the others, all in their order: by the number at their beginning, an empty one first. The only error is
     /// out of memory.
+    fn put_last(&mut self, last: Segment) -> Result<(), AllocError> {
+        self.segments.push(last)?;
+        self.segments.sort_by_key(|segment| (segment.from().number(), segment.entries().len()))?;
+        Ok(())
+    }
+
+    /// Takes the last segment of a router, which is fed no more, and compares its end with what the router knows. The only error is out
+    /// of memory.
     fn close<L: Ledger, R: Wait + Drop>(
         &mut self,
         rt: &R,
         alloc: Global,
-        core: &Core<L, R>,
+        core: Core<L, R>,
     ) -> Result<(), AllocError> {
-        match core.rotate(rt, alloc) {
-            Ok(last) => self.segments.push(last)?,
-            Err(error) => return Err(error),
-        }
-        self.segments.sort_by_key(|segment| (segment.from().number(), segment.entries().len()))?;
-        Ok(())
+        let known = core.inspect(rt, alloc)?;
+        let Finished {
+            last,
+            keeper: _keeper,
+            kept: _,
+        } = core.finish(alloc)?;
+        self.is_end = is_same_state(&known, last.end());
+        self.put_last(last)
     }
 
     /// The works of all ports of a router, with its last segment, all in their order. The only error is out of memory.
     pub fn gathered<L: Ledger, R: Wait + Drop>(
         rt: &R,
         alloc: Global,
-        core: &Core<L, R>,
+        core: Core<L, R>,
         works: Vec<Result<Work, AllocError>>,
     ) -> Result<Left, AllocError> {
         let mut left = Left::new(alloc);
@@ -93,26 +106,5 @@ impl Left {
     /// Whether receipts and segments are those of one run.
     pub fn is_one_run(&self) -> bool {
         reconcile(self.segments.as_slice(), self.receipts.as_slice()).is_ok()
-    }
-
-    /// Whether this is what the last segment ends with.
-    fn ends_with(&self, state: &State) -> bool {
-        match self.segments.last() {
-            Some(last) => is_same_state(state, last.end()),
-            None => false,
-        }
-    }
-
-    /// Whether what the router knows is what the last segment ends with. The only error is out of memory.
-    pub fn ends_as<L: Ledger, R: Wait + Drop>(
-        &self,
-        rt: &R,
-        alloc: Global,
-        core: &Core<L, R>,
-    ) -> Result<bool, AllocError> {
-        match core.inspect(rt, alloc) {
-            Ok(state) => Ok(self.ends_with(&state)),
-            Err(error) => Err(error),
-        }
     }
 }

@@ -20,8 +20,9 @@ pub use frames::{
     IN_LINK, LABELLED_FRAME, OUT_LINK, PATH_FRAME, RESV_FRAME, TEAR_FRAME, about_tunnel, put_bytes,
 };
 pub use interface_workers::{
-    Closed, Core, CoreReader, CountedEntry, Entry, Gate, OpenGate, Opened, Port, Receipt, Segment,
-    Wire, WireFault, Work, is_same_state, reconcile, serve_event, serve_link,
+    Closed, Core, CoreReader, CountedEntry, Entry, Gate, KeepSegments, NotKept, OpenGate, Opened,
+    Port, Receipt, Segment, SegmentCount, Wire, WireFault, Work, is_same_state, reconcile,
+    serve_event, serve_link,
 };
 pub use left::{Left, count_entries};
 pub use sockets::free_links;

@@ -83,7 +83,7 @@ struct Loaded {
 fn put_together<L: Ledger, R: Wait + Drop>(
     rt: &R,
     alloc: Global,
-    core: &Core<L, R>,
+    core: Core<L, R>,
     works: Vec<Result<Work, AllocError>>,
     taken: u64,
     took: Duration,
@@ -112,7 +112,7 @@ fn run_since<
 >(
     rt: &R,
     alloc: Global,
-    core: &Core<L, R>,
+    core: Core<L, R>,
     workers: Vec<Worker<L, W>>,
     neighbours: Neighbours<'_>,
     start: Instant,
@@ -123,12 +123,13 @@ fn run_since<
         count,
     } = neighbours;
     let turns = count.saturating_add(SPARE_TURNS);
+    let shared = &core;
     let (works, is_sent) = thread::join(
         rt,
         || thread::map_vec(
             rt,
             workers,
-            &|worker| run_worker(rt, alloc, core, &OpenGate, turns, worker),
+            &|worker| run_worker(rt, alloc, shared, &OpenGate, turns, worker),
         ),
         || send_all(rt, senders),
     );
@@ -147,7 +148,7 @@ fn serve_by<
 >(
     rt: &R,
     alloc: Global,
-    core: &Core<L, R>,
+    core: Core<L, R>,
     ports: Vec<Port<L>>,
     readers: Vec<CoreReader<L>>,
     wires: Vec<LinkWire<W>>,
@@ -184,7 +185,7 @@ fn serve_named<
                 ports,
                 readers,
             },
-        ) => serve_by(rt, alloc, &core, ports, readers, wires, neighbours),
+        ) => serve_by(rt, alloc, core, ports, readers, wires, neighbours),
         Err(fault) => Err(fault),
     }
 }

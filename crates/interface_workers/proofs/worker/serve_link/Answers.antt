@@ -1,5 +1,5 @@
 -- Turns that were made, and one more.
-use Rattle.std.proofs.Common.{◌+◌, ◌<◌, ◌≤◌, arith, inl}
+use Rattle.std.proofs.Common.{◌+◌, ◌<◌, ◌≤◌, ap, arith, inl, length}
 use Rattle.interface_workers.proofs.Turning.{among_failures, few_of, run_more, run_none, run_turned, run_whole, turn_room}
 use Rattle.interface_workers.proofs.worker.serve_link.Goals as goal
 
@@ -9,6 +9,7 @@ loop-turn-init g c = record {
   receipts_room = c.in-Ok.ensures.receipts;
   segments_room = c.in-Ok.ensures.segments;
   learnt = omega arith;
+  handed_out = omega (arith, ap length c.in-Ok.ensures.none.segments);
 }
 
 pub turn-reader-requires-clause-room : goal.turn-reader-requires-clause-room
@@ -27,6 +28,7 @@ loop-turn-preserved g c =
       receipts_room = omega (arith, turn.goes_on.receipts_room, before.receipts_room);
       segments_room = omega (arith, turn.goes_on.segments_room, before.segments_room);
       learnt = omega (arith, c.turn-reader.ensures.learnt, before.learnt);
+      handed_out = omega (arith, c.turn-reader.ensures.handed_out, before.handed_out);
     }
 
 pub returns-then-is_spent-clause-chain : goal.returns-then-is_spent-clause-chain

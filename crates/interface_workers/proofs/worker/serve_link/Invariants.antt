@@ -1,5 +1,5 @@
--- So many turns were made, there is room for the rest, and the reader has learnt no less.
-use Rattle.std.proofs.Common.{◌≤◌, vec_capacity}
+-- So many turns were made, there is room for the rest, the reader has learnt no less, and no segment is missing.
+use Rattle.std.proofs.Common.{◌≡◌, ◌+◌, ◌≤◌, length, vec_capacity}
 use Rattle.interface_workers.specs.Turns.{IsRunOf}
 use Rattle.interface_workers.proofs.worker.serve_link.Given as goal
 
@@ -10,4 +10,5 @@ invariant-loop-turn g l = record {
   receipts_room : l.turns ≤ vec_capacity l.work.receipts;
   segments_room : l.turns ≤ vec_capacity l.work.segments;
   learnt : l.initial.reader.at_least ≤ l.reader.at_least;
+  handed_out : l.port.taken ≡ l.initial.port.taken + length l.work.segments.items;
 }
