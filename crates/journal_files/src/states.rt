@@ -249,45 +249,25 @@ fn state_of(parts: StateValue) -> State
     ensures { state_parts result ≡ parts }
 {
     let (links, (node, (lsps, labels))) = parts;
-    let LinkState { cold, moment, up } = links;
-    let NodeState {
-        routes,
-        tunnels,
-        bypasses,
-    } = node;
-    let LspState {
-        paths,
-        resvs,
-        repairs,
-        promises,
-    } = lsps;
-    let LabelState {
-        labels,
-        resting,
-        sent,
-    } = labels;
-    let Sent {
-        paths: sent,
-        resvs: sent_upstream,
-    } = sent;
+    let sent = labels.sent;
     let facts = Facts {
-        cold,
-        moment,
-        up,
-        routes,
-        tunnels,
-        bypasses,
-        paths,
-        sent,
+        cold: links.cold,
+        moment: links.moment,
+        up: links.up,
+        routes: node.routes,
+        tunnels: node.tunnels,
+        bypasses: node.bypasses,
+        paths: lsps.paths,
+        sent: sent.paths,
     };
     State {
         facts,
-        resvs,
-        repairs,
-        labels,
-        assignments: promises,
-        resting,
-        sent_upstream,
+        resvs: lsps.resvs,
+        repairs: lsps.repairs,
+        labels: labels.labels,
+        assignments: lsps.promises,
+        resting: labels.resting,
+        sent_upstream: sent.resvs,
     }
 }
 

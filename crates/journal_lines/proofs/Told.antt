@@ -20,7 +20,7 @@ use Rattle.journal_lines.specs.Asking.{IsTold, SpellsFields}
 one_fields : (u v : UnreadEvent) → UnreadFits u → UnreadFits v → unread_bytes u ≡ unread_bytes v → u ≡ v
 one_fields u v fits others e = (one_unread u v [] [] fits others (ap (λ (bytes : List ℕ). bytes ++ []) e)).0
 
--- where bytes stand behind fields, all of them are no fields'
+-- where bytes stand after fields, all of them are no fields'
 pub none_whole : (bytes rest : List ℕ) (u : UnreadEvent) → UnreadFits u → bytes ≡ unread_bytes u ++ rest → 0 < length rest → (v : UnreadEvent) → SpellsFields bytes v → ⊥
 none_whole bytes rest u fits e some v spells =
     let one = one_unread u v rest [] fits spells.0 (sym e ∙ (spells.1 ∙ sym (append-nil (unread_bytes v)))) in
