@@ -1,4 +1,5 @@
 pub mod Flags
+pub mod KeptTurns
 pub mod Placing
 pub mod Rounds
 pub mod Turns

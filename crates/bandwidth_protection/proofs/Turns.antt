@@ -1,5 +1,5 @@
 -- Turns of wishes that ask for no more than what may come of them.
-use Rattle.std.specs.Prelude.{◌≡◌, ℕ, ◌+◌, ◌≤◌, ◌==◌, ◌&&◌, ◌||◌, nat_le, Bool, true, false, cond, if◌then◌else◌, T, List, [], ◌∷◌, filter, filter_map, find as find_first, is_some, length, Option, Some, None}
+use Rattle.std.specs.Prelude.{◌≡◌, ℕ, ◌+◌, ◌≤◌, ◌==◌, ◌||◌, nat_le, Bool, true, false, cond, if◌then◌else◌, T, List, [], ◌∷◌, filter, filter_map, find as find_first, is_some, length, Option, Some, None}
 use Rattle.std.specs.Cmp.{IsTotalOrder}
 use Rattle.std.specs.FinMap.Entries.{find, find-put, is_sorted, is_sorted-put, put}
 use Rattle.std.specs.List.{cons_option, list_any}
@@ -14,7 +14,7 @@ use Rattle.bypass_shares.specs.Shares.{assigned_of, each_in_turn, has_room, kept
 use Rattle.bypass_shares.specs.SumLaws.{assigned_of-put}
 use Rattle.bypass_shares.specs.TurnLaws.{Gives, IsGiven, kept_gives, new_gives}
 use Rattle.bypass_shares.specs.declared.wish.Wish.{Wish}
-use Rattle.bandwidth_protection.specs.Narrowing.{has_left, narrowed, of_had, of_open, unless_none}
+use Rattle.bandwidth_protection.specs.Narrowing.{has_left, narrowed, of_open, unless_none}
 
 -- whoever passes one test passes another that is weaker, so the first who does is the first of those who pass that
 first_narrowed : (p q : ℕ → Bool) → ((x : ℕ) → p x ≡ true → q x ≡ true) → (xs : List ℕ) → find_first p (filter q xs) ≡ find_first p xs
@@ -28,7 +28,7 @@ first_narrowed p q weaker (x ∷ xs) = by (p x) (q x) refl refl (first_narrowed 
     by false false is_p is_q so = so
 
 -- who passes a test is among those who do
-any_narrowed : (p : ℕ → Bool) (xs : List ℕ) → list_any p (filter p xs) ≡ list_any p xs
+pub any_narrowed : (p : ℕ → Bool) (xs : List ℕ) → list_any p (filter p xs) ≡ list_any p xs
 any_narrowed p [] = refl
 any_narrowed p (x ∷ xs) = by (p x) refl (any_narrowed p xs)
   where
@@ -103,27 +103,21 @@ module _ {K : Type 0} (cmp : K → K → Ordering) (capacity : ℕ → ℕ) (tot
 
   -- ---- the first round
 
-  -- An LSP keeps the same of the one bypass alone that it had.
-  kept_narrowed : (old pairs : List (K × Assignment)) (wish : K × Wish) → kept_for cmp capacity old pairs wish ≡ option_and_then (λ w. kept_for cmp capacity old pairs (wish.0, w)) (option_map (λ had. of_had had wish.1) (find cmp wish.0 old))
+  -- An LSP that had none keeps none.
+  kept_narrowed : (old pairs : List (K × Assignment)) (wish : K × Wish) → kept_for cmp capacity old pairs wish ≡ option_and_then (λ w. kept_for cmp capacity old pairs (wish.0, w)) (option_map (λ had. wish.1) (find cmp wish.0 old))
   kept_narrowed old pairs wish = by (find cmp wish.0 old) refl (is_some (find cmp wish.0 pairs)) refl
     where
       by : (o : Option Assignment) → find cmp wish.0 old ≡ o → (b : Bool) → is_some (find cmp wish.0 pairs) ≡ b
-          → kept_for cmp capacity old pairs wish ≡ option_and_then (λ w. kept_for cmp capacity old pairs (wish.0, w)) (option_map (λ had. of_had had wish.1) o)
+          → kept_for cmp capacity old pairs wish ≡ option_and_then (λ w. kept_for cmp capacity old pairs (wish.0, w)) (option_map (λ had. wish.1) o)
       by None is true has = ap (λ b. if b then None else option_and_then (stays cmp capacity pairs wish.1) (find cmp wish.0 old)) has
       by None is false has = (λ i. if has i then None else option_and_then (stays cmp capacity pairs wish.1) (is i))
-      by (Some had) is true has =
-          ap (λ b. if b then None else option_and_then (stays cmp capacity pairs wish.1) (find cmp wish.0 old)) has
-          ∙ sym (ap (λ b. if b then None else option_and_then (stays cmp capacity pairs (of_had had wish.1)) (find cmp wish.0 old)) has)
-      by (Some had) is false has =
-          (λ i. if has i then None else option_and_then (stays cmp capacity pairs wish.1) (is i))
-          ∙ ap (λ b. if b && has_room cmp capacity pairs wish.1.rate had.bypass then Some (record { bypass = had.bypass; rate = wish.1.rate }) else None) (sym (any_narrowed (λ number. number == had.bypass) wish.1.bypasses))
-          ∙ sym (λ i. if has i then None else option_and_then (stays cmp capacity pairs (of_had had wish.1)) (is i))
+      by (Some had) is b has = refl
 
-  -- So all do.
+  -- So none but those that had some are asked.
   pub kept_turns : (old start : List (K × Assignment)) (wishes : List (K × Wish)) → T (is_sorted cmp start)
-      → each_in_turn cmp capacity (kept_for cmp capacity old) start (filter_map (λ wish. option_map (λ w. (wish.0, w)) (option_map (λ had. of_had had wish.1) (find cmp wish.0 old))) wishes) ≡ each_in_turn cmp capacity (kept_for cmp capacity old) start wishes
+      → each_in_turn cmp capacity (kept_for cmp capacity old) start (filter_map (λ wish. option_map (λ w. (wish.0, w)) (option_map (λ had. wish.1) (find cmp wish.0 old))) wishes) ≡ each_in_turn cmp capacity (kept_for cmp capacity old) start wishes
   kept_turns old start wishes in_order =
-      narrowed_turns (kept_for cmp capacity old) (kept_gives cmp capacity old) start (λ wish. option_map (λ had. of_had had wish.1) (find cmp wish.0 old)) (λ pairs later wish. kept_narrowed old pairs wish) wishes start (at_start start in_order)
+      narrowed_turns (kept_for cmp capacity old) (kept_gives cmp capacity old) start (λ wish. option_map (λ had. wish.1) (find cmp wish.0 old)) (λ pairs later wish. kept_narrowed old pairs wish) wishes start (at_start start in_order)
 
   -- ---- the second round
 

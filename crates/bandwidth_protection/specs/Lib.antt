@@ -1,5 +1,6 @@
 pub mod Candidates
 pub mod CandidateLaws
+pub mod Keeping
 pub mod Narrowing
 pub mod Resting
 pub mod RestingLaws

@@ -1,7 +1,7 @@
--- What is asked for in each of the two rounds of turns: no more than what may come of it.
+-- What is asked for in the second round of turns: no more than what may come of it.
 use Rattle.std.specs.Prelude.{ℕ, ◌==◌, nat_le, Bool, if◌then◌else◌, List, filter, is_some, length, Option, Some, None}
 use Rattle.std.specs.FinMap.Entries.{find}
-use Rattle.std.specs.Option.{option_and_then, option_map}
+use Rattle.std.specs.Option.{option_and_then}
 use Rattle.lsr_facts.specs.Orders.{key_cmp}
 use Rattle.lsr_facts.specs.declared.assignment.Assignment.{Assignment}
 use Rattle.lsr_facts.specs.declared.key.Key.{Key}
@@ -20,10 +20,6 @@ room_of left bypass = (bypass, left_at left bypass.0)
 abbrev pub narrowed : (ℕ → Bool) → Wish → Wish
 narrowed may wish = record { rate = wish.rate; bypasses = filter may wish.bypasses }
 
--- of the one alone that the LSP had some of
-abbrev pub of_had : Assignment → Wish → Wish
-of_had had wish = narrowed (λ number. number == had.bypass) wish
-
 -- so much is left of a bypass
 abbrev pub has_left : List (ℕ × ℕ) → ℕ → ℕ → Bool
 has_left left rate number = nat_le rate (left_at left number)
@@ -36,11 +32,7 @@ unless_none wish = if length wish.bypasses == 0 then None else Some wish
 abbrev pub of_open : List (ℕ × ℕ) → Wish → Option Wish
 of_open left wish = unless_none (narrowed (has_left left wish.rate) wish)
 
--- what an LSP asks for in the first round, by what it had
-abbrev pub kept_wish : Router → State → Key → Assignment → Option Wish
-kept_wish r s key had = option_map (of_had had) (wish_at r s key)
-
--- what one asks for in the second that has none yet, by what is left
+-- what an LSP asks for that has none yet, by what is left
 abbrev pub open_by : List (Key × Assignment) → List (ℕ × ℕ) → Key → Option Wish → Option Wish
 open_by kept left key wish = if is_some (find key_cmp key kept) then None else option_and_then (of_open left) wish
 

@@ -13,9 +13,13 @@ use Rattle.bandwidth_protection.specs.Wishing.{wish_by}
 abbrev pub is_wanted : State → Key → Bool
 is_wanted s key = option_map_or wants_bandwidth (find key_cmp key s.facts.paths) false
 
+-- it is reserved, too: so it asks for bandwidth
+abbrev pub is_asking : State → Key → Bool
+is_asking s key = is_wanted s key && is_some (find key_cmp key s.resvs)
+
 -- it asks for nothing before and after, and was promised nothing
 abbrev pub is_unconcerned : State → State → Key → Bool
-is_unconcerned s t key = not (is_wanted t key) && (not (is_wanted s key) && is_none (find key_cmp key s.assignments))
+is_unconcerned s t key = not (is_asking t key) && (not (is_asking s key) && is_none (find key_cmp key s.assignments))
 
 -- The LSP asks for the same before and after, where all LSPs share the same, and uses what it was promised before and after, or
 -- neither.

@@ -28,17 +28,21 @@ use Rattle.abstract_router.specs.States.{State}
 use Rattle.state_views.specs.EditLaws.{row_edited}
 use Rattle.state_views.specs.Edits.{edited}
 use Rattle.state_views.specs.declared.edits.Edits.{Edits}
-use Rattle.bandwidth_protection.specs.Resting.{IsAtRest, is_unconcerned, is_wanted}
+use Rattle.bandwidth_protection.specs.Resting.{IsAtRest, is_asking, is_unconcerned}
 use Rattle.bandwidth_protection.specs.WishLaws.{found_wish, unwanted, wishes_sorted}
 use Rattle.bandwidth_protection.specs.Wishing.{wish_by}
 
 -- ---- one LSP
 
--- it asks for nothing whose head doesn't want that
-silent : (a : Around) (key : Key) (path : Option PathFact) (resv : Option ResvFact) → option_map_or wants_bandwidth path false ≡ false → wish_by a key path resv ≡ None
-silent a key None None isnt = refl
+-- it asks for nothing whose head doesn't want that, or that isn't reserved
+silent : (a : Around) (key : Key) (path : Option PathFact) (resv : Option ResvFact) → (option_map_or wants_bandwidth path false && is_some resv) ≡ false → wish_by a key path resv ≡ None
+silent a key path None isnt = refl
 silent a key None (Some resv) isnt = refl
-silent a key (Some path) resv isnt = unwanted a key path resv isnt
+silent a key (Some path) (Some resv) isnt = unwanted a key path (Some resv) (wanted_alone (wants_bandwidth path) isnt)
+  where
+    wanted_alone : (b : Bool) → (b && true) ≡ false → b ≡ false
+    wanted_alone true isnt = isnt
+    wanted_alone false isnt = refl
 
 not_so : (b : Bool) → not b ≡ true → b ≡ false
 not_so true so = absurd (let f = so in cc)
@@ -51,11 +55,11 @@ none_there (Some x) none some = none
 -- An LSP that asks for nothing before and after, and was promised nothing, is at rest.
 pub unconcerned : (s t : State) (key : Key) → is_unconcerned s t key ≡ true → IsAtRest s t key
 unconcerned s t key is =
-    let parts = and_parts (not (is_wanted t key)) (not (is_wanted s key) && is_none (find key_cmp key s.assignments)) is in
-    let more = and_parts (not (is_wanted s key)) (is_none (find key_cmp key s.assignments)) parts.1 in
+    let parts = and_parts (not (is_asking t key)) (not (is_asking s key) && is_none (find key_cmp key s.assignments)) is in
+    let more = and_parts (not (is_asking s key)) (is_none (find key_cmp key s.assignments)) parts.1 in
     record {
-      asks = λ a. silent a key (find key_cmp key s.facts.paths) (find key_cmp key s.resvs) (not_so (is_wanted s key) more.0)
-          ∙ sym (silent a key (find key_cmp key t.facts.paths) (find key_cmp key t.resvs) (not_so (is_wanted t key) parts.0));
+      asks = λ a. silent a key (find key_cmp key s.facts.paths) (find key_cmp key s.resvs) (not_so (is_asking s key) more.0)
+          ∙ sym (silent a key (find key_cmp key t.facts.paths) (find key_cmp key t.resvs) (not_so (is_asking t key) parts.0));
       uses = λ known. absurd (let f = none_there (find key_cmp key s.assignments) more.1 known in cc);
     }
 

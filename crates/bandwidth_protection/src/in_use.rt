@@ -19,7 +19,7 @@ pub(crate) fn known_assignments<V: WholeState>(
     requires { T (is_sorted key_cmp (V.state view.now).assignments) }
     ensures { IfOk result (λ all. all ≡ (V.state view.now).assignments) }
 {
-    let mut rows = Vec::new(alloc);
+    let mut rows = Vec::with_capacity(alloc, view.assignment_count())?;
     for place in 0..view.assignment_count() {
         if let Some(row) = view.assignment_at(place) {
             rows.push((row.0, row.1))?;

@@ -15,6 +15,7 @@ ghost use Rattle.bandwidth_protection.specs.Candidates.{promising_of};
 ghost use Rattle.bandwidth_protection.specs.Narrowing.{of_open, open_wish, room_of};
 
 use crate::candidates::{Numbered, Room, candidates};
+use crate::near::find_near;
 use crate::wishes::{asked_rate, wants_bandwidth};
 use bypass_shares::{Wish, give_each, merge};
 use lsr_facts::{Assignment, Key, PathFact, ResvFact};
@@ -34,7 +35,7 @@ pub(crate) struct Opening {
 }
 
 /// What is left of a bypass, in bytes per second: 0 of one that isn't there.
-fn left_at(left: &Table<u16, u64>, number: u16) -> u64
+pub(crate) fn left_at(left: &Table<u16, u64>, number: u16) -> u64
     ensures { result ≡ left_at left.now number }
 {
     match left.get(&number) {
@@ -80,19 +81,21 @@ fn open_on<A: StateView>(
     Some(Wish { rate, bypasses })
 }
 
-/// What the LSP of a key asks for of what is left: nothing where it has some. It asks for what is known of its path. Takes no memory.
+/// What the LSP of a key asks for of what is left: nothing where it has some. It asks for what is known of its path, and for the place
+/// at which the look-up before ended. Takes no memory.
 fn open_wish<A: StateView>(
     after: &A,
     opening: &Opening,
     key: &Key,
     path: Option<&PathFact>,
+    near: &mut usize,
 ) -> Option<Wish>
     requires path { option_copied path ≡ find key_cmp key.now (A.state after.now).facts.paths }
     requires rooms { opening.now.rooms.items ≡ map (room_of opening.now.left) (promising_of (A.router after.now) (A.state after.now)) }
     requires few { length opening.now.rooms.items ≤ max_bypasses }
     ensures { result ≡ open_wish (A.router after.now) (A.state after.now) opening.now.kept opening.now.left key.now }
 {
-    if opening.kept.contains_key(key) {
+    if find_near(opening.kept.as_slice(), key, near).is_some() {
         return None;
     }
     let resv = after.resv(key)?;
@@ -107,6 +110,7 @@ fn with_wish<A: StateView>(
     opening: &Opening,
     key: Key,
     path: Option<&PathFact>,
+    near: &mut usize,
 ) -> Result<Table<Key, Wish>, AllocError>
     requires path { option_copied path ≡ find key_cmp key (A.state after.now).facts.paths }
     requires rooms { opening.now.rooms.items ≡ map (room_of opening.now.left) (promising_of (A.router after.now) (A.state after.now)) }
@@ -115,7 +119,7 @@ fn with_wish<A: StateView>(
         (open_wish (A.router after.now) (A.state after.now) opening.now.kept opening.now.left key) wishes) }
 {
     let mut all = wishes;
-    if let Some(wish) = open_wish(after, opening, &key, path) {
+    if let Some(wish) = open_wish(after, opening, &key, path, near) {
         all.set(key, wish)?;
     }
     Ok(all)
@@ -129,6 +133,7 @@ fn with_known<V: StateView>(
     edits: &Edits,
     opening: &Opening,
     path: &(Key, PathFact),
+    near: &mut usize,
 ) -> Result<Table<Key, Wish>, AllocError>
     requires rooms { opening.now.rooms.items
         ≡ map (room_of opening.now.left) (promising_of (V.router view.now) (edited edits.now (V.state view.now))) }
@@ -140,12 +145,12 @@ fn with_known<V: StateView>(
     let after = Changed { under: view, edits };
     if edits.paths.contains_key(&path.0) {
         let edited = after.path(&path.0);
-        return with_wish(wishes, &after, opening, path.0, edited);
+        return with_wish(wishes, &after, opening, path.0, edited, near);
     }
     if !wants_bandwidth(&path.1) {
         return Ok(wishes);
     }
-    with_wish(wishes, &after, opening, path.0, Some(&path.1))
+    with_wish(wishes, &after, opening, path.0, Some(&path.1), near)
 }
 
 /// The wishes of all LSPs that had a path before edits. The only error is out of memory.
@@ -164,9 +169,10 @@ fn known_wishes<V: WholeState>(
         opening.now.kept opening.now.left key) (find key_cmp key (V.state view.now).facts.paths)) None) }
 {
     let mut all = Table::new(alloc);
+    let mut near = 0;
     for place in 0..view.path_count() {
         if let Some(path) = view.path_at(place) {
-            all = with_known(all, view, edits, opening, path)?;
+            all = with_known(all, view, edits, opening, path, &mut near)?;
         }
     }
     Ok(all)
@@ -186,8 +192,10 @@ fn with_wishes<A: StateView, E>(
         (find key_cmp key rows.now)) (find key_cmp key wishes)) }
 {
     let mut all = wishes;
+    let mut near = 0;
     for row in rows {
-        all = with_wish(all, after, opening, row.0, after.path(&row.0))?;
+        let path = after.path(&row.0);
+        all = with_wish(all, after, opening, row.0, path, &mut near)?;
     }
     Ok(all)
 }

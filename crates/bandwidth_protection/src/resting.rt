@@ -7,7 +7,7 @@ ghost use Rattle.std.specs.Prelude.{◌≡◌, T, false, true};
 ghost use Rattle.lsr_facts.specs.Orders.{key_cmp};
 ghost use Rattle.abstract_router.specs.Assigning.{assignments_of, wants_bandwidth};
 ghost use Rattle.state_views.specs.Edits.{edited};
-ghost use Rattle.bandwidth_protection.specs.Resting.{IsAtRest, is_unconcerned};
+ghost use Rattle.bandwidth_protection.specs.Resting.{IsAtRest, is_asking, is_unconcerned};
 
 use crate::wishes::wants_bandwidth;
 use facility_backup::{is_same_around, leaves_path, leaves_repair, leaves_resv};
@@ -24,12 +24,19 @@ fn is_wanted(path: Option<&PathFact>) -> bool
     }
 }
 
+/// Whether an LSP asks for bandwidth: it is reserved, and its head wants its bandwidth protected.
+fn is_asking<A: StateView>(after: &A, key: &Key) -> bool
+    ensures { result ≡ is_asking (A.state after.now) key.now }
+{
+    is_wanted(after.path(key)) && after.resv(key).is_some()
+}
+
 /// Whether an LSP asks for nothing before and after edits, and is promised nothing.
 fn is_unconcerned<V: StateView>(view: &V, edits: &Edits, key: &Key) -> bool
     ensures { result ≡ is_unconcerned (V.state view.now) (edited edits.now (V.state view.now)) key.now }
 {
     let after = Changed { under: view, edits };
-    !is_wanted(after.path(key)) && !is_wanted(view.path(key)) && view.assignment(key).is_none()
+    !is_asking(&after, key) && !is_asking(view, key) && view.assignment(key).is_none()
 }
 
 /// Whether an LSP asks for the same before and after edits, and uses its promise after them just where it did before. It says

@@ -11,9 +11,7 @@ use std::marker::Model;
 use toml::Value;
 
 /// The built-in router, as an operator would write it.
-pub const BUILT_IN: &str =
-    r#"# The middle router of a line of three: link 1 leads to 10.0.0.1 and link 2 to 10.0.0.3, behind which 10.0.0.4 lies.
-router = "10.0.0.2"
+pub const BUILT_IN: &str = r#"router = "10.0.0.2"
 refresh_ms = 30000
 labels = [16, 4111]
 

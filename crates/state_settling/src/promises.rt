@@ -13,7 +13,7 @@ ghost use Rattle.abstract_router.specs.Soundness.{IsSound};
 ghost use Rattle.state_views.specs.Edits.{edited};
 ghost use Rattle.state_settling.specs.Promises.{promise_becomes, promise_edit};
 
-use bandwidth_protection::{assign, assignments_rest};
+use bandwidth_protection::{assign, assignments_rest, find_near};
 use lsr_facts::{Assignment, Key};
 use sorted_rows::Table;
 use state_views::{Edits, StateView, WholeState};
@@ -43,11 +43,17 @@ fn promise_becomes(was: Option<Assignment>, now: Option<Assignment>) -> Option<O
     }
 }
 
-/// What becomes of an LSP's promise, where these are all promises from now on; `None` where nothing does.
-fn promise_edit<V: StateView>(view: &V, now: &Promises, key: &Key) -> Option<Option<Assignment>>
+/// What becomes of an LSP's promise, where these are all promises from now on; `None` where nothing does. `near` is the place at which
+/// the look-up before ended.
+fn promise_edit<V: StateView>(
+    view: &V,
+    now: &Promises,
+    key: &Key,
+    near: &mut usize,
+) -> Option<Option<Assignment>>
     ensures { result ≡ promise_edit (V.state view.now).assignments now.now key.now }
 {
-    promise_becomes(view.assignment(key), now.get(key).copied())
+    promise_becomes(view.assignment(key), find_near(now.as_slice(), key, near))
 }
 
 /// Edits, and then that of an LSP, where it isn't promised the same from now on. The only error is out of memory.
@@ -56,12 +62,13 @@ fn with_edit<V: StateView>(
     view: &V,
     now: &Promises,
     key: &Key,
+    near: &mut usize,
 ) -> Result<PromiseEdits, AllocError>
     ensures { IfOk result (λ all. all ≡ option_map_or (λ edit. put key_cmp key.now edit edits)
         (promise_edit (V.state view.now).assignments now.now key.now) edits) }
 {
     let mut all = edits;
-    if let Some(edit) = promise_edit(view, now, key) {
+    if let Some(edit) = promise_edit(view, now, key, near) {
         all.set(*key, edit)?;
     }
     Ok(all)
@@ -77,9 +84,10 @@ fn edits_of_known<V: WholeState>(
         ≡ option_or (option_and_then (λ row. promise_edit (V.state view.now).assignments now.now key) (find key_cmp key (V.state view.now).assignments)) None) }
 {
     let mut all = Table::new(alloc);
+    let mut near = 0;
     for place in 0..view.assignment_count() {
         if let Some(row) = view.assignment_at(place) {
-            all = with_edit(all, view, now, &row.0)?;
+            all = with_edit(all, view, now, &row.0, &mut near)?;
         }
     }
     Ok(all)
@@ -97,8 +105,9 @@ fn with_edits_of_new<V: StateView>(
 {
     let rows = now.as_slice();
     let mut all = edits;
+    let mut near = 0;
     for row in rows {
-        if let Some(edit) = promise_edit(view, now, &row.0) {
+        if let Some(edit) = promise_edit(view, now, &row.0, &mut near) {
             all.set(row.0, edit)?;
         }
     }
