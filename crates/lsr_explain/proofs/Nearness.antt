@@ -24,10 +24,16 @@ pub pushed_all : (kind : Kind) (word rest : List ℕ) (now : List Near) (whole :
 pushed_all kind word rest now whole parts e =
     sym (parts ∙ ap (λ r. map shown now ++ near_lines kind word (lines_of r)) e ∙ ap (λ l. map shown now ++ near_lines kind word l) no_lines ∙ append-nil (map shown now))
 
--- four kinds, one after the other
-pub four : {X : Type 0} (none first second third fourth a b c d : List X) → none ≡ [] → first ≡ none ++ a → second ≡ first ++ b → third ≡ second ++ c → fourth ≡ third ++ d → fourth ≡ a ++ (b ++ (c ++ d))
+four : {X : Type 0} (none first second third fourth a b c d : List X) → none ≡ [] → first ≡ none ++ a → second ≡ first ++ b → third ≡ second ++ c → fourth ≡ third ++ d → fourth ≡ a ++ (b ++ (c ++ d))
 four none first second third fourth a b c d n e f g h =
     h ∙ ap (λ l. l ++ d) (g ∙ ap (λ l. l ++ c) (f ∙ ap (λ l. l ++ b) (e ∙ ap (λ l. l ++ a) n))) ∙ append_assoc (a ++ b) c d ∙ append_assoc a b (c ++ d)
+
+-- five kinds, one after the other
+pub five : {X : Type 0} (none first second third fourth fifth a b c d e : List X)
+    → none ≡ [] → first ≡ none ++ a → second ≡ first ++ b → third ≡ second ++ c → fourth ≡ third ++ d → fifth ≡ fourth ++ e → fifth ≡ a ++ (b ++ (c ++ (d ++ e)))
+five none first second third fourth fifth a b c d e n p q r s t =
+    t ∙ ap (λ l. l ++ e) (four none first second third fourth a b c d n p q r s) ∙ append_assoc a (b ++ (c ++ d)) e
+    ∙ ap (λ l. a ++ l) (append_assoc b (c ++ d) e ∙ ap (λ l. b ++ l) (append_assoc c d e))
 
 -- of a heading without names its first word counts
 pub by_first : (named : Bool) (word heading first name : List ℕ) (n : ℕ) → words_of heading ≡ Some (first, name) → named ≡ false → n ≡ edits word first → n ≡ edits_by named word heading (words_of heading)

@@ -16,6 +16,7 @@ abbrev pub told_word : Kind → List ℕ
 told_word kinds.Refusal = codes "refused "
 told_word kinds.RsvpError = codes "error "
 told_word kinds.ConfigFault = codes "config "
+told_word kinds.RunFault = codes "entry N: "
 told_word kinds.Ending = []
 
 -- the lines up to the first that doesn't begin with a space
@@ -54,7 +55,8 @@ answers_text =
 abbrev pub faults_text : List ℕ
 faults_text =
     section_text (codes "Faults of a configuration (config FAULT KEY), by FAULT:\n") kinds.ConfigFault
-    ++ section_text (codes "What else ends a run, by its first word:\n") kinds.Ending
+    ++ (section_text (codes "Faults of a recorded run (entry N: FAULT), by FAULT:\n") kinds.RunFault
+    ++ section_text (codes "What else ends a run, by its first word:\n") kinds.Ending)
 
 -- all that can be asked
 abbrev pub topics_text : List ℕ

@@ -1,10 +1,9 @@
 -- The headings of topics, in the order of their texts: which number, code and name stands over what.
-use Rattle.std.specs.Prelude.{ℕ, List, [], ◌∷◌, ◌++◌, Bool, not, Option, Some, None, codes, filter, map}
+use Rattle.std.specs.Prelude.{ℕ, List, [], ◌∷◌, ◌++◌, not, Option, Some, None, codes, filter}
 use Rattle.std.specs.Fmt.{decimal}
 use Rattle.line_streams.specs.Cuts.{lines_of}
 use Rattle.lsr_explain.specs.Topics.{is_indented, text_of}
 use Rattle.lsr_explain.specs.declared.topics.Kind.{Kind}
-use Rattle.lsr_explain.specs.declared.topics.Kind.TheVariants as kinds
 
 -- the lines of a text that begin with no space
 abbrev pub headings_in : List ℕ → List (List ℕ)
@@ -116,3 +115,7 @@ errors =
     failed 25 2 (codes "RecordNotified") ∷
     failed 25 3 (codes "LocallyRepaired") ∷
     []
+
+-- all faults of recorded runs, but that there was no memory
+abbrev pub run_faults : List (List ℕ)
+run_faults = codes "Format" ∷ codes "Gap" ∷ codes "Base" ∷ codes "Event" ∷ codes "Choice" ∷ codes "Output" ∷ []

@@ -40,7 +40,8 @@ near_kind kind word = near_lines kind word (lines_of (text_of kind))
 
 -- all headings
 abbrev pub near_all : List ℕ → List (ℕ × Kind × List ℕ)
-near_all word = near_kind kinds.Refusal word ++ (near_kind kinds.RsvpError word ++ (near_kind kinds.ConfigFault word ++ near_kind kinds.Ending word))
+near_all word =
+    near_kind kinds.Refusal word ++ (near_kind kinds.RsvpError word ++ (near_kind kinds.ConfigFault word ++ (near_kind kinds.RunFault word ++ near_kind kinds.Ending word)))
 
 -- All headings, the nearest to a word first.
 pub record IsRanking (word : List ℕ) (ranked : List Near) : Type 0 where

@@ -11,13 +11,14 @@ use Rattle.lsr_explain.specs.declared.explaining.Answer.{Answer}
 use Rattle.lsr_explain.specs.declared.explaining.Answer.TheVariants as answers
 use Rattle.lsr_explain.specs.declared.refusals.TheConstants.{REFUSALS}
 use Rattle.lsr_explain.specs.declared.errors.TheConstants.{ERRORS}
-use Rattle.lsr_explain.specs.declared.faults.TheConstants.{CONFIG_FAULTS, ENDINGS}
+use Rattle.lsr_explain.specs.declared.faults.TheConstants.{CONFIG_FAULTS, ENDINGS, RUN_FAULTS}
 
 -- the topics of a kind
 abbrev pub text_of : Kind → List ℕ
 text_of kinds.Refusal = REFUSALS.now
 text_of kinds.RsvpError = ERRORS.now
 text_of kinds.ConfigFault = CONFIG_FAULTS.now
+text_of kinds.RunFault = RUN_FAULTS.now
 text_of kinds.Ending = ENDINGS.now
 
 -- whether a name stands after the first word of each heading of a kind
@@ -25,6 +26,7 @@ abbrev pub has_names : Kind → Bool
 has_names kinds.Refusal = true
 has_names kinds.RsvpError = true
 has_names kinds.ConfigFault = false
+has_names kinds.RunFault = false
 has_names kinds.Ending = false
 
 -- a line that begins with a space is no heading
@@ -78,11 +80,11 @@ of_kind kind (Some lines) = Some (kind, lines)
 abbrev pub found_in : Kind → List ℕ → Option (Kind × List (List ℕ))
 found_in kind word = of_kind kind (found kind word (lines_of (text_of kind)))
 
--- the topic that a word asks for: of refusals, else of errors, else of faults of a configuration, else of what ends a run
+-- the topic that a word asks for: of refusals, else of errors, else of faults of a configuration, else of those of a recorded run, else of what ends a run
 abbrev pub topic_of : List ℕ → Option (Kind × List (List ℕ))
 topic_of word =
     option_or (found_in kinds.Refusal word)
-    (option_or (found_in kinds.RsvpError word) (option_or (found_in kinds.ConfigFault word) (found_in kinds.Ending word)))
+    (option_or (found_in kinds.RsvpError word) (option_or (found_in kinds.ConfigFault word) (option_or (found_in kinds.RunFault word) (found_in kinds.Ending word))))
 
 -- The digits are decimal, leading zeros taken, and their value fits 16 bits.
 pub record ValueOf (digits : List ℕ) (value : ℕ) : Type 0 where

@@ -1,4 +1,4 @@
-//! What each fault of a configuration means, and what else is told on the error stream.
+//! What each fault of a configuration and of a recorded run means, and what else is told on the error stream.
 
 /// Faults of a configuration: for each a heading, which is the fault as it is told after `config`, and after it what it
 /// means, in lines that begin with spaces. `KEY` stands for the name of a key.
@@ -45,9 +45,45 @@ UnknownKey KEY
   What to do: look at its spelling, and at the table that it stands in; or take it out.
   See: docs/CONFIGURATION.md (Faults)
 Memory
-  There wasn't memory enough to read the configuration.
+  There wasn't memory enough to read the configuration; or, of `entry 0: Memory`, to check the
+  recorded run, of which nothing is said then.
   What to do: free some memory and try again.
   See: docs/CONFIGURATION.md (Faults)
+";
+
+/// Faults of recorded runs: for each a heading, which is the fault as `lsr check` prints it after `entry N: `, and after it what
+/// it means, in lines that begin with spaces.
+pub const RUN_FAULTS: &str = "\
+Format
+  The bytes of the file are no journal file: it was cut or changed, its configuration isn't one, or
+  it never was a recorded run. N is 0.
+  What to do: copy the file again, or name another; `lsr config` alone reads configurations.
+  See: docs/PROGRAM.md (`lsr check`: recorded runs)
+Gap
+  The file doesn't begin where the file before it ended: another router wrote it, or what the router
+  knew at the end of that one isn't what it knows at the beginning of this one. N is 0.
+  What to do: give all files of one run, in the order in which they were written.
+  See: docs/PROGRAM.md (`lsr check`: recorded runs)
+Base
+  What the router knew before the first entry can't be: it breaks a clause of what always holds,
+  whose name stands after that. N is 0.
+  What to do: copy the file again; if it says the same, no router of this program wrote it.
+  See: docs/ROUTER.md (What always holds)
+Event
+  The event of entry N can't be: its bytes, which stand after that, spell none; or the router
+  refuses it without an entry, for what stands there, too. The entries before it are a run.
+  What to do: copy the file again; if it says the same, no router of this program wrote it.
+  See: docs/PROGRAM.md (`lsr check`: recorded runs)
+Choice
+  The labels of entry N may not be chosen: not each LSP that is new has one, or one of them isn't
+  free. They stand after that, and some that may be. The entries before it are a run.
+  What to do: copy the file again; if it says the same, no router of this program wrote it.
+  See: docs/PROGRAM.md (`lsr check`: recorded runs)
+Output
+  The reply of entry N, or what it says was sent, isn't what the router answers and sends: what was
+  found and what was expected stand after that. The entries before it are a run.
+  What to do: copy the file again; if it says the same, no router of this program wrote it.
+  See: docs/PROGRAM.md (`lsr check`: recorded runs)
 ";
 
 /// What else is told on the error stream and ends a run: for each a heading, which is what is told, and after it what it

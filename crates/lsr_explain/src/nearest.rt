@@ -78,6 +78,7 @@ pub(crate) fn rank(alloc: Global, word: &str) -> Result<Vec<Near>, AllocError>
     push_kind(alloc, &mut near, Kind::Refusal, word)?;
     push_kind(alloc, &mut near, Kind::RsvpError, word)?;
     push_kind(alloc, &mut near, Kind::ConfigFault, word)?;
+    push_kind(alloc, &mut near, Kind::RunFault, word)?;
     push_kind(alloc, &mut near, Kind::Ending, word)?;
     near.sort_by_key(|near| near.edits)?;
     Ok(near)

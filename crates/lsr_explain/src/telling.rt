@@ -30,6 +30,8 @@ const OF_ERRORS: &str =
 
 const OF_CONFIG_FAULTS: &str = "Faults of a configuration (config FAULT KEY), by FAULT:\n";
 
+const OF_RUN_FAULTS: &str = "Faults of a recorded run (entry N: FAULT), by FAULT:\n";
+
 const OF_ENDINGS: &str = "What else ends a run, by its first word:\n";
 
 /// The word that a router or the program tells such a topic with.
@@ -40,6 +42,7 @@ fn told_word(kind: Kind) -> &'static str
         Kind::Refusal => "refused ",
         Kind::RsvpError => "error ",
         Kind::ConfigFault => "config ",
+        Kind::RunFault => "entry N: ",
         Kind::Ending => "",
     }
 }
@@ -127,11 +130,12 @@ fn put_answers<W: Write>(output: &mut W) -> io::Result<()>
     put_section(output, OF_ERRORS, Kind::RsvpError)
 }
 
-/// Prints what can be asked of the error stream. The error is the stream's.
+/// Prints which faults can be asked, and what else ends a run. The error is the stream's.
 fn put_faults<W: Write>(output: &mut W) -> io::Result<()>
     ensures { OnOk result (Appends (W.contents output.old) (W.contents output.new) faults_text) }
 {
     put_section(output, OF_CONFIG_FAULTS, Kind::ConfigFault)?;
+    put_section(output, OF_RUN_FAULTS, Kind::RunFault)?;
     put_section(output, OF_ENDINGS, Kind::Ending)
 }
 

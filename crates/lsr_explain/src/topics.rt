@@ -3,7 +3,7 @@ ghost use Rattle.std.specs.Prelude.{◌≡◌, option_map};
 ghost use Rattle.lsr_explain.specs.Topics.{found_in, has_names, is_asked_by, is_indented, is_sought, seen, text_of, topic_of};
 
 use crate::errors::ERRORS;
-use crate::faults::{CONFIG_FAULTS, ENDINGS};
+use crate::faults::{CONFIG_FAULTS, ENDINGS, RUN_FAULTS};
 use crate::refusals::REFUSALS;
 use line_streams::next_line;
 
@@ -16,6 +16,8 @@ pub enum Kind {
     RsvpError,
     /// A fault of a configuration.
     ConfigFault,
+    /// A fault of a recorded run.
+    RunFault,
     /// What else is told on the error stream, and ends a run.
     Ending,
 }
@@ -29,6 +31,7 @@ impl Kind {
             Kind::Refusal => REFUSALS,
             Kind::RsvpError => ERRORS,
             Kind::ConfigFault => CONFIG_FAULTS,
+            Kind::RunFault => RUN_FAULTS,
             Kind::Ending => ENDINGS,
         }
     }
@@ -39,7 +42,7 @@ impl Kind {
     {
         match self {
             Kind::Refusal | Kind::RsvpError => true,
-            Kind::ConfigFault | Kind::Ending => false,
+            Kind::ConfigFault | Kind::RunFault | Kind::Ending => false,
         }
     }
 }
@@ -118,6 +121,9 @@ pub fn find_topic(word: &str) -> Option<Topic>
         return Some(topic);
     }
     if let Some(topic) = find_in(Kind::ConfigFault, word) {
+        return Some(topic);
+    }
+    if let Some(topic) = find_in(Kind::RunFault, word) {
         return Some(topic);
     }
     find_in(Kind::Ending, word)

@@ -1,8 +1,9 @@
 -- What a command asks for that was found with its values.
-use Rattle.std.proofs.Common.{◌≡◌, ℕ, List, Result, Ok, Option, Some, None, [], refl, sym, subst, ap, ap₂, false, ◌∙◌, codes, true, arith, get_or}
+use Rattle.std.proofs.Common.{◌≡◌, ◌≢◌, ◌==◌, arith, eqb-true, List, Result, Ok, Option, Some, None, [], ◌∷◌, refl, sym, subst, ap, ap₂, false, ◌∙◌, bytes_eq, codes, find, length, map, option_and_then, slice_get, true, unwrap_or}
+use Rattle.std.specs.Borrow.{Bor}
 use Rattle.std.specs.Option.{MatchOption, option_map, option_map_or}
 use Rattle.std.specs.Result.{IfOk}
-use Rattle.clap.specs.Words.{App, Row, Rule, Text, app_of, first_of, is_simple, is_simple_and_free, rule_of, subcommand_name_of, subcommand_rows_of, with_rule, with_subcommand}
+use Rattle.clap.specs.Words.{App, Row, Rule, Text, all_of, app_of, first_of, is_simple, is_simple_and_free, rule_of, subcommand_name_of, subcommand_rows_of, with_rule, with_subcommand}
 use Rattle.clap.specs.Built.{AddsArg, AddsSubcommand}
 use Rattle.clap.specs.declared.builder.arg.Arg.{Arg}
 use Rattle.clap.specs.declared.builder.command.Command.{Command, out-Command}
@@ -36,88 +37,71 @@ same_command name command given values e = ap (λ (o : Option (Text × List Row)
 same_values : (name command : Text) (given values : List Row) → pair name given ≡ pair command values → given ≡ values
 same_values name command given values e = ap (λ (o : Option (Text × List Row)). option_map_or (λ (p : Text × List Row). p.1) o []) e
 
+-- the word that a command can't do without
+abbrev pub needed_by : Text → Option Text
+needed_by command = option_map (λ (p : Text × Text). p.1) (find (λ p. bytes_eq p.0 command)
+    ((codes "decode", codes "HEX") ∷ (codes "explain", codes "WHAT") ∷ (codes "serve", codes "FILE") ∷ (codes "play", codes "FILE") ∷ (codes "check", codes "FILE") ∷ (codes "show-journal", codes "FILE") ∷ []))
+
+first_of_all : (o : Option Row) (values : List Text) → option_map (λ r. r.values) o ≡ Some values → option_and_then (λ r. slice_get r.values 0) o ≡ slice_get values 0
+first_of_all None values e = let t = e in cc
+first_of_all (Some r) values e = ap (λ (o : Option (List Text)). slice_get (unwrap_or o []) 0) e
+
+-- the first of all values
+pub first_is : (id : Text) (given : List Row) (values : List Text) → all_of id given ≡ Some values → first_of id given ≡ slice_get values 0
+first_is id given values = first_of_all (find (λ r. bytes_eq r.id id) given) values
+
+no_first : (o : Option Row) → option_map (λ r. r.values) o ≡ None → option_and_then (λ r. slice_get r.values 0) o ≡ None
+no_first None e = refl
+no_first (Some r) e = let t = e in cc
+
+-- where there is no value there is no first
+pub has_none : (id : Text) (given : List Row) → all_of id given ≡ None → first_of id given ≡ None
+has_none id given = no_first (find (λ r. bytes_eq r.id id) given)
+
+pub no_values : (files : List (Bor Text)) → (length files == 0) ≡ true → slice_get (map (λ f. f.now) files) 0 ≡ None
+no_values [] e = refl
+no_values (file ∷ files) e = let none : length (file ∷ files) ≡ 0 = eqb-true (length (file ∷ files)) 0 e in absurd (omega (arith, none))
+
+-- of values that there are there is a first
+has_first : (id : Text) (given : List Row) (files : List (Bor Text)) → all_of id given ≡ Some (map (λ f. f.now) files) → files ≢ [] → first_of id given ≡ None → ⊥
+has_first id given [] is some none = some refl
+has_first id given (file ∷ files) is some none = let t = sym none ∙ first_is id given _ is in cc
+
+word_is : (command name word other : Text) → command ≡ name → needed_by command ≡ Some word → needed_by name ≡ Some other → other ≡ word
+word_is command name word other is needs said = ap (λ (o : Option Text). unwrap_or o []) (sym said ∙ ap needed_by (sym is) ∙ needs)
+
+-- where its word wasn't given nothing was given that it could be asked for
+lacks : (command word : Text) (given : List Row) (what : Asked) → needed_by command ≡ Some word → first_of word given ≡ None → Asks command given what → ⊥
+lacks command word given (asked.Step file echo live journal) needs none (is, text, said, kept, recorded) = let t : needed_by (codes "step") ≡ Some word = ap needed_by (sym is) ∙ needs in cc
+lacks command word given (asked.Config file) needs none (is, text) = let t : needed_by (codes "config") ≡ Some word = ap needed_by (sym is) ∙ needs in cc
+lacks command word given (asked.Decode digits fields) needs none (is, text, said) =
+    let t = sym none ∙ ap (λ w. first_of w given) (sym (word_is command _ word _ is needs refl)) ∙ text in cc
+lacks command word given (asked.Explain topic) needs none (is, text) =
+    let t = sym none ∙ ap (λ w. first_of w given) (sym (word_is command _ word _ is needs refl)) ∙ text in cc
+lacks command word given (asked.Serve file turns journal) needs none (is, text, count, recorded) =
+    let t = sym none ∙ ap (λ w. first_of w given) (sym (word_is command _ word _ is needs refl)) ∙ text in cc
+lacks command word given (asked.Play file lab) needs none (is, text, said) =
+    let t = sym none ∙ ap (λ w. first_of w given) (sym (word_is command _ word _ is needs refl)) ∙ text in cc
+lacks command word given (asked.Check files) needs none (is, text, some) =
+    has_first (codes "FILE") given files.items text some (ap (λ w. first_of w given) (word_is command _ word _ is needs refl) ∙ none)
+lacks command word given (asked.ShowJournal file) needs none (is, text) =
+    let t = sym none ∙ ap (λ w. first_of w given) (sym (word_is command _ word _ is needs refl)) ∙ text in cc
+
 -- a command without its word asks for nothing
-pub no_word : (found : Option (Text × List Row)) (name : Text) (given : List Row) → found ≡ Some (name, given) → name ≡ codes "decode" → first_of (codes "HEX") given ≡ None → (other : Asked) → AsksIn found other → ⊥
-no_word found name given e d none (asked.Step file echo live) (command, values, f, (is, text, said, kept)) =
-    let word : codes "decode" ≡ codes "step" = sym d ∙ same_command name command given values (sym e ∙ f) ∙ is in
-    absurd (omega (arith, ap (λ (l : List ℕ). get_or l 0 0) word))
-no_word found name given e d none (asked.Config file) (command, values, f, (is, text)) =
-    let word : codes "decode" ≡ codes "config" = sym d ∙ same_command name command given values (sym e ∙ f) ∙ is in
-    absurd (omega (arith, ap (λ (l : List ℕ). get_or l 0 0) word))
-no_word found name given e d none (asked.Decode word fields) (command, values, f, (is, text, said)) =
-    let t = sym none ∙ ap (first_of (codes "HEX")) (same_values name command given values (sym e ∙ f)) ∙ text in cc
-no_word found name given e d none (asked.Explain word) (command, values, f, (is, text)) =
-    let word : codes "decode" ≡ codes "explain" = sym d ∙ same_command name command given values (sym e ∙ f) ∙ is in
-    absurd (omega (arith, ap (λ (l : List ℕ). get_or l 0 0) word))
-no_word found name given e d none (asked.Serve file turns) (command, values, f, (is, text, count)) =
-    let word : codes "decode" ≡ codes "serve" = sym d ∙ same_command name command given values (sym e ∙ f) ∙ is in
-    absurd (omega (arith, ap (λ (l : List ℕ). get_or l 0 0) word))
-no_word found name given e d none (asked.Play file lab) (command, values, f, (is, text, said)) =
-    let word : codes "decode" ≡ codes "play" = sym d ∙ same_command name command given values (sym e ∙ f) ∙ is in
-    absurd (omega (arith, ap (λ (l : List ℕ). get_or l 0 0) word))
+pub asks_nothing : (found : Option (Text × List Row)) (name word : Text) (given : List Row) → found ≡ Some (name, given) → needed_by name ≡ Some word → first_of word given ≡ None → (other : Asked) → AsksIn found other → ⊥
+asks_nothing found name word given e needs none other (command, values, f, asks) =
+    lacks command word values other (ap needed_by (sym (same_command name command given values (sym e ∙ f))) ∙ needs)
+    (ap (first_of word) (sym (same_values name command given values (sym e ∙ f))) ∙ none) asks
 
-pub no_topic : (found : Option (Text × List Row)) (name : Text) (given : List Row) → found ≡ Some (name, given) → name ≡ codes "explain" → first_of (codes "WHAT") given ≡ None → (other : Asked) → AsksIn found other → ⊥
-no_topic found name given e d none (asked.Step file echo live) (command, values, f, (is, text, said, kept)) =
-    let word : codes "explain" ≡ codes "step" = sym d ∙ same_command name command given values (sym e ∙ f) ∙ is in
-    absurd (omega (arith, ap (λ (l : List ℕ). get_or l 0 0) word))
-no_topic found name given e d none (asked.Config file) (command, values, f, (is, text)) =
-    let word : codes "explain" ≡ codes "config" = sym d ∙ same_command name command given values (sym e ∙ f) ∙ is in
-    absurd (omega (arith, ap (λ (l : List ℕ). get_or l 0 0) word))
-no_topic found name given e d none (asked.Decode word fields) (command, values, f, (is, text, said)) =
-    let word : codes "explain" ≡ codes "decode" = sym d ∙ same_command name command given values (sym e ∙ f) ∙ is in
-    absurd (omega (arith, ap (λ (l : List ℕ). get_or l 0 0) word))
-no_topic found name given e d none (asked.Explain word) (command, values, f, (is, text)) =
-    let t = sym none ∙ ap (first_of (codes "WHAT")) (same_values name command given values (sym e ∙ f)) ∙ text in cc
-no_topic found name given e d none (asked.Serve file turns) (command, values, f, (is, text, count)) =
-    let word : codes "explain" ≡ codes "serve" = sym d ∙ same_command name command given values (sym e ∙ f) ∙ is in
-    absurd (omega (arith, ap (λ (l : List ℕ). get_or l 0 0) word))
-no_topic found name given e d none (asked.Play file lab) (command, values, f, (is, text, said)) =
-    let word : codes "explain" ≡ codes "play" = sym d ∙ same_command name command given values (sym e ∙ f) ∙ is in
-    absurd (omega (arith, ap (λ (l : List ℕ). get_or l 0 0) word))
+-- what a command asks for is what was found
+pub asked_as : (what : Asked) (found : Option (Text × List Row)) (command name : Text) (given : List Row) → found ≡ Some (name, given) → name ≡ command → Asks command given what → AsksIn found what
+asked_as what found command name given e is h = (name, given, e, subst (λ command. Asks command given what) (sym is) h)
 
-pub no_file : (found : Option (Text × List Row)) (name : Text) (given : List Row) → found ≡ Some (name, given) → name ≡ codes "serve" → first_of (codes "FILE") given ≡ None → (other : Asked) → AsksIn found other → ⊥
-no_file found name given e d none (asked.Step file echo live) (command, values, f, (is, text, said, kept)) =
-    let word : codes "serve" ≡ codes "step" = sym d ∙ same_command name command given values (sym e ∙ f) ∙ is in
-    absurd (omega (arith, ap (λ (l : List ℕ). get_or l 1 0) word))
-no_file found name given e d none (asked.Config file) (command, values, f, (is, text)) =
-    let word : codes "serve" ≡ codes "config" = sym d ∙ same_command name command given values (sym e ∙ f) ∙ is in
-    absurd (omega (arith, ap (λ (l : List ℕ). get_or l 0 0) word))
-no_file found name given e d none (asked.Decode word fields) (command, values, f, (is, text, said)) =
-    let word : codes "serve" ≡ codes "decode" = sym d ∙ same_command name command given values (sym e ∙ f) ∙ is in
-    absurd (omega (arith, ap (λ (l : List ℕ). get_or l 0 0) word))
-no_file found name given e d none (asked.Explain word) (command, values, f, (is, text)) =
-    let word : codes "serve" ≡ codes "explain" = sym d ∙ same_command name command given values (sym e ∙ f) ∙ is in
-    absurd (omega (arith, ap (λ (l : List ℕ). get_or l 0 0) word))
-no_file found name given e d none (asked.Serve file turns) (command, values, f, (is, text, count)) =
-    let t = sym none ∙ ap (first_of (codes "FILE")) (same_values name command given values (sym e ∙ f)) ∙ text in cc
-no_file found name given e d none (asked.Play file lab) (command, values, f, (is, text, said)) =
-    let word : codes "serve" ≡ codes "play" = sym d ∙ same_command name command given values (sym e ∙ f) ∙ is in
-    absurd (omega (arith, ap (λ (l : List ℕ). get_or l 0 0) word))
-
-pub no_world : (found : Option (Text × List Row)) (name : Text) (given : List Row) → found ≡ Some (name, given) → name ≡ codes "play" → first_of (codes "FILE") given ≡ None → (other : Asked) → AsksIn found other → ⊥
-no_world found name given e d none (asked.Step file echo live) (command, values, f, (is, text, said, kept)) =
-    let word : codes "play" ≡ codes "step" = sym d ∙ same_command name command given values (sym e ∙ f) ∙ is in
-    absurd (omega (arith, ap (λ (l : List ℕ). get_or l 0 0) word))
-no_world found name given e d none (asked.Config file) (command, values, f, (is, text)) =
-    let word : codes "play" ≡ codes "config" = sym d ∙ same_command name command given values (sym e ∙ f) ∙ is in
-    absurd (omega (arith, ap (λ (l : List ℕ). get_or l 0 0) word))
-no_world found name given e d none (asked.Decode word fields) (command, values, f, (is, text, said)) =
-    let word : codes "play" ≡ codes "decode" = sym d ∙ same_command name command given values (sym e ∙ f) ∙ is in
-    absurd (omega (arith, ap (λ (l : List ℕ). get_or l 0 0) word))
-no_world found name given e d none (asked.Explain word) (command, values, f, (is, text)) =
-    let word : codes "play" ≡ codes "explain" = sym d ∙ same_command name command given values (sym e ∙ f) ∙ is in
-    absurd (omega (arith, ap (λ (l : List ℕ). get_or l 0 0) word))
-no_world found name given e d none (asked.Serve file turns) (command, values, f, (is, text, count)) =
-    let word : codes "play" ≡ codes "serve" = sym d ∙ same_command name command given values (sym e ∙ f) ∙ is in
-    absurd (omega (arith, ap (λ (l : List ℕ). get_or l 0 0) word))
-no_world found name given e d none (asked.Play file lab) (command, values, f, (is, text, said)) =
-    let t = sym none ∙ ap (first_of (codes "FILE")) (same_values name command given values (sym e ∙ f)) ∙ text in cc
-
--- what a command asks for is what was found, where it asks for anything
-pub asked_or : {Missing : Type 0} (what : Option Asked) (found : Option (Text × List Row)) (command name : Text) (given : List Row) → found ≡ Some (name, given) → name ≡ command
-    → (Missing → (other : Asked) → AsksIn found other → ⊥) → MatchOption what Missing (Asks command given) → MatchOption what ((other : Asked) → AsksIn found other → ⊥) (AsksIn found)
-asked_or None found command name given e is none h = none h
-asked_or (Some what) found command name given e is none h = (name, given, e, subst (λ command. Asks command given what) (sym is) h)
+-- what a command asks for is what was found, where its word was given
+pub asked_or : (what : Option Asked) (found : Option (Text × List Row)) (command name word : Text) (given : List Row) → found ≡ Some (name, given) → name ≡ command → needed_by command ≡ Some word
+    → MatchOption what (first_of word given ≡ None) (Asks command given) → MatchOption what ((other : Asked) → AsksIn found other → ⊥) (AsksIn found)
+asked_or None found command name word given e is needs h = asks_nothing found name word given e (ap needed_by is ∙ needs) h
+asked_or (Some what) found command name word given e is needs h = asked_as what found command name given e is h
 
 -- a command with one more argument
 pub adds_word : (old : Command) (a : Arg) (new : Command) (before : App) (rule : Rule) → AddsArg old a new → rule_of a ≡ rule → a.global ≡ false → app_of old ≡ before → app_of new ≡ with_rule before rule

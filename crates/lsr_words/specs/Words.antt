@@ -1,8 +1,8 @@
 -- Which words ask for what.
-use Rattle.std.specs.Prelude.{◌≡◌, ℕ, List, Option, Some, None, Bool, true, false, bytes_eq, codes, option_map}
-use Rattle.clap.specs.Words.{App, Row, Rule, Text, first_of, new_app, new_rule, subcommand_of, with_rule, with_subcommand}
+use Rattle.std.specs.Prelude.{◌≡◌, ◌≢◌, ℕ, List, [], ◌∷◌, Option, Some, None, Bool, true, false, bytes_eq, codes, fold, map, option_map}
+use Rattle.clap.specs.Words.{App, Row, Rule, Text, all_of, first_of, new_app, new_rule, subcommand_of, with_rule, with_subcommand}
 use Rattle.clap.specs.Simple.{on_top}
-use Rattle.clap.specs.declared.builder.action.ArgAction.TheVariants.{SetTrue}
+use Rattle.clap.specs.declared.builder.action.ArgAction.TheVariants.{Append, SetTrue}
 use Rattle.lsr_words.specs.declared.words.Asked.{Asked}
 use Rattle.lsr_words.specs.declared.words.Asked.TheVariants as asked
 
@@ -22,9 +22,13 @@ echo_word = record (new_rule (codes "echo")) { long = Some (codes "echo"); actio
 abbrev pub live_word : Rule
 live_word = record (new_rule (codes "live")) { long = Some (codes "live"); action = Some SetTrue }
 
--- `step [--config FILE] [--echo] [--live]`
+-- `--journal FILE`, or `--journal PREFIX`
+abbrev pub journal_words : Rule
+journal_words = record (new_rule (codes "journal")) { long = Some (codes "journal"); value_names = 1 }
+
+-- `step [--config FILE] [--echo] [--live] [--journal FILE]`
 abbrev pub step_words : App
-step_words = with_rule (with_rule (with_rule (new_app (codes "step")) file_words) echo_word) live_word
+step_words = with_rule (with_rule (with_rule (with_rule (new_app (codes "step")) file_words) echo_word) live_word) journal_words
 
 -- `FILE`, which may be left out
 abbrev pub printed_word : Rule
@@ -58,9 +62,9 @@ served_word = record (new_rule (codes "FILE")) { required = true }
 abbrev pub turns_words : Rule
 turns_words = record (new_rule (codes "turns")) { long = Some (codes "turns"); value_names = 1 }
 
--- `serve FILE [--turns N]`
+-- `serve FILE [--turns N] [--journal PREFIX]`
 abbrev pub serve_words : App
-serve_words = with_rule (with_rule (new_app (codes "serve")) served_word) turns_words
+serve_words = with_rule (with_rule (with_rule (new_app (codes "serve")) served_word) turns_words) journal_words
 
 -- `FILE`
 abbrev pub played_word : Rule
@@ -74,15 +78,33 @@ lab_word = record (new_rule (codes "lab")) { long = Some (codes "lab"); action =
 abbrev pub play_words : App
 play_words = with_rule (with_rule (new_app (codes "play")) played_word) lab_word
 
+-- `FILE..`, one or more
+abbrev pub checked_words : Rule
+checked_words = record (new_rule (codes "FILE")) { required = true; action = Some Append }
+
+-- `check FILE..`
+abbrev pub check_words : App
+check_words = with_rule (new_app (codes "check")) checked_words
+
+-- `FILE`
+abbrev pub shown_word : Rule
+shown_word = record (new_rule (codes "FILE")) { required = true }
+
+-- `show-journal FILE`
+abbrev pub show_journal_words : App
+show_journal_words = with_rule (new_app (codes "show-journal")) shown_word
+
 -- the program's name; a command has to follow, or `--version`
 abbrev pub program_words : App
 program_words = on_top (λ top. record top { has_version = true; subcommand_required = true; arg_required_else_help = true }) (new_app (codes "lsr"))
 
--- the program's name, and one of the six
+-- the program's name, and one of some commands
+abbrev pub with_commands : List App → App
+with_commands commands = fold (λ program command. with_subcommand program command.top) program_words commands
+
+-- the program's name, and one of the eight
 abbrev pub lsr_words : App
-lsr_words =
-    with_subcommand (with_subcommand (with_subcommand (with_subcommand (with_subcommand (with_subcommand program_words
-    step_words.top) config_words.top) decode_words.top) explain_words.top) serve_words.top) play_words.top
+lsr_words = with_commands (step_words ∷ config_words ∷ decode_words ∷ explain_words ∷ serve_words ∷ play_words ∷ check_words ∷ show_journal_words ∷ [])
 
 -- whether an option without a value is given: what was found of it is `true`
 abbrev pub is_given : Option (List ℕ) → Bool
@@ -91,17 +113,21 @@ is_given (Some word) = bytes_eq word (codes "true")
 
 -- what a command asks for, with the values that it was given
 abbrev pub Asks : Text → List Row → Asked → Type 0
-Asks command given (asked.Step file echo live) =
+Asks command given (asked.Step file echo live journal) =
     (command ≡ codes "step") × (option_map (λ f. f.now) file ≡ first_of (codes "config") given) × (echo ≡ is_given (first_of (codes "echo") given))
-    × (live ≡ is_given (first_of (codes "live") given))
+    × (live ≡ is_given (first_of (codes "live") given)) × (option_map (λ f. f.now) journal ≡ first_of (codes "journal") given)
 Asks command given (asked.Config file) = (command ≡ codes "config") × (option_map (λ f. f.now) file ≡ first_of (codes "FILE") given)
 Asks command given (asked.Decode word fields) =
     (command ≡ codes "decode") × (first_of (codes "HEX") given ≡ Some word.now) × (fields ≡ is_given (first_of (codes "fields") given))
 Asks command given (asked.Explain word) = (command ≡ codes "explain") × (first_of (codes "WHAT") given ≡ Some word.now)
-Asks command given (asked.Serve file turns) =
+Asks command given (asked.Serve file turns journal) =
     (command ≡ codes "serve") × (first_of (codes "FILE") given ≡ Some file.now) × (option_map (λ n. n.now) turns ≡ first_of (codes "turns") given)
+    × (option_map (λ p. p.now) journal ≡ first_of (codes "journal") given)
 Asks command given (asked.Play file lab) =
     (command ≡ codes "play") × (first_of (codes "FILE") given ≡ Some file.now) × (lab ≡ is_given (first_of (codes "lab") given))
+Asks command given (asked.Check files) =
+    (command ≡ codes "check") × (all_of (codes "FILE") given ≡ Some (map (λ f. f.now) files.items)) × (files.items ≢ [])
+Asks command given (asked.ShowJournal file) = (command ≡ codes "show-journal") × (first_of (codes "FILE") given ≡ Some file.now)
 
 -- what a command asks for that was found with its values
 abbrev pub AsksIn : Option (Text × List Row) → Asked → Type 0

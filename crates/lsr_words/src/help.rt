@@ -1,10 +1,10 @@
 //! The words that `lsr` takes, and what its help says.
-ghost use Rattle.std.specs.Prelude.{◌≡◌, Ok, Some, true, false, IfOk};
+ghost use Rattle.std.specs.Prelude.{◌≡◌, ◌∷◌, [], Ok, Some, true, false, IfOk};
 ghost use Rattle.clap.specs.Built.{AddsSubcommand};
-ghost use Rattle.clap.specs.Words.{app_of, new_app, new_rule, rule_of, with_subcommand};
+ghost use Rattle.clap.specs.Words.{app_of, new_app, new_rule, rule_of};
 ghost use Rattle.clap.specs.declared.builder.action.ArgAction.TheVariants.{SetTrue};
 ghost use Rattle.clap.specs.declared.builder.command.Command.{Command, out-Command};
-ghost use Rattle.lsr_words.specs.Words.{config_words, decode_words, digits_word, echo_word, explain_words, fields_word, file_words, lab_word, live_word, lsr_words, play_words, played_word, printed_word, program_words, serve_words, served_word, step_words, topic_word, turns_words};
+ghost use Rattle.lsr_words.specs.Words.{check_words, checked_words, config_words, decode_words, digits_word, echo_word, explain_words, fields_word, file_words, journal_words, lab_word, live_word, lsr_words, play_words, played_word, printed_word, program_words, serve_words, served_word, show_journal_words, shown_word, step_words, topic_word, turns_words, with_commands};
 
 use clap::{Arg, ArgAction, Command};
 use std::alloc::{AllocError, Global};
@@ -27,6 +27,9 @@ Where to go on:
   lsr explain --help  what a refusal, an error or a fault means, and what to do about it
   lsr serve --help    a router over sockets
   lsr play --help     many routers, joined by wires that lose, repeat and reorder
+  lsr check --help    whether recorded runs are what such a router does
+  lsr show-journal --help
+                      a recorded run, entry by entry
   lsr --version       the version, and what is proved
 
 Example: the router refuses to tear down a path that it doesn't know.
@@ -39,11 +42,11 @@ The status is, of each command:
                       is 0, too
   1                   a file, the input, a line of `step` or `play` or a message to decode wasn't
                       taken; routers and wires make no world; a capture is damaged; a socket
-                      can't be had, or what `serve` was told isn't one run; the output can't be
-                      written; or memory ran out
+                      can't be had, or what `serve` was told isn't one run; a recorded run that
+                      `check` is given isn't one; the output can't be written; or memory ran out
   2                   the words after `lsr` aren't taken, and nothing was done: too few, too
                       many or unknown ones, HEX that isn't hexadecimal digits, WHAT that asks
-                      for nothing, or N that isn't a number of turns
+                      for nothing, N that isn't a number of turns, or --journal beside --live
 Why it isn't 0 is said on standard error, and by `decode` of lines or a file in its answers too.
 The first line says what it is, and `lsr explain` knows its first word; lines after it that begin
 with two spaces say where it is and what to do.
@@ -114,6 +117,10 @@ With --live, for an operator who writes lines at a terminal, each line is answer
 has come, however many come. A bad line is told on standard error as soon as it has come, and the
 run goes on with the next; empty lines and lines that begin with # are passed over. A line has at
 most 16777216 bytes. `./lsr step` adds --live where standard input is a terminal.
+
+With --journal the run is recorded in FILE: the configuration, and each event with its labels, its
+reply and what was sent. Keep FILE: `lsr check FILE` says later, anywhere, whether that is what
+such a router does, and `lsr show-journal FILE` prints it. It isn't taken beside --live.
 
 What is printed for each of them but `show`:
   done              it was done
@@ -344,7 +351,8 @@ WHAT is one word, in upper and lower case as it was told:
   13/VALUE          an error about an object, and so is 14/VALUE; VALUE, 0 to 65535, is 256
                     times the object's class, plus its C-Type, and both are told. 13/N and
                     14/N tell of all such errors
-  FAULT             a fault of a configuration: of `config BadValue limit` BadValue
+  FAULT             a fault of a configuration: of `config BadValue limit` BadValue; or of a
+                    recorded run: of `entry 7: Choice` Choice
   bad               of `bad line N`; unreadable, damaged, memory and unwritable, too: what
                     else ends a run
   list              all that can be asked
@@ -371,21 +379,26 @@ turns, in each of which it waits 100 milliseconds at most for one frame and serv
 port is the clock's: N times it waits 100 milliseconds, and feeds the moment 100, 200 and so on.
 So a run lasts N tenths of a second at least, unless a link has a frame waiting in each turn.
 
+With --journal the run is recorded in files named PREFIX.1, PREFIX.2 and so on: one for each 4096
+events, written while the run goes on, and one at its end. Keep them: `lsr check PREFIX.1 PREFIX.2
+..` says later, anywhere, whether that is what such a router does, and `lsr show-journal PREFIX.1`
+prints the first.
+
 What is printed in the end:
   reconciled M entries     each event that was served is in the journal once, in one order, and
                            each port's receipts are those of its own; there are M in all
   mismatch PORT PLACE      they aren't: the first port, and the place among its receipts. The
                            status is 1 then
 
-On standard error, in lines of a log, four for each port, and one for the router:
+On standard error, in lines of a log, three for each port, and one for the router:
   port P: M receipts
-  port P: K frames forwarded
-                           how many events it fed, and how many frames it passed on by their
-                           labels
-  port P: J datagrams refused
-  port P: I frames lost
-                           how many datagrams or their events were refused, and how many labelled
-                           frames were lost: their bytes had no memory, or nothing carried them
+                           how many events it fed
+  port P: N datagrams: A dropped, B passed, C fed, D refused
+                           how many datagrams came, or moments of the clock, and what became of
+                           them: dropped for their faults, passed on or delivered by their labels,
+                           fed as events, and refused with one of 40 to 43
+  port P: I frames lost, J faults of the wire
+                           how many frames nothing carried, and how often the socket failed
   router: A paths, B reservations, C repairs
                            what it knows at the end
 
@@ -397,7 +410,7 @@ command aren't taken, or N isn't 1 to 1000000:
                     `config Missing listen` and `config Missing send` come after all others
   unreadable        FILE can't be opened or read, isn't UTF-8, or has more than 16777216 bytes
   memory            there is no memory
-  unwritable        the output or the error stream can't be written
+  unwritable        the output or the error stream can't be written, or a file of the journal
 
 Example: in two terminals, two routers that set up an LSP from the first to the second.
   lsr serve examples/serve-tail.toml --turns 100
@@ -476,6 +489,56 @@ Example: three routers in a line, between which a tunnel comes up.
   lsr play examples/world/line.play --lab
 ";
 
+const CHECK_ABOUT: &str = "\
+Says whether recorded runs are what a router with their configuration does, each from where the one
+before it ended";
+
+const CHECK_HELP: &str = "\
+Each FILE is what `lsr step --journal` or `lsr serve --journal` recorded. Give the files of one run
+in the order in which they were written, to audit a router's night or after a file was copied. Who
+wrote them isn't trusted: each entry's step is decided anew, with the labels that it says were
+chosen.
+
+What is printed is a line for each file, up to the first that isn't such a run:
+  run of N entries  its N entries are what a router with its configuration does, from where the
+                    file before it ended
+  entry 0: Format   its bytes are no journal file
+  entry 0: Gap      it doesn't begin where the file before it ended
+  entry 0: Base     what the router knew before the first entry can't be
+  entry 0: Memory   there was no memory to tell
+  entry I: Event    entry I, counted from 1, is of no event that there is, or of one that makes no
+                    entry. Those before it are a run
+  entry I: Choice   it has labels that may not be chosen
+  entry I: Output   its reply, or what it says was sent, isn't the router's
+Then the file, what was found in it and what was expected stand on standard error, and `lsr explain
+Choice` says what to do.
+
+The status is 0 where each file is such a run; 1 where one isn't, or with one of these on standard
+error; 2 where the words of the command aren't taken:
+  unreadable        FILE can't be opened or read, or has more than 16777216 bytes; the line after
+                    it says which
+  memory            there is no memory
+  unwritable        the output or the error stream can't be written
+
+Example: a night in three files.
+  lsr check night.1 night.2 night.3
+";
+
+const SHOW_JOURNAL_ABOUT: &str = "\
+Prints a recorded run, entry by entry";
+
+const SHOW_JOURNAL_HELP: &str = "\
+FILE is what `lsr step --journal` or `lsr serve --journal` recorded. Each of its entries is printed
+as lines, in their order, as it stands there: to see what a router did, or what is wrong with the
+entry that `lsr check` names. Whether it is what a router does is asked of `lsr check` alone.
+
+The status is 0; 1 with the reason on standard error where FILE can't be read or is no journal file,
+the output can't be written, or memory ran out; 2 where the words of the command aren't taken.
+
+Example: what a run recorded.
+  lsr step --journal night.1 < lines; lsr show-journal night.1
+";
+
 const HEX_HELP: &str = "\
 The message's bytes: an even number of hexadecimal digits of either case; `-` for a message in
 each line of standard input, which is read to its end; or the name of a capture file, a word with
@@ -509,6 +572,17 @@ Prints each line before its answers, and passes over empty lines and lines that 
 const LIVE_HELP: &str = "\
 Answers each line as soon as it has come, and goes on after a bad line";
 
+const STEP_JOURNAL_HELP: &str = "\
+Records the run in FILE, for `lsr check` and `lsr show-journal`; not beside --live";
+
+const SERVE_JOURNAL_HELP: &str = "\
+Records the run in PREFIX.1, PREFIX.2 and so on, for `lsr check` and `lsr show-journal`";
+
+const CHECKED_FILES_HELP: &str =
+    "The files of recorded runs, each of which begins where the one before it ended";
+
+const SHOWN_FILE_HELP: &str = "The file of a recorded run";
+
 const FIELDS_HELP: &str = "\
 Prints after the line of each object what it says: its class and its fields by name";
 
@@ -526,9 +600,13 @@ pub(crate) const SERVE: &str = "serve";
 pub(crate) const CONFIG: &str = "config";
 /// The name of the command that plays a world.
 pub(crate) const PLAY: &str = "play";
-/// The name of the argument of `config`, of `serve` and of `play`.
+/// The name of the command that checks recorded runs.
+pub(crate) const CHECK: &str = "check";
+/// The name of the command that prints a recorded run.
+pub(crate) const SHOW_JOURNAL: &str = "show-journal";
+/// The name of the argument of `config`, of `serve`, of `play`, of `check` and of `show-journal`.
 pub(crate) const FILE: &str = "FILE";
-/// The name of the option of `serve`.
+/// The name of the option of `serve` that takes a number of turns.
 pub(crate) const TURNS: &str = "turns";
 /// The name of the option of `play`.
 pub(crate) const LAB: &str = "lab";
@@ -542,6 +620,8 @@ pub(crate) const CONFIG_OPTION: &str = "config";
 pub(crate) const ECHO: &str = "echo";
 /// The name of the option of `step` that answers lines as they come.
 pub(crate) const LIVE: &str = "live";
+/// The name of the option of `step` and of `serve` that records the run.
+pub(crate) const JOURNAL: &str = "journal";
 /// The name of the option of `decode` that names fields.
 pub(crate) const FIELDS: &str = "fields";
 
@@ -597,6 +677,22 @@ fn live_option<'a>(alloc: Global) -> Arg<'a>
     ensures local { result.global ≡ false }
 {
     switch(alloc, LIVE, LIVE_HELP)
+}
+
+/// `--journal FILE`.
+fn step_journal_option<'a>(alloc: Global) -> Arg<'a>
+    ensures rule { rule_of result ≡ journal_words }
+    ensures local { result.global ≡ false }
+{
+    option(alloc, JOURNAL, FILE, STEP_JOURNAL_HELP)
+}
+
+/// `--journal PREFIX`.
+fn serve_journal_option<'a>(alloc: Global) -> Arg<'a>
+    ensures rule { rule_of result ≡ journal_words }
+    ensures local { result.global ≡ false }
+{
+    option(alloc, JOURNAL, "PREFIX", SERVE_JOURNAL_HELP)
 }
 
 /// `FILE`, which may be left out.
@@ -663,6 +759,22 @@ fn turns_option<'a>(alloc: Global) -> Arg<'a>
     option(alloc, TURNS, "N", TURNS_HELP)
 }
 
+/// `FILE..`, one or more.
+fn checked_files<'a>(alloc: Global) -> Arg<'a>
+    ensures rule { rule_of result ≡ checked_words }
+    ensures local { result.global ≡ false }
+{
+    required_word(alloc, FILE, CHECKED_FILES_HELP).action(ArgAction::Append)
+}
+
+/// `FILE` of a recorded run.
+fn shown_file<'a>(alloc: Global) -> Arg<'a>
+    ensures rule { rule_of result ≡ shown_word }
+    ensures local { result.global ≡ false }
+{
+    required_word(alloc, FILE, SHOWN_FILE_HELP)
+}
+
 /// A command without words of its own, with its help.
 fn bare_command<'a>(alloc: Global, name: &'a str, about: &'a str, help: &'a str) -> Command<'a>
     ensures words { app_of result ≡ new_app name.entry.now }
@@ -671,14 +783,15 @@ fn bare_command<'a>(alloc: Global, name: &'a str, about: &'a str, help: &'a str)
     Command::new(alloc, name).about(about).after_help(help)
 }
 
-/// `step [--config FILE] [--echo] [--live]`. The only error is that memory ran out.
+/// `step [--config FILE] [--echo] [--live] [--journal FILE]`. The only error is that memory ran out.
 fn step_command<'a>(alloc: Global) -> Result<Command<'a>, AllocError>
     ensures words { IfOk result (λ command. app_of command ≡ step_words) }
     ensures local { IfOk result (λ command. (out-Command command).has_globals ≡ false) }
 {
     let config = bare_command(alloc, STEP, STEP_ABOUT, STEP_HELP).arg(config_option(alloc))?;
     let echo = config.arg(echo_option(alloc))?;
-    echo.arg(live_option(alloc))
+    let live = echo.arg(live_option(alloc))?;
+    live.arg(step_journal_option(alloc))
 }
 
 /// `config [FILE]`. The only error is that memory ran out.
@@ -706,13 +819,14 @@ fn explain_command<'a>(alloc: Global) -> Result<Command<'a>, AllocError>
     bare_command(alloc, EXPLAIN, EXPLAIN_ABOUT, EXPLAIN_HELP).arg(topic_word(alloc))
 }
 
-/// `serve FILE [--turns N]`. The only error is that memory ran out.
+/// `serve FILE [--turns N] [--journal PREFIX]`. The only error is that memory ran out.
 fn serve_command<'a>(alloc: Global) -> Result<Command<'a>, AllocError>
     ensures words { IfOk result (λ command. app_of command ≡ serve_words) }
     ensures local { IfOk result (λ command. (out-Command command).has_globals ≡ false) }
 {
     let file = bare_command(alloc, SERVE, SERVE_ABOUT, SERVE_HELP).arg(served_file(alloc))?;
-    file.arg(turns_option(alloc))
+    let turns = file.arg(turns_option(alloc))?;
+    turns.arg(serve_journal_option(alloc))
 }
 
 /// `play FILE [--lab]`. The only error is that memory ran out.
@@ -722,6 +836,22 @@ fn play_command<'a>(alloc: Global) -> Result<Command<'a>, AllocError>
 {
     let file = bare_command(alloc, PLAY, PLAY_ABOUT, PLAY_HELP).arg(played_file(alloc))?;
     file.arg(lab_option(alloc))
+}
+
+/// `check FILE..`. The only error is that memory ran out.
+fn check_command<'a>(alloc: Global) -> Result<Command<'a>, AllocError>
+    ensures words { IfOk result (λ command. app_of command ≡ check_words) }
+    ensures local { IfOk result (λ command. (out-Command command).has_globals ≡ false) }
+{
+    bare_command(alloc, CHECK, CHECK_ABOUT, CHECK_HELP).arg(checked_files(alloc))
+}
+
+/// `show-journal FILE`. The only error is that memory ran out.
+fn show_journal_command<'a>(alloc: Global) -> Result<Command<'a>, AllocError>
+    ensures words { IfOk result (λ command. app_of command ≡ show_journal_words) }
+    ensures local { IfOk result (λ command. (out-Command command).has_globals ≡ false) }
+{
+    bare_command(alloc, SHOW_JOURNAL, SHOW_JOURNAL_ABOUT, SHOW_JOURNAL_HELP).arg(shown_file(alloc))
 }
 
 /// The program's name, with the help of all.
@@ -748,48 +878,58 @@ fn with_command<'a>(
 
 /// The program's name with `step` after it. The only error is that memory ran out.
 fn program_with_step<'a>(alloc: Global) -> Result<Command<'a>, AllocError>
-    ensures { IfOk result (λ command. app_of command ≡ with_subcommand program_words step_words.top) }
+    ensures { IfOk result (λ command. app_of command ≡ with_commands (step_words ∷ [])) }
 {
     with_command(bare_program(alloc), step_command(alloc))
 }
 
 /// The program with its first two commands. The only error is that memory ran out.
 fn program_with_config<'a>(alloc: Global) -> Result<Command<'a>, AllocError>
-    ensures { IfOk result (λ command. app_of command ≡ with_subcommand (with_subcommand program_words step_words.top) config_words.top) }
+    ensures { IfOk result (λ command. app_of command ≡ with_commands (step_words ∷ config_words ∷ [])) }
 {
     with_command(program_with_step(alloc)?, config_command(alloc))
 }
 
 /// The program with its first three commands. The only error is that memory ran out.
 fn program_with_decode<'a>(alloc: Global) -> Result<Command<'a>, AllocError>
-    ensures { IfOk result (λ command. app_of command
-        ≡ with_subcommand (with_subcommand (with_subcommand program_words step_words.top) config_words.top) decode_words.top) }
+    ensures { IfOk result (λ command. app_of command ≡ with_commands (step_words ∷ config_words ∷ decode_words ∷ [])) }
 {
     with_command(program_with_config(alloc)?, decode_command(alloc))
 }
 
 /// The program with its first four commands. The only error is that memory ran out.
 fn program_with_explain<'a>(alloc: Global) -> Result<Command<'a>, AllocError>
-    ensures { IfOk result (λ command. app_of command
-        ≡ with_subcommand (with_subcommand (with_subcommand (with_subcommand program_words
-        step_words.top) config_words.top) decode_words.top) explain_words.top) }
+    ensures { IfOk result (λ command. app_of command ≡ with_commands (step_words ∷ config_words ∷ decode_words ∷ explain_words ∷ [])) }
 {
     with_command(program_with_decode(alloc)?, explain_command(alloc))
 }
 
 /// The program with its first five commands. The only error is that memory ran out.
 fn program_with_serve<'a>(alloc: Global) -> Result<Command<'a>, AllocError>
-    ensures { IfOk result (λ command. app_of command
-        ≡ with_subcommand (with_subcommand (with_subcommand (with_subcommand (with_subcommand program_words
-        step_words.top) config_words.top) decode_words.top) explain_words.top) serve_words.top) }
+    ensures { IfOk result (λ command. app_of command ≡ with_commands (step_words ∷ config_words ∷ decode_words ∷ explain_words ∷ serve_words ∷ [])) }
 {
     with_command(program_with_explain(alloc)?, serve_command(alloc))
 }
 
-/// The words that `lsr` takes: `--version`, `step [--config FILE] [--echo] [--live]`, `config [FILE]`, `decode HEX [--fields]`, `explain
-/// WHAT`, `serve FILE [--turns N]` and `play FILE [--lab]`. The only error is that memory ran out.
+/// The program with its first six commands. The only error is that memory ran out.
+fn program_with_play<'a>(alloc: Global) -> Result<Command<'a>, AllocError>
+    ensures { IfOk result (λ command. app_of command ≡ with_commands (step_words ∷ config_words ∷ decode_words ∷ explain_words ∷ serve_words ∷ play_words ∷ [])) }
+{
+    with_command(program_with_serve(alloc)?, play_command(alloc))
+}
+
+/// The program with its first seven commands. The only error is that memory ran out.
+fn program_with_check<'a>(alloc: Global) -> Result<Command<'a>, AllocError>
+    ensures { IfOk result (λ command. app_of command ≡ with_commands (step_words ∷ config_words ∷ decode_words ∷ explain_words ∷ serve_words ∷ play_words ∷ check_words ∷ [])) }
+{
+    with_command(program_with_play(alloc)?, check_command(alloc))
+}
+
+/// The words that `lsr` takes: `--version`, `step [--config FILE] [--echo] [--live] [--journal FILE]`, `config [FILE]`, `decode HEX [--fields]`,
+/// `explain WHAT`, `serve FILE [--turns N] [--journal PREFIX]`, `play FILE [--lab]`, `check FILE..` and `show-journal FILE`. The only error is
+/// that memory ran out.
 pub(crate) fn command<'a>(alloc: Global) -> Result<Command<'a>, AllocError>
     ensures { IfOk result (λ command. app_of command ≡ lsr_words) }
 {
-    with_command(program_with_serve(alloc)?, play_command(alloc))
+    with_command(program_with_check(alloc)?, show_journal_command(alloc))
 }

@@ -7,16 +7,16 @@ ghost use Rattle.lsr_words.specs.declared.words.Asked.{Asked};
 ghost use Rattle.lsr_words.specs.Words.{Asks, AsksFor, AsksIn, is_given, lsr_words};
 
 use crate::help::{
-    CONFIG, CONFIG_OPTION, DECODE, ECHO, EXPLAIN, FIELDS, FILE, HEX, LAB, LIVE, PLAY, SERVE, STEP,
-    TURNS, WHAT, command,
+    CHECK, CONFIG, CONFIG_OPTION, DECODE, ECHO, EXPLAIN, FIELDS, FILE, HEX, JOURNAL, LAB, LIVE,
+    PLAY, SERVE, SHOW_JOURNAL, STEP, TURNS, WHAT, command,
 };
 use clap::ArgMatches;
 use clap::error::{Error, ErrorKind};
-use std::alloc::Global;
+use std::alloc::{AllocError, Global};
 use std::convert::AsStr;
 
 /// What the words ask for.
-#[derive(Clone, Copy)]
+#[derive(Debug, Drop)]
 pub enum Asked<'a> {
     /// `step`: lines are answered by a router.
     Step {
@@ -26,6 +26,8 @@ pub enum Asked<'a> {
         echo: bool,
         /// Whether each line is answered as soon as it has come, and a bad line doesn't end the run.
         live: bool,
+        /// The name of the file that the run is recorded in; without one it isn't recorded.
+        journal: Option<&'a str>,
     },
     /// `config [FILE]`: the configuration of the file of this name is printed; without one the built-in router's.
     Config(Option<&'a str>),
@@ -45,6 +47,8 @@ pub enum Asked<'a> {
         file: &'a str,
         /// How many turns each link has, as the words give it; none where they give no number.
         turns: Option<&'a str>,
+        /// What the names of the files begin with that the run is recorded in; without it it isn't recorded.
+        journal: Option<&'a str>,
     },
     /// `play FILE`: the world of the file of this name is played.
     Play {
@@ -53,6 +57,10 @@ pub enum Asked<'a> {
         /// Whether lines are taken, too, that remark something, show what a router knows, or deliver all frames.
         lab: bool,
     },
+    /// `check FILE..`: the recorded runs of the files of these names are checked, in this order. There is one at least.
+    Check(Vec<&'a str>),
+    /// `show-journal FILE`: the entries of the recorded run of the file of this name are printed.
+    ShowJournal(&'a str),
 }
 
 /// What an option without a value is given as, where it is given.
@@ -65,6 +73,18 @@ fn is_given(found: Option<&str>) -> bool
     match found {
         Some(word) => word == GIVEN,
         None => false,
+    }
+}
+
+/// What `step` asks for.
+fn step_asked<'a>(given: &ArgMatches<'a>) -> Asked<'a>
+    ensures { Asks (codes "step") (rows_of (found_of given.now)) result }
+{
+    Asked::Step {
+        file: given.get_str(CONFIG_OPTION),
+        echo: is_given(given.get_str(ECHO)),
+        live: is_given(given.get_str(LIVE)),
+        journal: given.get_str(JOURNAL),
     }
 }
 
@@ -105,6 +125,7 @@ fn serve_asked<'a>(given: &ArgMatches<'a>) -> Option<Asked<'a>>
         Some(file) => Some(Asked::Serve {
             file,
             turns: given.get_str(TURNS),
+            journal: given.get_str(JOURNAL),
         }),
         None => None,
     }
@@ -125,24 +146,46 @@ fn play_asked<'a>(given: &ArgMatches<'a>) -> Option<Asked<'a>>
     }
 }
 
-/// What the matches of the program's words ask for; none where they name no command.
-fn asked_in<'a>(matches: &ArgMatches<'a>) -> Option<Asked<'a>>
+/// What `check` asks for; none without files. The only error is that memory ran out.
+fn check_asked<'a>(alloc: Global, given: &ArgMatches<'a>) -> Result<Option<Asked<'a>>, AllocError>
+    ensures { IfOk result (λ asked. MatchOption asked
+        (first_of (codes "FILE") (rows_of (found_of given.now)) ≡ None)
+        (Asks (codes "check") (rows_of (found_of given.now)))) }
+{
+    match given.get_strs(FILE) {
+        Some(files) if !files.is_empty() => Ok(Some(Asked::Check(files.to_vec(alloc)?))),
+        _ => Ok(None),
+    }
+}
+
+/// What `show-journal` asks for; none without its file.
+fn show_journal_asked<'a>(given: &ArgMatches<'a>) -> Option<Asked<'a>>
     ensures { MatchOption result
+        (first_of (codes "FILE") (rows_of (found_of given.now)) ≡ None)
+        (Asks (codes "show-journal") (rows_of (found_of given.now))) }
+{
+    match given.get_str(FILE) {
+        Some(file) => Some(Asked::ShowJournal(file)),
+        None => None,
+    }
+}
+
+/// What the matches of the program's words ask for; none where they name no command. The only error is that memory ran out.
+fn asked_in<'a>(alloc: Global, matches: &ArgMatches<'a>) -> Result<Option<Asked<'a>>, AllocError>
+    ensures { IfOk result (λ asked. MatchOption asked
         ((other : Asked) → ¬ AsksIn (subcommand_rows_of matches.now) other)
-        (AsksIn (subcommand_rows_of matches.now)) }
+        (AsksIn (subcommand_rows_of matches.now))) }
 {
     match matches.subcommand() {
-        Some((STEP, given)) => Some(Asked::Step {
-            file: given.get_str(CONFIG_OPTION),
-            echo: is_given(given.get_str(ECHO)),
-            live: is_given(given.get_str(LIVE)),
-        }),
-        Some((CONFIG, given)) => Some(Asked::Config(given.get_str(FILE))),
-        Some((DECODE, given)) => decode_asked(given),
-        Some((EXPLAIN, given)) => explain_asked(given),
-        Some((SERVE, given)) => serve_asked(given),
-        Some((PLAY, given)) => play_asked(given),
-        _ => None,
+        Some((STEP, given)) => Ok(Some(step_asked(given))),
+        Some((CONFIG, given)) => Ok(Some(Asked::Config(given.get_str(FILE)))),
+        Some((DECODE, given)) => Ok(decode_asked(given)),
+        Some((EXPLAIN, given)) => Ok(explain_asked(given)),
+        Some((SERVE, given)) => Ok(serve_asked(given)),
+        Some((PLAY, given)) => Ok(play_asked(given)),
+        Some((CHECK, given)) => check_asked(alloc, given),
+        Some((SHOW_JOURNAL, given)) => Ok(show_journal_asked(given)),
+        _ => Ok(None),
     }
 }
 
@@ -156,7 +199,7 @@ pub fn read_words<'a, S: AsStr>(alloc: Global, words: &'a [S]) -> Result<Option<
     ensures kinds { FailsBy (fault_of lsr_words (map S.text words.entry.now)) result }
 {
     match command(alloc)?.try_get_matches_from(words) {
-        Ok(matches) => Ok(asked_in(&matches)),
+        Ok(matches) => Ok(asked_in(alloc, &matches)?),
         Err(fault) => Err(fault),
     }
 }

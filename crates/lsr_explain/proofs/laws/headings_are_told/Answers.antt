@@ -11,3 +11,7 @@ returns-clause-refusals c = refl
 pub returns-clause-errors : goal.returns-clause-errors
 unfolding lines_of digits
 returns-clause-errors c = refl
+
+pub returns-clause-run_faults : goal.returns-clause-run_faults
+unfolding lines_of
+returns-clause-run_faults c = refl

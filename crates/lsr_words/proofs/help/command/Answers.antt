@@ -5,4 +5,4 @@ use Rattle.lsr_words.proofs.help.command.Goals as goal
 
 pub returns : goal.returns
 returns c =
-    IfOk-weaker c.with_command.result _ _ (λ more. adds_command _ _ more _ _ c.in_ok-program_with_serve.ensures c.play_command.ensures.words c.play_command.ensures.local) c.with_command.ensures
+    IfOk-weaker c.with_command.result _ _ (λ more. adds_command _ _ more _ _ c.in_ok-program_with_check.ensures c.show_journal_command.ensures.words c.show_journal_command.ensures.local) c.with_command.ensures

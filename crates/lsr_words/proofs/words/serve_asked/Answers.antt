@@ -7,7 +7,7 @@ use Rattle.lsr_words.proofs.words.serve_asked.Goals as goal
 pub returns-in-Some : goal.returns-in-Some
 returns-in-Some c =
     let found = found_of c.args.given.now in
-    (refl, sym (first_value-rows found (codes "FILE")) ∙ sym c.in-Some.ensures, c.get_str-in-Some.ensures ∙ first_value-rows found (codes "turns"))
+    (refl, sym (first_value-rows found (codes "FILE")) ∙ sym c.in-Some.ensures, c.get_str-in-Some.ensures ∙ first_value-rows found (codes "turns"), c.get_str-in-Some-2.ensures ∙ first_value-rows found (codes "journal"))
 
 pub returns-in-None : goal.returns-in-None
 returns-in-None c = sym (first_value-rows (found_of c.args.given.now) (codes "FILE")) ∙ sym c.in-None.ensures

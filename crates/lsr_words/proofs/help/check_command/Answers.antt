@@ -1,0 +1,10 @@
+-- The command adds its word.
+use Rattle.std.proofs.Common.{rules, codes}
+use Rattle.std.proofs.lemmas.Result.{IfOk-weaker}
+use Rattle.clap.specs.Words.{new_app}
+use Rattle.lsr_words.specs.Words.{checked_words}
+use Rattle.lsr_words.proofs.WordLaws.{adds_word}
+use Rattle.lsr_words.proofs.help.check_command.Goals as goal
+
+pub returns-clause-words : goal.returns-clause-words
+returns-clause-words c = IfOk-weaker c.arg.result _ _ (λ new a. adds_word _ _ new (new_app (codes "check")) checked_words a c.checked_files.ensures.rule c.checked_files.ensures.local (search rules)) c.arg.ensures
