@@ -11,7 +11,10 @@ mod udp_wire;
 pub use interface_workers::{KeepSegments, NotKept, SegmentCount};
 pub use judging::judge;
 pub use lsr_config::LinkSockets;
-pub use run::{PortCount, RunReport, TICK_MS, Worker, link_workers, run_worker, serve_on};
+pub use run::{
+    BesideClock, ClockAlone, PortCount, RunReport, TICK_MS, Worker, link_workers, run_worker,
+    serve_on,
+};
 pub use serving::{serve_links, tell_run};
 pub use sockets::read_sockets;
 pub use turns::{DEFAULT_TURNS, MAX_TURNS, read_turns};

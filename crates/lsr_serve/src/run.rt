@@ -54,6 +54,21 @@ impl Drop for RunReport {
     }
 }
 
+/// What whoever began a run does beside its clock. It is done on the thread that began the run, which may do what the others can't, as
+/// to write files.
+pub trait BesideClock {
+    /// What is done after each moment of the clock.
+    fn after_moment(&mut self);
+}
+
+/// Nothing is done beside the clock.
+#[derive(Drop)]
+pub struct ClockAlone;
+
+impl BesideClock for ClockAlone {
+    fn after_moment(&mut self) {}
+}
+
 /// A link's worker before it starts.
 #[derive(Drop)]
 pub struct Worker<L: Ledger, W> {
@@ -91,7 +106,7 @@ pub fn run_worker<
     work
 }
 
-/// The clock's turns: each waits for the next moment and feeds it, with what it did.
+/// The clock's turns: each waits for the next moment and feeds it, and then does what is done beside it; with what it did.
 fn run_clock<
     L: Ledger,
     R: Wait + Drop,
@@ -100,6 +115,7 @@ fn run_clock<
     C: Clock,
     W: Wire,
     G: Gate,
+    B: BesideClock,
 >(
     rt: &T,
     clock: &C,
@@ -109,6 +125,7 @@ fn run_clock<
     wire: &mut W,
     gate: &G,
     turns: u32,
+    beside: &mut B,
 ) -> Result<Work, AllocError> {
     let mut work = Work::new(alloc, turns)?;
     for turn in 0..turns {
@@ -124,6 +141,7 @@ fn run_clock<
             &mut work,
             &Event::Tick(moment),
         );
+        beside.after_moment();
     }
     Ok(work)
 }
@@ -282,6 +300,7 @@ fn run_threads<
     C: Clock,
     W: Wire + Send + Drop,
     G: Gate + Sync,
+    B: BesideClock,
 >(
     rt: &R,
     clock: &C,
@@ -292,6 +311,7 @@ fn run_threads<
     clock_wire: &mut W,
     gate: &G,
     turns: u32,
+    beside: &mut B,
 ) -> Result<RunReport, AllocError>
     ensures ports { IfOk result (λ served. length served.ports.items ≡ length workers.items + 1) }
     ensures counted { IfOk result IsCounted }
@@ -299,7 +319,9 @@ fn run_threads<
     let (works, clock_work) = thread::join(
         rt,
         || run_workers(rt, alloc, core, workers, gate, turns),
-        || run_clock(rt, clock, alloc, core, clock_port, clock_wire, gate, turns),
+        || run_clock(
+            rt, clock, alloc, core, clock_port, clock_wire, gate, turns, beside,
+        ),
     );
     let works = works?;
     let clock_work = clock_work?;
@@ -316,6 +338,7 @@ fn serve_named<
     C: Clock,
     W: Wire + Send + Drop,
     G: Gate + Sync,
+    B: BesideClock,
 >(
     rt: &R,
     clock: &C,
@@ -327,6 +350,7 @@ fn serve_named<
     gate: &G,
     turns: u32,
     keeper: K,
+    beside: &mut B,
 ) -> Result<(RunReport, K), OpenFault>
     requires name { blank.name ≡ L.name }
     requires parts { blank.parts ≡ L.parts }
@@ -365,6 +389,7 @@ fn serve_named<
         &mut clock_wire,
         gate,
         turns,
+        beside,
     )?;
     let keeper = add_finished(&mut served, core.finish(alloc)?)?;
     Ok((served, keeper))
@@ -372,7 +397,7 @@ fn serve_named<
 
 /// The run of the router of a configuration. Each link has a port, 1, 2 and so on in their order, and a thread that makes so
 /// many turns on its wire; the last port is the clock's, which feeds as many moments, 100 milliseconds apart, and sends from a
-/// wire of its own. All threads have ended when it returns. Where a thread can't be made, its turns are made after the others'.
+/// wire of its own; after each moment that thread, which began the run, does what is done beside the clock. All threads have ended when it returns. Where a thread can't be made, its turns are made after the others'.
 /// Who keeps the journal has no segment yet. It is given each segment as soon as it is taken, where the journal is full and when all threads
 /// have ended, up to the first that can't be kept; it comes back. The report has all ports, and the receipts of all. The fault is that
 /// there is too little memory, or no place for a reader of the label table.
@@ -382,6 +407,7 @@ pub fn serve_on<
     C: Clock,
     W: Wire + Send + Drop,
     G: Gate + Sync,
+    B: BesideClock,
 >(
     rt: &R,
     clock: &C,
@@ -392,6 +418,7 @@ pub fn serve_on<
     gate: &G,
     turns: u32,
     keeper: K,
+    beside: &mut B,
 ) -> Result<(RunReport, K), OpenFault>
     requires few { length links.items < 64 }
     requires none { K.given keeper ≡ 0 }
@@ -400,7 +427,7 @@ pub fn serve_on<
     ensures kept { IfOk result (λ served. K.given served.1 ≡ served.0.kept) }
 {
     let blank = Blank::new(links.len() as u64 + 1);
-    serve_named::<Brand, R, K, C, W, G>(
-        rt, clock, alloc, blank, config, links, clock_wire, gate, turns, keeper,
+    serve_named::<Brand, R, K, C, W, G, B>(
+        rt, clock, alloc, blank, config, links, clock_wire, gate, turns, keeper, beside,
     )
 }

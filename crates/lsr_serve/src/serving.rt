@@ -4,7 +4,7 @@ ghost use Rattle.std.specs.Io.KnownBytes.{Appends};
 ghost use Rattle.lsr_serve.specs.Told.{Serves, TellsRun};
 
 use crate::judging::{copy_config, judge};
-use crate::run::{PortCount, RunReport, serve_on};
+use crate::run::{BesideClock, PortCount, RunReport, serve_on};
 use crate::udp_wire::{LinkWire, ServeFault, UdpWire, open_clock_wire, open_wires};
 use interface_workers::{KeepSegments, Mismatch, OpenGate, Segment};
 use log::sink::Writer;
@@ -84,6 +84,7 @@ fn open_all<'a, R: Net>(
 fn served<
     R: Net + Threads + Wait + Clock + Clone + Send + Sync + Drop,
     K: KeepSegments + Send + Drop,
+    B: BesideClock,
 >(
     rt: &R,
     alloc: Global,
@@ -91,6 +92,7 @@ fn served<
     links: &Table<u16, LinkSockets>,
     turns: u32,
     keeper: K,
+    beside: &mut B,
 ) -> Result<(RunReport, K), ServeFault>
     requires few { length links.now < 64 }
     requires none { K.given keeper ≡ 0 }
@@ -99,7 +101,7 @@ fn served<
 {
     let (wires, clock_wire) = open_all(rt, alloc, links)?;
     let Ok((served, keeper)) = serve_on(
-        rt, rt, alloc, config, wires, clock_wire, &OpenGate, turns, keeper,
+        rt, rt, alloc, config, wires, clock_wire, &OpenGate, turns, keeper, beside,
     ) else {
         return Err(ServeFault::Memory);
     };
@@ -125,7 +127,7 @@ fn tell_served<W: Write, E: Write>(
 }
 
 /// `lsr serve`: the router of the configuration serves these links, its own, over sockets, so many turns each; a turn takes 100
-/// milliseconds at most. Who keeps the journal has no segment yet, and is given each one as soon as it is taken, while the run goes on, up to the first that can't be kept.
+/// milliseconds at most. After each moment of the clock the thread that called it does what is done beside it. Who keeps the journal has no segment yet, and is given each one as soon as it is taken, while the run goes on, up to the first that can't be kept.
 /// Logs how much each port did on the error stream, prints
 /// whether what was told is one run of that router from its opening on, and gives the status: 0 where it is, 1 where it isn't, where
 /// a socket can't be had, where a segment isn't kept, or where memory ran out, which the error stream is told. The error is that a
@@ -133,6 +135,7 @@ fn tell_served<W: Write, E: Write>(
 pub fn serve_links<
     R: Net + Threads + Wait + Clock + Clone + Send + Sync + Drop,
     K: KeepSegments + Send + Drop,
+    B: BesideClock,
     W: Write,
     E: Write,
 >(
@@ -142,6 +145,7 @@ pub fn serve_links<
     links: &Table<u16, LinkSockets>,
     turns: u32,
     keeper: K,
+    beside: &mut B,
     output: &mut W,
     error: &mut E,
 ) -> io::Result<u8>
@@ -150,7 +154,7 @@ pub fn serve_links<
     ensures { IfOk result (Serves config (length links.now + 1) (W.contents output.old) (W.contents output.new)) }
 {
     let fault = match copy_config(alloc, &config) {
-        Ok(opened) => match served(rt, alloc, opened, links, turns, keeper) {
+        Ok(opened) => match served(rt, alloc, opened, links, turns, keeper, beside) {
             Ok((served, _keeper)) => return tell_served(&config, &served, output, error),
             Err(fault) => fault,
         },

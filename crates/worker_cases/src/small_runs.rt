@@ -2,7 +2,7 @@
 ghost use Rattle.std.specs.Prelude.{◌≡◌, ◌<◌, length};
 
 use lsr_config::Config;
-use lsr_serve::{LinkWire, PortCount, RunReport, serve_on, tell_run};
+use lsr_serve::{ClockAlone, LinkWire, PortCount, RunReport, serve_on, tell_run};
 use std::alloc::Global;
 use std::sync::Wait;
 use std::thread::Threads;
@@ -32,7 +32,16 @@ pub fn served_by<
 {
     match Config::read(alloc, text) {
         Ok(config) => match serve_on(
-            rt, clock, alloc, config, links, clock_wire, gate, turns, keeper,
+            rt,
+            clock,
+            alloc,
+            config,
+            links,
+            clock_wire,
+            gate,
+            turns,
+            keeper,
+            &mut ClockAlone,
         ) {
             Ok(served) => Ok(served),
             Err(_) => Err(Fault::Memory),
