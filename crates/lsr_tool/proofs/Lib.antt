@@ -1,4 +1,6 @@
+mod Checked
 mod Living
 mod Sessions
 mod Printing
+mod Recorded
 mod Worlds

@@ -69,6 +69,10 @@ unwritable_text = codes "unwritable\n  the output or the error stream can't be w
 abbrev pub unread_words_text : List ℕ
 unread_words_text = codes "error: a word isn't UTF-8; see lsr --help\n"
 
+-- what is told where a run is to be recorded whose lines are answered as they come
+abbrev pub live_journal_text : List ℕ
+live_journal_text = codes "error: --journal isn't taken beside --live; see lsr step --help\n"
+
 -- the status: 1 wherever something is told
 abbrev pub status_of : RunEnding → ℕ
 status_of (endings.Ran lines.Done) = 0

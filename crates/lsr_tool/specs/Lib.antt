@@ -1,6 +1,10 @@
+pub mod Checking
 pub mod Endings
+pub mod Recording
 pub mod Serving
 pub mod Sessions
+pub mod Showing
+pub mod Written
 pub mod Live
 pub mod Configuring
 pub mod Decoding

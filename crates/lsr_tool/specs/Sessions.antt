@@ -76,6 +76,14 @@ abbrev pub IsUnreadFor : Option Stream → Stream → Source → InputFault → 
 IsUnreadFor stream input sources.Config fault = IsUnreadConfig stream fault
 IsUnreadFor stream input sources.Input fault = IsUnread input fault
 
+-- Why a run ends before its first line, of which nothing is printed: one of the texts can't be read, the first gives no router, or there
+-- is no memory to begin.
+abbrev pub NeverSteps : Option Stream → Stream → RunEnding → Type 0
+NeverSteps stream input (endings.Unread source fault) = IsUnreadFor stream input source fault
+NeverSteps stream input endings.Memory = Unit {0}
+NeverSteps stream input (endings.BadConfig fault place) = IsRefusedFor stream input fault place
+NeverSteps stream input (endings.Ran ending) = ⊥
+
 -- A run, in which lines are echoed or aren't. The texts of the configuration and of the input are read before all else.
 -- Nothing is printed where one of them can't be read, where the first gives no router, or where there is no memory to begin.
 abbrev pub Steps : Bool → Option Stream → Stream → List ℕ → RunEnding → Type 0

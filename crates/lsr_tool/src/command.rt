@@ -4,17 +4,22 @@ ghost use Rattle.std.specs.Io.KnownBytes.{Appends};
 ghost use Rattle.std.specs.IoError.{error_kind};
 ghost use Rattle.std.specs.declared.io.ErrorKind.TheVariants.{OutOfMemory};
 ghost use Rattle.clap.specs.Words.{kind_of};
+ghost use Rattle.lsr_words.specs.declared.words.Asked.TheVariants.{Step};
 ghost use Rattle.lsr_tool.specs.Commands.{Does, Runs, words_status};
 ghost use Rattle.lsr_tool.specs.Endings.{memory_text, unread_words_text, unwritable_text};
 
+use crate::checking::run_check_of;
 use crate::configuring::run_config_of;
 use crate::decoding::run_decode_on;
 use crate::endings::FAILED;
 use crate::files::{FilesByName, SystemFiles};
 use crate::live::run_live_of;
 use crate::playing::{run_lab_of, run_play_of};
+use crate::recording::run_recorded_of;
 use crate::serving::{BAD_WORDS, run_serve_of};
 use crate::session::run_step_of;
+use crate::showing::run_show_journal_of;
+use crate::written::WritesFiles;
 use clap::error::{Error, ErrorKind};
 use line_streams::ByteStream;
 use lsr_explain::run_explain;
@@ -32,6 +37,8 @@ use std::time::Clock;
 
 /// What is told of words that can't be read.
 const UNREAD_WORDS: &str = "error: a word isn't UTF-8; see lsr --help\n";
+/// What is told where a run is to be recorded whose lines are answered as they come.
+const LIVE_JOURNAL: &str = "error: --journal isn't taken beside --live; see lsr step --help\n";
 /// What is told where a stream can't be written.
 const UNWRITABLE: &str = "\
 unwritable
@@ -65,10 +72,46 @@ fn tell_words<W: Write, E: Write>(fault: Error, output: &mut W, error: &mut E) -
     Ok(status)
 }
 
+/// Answers lines by a router: as they come, or once all have come, and then it may record the run. Gives the status, 2 where it is to record what
+/// comes as it comes. The error is that a stream could not be written, or that memory ran out.
+fn run_lines_of<
+    F: FilesByName + WritesFiles,
+    N: Wait + Clone + Drop,
+    R: ByteStream,
+    W: Write,
+    E: Write,
+>(
+    files: &F,
+    rt: &N,
+    alloc: Global,
+    file: Option<&str>,
+    echo: bool,
+    live: bool,
+    journal: Option<&str>,
+    input: &mut R,
+    output: &mut W,
+    error: &mut E,
+) -> io::Result<u8>
+    ensures { IfOk result (Does (F.opens files.now) (F.fails files.now) F.File.stream (F.holds files.now) (Step file.entry echo live journal.entry)
+        (R.stream input.old) (R.stream input.new) (W.contents output.old) (W.contents output.new) (E.contents error.old) (E.contents error.new)) }
+{
+    match (live, journal) {
+        (false, None) => run_step_of(files, alloc, file, echo, input, output, error),
+        (true, None) => run_live_of(files, alloc, file, echo, input, output, error),
+        (false, Some(name)) => run_recorded_of(
+            files, rt, alloc, file, echo, name, input, output, error,
+        ),
+        (true, Some(_)) => {
+            error.write_all(LIVE_JOURNAL.as_bytes())?;
+            Ok(BAD_WORDS)
+        }
+    }
+}
+
 /// Does what was asked for, and gives the status. Links are served by `rt`. The error is that a stream could not be
 /// written, or that memory ran out.
 pub fn run_asked<
-    F: FilesByName,
+    F: FilesByName + WritesFiles,
     N: Net + Threads + Wait + Clock + Clone + Send + Sync + Drop,
     R: ByteStream,
     W: Write,
@@ -82,37 +125,39 @@ pub fn run_asked<
     output: &mut W,
     error: &mut E,
 ) -> io::Result<u8>
-    ensures { IfOk result (Does (F.opens files.now) (F.fails files.now) F.File.stream asked.entry
+    ensures { IfOk result (Does (F.opens files.now) (F.fails files.now) F.File.stream (F.holds files.now) asked.entry
         (R.stream input.old) (R.stream input.new) (W.contents output.old) (W.contents output.new) (E.contents error.old) (E.contents error.new)) }
 {
     match asked {
         Asked::Step {
             file,
             echo,
-            live: false,
-        } => run_step_of(files, alloc, file, echo, input, output, error),
-        Asked::Step {
-            file,
-            echo,
-            live: true,
-        } => run_live_of(files, alloc, file, echo, input, output, error),
+            live,
+            journal,
+        } => run_lines_of(
+            files, rt, alloc, file, echo, live, journal, input, output, error,
+        ),
         Asked::Config(file) => run_config_of(files, alloc, file, output, error),
         Asked::Decode { word, fields } => {
             run_decode_on(files, alloc, fields, word, input, output, error)
         }
         Asked::Explain(word) => run_explain(alloc, word, output, error),
-        Asked::Serve { file, turns } => {
-            run_serve_of(files, rt, alloc, file, turns, output, error)
-        }
+        Asked::Serve {
+            file,
+            turns,
+            journal,
+        } => run_serve_of(files, rt, alloc, file, turns, journal, output, error),
         Asked::Play { file, lab: false } => run_play_of(files, alloc, file, output, error),
         Asked::Play { file, lab: true } => run_lab_of(files, alloc, file, output, error),
+        Asked::Check(names) => run_check_of(files, alloc, names.as_slice(), output, error),
+        Asked::ShowJournal(file) => run_show_journal_of(files, alloc, file, output, error),
     }
 }
 
 /// Does what the words ask for, and gives the status. Links are served by `rt`. The error is that a stream could not be
 /// written, or that memory ran out.
 fn run_words<
-    F: FilesByName,
+    F: FilesByName + WritesFiles,
     N: Net + Threads + Wait + Clock + Clone + Send + Sync + Drop,
     S: AsStr,
     R: ByteStream,
@@ -127,7 +172,7 @@ fn run_words<
     output: &mut W,
     error: &mut E,
 ) -> io::Result<u8>
-    ensures { IfOk result (Runs (F.opens files.now) (F.fails files.now) F.File.stream (map S.text words.now)
+    ensures { IfOk result (Runs (F.opens files.now) (F.fails files.now) F.File.stream (F.holds files.now) (map S.text words.now)
         (R.stream input.old) (R.stream input.new) (W.contents output.old) (W.contents output.new) (E.contents error.old) (E.contents error.new)) }
 {
     match read_words(alloc, words) {
@@ -155,7 +200,7 @@ pub fn run<
     output: &mut W,
     error: &mut E,
 ) -> io::Result<u8>
-    ensures { IfOk result (Runs (λ _ _. Unit {0}) (λ _ _. Unit {0}) ⟦<F::File as ByteStream>⟧.stream (map S.text words.now)
+    ensures { IfOk result (Runs (λ _ _. Unit {0}) (λ _ _. Unit {0}) ⟦<F::File as ByteStream>⟧.stream (λ _ _. Unit {0}) (map S.text words.now)
         (R.stream input.old) (R.stream input.new) (W.contents output.old) (W.contents output.new) (E.contents error.old) (E.contents error.new)) }
 {
     let files = SystemFiles::new(rt);

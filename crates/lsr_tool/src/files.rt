@@ -47,6 +47,11 @@ impl<'a, F: Files> SystemFiles<'a, F> {
     {
         SystemFiles { files }
     }
+
+    /// What they are opened and written by.
+    pub(crate) fn system(&self) -> &F {
+        self.files
+    }
 }
 
 impl<'a, F: Files> FilesByName for SystemFiles<'a, F> {

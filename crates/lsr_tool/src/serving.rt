@@ -1,23 +1,25 @@
 //! `lsr serve` on the router of a configuration.
 ghost use Rattle.std.specs.Option.{option_map};
-ghost use Rattle.std.specs.Prelude.{◌≡◌, ◌<◌, ℕ, List, length, IfOk, IfErr};
-ghost use Rattle.line_streams.specs.Texts.{IsTextOf};
+ghost use Rattle.std.specs.Prelude.{◌≡◌, ◌<◌, length, IfOk, IfErr, IsOk, string_bytes};
 ghost use Rattle.lsr_tool.specs.Endings.{status_of};
-ghost use Rattle.lsr_tool.specs.Serving.{SaysRun, ServesFile};
+ghost use Rattle.lsr_tool.specs.Playing.{IsFileText};
+ghost use Rattle.lsr_tool.specs.Serving.{SaysRun, ServesFile, ServesText};
 
-use crate::endings::{RunEnding, Source, status_of, tell_ending};
+use crate::endings::{FAILED, RunEnding, Source, status_of, tell_ending};
 use crate::files::FilesByName;
+use crate::keeping::{SegmentFiles, SegmentKeeper, SegmentWriter};
 use crate::session::misconfigured;
+use crate::written::{OutputFault, WritesFiles, tell_output_fault};
 use config_text::link_without;
 use line_streams::read_text;
 use lsr_config::Config;
-use lsr_serve::{LinkSockets, SegmentCount, read_sockets, read_turns, serve_links};
+use lsr_serve::{BesideClock, ClockAlone, LinkSockets, read_sockets, read_turns, serve_links};
 use sorted_rows::Table;
 use std::alloc::Global;
 use std::io;
 use std::io::Write;
 use std::net::Net;
-use std::sync::Wait;
+use std::sync::{Mutex, Wait};
 use std::thread::Threads;
 use std::time::Clock;
 
@@ -48,15 +50,13 @@ fn configured<'a>(
     }
 }
 
-/// The configuration of the file of this name, with the sockets of its links.
+/// The text of the file of this name.
 fn read_served<'a, F: FilesByName>(
     files: &F,
     alloc: Global,
     file: &str,
-) -> Result<(Config, Table<u16, LinkSockets>), RunEnding<'a>>
-    ensures said { IfOk result (λ ready. (opened : F.File) × (text : List ℕ) × F.opens files.now file.now opened
-        × IsTextOf (F.File.stream opened) text × SaysRun text ready.0 ready.1) }
-    ensures few { IfOk result (λ ready. length ready.1 < 64) }
+) -> Result<String, RunEnding<'a>>
+    ensures text { IfOk result (λ text. IsFileText (F.opens files.now) F.File.stream file.now (string_bytes text)) }
     ensures fault { IfErr result (λ ending. status_of ending ≡ 1) }
 {
     let mut stream = match files.open(file) {
@@ -64,16 +64,110 @@ fn read_served<'a, F: FilesByName>(
         Err(fault) => return Err(RunEnding::Unread(Source::Config, fault)),
     };
     match read_text(alloc, &mut stream) {
-        Ok(text) => configured(alloc, text.as_str()),
+        Ok(text) => Ok(text),
         Err(fault) => Err(RunEnding::Unread(Source::Config, fault)),
     }
 }
 
-/// `lsr serve FILE [--turns N]`: the links of the router of the file of this name are served by `rt`, so many turns each, or
-/// without a number 1,000. The journal isn't kept. Prints whether what was told is one run, tells on the error stream why it didn't begin, and gives the status:
-/// 0, 1, or 2 where the word is no number of turns. The error is that a stream could not be written.
+/// Serves the links of the router that a text says, so many turns each, and does what is done beside the clock. What keeps its journal is
+/// given to it. Gives the status. The error is that a stream could not be written.
+fn serve_text<
+    N: Net + Threads + Wait + Clock + Clone + Send + Sync + Drop,
+    B: BesideClock,
+    W: Write,
+    E: Write,
+>(
+    rt: &N,
+    alloc: Global,
+    file: &str,
+    text: &str,
+    turns: u32,
+    kept: Option<&SegmentFiles>,
+    beside: &mut B,
+    output: &mut W,
+    error: &mut E,
+) -> io::Result<u8>
+    ensures { IfOk result (λ status. status ≡ 0 → ServesText text.now (W.contents output.old) (W.contents output.new) status) }
+{
+    match configured(alloc, text) {
+        Ok((config, links)) => {
+            let keeper = SegmentKeeper::new(rt, alloc, kept, text);
+            serve_links(
+                rt, alloc, config, &links, turns, keeper, beside, output, error,
+            )
+        }
+        Err(ending) => {
+            tell_ending(error, file, &ending)?;
+            Ok(status_of(&ending))
+        }
+    }
+}
+
+/// The status of a run with this status, when its journal is written or isn't: 1 where it isn't, which is told. The error is the
+/// stream's.
+fn tell_written<E: Write>(
+    error: &mut E,
+    prefix: &str,
+    written: Result<(), OutputFault>,
+    status: u8,
+) -> io::Result<u8>
+    ensures { IfOk result (λ after. after ≡ 0 → (status ≡ 0) × IsOk written) }
+{
+    match written {
+        Ok(()) => Ok(status),
+        Err(fault) => {
+            tell_output_fault(error, prefix, fault)?;
+            Ok(FAILED)
+        }
+    }
+}
+
+/// Serves the links of the router that a text says, and writes its journal into files where a prefix of their names is given.
+fn serve_kept<
+    F: WritesFiles,
+    N: Net + Threads + Wait + Clock + Clone + Send + Sync + Drop,
+    W: Write,
+    E: Write,
+>(
+    files: &F,
+    rt: &N,
+    alloc: Global,
+    file: &str,
+    text: &str,
+    turns: u32,
+    journal: Option<&str>,
+    output: &mut W,
+    error: &mut E,
+) -> io::Result<u8>
+    ensures { IfOk result (λ status. status ≡ 0 → ServesText text.now (W.contents output.old) (W.contents output.new) status) }
+{
+    let Some(prefix) = journal else {
+        let beside = &mut ClockAlone;
+        return serve_text(rt, alloc, file, text, turns, None, beside, output, error);
+    };
+    let kept = Mutex::new(Vec::new(alloc));
+    let mut writer = SegmentWriter::new(files, rt, alloc, prefix, &kept);
+    let keeps = Some(&kept);
+    let status = serve_text(
+        rt,
+        alloc,
+        file,
+        text,
+        turns,
+        keeps,
+        &mut writer,
+        output,
+        error,
+    )?;
+    tell_written(error, prefix, writer.finish(), status)
+}
+
+/// `lsr serve FILE [--turns N] [--journal PREFIX]`: the links of the router of the file of this name are served by `rt`, so many turns
+/// each, or without a number 1,000. Its journal goes into the files `PREFIX.1`, `PREFIX.2` and so on, each written at the first moment of
+/// the clock after its segment was taken, the last when the run is over; without a prefix it isn't kept. Prints whether what was told is one run, tells on the error stream why it didn't begin, and gives
+/// the status: 0, 1, or 2 where the word is no number of turns. The error is that a stream could not be written.
 pub fn run_serve_of<
-    F: FilesByName,
+    F: FilesByName + WritesFiles,
     N: Net + Threads + Wait + Clock + Clone + Send + Sync + Drop,
     W: Write,
     E: Write,
@@ -83,6 +177,7 @@ pub fn run_serve_of<
     alloc: Global,
     file: &str,
     turns: Option<&str>,
+    journal: Option<&str>,
     output: &mut W,
     error: &mut E,
 ) -> io::Result<u8>
@@ -94,9 +189,9 @@ pub fn run_serve_of<
         return Ok(BAD_WORDS);
     };
     match read_served(files, alloc, file) {
-        Ok((config, links)) => {
-            let count = SegmentCount::new();
-            serve_links(rt, alloc, config, &links, turns, count, output, error)
+        Ok(text) => {
+            let text = text.as_str();
+            serve_kept(files, rt, alloc, file, text, turns, journal, output, error)
         }
         Err(ending) => {
             tell_ending(error, file, &ending)?;

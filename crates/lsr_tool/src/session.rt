@@ -6,7 +6,8 @@ ghost use Rattle.lsr_config.specs.Configs.{Setup};
 ghost use Rattle.lsr_config.specs.Reading.{IsRead};
 ghost use Rattle.lsr_tool.specs.declared.endings.RunEnding.{RunEnding};
 ghost use Rattle.lsr_tool.specs.Endings.{ending_text, status_of};
-ghost use Rattle.lsr_tool.specs.Sessions.{CannotBegin, IsConfigText, IsReady, IsUnreadConfig, Steps, StepsOnFile, begun, name_of, said_by};
+ghost use Rattle.line_streams.specs.Texts.{IsTextOf};
+ghost use Rattle.lsr_tool.specs.Sessions.{CannotBegin, IsConfigText, IsReady, IsUnreadConfig, NeverSteps, Steps, StepsOnFile, begun, name_of, said_by};
 
 use crate::endings::{RunEnding, Source, status_of, tell_ending};
 use crate::files::FilesByName;
@@ -54,12 +55,11 @@ pub(crate) fn said(text: &Option<String>) -> &str
     }
 }
 
-/// The configuration that the text says, or without a text the built-in one.
-fn configured<'a>(alloc: Global, text: Option<String>) -> Result<Config, RunEnding<'a>>
-    ensures said { IfOk result (λ config. IsRead (said_by (option_map string_bytes text)) (Ok config)) }
-    ensures fault { IfErr result (CannotBegin (said_by (option_map string_bytes text))) }
+/// The configuration that the text says.
+pub(crate) fn configured<'a>(alloc: Global, text: &str) -> Result<Config, RunEnding<'a>>
+    ensures said { IfOk result (λ config. IsRead text.now (Ok config)) }
+    ensures fault { IfErr result (CannotBegin text.now) }
 {
-    let text = said(&text);
     match Config::read(alloc, text) {
         Ok(config) => Ok(config),
         Err(fault) => Err(misconfigured(alloc, text, fault)),
@@ -79,10 +79,30 @@ pub(crate) fn begin<'a>(alloc: Global, text: Option<String>) -> Result<Session, 
     ensures begun { IfOk result (λ session. (config : Setup) × IsRead (said_by (option_map string_bytes text)) (Ok config) × (session ≡ begun config)) }
     ensures fault { IfErr result (CannotBegin (said_by (option_map string_bytes text))) }
 {
-    let config = configured(alloc, text)?;
+    let config = configured(alloc, said(&text))?;
     match open(alloc, config) {
         Ok(session) => Ok(session),
         Err(_) => Err(RunEnding::Memory),
+    }
+}
+
+/// The text of the configuration, where there is one, and that of the input; or how the run ends before its first line.
+pub(crate) fn read_texts<'a, C: ByteStream + Drop, R: ByteStream>(
+    alloc: Global,
+    config: Option<C>,
+    input: &mut R,
+) -> Result<(Option<String>, String), RunEnding<'a>>
+    ensures texts { IfOk result (λ texts. IsConfigText (option_map C.stream config) (said_by (option_map string_bytes texts.0))
+        × IsTextOf (R.stream input.old) (string_bytes texts.1)) }
+    ensures fault { IfErr result (NeverSteps (option_map C.stream config) (R.stream input.old)) }
+{
+    let config_text = match read_config_text(alloc, config) {
+        Ok(text) => text,
+        Err(fault) => return Err(RunEnding::Unread(Source::Config, fault)),
+    };
+    match read_text(alloc, input) {
+        Ok(text) => Ok((config_text, text)),
+        Err(fault) => Err(RunEnding::Unread(Source::Input, fault)),
     }
 }
 
@@ -96,14 +116,7 @@ fn prepare<'a, C: ByteStream + Drop, R: ByteStream>(
     ensures ready { IfOk result (λ ready. IsReady (option_map C.stream config) (R.stream input.old) ready.0 (string_bytes ready.1)) }
     ensures fault { IfErr result (λ ending. (echo : Bool) → Steps echo (option_map C.stream config) (R.stream input.old) [] ending) }
 {
-    let config_text = match read_config_text(alloc, config) {
-        Ok(text) => text,
-        Err(fault) => return Err(RunEnding::Unread(Source::Config, fault)),
-    };
-    let text = match read_text(alloc, input) {
-        Ok(text) => text,
-        Err(fault) => return Err(RunEnding::Unread(Source::Input, fault)),
-    };
+    let (config_text, text) = read_texts(alloc, config, input)?;
     let session = begin(alloc, config_text)?;
     Ok((session, text))
 }

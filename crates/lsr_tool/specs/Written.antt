@@ -1,0 +1,23 @@
+-- Why a file isn't written, and what is told of it.
+use Rattle.std.specs.Prelude.{ℕ, List, ◌++◌, codes}
+use Rattle.std.specs.declared.io.ErrorKind.{ErrorKind}
+use Rattle.std.specs.declared.io.ErrorKind.TheVariants as kinds
+use Rattle.lsr_tool.specs.declared.written.OutputFault.{OutputFault}
+use Rattle.lsr_tool.specs.declared.written.OutputFault.TheVariants as faults
+
+-- why a file isn't written, by the kind of the error
+abbrev pub output_fault : ErrorKind → OutputFault
+output_fault kinds.NotFound = faults.Absent
+output_fault kinds.PermissionDenied = faults.Forbidden
+output_fault kinds.OutOfMemory = faults.Memory
+output_fault kind = faults.Broken
+
+-- what is told of a file of this name that isn't written: where it is and what to do stands in a line of its own
+abbrev pub output_fault_text : List ℕ → OutputFault → List ℕ
+output_fault_text name faults.Absent =
+    codes "unwritable\n  " ++ (name ++ codes " has no folder to stand in: make it, or give another name, and run it again\n")
+output_fault_text name faults.Forbidden =
+    codes "unwritable\n  " ++ (name ++ codes " may not be written: look at its permissions and its folder's, and run it again\n")
+output_fault_text name faults.Broken =
+    codes "unwritable\n  " ++ (name ++ codes " can't be written: look at the room on its disk, and whether a folder has its name, and run it again\n")
+output_fault_text name faults.Memory = codes "memory\n"

@@ -1,0 +1,124 @@
+//! Files that are written whole.
+ghost use Rattle.std.specs.Prelude.{◌≡◌, ℕ, List, OnOk};
+ghost use Rattle.std.specs.Io.KnownBytes.{Appends};
+ghost use Rattle.lsr_tool.specs.Written.{output_fault, output_fault_text};
+
+use crate::files::SystemFiles;
+use lsr_text::OUT_OF_MEMORY;
+use std::alloc::{AllocError, Global};
+use std::fs::OpenFile;
+use std::io::{ErrorKind, Write};
+use std::rt::Files;
+use std::{fs, io};
+
+/// Why a file isn't written.
+#[derive(Clone, Copy, Debug, PartialEq, Eq)]
+pub enum OutputFault {
+    /// The folder that it would stand in isn't there.
+    Absent,
+    /// Permissions don't allow it.
+    Forbidden,
+    /// It can't be written to its end, or not take the place of what has its name.
+    Broken,
+    /// There is no memory for its name.
+    Memory,
+}
+
+impl From<AllocError> for OutputFault {
+    fn from(_: AllocError) -> OutputFault {
+        OutputFault::Memory
+    }
+}
+
+/// Files that are written by their names. `holds` says which bytes a file of a name holds that was written.
+pub trait WritesFiles {
+    ghost holds: { Self → List ℕ → List ℕ → Type 0 };
+
+    /// Writes the file of this name, in place of one that is there: it is never there with a part of these bytes. On an error what was
+    /// there stays.
+    fn write(&self, alloc: Global, name: &str, bytes: &[u8]) -> Result<(), OutputFault>
+        ensures { OnOk result (holds self.now name.now bytes.now) };
+}
+
+/// Why a file isn't written, by the kind of the error.
+fn output_fault(kind: ErrorKind) -> OutputFault
+    ensures { result ≡ output_fault kind }
+{
+    match kind {
+        ErrorKind::NotFound => OutputFault::Absent,
+        ErrorKind::PermissionDenied => OutputFault::Forbidden,
+        ErrorKind::OutOfMemory => OutputFault::Memory,
+        _ => OutputFault::Broken,
+    }
+}
+
+/// The name of the file that is written beside the one of this name, and takes its place when it is whole.
+fn part_name(alloc: Global, name: &str) -> Result<String, AllocError> {
+    format!(in alloc; "{name}.part")
+}
+
+/// Writes a file that isn't there yet, or another one of its name, and waits until the disk has it.
+fn write_part<F: Files>(files: &F, part: &str, bytes: &[u8]) -> io::Result<()> {
+    let mut file = fs::create(files, part)?;
+    file.write_all(bytes)?;
+    file.sync_all()
+}
+
+/// Writes a file beside the one of this name, and gives it that name when it is whole.
+fn write_whole<F: Files>(files: &F, part: &str, name: &str, bytes: &[u8]) -> io::Result<()> {
+    write_part(files, part, bytes)?;
+    fs::rename(files, part, name)
+}
+
+/// Writes the file of this name, whole: beside it first.
+pub(crate) fn write_file<F: Files>(
+    files: &F,
+    alloc: Global,
+    name: &str,
+    bytes: &[u8],
+) -> Result<(), OutputFault> {
+    let Ok(part) = part_name(alloc, name) else {
+        return Err(OutputFault::Memory);
+    };
+    match write_whole(files, part.as_str(), name, bytes) {
+        Ok(()) => Ok(()),
+        Err(fault) => {
+            let _ = fs::remove_file(files, part.as_str());
+            Err(output_fault(fault.kind()))
+        }
+    }
+}
+
+impl<'a, F: Files> WritesFiles for SystemFiles<'a, F> {
+    // Nothing is known of the system's files.
+    ghost holds = { λ _ _ _. Unit {0} };
+
+    fn write(&self, alloc: Global, name: &str, bytes: &[u8]) -> Result<(), OutputFault> {
+        write_file(self.system(), alloc, name, bytes)
+    }
+}
+
+/// Tells why the file of this name isn't written, and what to do. The error is the stream's.
+pub(crate) fn tell_output_fault<E: Write>(
+    error: &mut E,
+    name: &str,
+    fault: OutputFault,
+) -> io::Result<()>
+    ensures { OnOk result (Appends (E.contents error.old) (E.contents error.new) (output_fault_text name.now fault)) }
+{
+    match fault {
+        OutputFault::Absent => write!(
+            error,
+            "unwritable\n  {name} has no folder to stand in: make it, or give another name, and run it again\n"
+        ),
+        OutputFault::Forbidden => write!(
+            error,
+            "unwritable\n  {name} may not be written: look at its permissions and its folder's, and run it again\n"
+        ),
+        OutputFault::Broken => write!(
+            error,
+            "unwritable\n  {name} can't be written: look at the room on its disk, and whether a folder has its name, and run it again\n"
+        ),
+        OutputFault::Memory => write!(error, "{OUT_OF_MEMORY}\n"),
+    }
+}
