@@ -10,7 +10,8 @@
 //! - `runs.txt` names the runs of `lsr` itself: NAME.words has the status that it ends with, and below that its words, one
 //!   in each line. It reads NAME.in, nothing where there is no such file, prints NAME.out and tells NAME.err.
 //! - A line `WORDS => STATUS STREAM TEXT` of `says.txt` says how the program ends on these words and no input: with this status,
-//!   with TEXT on the stream, `output` or `error`, and nothing on the other.
+//!   with TEXT on the stream, `output` or `error`, and nothing on the other; or with TEXT on the output, and something told on the other, too,
+//!   where STREAM is `both`. So each journal file of `journals/` is answered.
 //! - A line `FILE => TEXT` of `captures.txt` says what a reader of capture files gives of FILE, packet by packet.
 //! - Each line of `bad-lines.txt`, alone, is a bad line of `lsr step`.
 //! - A line `NAME: FAULT | PLACE | ALLOWED` or `NAME: good` of `config/answers.txt` says what is told of the configuration

@@ -17,6 +17,8 @@ const SAYINGS: &str = "says.txt";
 const ARROW: &str = " => ";
 /// The name of the standard output in what is said.
 const OUTPUT: &str = "output";
+/// The name of both streams, where the text is on the standard output.
+const BOTH: &str = "both";
 
 /// What is told of an input that breaks: of a text, and of lines to decode.
 const TOLD_BROKEN: &str =
@@ -113,14 +115,15 @@ fn saying_agrees<
         lines.as_str()
     };
     let ran = run_lines(rt, lines, &mut &[][..])?;
-    let (told, other) = if stream == OUTPUT {
+    let (told, other) = if stream == OUTPUT || stream == BOTH {
         (ran.output, ran.error)
     } else {
         (ran.error, ran.output)
     };
     let told = String::from_utf8(told).unwrap_or(String::new(alloc));
     let is_status = status.parse::<u8>() == Ok(ran.status);
-    Ok(is_status && other.is_empty() && told.as_str().contains(text))
+    let is_silent = stream == BOTH || other.is_empty();
+    Ok(is_status && is_silent && told.as_str().contains(text))
 }
 
 /// Tells of each line of words whether the program says to them what it should.
