@@ -1,6 +1,6 @@
 -- One LSP's turn after the other to keep what it had.
-use Rattle.std.proofs.Common.{◌≡◌, ℕ, ◌+◌, ◌-◌, ◌<◌, ◌≤◌, Bool, true, false, ◌&&◌, if◌then◌else◌, T, List, Option, Some, None, is_some, length, drop, get_or, refl, ap, sym, subst, ◌∙◌, arith}
-use Rattle.std.proofs.lemmas.Bool.{le-leb}
+use Rattle.std.proofs.Common.{◌≡◌, ℕ, ◌+◌, ◌-◌, ◌<◌, ◌≤◌, Bool, true, false, ◌&&◌, if◌then◌else◌, T, List, Option, Some, None, is_some, length, drop, get_or, nat_le, refl, ap, sym, ◌∙◌, arith}
+use Rattle.std.proofs.lemmas.Bool.{le-leb, leb-true}
 use Rattle.std.proofs.lemmas.List.{drop_more}
 use Rattle.std.proofs.lemmas.Option.{slice_get-get_or}
 use Rattle.std.specs.FinMap.Entries.{find, is_sorted, put}
@@ -44,17 +44,17 @@ has_left_room : (capacity : ℕ → ℕ) (left : List (ℕ × ℕ)) (pairs : Lis
 has_left_room capacity left pairs rate number are_left fits = let sum = are_left number in le-leb (assigned_of number pairs + rate) (capacity number) (omega (arith, sum, fits))
 
 -- So it is given what it may have, where so much is left.
-pub given_turn : (capacity : ℕ → ℕ) (known rows made made_after : List (Key × Assignment)) (left left_after : List (ℕ × ℕ)) (key : Key) (had claim : Assignment) (wish : Option Wish) (most : ℕ)
+pub given_turn : (capacity : ℕ → ℕ) (known rows made made_after : List (Key × Assignment)) (left left_after : List (ℕ × ℕ)) (key : Key) (had claim : Assignment) (wish : Option Wish)
     → T (is_sorted key_cmp rows) → is_some (find key_cmp key (with_rows key_cmp made rows)) ≡ false → find key_cmp key known ≡ Some had → option_and_then (claim_of had) wish ≡ Some claim
-    → most ≡ left_at left claim.bypass → claim.rate ≤ most → left_after ≡ put nat_cmp claim.bypass (most - claim.rate) left → made_after ≡ put key_cmp key claim made
+    → nat_le claim.rate (left_at left claim.bypass) ≡ true → left_after ≡ put nat_cmp claim.bypass (left_at left claim.bypass - claim.rate) left → made_after ≡ put key_cmp key claim made
     → AreLeft capacity left (with_rows key_cmp made rows)
     → AreLeft capacity left_after (with_rows key_cmp made_after rows) × (with_rows key_cmp made_after rows ≡ turn_by capacity known (with_rows key_cmp made rows) key wish)
-given_turn capacity known rows made made_after left left_after key had claim wish most sorted none was is most_is fits left_is made_is are_left =
+given_turn capacity known rows made made_after left left_after key had claim wish sorted none was is fits left_is made_is are_left =
     let pairs = with_rows key_cmp made rows in
     let found = claimed capacity pairs had wish claim is in
-    let room = has_left_room capacity left pairs claim.rate claim.bypass are_left (subst (λ n. claim.rate ≤ n) most_is fits) in
+    let room = has_left_room capacity left pairs claim.rate claim.bypass are_left (leb-true claim.rate (left_at left claim.bypass) fits) in
     let stay : Some claim ≡ stays key_cmp capacity pairs found.0 had = sym (found.2 ∙ ap (λ b. if b then Some claim else None) room) in
-    let turn = kept-turn capacity left left_after known rows made made_after (key, found.0) had claim sorted none was stay made_is (left_is ∙ ap (λ n. put nat_cmp claim.bypass (n - claim.rate) left) most_is) are_left in
+    let turn = kept-turn capacity left left_after known rows made made_after (key, found.0) had claim sorted none was stay made_is left_is are_left in
     (turn.0, turn.1 ∙ sym (ap (turn_by capacity known pairs key) found.1))
 
 -- the row at a place is found

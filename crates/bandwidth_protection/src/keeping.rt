@@ -3,7 +3,7 @@
 ghost use Rattle.std.specs.FinMap.Entries.{find, is_sorted};
 ghost use Rattle.std.specs.List.{list_any};
 ghost use Rattle.std.specs.Ordering.{nat_cmp};
-ghost use Rattle.std.specs.Prelude.{◌≡◌, ◌==◌, ℕ, IfOk, List, OnOk, Some, T, filter, is_some, map};
+ghost use Rattle.std.specs.Prelude.{◌≡◌, ◌==◌, ℕ, IfOk, List, OnOk, Some, T, filter, map};
 ghost use Rattle.lsr_facts.specs.Orders.{key_cmp};
 ghost use Rattle.lsr_facts.specs.declared.assignment.Assignment.{Assignment};
 ghost use Rattle.lsr_facts.specs.declared.key.Key.{Key};
@@ -18,10 +18,9 @@ ghost use Rattle.bandwidth_protection.specs.Keeping.{claim_at, kept_turn, known_
 ghost use Rattle.bandwidth_protection.specs.Narrowing.{room_of};
 
 use crate::candidates::Numbered;
-use crate::near::find_near;
-use crate::opening::{Opening, left_at, rooms};
+use crate::opening::{Opening, rooms};
 use crate::wishes::asked_rate;
-use bypass_shares::{left_of, merge};
+use bypass_shares::{give, has_some, is_left, left_of, merge};
 use facility_backup::{is_protected, selected_by};
 use lsr_facts::{Assignment, Key, PathFact, ResvFact};
 use sorted_rows::{Table, get};
@@ -76,26 +75,6 @@ fn claim_at<A: StateView>(
     None
 }
 
-/// Whether an LSP has some among rows, or among those that were made in this round.
-fn has_some(
-    rows: &Table<Key, Assignment>,
-    made: &Table<Key, Assignment>,
-    key: &Key,
-    place: &mut usize,
-) -> bool
-    ensures some { result ≡ is_some (find key_cmp key.now (with_rows key_cmp made.now rows.now)) }
-    ensures rows { T (is_sorted key_cmp rows.now) }
-    ensures made { T (is_sorted key_cmp made.now) }
-{
-    let rows = rows.as_slice();
-    let made = made.as_slice();
-    let mut end = made.len();
-    if find_near(made, key, &mut end).is_some() {
-        return true;
-    }
-    find_near(rows, key, place).is_some()
-}
-
 /// One LSP's turn to keep what it had. `used` is what is in use, `left` what is left of each bypass beside that and beside what
 /// was made. The only error is out of memory.
 fn keep_next<A: StateView>(
@@ -122,12 +101,10 @@ fn keep_next<A: StateView>(
         Some(claim) => claim,
         None => return Ok(()),
     };
-    let most = left_at(left, claim.bypass);
-    if claim.rate > most {
+    if !is_left(left, claim.rate, claim.bypass) {
         return Ok(());
     }
-    left.set(claim.bypass, most - claim.rate)?;
-    made.set(row.0, claim)?;
+    give(left, made, row.0, claim)?;
     Ok(())
 }
 

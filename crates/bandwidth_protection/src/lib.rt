@@ -6,12 +6,10 @@ mod assigning;
 mod candidates;
 mod in_use;
 mod keeping;
-mod near;
 mod opening;
 mod resting;
 mod wishes;
 
 pub use assigning::assign;
-pub use near::find_near;
 pub use resting::assignments_rest;
 pub use state_views::{Edits, WholeState};

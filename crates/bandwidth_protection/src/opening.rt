@@ -6,7 +6,7 @@ ghost use Rattle.std.specs.Prelude.{◌≡◌, ◌≤◌, ℕ, IfOk, None, Some,
 ghost use Rattle.lsr_facts.specs.Limits.{max_bypasses};
 ghost use Rattle.lsr_facts.specs.Orders.{key_cmp};
 ghost use Rattle.lsr_facts.specs.declared.key.Key.{Key};
-ghost use Rattle.bypass_shares.specs.Left.{AreLeft, left_at};
+ghost use Rattle.bypass_shares.specs.Left.{AreLeft};
 ghost use Rattle.bypass_shares.specs.Shares.{each_in_turn, new_for};
 ghost use Rattle.abstract_router.specs.Assigning.{wish_on};
 ghost use Rattle.abstract_router.specs.Lsps.{around_of};
@@ -15,9 +15,8 @@ ghost use Rattle.bandwidth_protection.specs.Candidates.{promising_of};
 ghost use Rattle.bandwidth_protection.specs.Narrowing.{of_open, open_wish, room_of};
 
 use crate::candidates::{Numbered, Room, candidates};
-use crate::near::find_near;
 use crate::wishes::{asked_rate, wants_bandwidth};
-use bypass_shares::{Wish, give_each, merge};
+use bypass_shares::{Wish, find_near, give_each, left_at, merge};
 use lsr_facts::{Assignment, Key, PathFact, ResvFact};
 use sorted_rows::Table;
 use state_views::{Changed, Edits, StateView, WholeState};
@@ -32,16 +31,6 @@ pub(crate) struct Opening {
     pub left: Table<u16, u64>,
     /// The same, of those that have bandwidth to promise.
     pub rooms: Vec<Room>,
-}
-
-/// What is left of a bypass, in bytes per second: 0 of one that isn't there.
-pub(crate) fn left_at(left: &Table<u16, u64>, number: u16) -> u64
-    ensures { result ≡ left_at left.now number }
-{
-    match left.get(&number) {
-        Some(rate) => *rate,
-        None => 0,
-    }
 }
 
 /// What is left of each of these bypasses. The only error is out of memory.

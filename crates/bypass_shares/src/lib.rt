@@ -10,6 +10,9 @@ mod turns;
 mod wish;
 
 pub use capacities::left_of;
+pub use left::{is_left, left_at};
 pub use merging::merge;
-pub use passes::{assign_shares, give_each, keep_each};
+pub use near::find_near;
+pub use passes::give_each;
+pub use turns::{give, has_some};
 pub use wish::{Candidates, Wish};

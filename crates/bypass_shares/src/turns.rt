@@ -1,4 +1,4 @@
-//! One turn of a pass: what an LSP keeps, or is given, of what is left.
+//! One turn of a pass: what an LSP is given of what is left.
 
 ghost use Rattle.std.specs.FinMap.Entries.{find, is_sorted, put};
 ghost use Rattle.std.specs.Ordering.{nat_cmp};
@@ -8,37 +8,14 @@ ghost use Rattle.lsr_facts.specs.declared.assignment.Assignment.{Assignment};
 ghost use Rattle.lsr_facts.specs.declared.key.Key.{Key};
 ghost use Rattle.bypass_shares.specs.Left.{AreLeft, left_at};
 ghost use Rattle.bypass_shares.specs.Merged.{with_rows};
-ghost use Rattle.bypass_shares.specs.Shares.{has_room, is_candidate, stays};
+ghost use Rattle.bypass_shares.specs.Shares.{has_room};
 
-use crate::left::{first_with, is_left, take};
+use crate::left::{first_with, take};
 use crate::near::find_near;
 use crate::wish::Wish;
 use lsr_facts::{Assignment, Key};
 use sorted_rows::Table;
 use std::alloc::AllocError;
-
-/// Whether a bypass is one of those that the LSP may be assigned bandwidth of.
-fn is_candidate(wish: &Wish, number: u16) -> bool
-    ensures { result ≡ is_candidate wish.now number }
-{
-    wish.bypasses
-        .as_slice()
-        .iter()
-        .any(|candidate| *candidate == number)
-}
-
-/// What stays of what an LSP had: so much as it asks for now, where it may have that bypass still and so much is left.
-pub fn staying(left: &Table<u16, u64>, wish: &Wish, had: Assignment) -> Option<Assignment>
-    ensures { (capacity : ℕ → ℕ) (pairs : List (Key × Assignment)) → AreLeft capacity left.now pairs → result ≡ stays key_cmp capacity pairs wish.now had }
-{
-    if is_candidate(wish, had.bypass) && is_left(left, wish.rate, had.bypass) {
-        return Some(Assignment {
-            bypass: had.bypass,
-            rate: wish.rate,
-        });
-    }
-    None
-}
 
 /// What is left for an LSP: so much as it asks for, of the first of its bypasses that has so much left.
 pub fn found(left: &Table<u16, u64>, wish: &Wish) -> Option<Assignment>

@@ -1,10 +1,12 @@
 -- By these edits exactly those tunnels go over to their new LSPs for which these are reserved.
-use Rattle.std.specs.Prelude.{◌≡◌, ◌||◌, ℕ, not, Bool, true, false, cond, if◌then◌else◌, T, List, [], ◌∷◌, ◌++◌, filter, map, Option, Some, None}
+use Rattle.std.specs.Prelude.{◌≡◌, ◌||◌, ℕ, not, Bool, true, false, cond, if◌then◌else◌, T, List, [], ◌∷◌, ◌++◌, filter, map, is_some, Option, Some, None}
 use Rattle.std.specs.Bool.{then_some}
 use Rattle.std.specs.FinMap.Entries.{find, find-put, is_sorted, same_entries, where_key}
-use Rattle.std.specs.Option.{option_and_then, option_map, option_or}
+use Rattle.std.specs.List.{list_any}
+use Rattle.std.specs.Option.{IfSome, option_and_then, option_map, option_map_or, option_or}
 use Rattle.std.specs.Ordering.{eq_by_cmp, is_eq, nat_cmp}
 use Rattle.std.proofs.Common.{refl, sym, ap, subst, ◌∙◌}
+use Rattle.std.proofs.lemmas.Bool.{or_parts}
 use Rattle.std.proofs.lemmas.Cmp.{nat_cmp_total}
 use Rattle.std.proofs.lemmas.Map.Lookups.{exact_unsigned}
 use Rattle.sorted_rows.specs.RowsLaws.{find-filter, is_sorted-both, is_sorted-filter}
@@ -12,14 +14,14 @@ use Rattle.sorted_rows.specs.EditLaws.{edited-put, find-edited, is_sorted-edited
 use Rattle.sorted_rows.specs.Edits as rows
 use Rattle.lsr_facts.specs.OrderLaws.{key_exact, key_total}
 use Rattle.lsr_facts.specs.Orders.{is_one_of, key_cmp}
-use Rattle.lsr_facts.specs.Tunnels.{current_key}
+use Rattle.lsr_facts.specs.Tunnels.{current_key, head_key}
 use Rattle.lsr_facts.specs.declared.key.Key.{Key}
 use Rattle.lsr_facts.specs.declared.router.Router.{Router}
 use Rattle.lsr_facts.specs.declared.tunnel.Tunnel.{Tunnel}
 use Rattle.lsr_facts.specs.Changes.{switched}
 use Rattle.abstract_paths.specs.RowLaws.{keys-map}
 use Rattle.abstract_paths.specs.StampLaws.{find-map_row}
-use Rattle.abstract_router.specs.States.{State}
+use Rattle.abstract_router.specs.States.{State, is_reserved}
 use Rattle.abstract_router.specs.Steps.{is_ready, switched_where, taken_over}
 use Rattle.state_views.specs.Edits.{edited}
 use Rattle.state_views.specs.declared.edits.Edits.{Edits}
@@ -171,3 +173,44 @@ all_ready r s e ready h g are =
     by q None (Some tunnel) is = or_none (ready_at r (edited e s) q)
     by q (Some now) None is = or_none (ready_at r (edited e s) q)
     by q (Some now) (Some tunnel) is = or_same (ready_at r (edited e s) q)
+
+-- where no tunnel has a new LSP, the one that is found has none
+unpending : (q : ℕ) (rows : List (ℕ × Tunnel)) → list_any (λ row. is_some row.1.pending) rows ≡ false → IfSome (find nat_cmp q rows) (λ tunnel. is_some tunnel.pending ≡ false)
+unpending q [] none = tt
+unpending q (row ∷ rows) none =
+    let parts = or_parts (is_some row.1.pending) (list_any (λ (row : ℕ × Tunnel). is_some row.1.pending) rows) none in
+    elim (eq_by_cmp nat_cmp q row.0) as (λ b. IfSome (cond b (Some row.1) (find nat_cmp q rows)) (λ tunnel. is_some tunnel.pending ≡ false)) [
+      | true ↦ parts.0
+      | false ↦ unpending q rows parts.1
+    ]
+
+-- and isn't ready
+unready : (r : Router) (s : State) (q : ℕ) (tunnel : Tunnel) → is_some tunnel.pending ≡ false → then_some (is_ready r s (q, tunnel)) tunnel ≡ None
+unready r s q tunnel =
+    elim tunnel.pending as (λ o. is_some o ≡ false → then_some (option_map_or (is_reserved s) (option_map (λ lsp. head_key r q tunnel.endpoint lsp.id) o) false) tunnel ≡ None) [
+      | None ↦ λ none. refl
+      | Some lsp ↦ λ none. absurd (let e = none in cc)
+    ]
+
+-- Where no tunnel had a new LSP before edits, those that are ready are among the tunnels that are edited.
+pub edited_ready : (r : Router) (s : State) (e : Edits) (ready : List (ℕ × Tunnel)) → T (is_sorted nat_cmp s.facts.tunnels) → T (is_sorted nat_cmp ready)
+    → list_any (λ row. is_some row.1.pending) s.facts.tunnels ≡ false
+    → ((q : ℕ) → find nat_cmp q ready ≡ option_or (option_and_then (λ row. ready_at r (edited e s) q) (find nat_cmp q e.tunnels)) None)
+    → ready ≡ filter (is_ready r (edited e s)) (edited e s).facts.tunnels
+edited_ready r s e ready h g none are =
+    same_entries nat_cmp nat_cmp_total exact_unsigned ready (filter (is_ready r (edited e s)) known_after) g (is_sorted-filter nat_cmp (is_ready r (edited e s)) known_after sorted)
+    (λ q. are q ∙ by q (find nat_cmp q e.tunnels) (find nat_cmp q s.facts.tunnels) (find-edited nat_cmp nat_cmp_total q e.tunnels s.facts.tunnels) (unpending q s.facts.tunnels none) ∙ sym (find-ready r s e q sorted))
+  where
+    known_after : List (ℕ × Tunnel)
+    known_after = (edited e s).facts.tunnels
+
+    sorted : T (is_sorted nat_cmp known_after)
+    sorted = is_sorted-edited nat_cmp nat_cmp_total e.tunnels s.facts.tunnels h
+
+    by : (q : ℕ) (edit : Option (Option Tunnel)) (was : Option Tunnel) → find nat_cmp q known_after ≡ rows.over edit was
+        → IfSome was (λ tunnel. is_some tunnel.pending ≡ false)
+        → option_or (option_and_then (λ row. ready_at r (edited e s) q) edit) None ≡ ready_at r (edited e s) q
+    by q None None is p = sym (ap (λ known. option_and_then (λ tunnel. then_some (is_ready r (edited e s) (q, tunnel)) tunnel) known) is)
+    by q None (Some tunnel) is p =
+        sym (ap (λ known. option_and_then (λ tunnel. then_some (is_ready r (edited e s) (q, tunnel)) tunnel) known) is ∙ unready r (edited e s) q tunnel p)
+    by q (Some now) was is p = or_none (ready_at r (edited e s) q)

@@ -1,9 +1,10 @@
 //! Tunnels that go over to their new LSPs.
 
 ghost use Rattle.std.specs.FinMap.Entries.{find, is_sorted};
+ghost use Rattle.std.specs.List.{list_any};
 ghost use Rattle.std.specs.Option.{option_and_then, option_copied, option_or};
 ghost use Rattle.std.specs.Ordering.{nat_cmp};
-ghost use Rattle.std.specs.Prelude.{◌≡◌, ℕ, IfOk, OnOk, T, filter};
+ghost use Rattle.std.specs.Prelude.{◌≡◌, ℕ, IfOk, OnOk, T, false, filter, is_some};
 ghost use Rattle.lsr_facts.specs.Orders.{key_cmp};
 ghost use Rattle.abstract_router.specs.Steps.{is_ready, taken_over};
 ghost use Rattle.state_views.specs.Edits.{edited};
@@ -57,9 +58,16 @@ fn with_ready<A: StateView, E>(
     Ok(all)
 }
 
-/// The tunnels whose new LSPs are reserved after edits, in the order of their numbers. Takes no memory where there is none;
-/// the only error is out of memory.
-fn ready_tunnels<V: WholeState>(
+/// Whether one of the tunnels has a new LSP.
+fn has_pending(rows: &[(u16, Tunnel)]) -> bool
+    ensures { result ≡ list_any (λ row. is_some row.1.pending) rows.now }
+{
+    rows.iter().any(|row| row.1.pending.is_some())
+}
+
+/// The tunnels whose new LSPs are reserved after edits, in the order of their numbers: each is looked at. The only error is out of
+/// memory.
+fn ready_among_all<V: WholeState>(
     alloc: Global,
     view: &V,
     edits: &Edits,
@@ -73,6 +81,43 @@ fn ready_tunnels<V: WholeState>(
     let known = with_ready(alloc, Table::new(alloc), &after, view.tunnels())?;
     let ready = with_ready(alloc, known, &after, edits.tunnels.as_slice())?;
     Ok(ready.into_rows())
+}
+
+/// The tunnels whose new LSPs are reserved after edits, in the order of their numbers. It asks that none had a new LSP before, and looks
+/// at those alone that are edited. The only error is out of memory.
+fn ready_among_edited<V: WholeState>(
+    alloc: Global,
+    view: &V,
+    edits: &Edits,
+) -> Result<Vec<(u16, Tunnel)>, AllocError>
+    requires order { T (is_sorted nat_cmp (V.state view.now).facts.tunnels) }
+    requires none { list_any (λ row. is_some row.1.pending) (V.state view.now).facts.tunnels ≡ false }
+    ensures { IfOk result (λ ready. ready.items
+        ≡ filter (is_ready (V.router view.now) (edited edits.now (V.state view.now)))
+        (edited edits.now (V.state view.now)).facts.tunnels) }
+{
+    let after = Changed { under: view, edits };
+    let ready = with_ready(alloc, Table::new(alloc), &after, edits.tunnels.as_slice())?;
+    Ok(ready.into_rows())
+}
+
+/// The tunnels whose new LSPs are reserved after edits, in the order of their numbers. Takes no memory where there is none;
+/// the only error is out of memory.
+fn ready_tunnels<V: WholeState>(
+    alloc: Global,
+    view: &V,
+    edits: &Edits,
+) -> Result<Vec<(u16, Tunnel)>, AllocError>
+    requires { T (is_sorted nat_cmp (V.state view.now).facts.tunnels) }
+    ensures { IfOk result (λ ready. ready.items
+        ≡ filter (is_ready (V.router view.now) (edited edits.now (V.state view.now)))
+        (edited edits.now (V.state view.now)).facts.tunnels) }
+{
+    if has_pending(view.tunnels()) {
+        ready_among_all(alloc, view, edits)
+    } else {
+        ready_among_edited(alloc, view, edits)
+    }
 }
 
 /// Edits, and then a tunnel goes over to its new LSP, and the path of the one that carried its traffic goes. The only error

@@ -13,7 +13,8 @@ ghost use Rattle.abstract_router.specs.Soundness.{IsSound};
 ghost use Rattle.state_views.specs.Edits.{edited};
 ghost use Rattle.state_settling.specs.Promises.{promise_becomes, promise_edit};
 
-use bandwidth_protection::{assign, assignments_rest, find_near};
+use bandwidth_protection::{assign, assignments_rest};
+use bypass_shares::find_near;
 use lsr_facts::{Assignment, Key};
 use sorted_rows::Table;
 use state_views::{Edits, StateView, WholeState};

@@ -7,7 +7,7 @@ use Rattle.lsr_facts.specs.declared.tunnel.Tunnel.{Tunnel}
 use Rattle.state_views.specs.Edits.{edited}
 use Rattle.make_before_break.specs.Switching.{ready_at}
 use Rattle.make_before_break.specs.SwitchingLaws.{all_ready}
-use Rattle.make_before_break.proofs.takeover.ready_tunnels.Goals as goal
+use Rattle.make_before_break.proofs.takeover.ready_among_all.Goals as goal
 
 pub returns : goal.returns
 returns g c =
