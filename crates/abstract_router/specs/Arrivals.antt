@@ -143,7 +143,7 @@ command_comes r s c =
     let o = of_paths s (command r s.facts c) in
     if o.is_silent then o else commanded_by r s c o
 
--- A restart: what messages set up is lost, reservations, repairs and labels too.
+-- A restart: what messages set up is lost, reservations, repairs, promises and labels too, and no label rests.
 abbrev pub lost : State → Outcome
 lost s =
     let o = restarted s.facts in

@@ -71,5 +71,5 @@ abbrev pub assignments_left : State → State
 assignments_left s = record s { assignments = where_key key_cmp (is_held s) s.assignments }
 
 -- a repaired LSP is promised the rate of this reservation or more, if it is promised any
-abbrev pub has_share : State → Key → ResvFact → Bool
-has_share s key resv = option_map_or (λ given. nat_le (rate_in resv) given.rate) (find key_cmp key s.assignments) true
+abbrev pub fits_share : State → Key → ResvFact → Bool
+fits_share s key resv = option_map_or (λ given. nat_le (rate_in resv) given.rate) (find key_cmp key s.assignments) true

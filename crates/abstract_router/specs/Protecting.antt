@@ -51,7 +51,7 @@ first_label (Label flags label ∷ entries) = if (flags % 2 == 1) && is_label la
 first_label _ = None
 
 -- The label under which a router takes the LSP, by the record of its Resv: it stands directly after the router's address
--- (RFC 4090, 6.4.2).
+-- (RFC 4090, 6.4.1).
 unfoldable pub label_after : Ipv4Addr → List Trace → Option ℕ
 label_after a [] = None
 label_after a (entry ∷ entries) = option_or (if names_router a entry then first_label entries else None) (label_after a entries)
@@ -65,7 +65,7 @@ abbrev pub ends_at_peer : Router → ResvFact → BypassTunnel → Bool
 ends_at_peer r resv bypass_tunnel = option_map_or (λ link. is_same link.peer_router bypass_tunnel.ends_at) (link_at r resv.link) false
 
 -- An LSP with this reservation may be repaired over a bypass: that ends at the next router, which takes the label that it
--- gave, or at a later one, which takes the label that the record says (RFC 4090, 6.4.2).
+-- gave, or at a later one, which takes the label that the record says (RFC 4090, 6.4.1).
 abbrev pub selected_by : Router → ResvFact → ℕ × BypassTunnel → Option Selected
 selected_by r resv bypass_tunnel =
     if not (leads_around resv bypass_tunnel.1) then None
@@ -81,7 +81,7 @@ abbrev pub is_preferred : PathFact → Selected → Bool
 is_preferred path choice = if wants_node_protection path then choice.is_nnhop else not choice.is_nnhop
 
 -- The bypasses that may protect an LSP, the best first: those that end where the head would have it, then the others. None
--- where it isn't protected (RFC 4090, 6.2).
+-- where it isn't protected (RFC 4090, 6.4.2).
 unfoldable pub candidates_of : Around → Key → PathFact → ResvFact → List Selected
 candidates_of a key path resv =
     if is_protected a key path

@@ -28,7 +28,7 @@ use Rattle.abstract_paths.specs.Merging.{under}
 use Rattle.abstract_paths.specs.Outcomes.{lsp}
 use Rattle.abstract_paths.specs.Paths.{unknown_object}
 use Rattle.abstract_paths.specs.Tears.{err_of_path}
-use Rattle.abstract_router.specs.Assigning.{has_share}
+use Rattle.abstract_router.specs.Assigning.{fits_share}
 use Rattle.abstract_router.specs.BypassTunnels.{bypass_tunnels_of}
 use Rattle.abstract_router.specs.Lsps.{around_of}
 use Rattle.abstract_router.specs.Outcomes.{Outcome, of_paths, refused, replied, reservation_error}
@@ -76,7 +76,7 @@ carried_back r v d repair fact progress Granted =
 abbrev pub renewed : Router → ResvStyle → Resv → FlowDescriptor → Progress → Key × Repair → Progress
 renewed r style v d progress repair =
     let fact = resv_by progress.state.facts.moment repair.1.resv.link style v d in
-    carried_back r v d repair fact progress (verdict_by_style r progress.state repair.0 fact (has_share progress.state repair.0 fact))
+    carried_back r v d repair fact progress (verdict_by_style r progress.state repair.0 fact (fits_share progress.state repair.0 fact))
 
 -- and so the next descriptor is taken: one that is for no repair is passed over
 abbrev pub next_returned : Router → ResvStyle → Resv → Progress → FlowDescriptor → Progress

@@ -1,4 +1,4 @@
-//! The bypasses that may be promised to an LSP (RFC 4090, 4.3 and 6.2).
+//! The bypasses that may be promised to an LSP (RFC 4090, 4.3 and 6.4.2).
 
 ghost use Rattle.std.specs.FinMap.Entries.{is_sorted};
 ghost use Rattle.std.specs.List.{list_any};

@@ -1,4 +1,4 @@
-//! The label under which a router takes an LSP, by what its Resv recorded (RFC 4090, 6.4.2).
+//! The label under which a router takes an LSP, by what its Resv recorded (RFC 4090, 6.4.1).
 
 ghost use Rattle.std.specs.Prelude.{◌≡◌};
 ghost use Rattle.abstract_router.specs.Protecting.{first_label, label_after, names_router};

@@ -125,7 +125,7 @@ fn recorded_label(address: Ipv4Addr, recorded: &Option<Record>) -> Option<u32>
 }
 
 /// How an LSP with this reservation would be repaired over the bypass of this number, if it may be: that ends at the next
-/// router, or at a later one whose label the record says (RFC 4090, 6.4.2). Takes no memory.
+/// router, or at a later one whose label the record says (RFC 4090, 6.4.1). Takes no memory.
 pub fn selected_by(
     router: &Router,
     resv: &ResvFact,

@@ -49,7 +49,7 @@ fn choice_of<V: StateView>(view: &V, held: &Held) -> Option<Selected>
 }
 
 /// How an LSP that is held goes on, if it is to be repaired: over the bypass that was selected, under the label by which the
-/// router at the bypass's end takes it (RFC 4090, 6.4.2). Takes no memory where it isn't; the only error is out of memory.
+/// router at the bypass's end takes it (RFC 4090, 6.4.1). Takes no memory where it isn't; the only error is out of memory.
 pub fn repair<V: StateView>(
     alloc: Global,
     view: &V,

@@ -1,4 +1,4 @@
-//! The bypass over which an LSP would be repaired, and what its records say of that (RFC 4090, 4.4 and 6.2).
+//! The bypass over which an LSP would be repaired, and what its records say of that (RFC 4090, 4.4 and 6.4.2).
 
 ghost use Rattle.std.specs.Prelude.{◌≡◌, ◌≤◌};
 ghost use Rattle.abstract_router.specs.Lsps.{around_of, lsp_of};
@@ -31,7 +31,7 @@ fn candidate_by<V: StateView>(view: &V, resv: &ResvFact, bypass: &(u16, Bypass))
 }
 
 /// Whether a bypass may serve an LSP that is promised this: one that is promised bandwidth is served by that bypass alone, any
-/// other by a bypass that has none to promise (RFC 4090, 4.3).
+/// other by a bypass that has none to promise.
 fn serves(given: Option<Assignment>, bypass: &(u16, Bypass)) -> bool
     ensures { result ≡ serves given bypass.now }
 {
@@ -82,7 +82,7 @@ fn best_of<V: StateView>(
 
 /// The bypass over which a protected LSP with this promise, or with none, would be repaired: of those that may
 /// serve it and are up around its link, in the order of their numbers, the first that ends where the head would have it, else
-/// the first (RFC 4090, 4.3 and 6.2). Takes no memory.
+/// the first (RFC 4090, 4.3 and 6.4.2). Takes no memory.
 pub fn select<V: StateView>(
     view: &V,
     key: &Key,

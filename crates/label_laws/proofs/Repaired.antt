@@ -49,7 +49,7 @@ use Rattle.abstract_paths.specs.declared.ways.ArrivalWay.{ArrivalWay}
 use Rattle.abstract_paths.specs.declared.ways.ArrivalWay.TheVariants as ways
 use Rattle.abstract_paths.specs.declared.ways.Arrive.{Arrive}
 use Rattle.abstract_router.specs.Arrivals.{arrival, arrival_by, command_comes, commanded_by, for_reservations, moment_comes, outcome, routed_arrival, takes_used_bypass}
-use Rattle.abstract_router.specs.Assigning.{has_share}
+use Rattle.abstract_router.specs.Assigning.{fits_share}
 use Rattle.abstract_router.specs.BypassTunnels.{bypass_tunnel_by, bypass_tunnels_of}
 use Rattle.abstract_router.specs.Lsps.{around_of}
 use Rattle.abstract_router.specs.Outcomes.{Outcome, of_paths, refused}
@@ -128,7 +128,7 @@ module _ (r : Router) (s : State) (Row : Key × Repair → Type 0) (rows : AllBy
         by None for = is
         by (Some repair) for =
             let fact = resv_by progress.state.facts.moment repair.1.resv.link style v d in
-            verdict-carries d new.0 repair progress is for (verdict_by_style r progress.state repair.0 fact (has_share progress.state repair.0 fact))
+            verdict-carries d new.0 repair progress is for (verdict_by_style r progress.state repair.0 fact (fits_share progress.state repair.0 fact))
 
   abbrev AreRenewed : Resv → Type 0
   AreRenewed v = (style : ResvStyle) → style_of v.style ≡ Some style → AllByRecursion (Renews style v) v.descriptors

@@ -45,7 +45,7 @@ pub record IsAskedFor (s : State) (event : Event) (key : Key) (resv : ResvFact) 
   pub named : key ≡ key_in message descriptor
   pub asked : resv ≡ resv_by s.facts.moment brings.arrived.link style message descriptor
 
--- A repair was made of the LSP's reservation (RFC 4090, 6.4.2): all of that but its label, which is now one that the bypass's
+-- A repair was made of the LSP's reservation (RFC 4090, 6.4.1): all of that but its label, which is now one that the bypass's
 -- end takes: the reservation's own where the bypass ends at the next router, or else the one that the reservation's record has
 -- directly after the address of the bypass's end.
 pub record IsMadeOf (r : Router) (before after : State) (key : Key) (repair : Repair) : Type 0 where

@@ -23,7 +23,7 @@ pub fn each_reservation_was_asked_for()
 {}
 
 /// Each repair after a step is one of before it; or it was made in the step of a reservation of before it, with a label that
-/// the bypass's end takes (RFC 4090, 6.4.2); or it was renewed by a Resv from the bypass's end that came in the step
+/// the bypass's end takes (RFC 4090, 6.4.1); or it was renewed by a Resv from the bypass's end that came in the step
 /// (RFC 4090, 6.4.3).
 pub fn each_repair_was_made_or_renewed()
     ensures { (r : Router) (before after : State) (made : Made) (key : Key) (repair : Repair) →

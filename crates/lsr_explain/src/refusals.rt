@@ -161,7 +161,7 @@ pub const REFUSALS: &str = "\
   What to do: give the milliseconds since the router was opened, and not a date.
   See: docs/ROUTER.md (A moment comes)
 31 BadCapacity
-  A bypass can't promise more bandwidth than its tunnel carries. Of `bypass`: the capacity is
+  A bypass can't promise more bandwidth than its tunnel asks for. Of `bypass`: the capacity is
   above the rate of the tunnel, or above that of the LSP that a change of it is to bring. Of
   `change`: the new rate is below the capacity of a bypass that runs in the tunnel. Nothing
   changed.

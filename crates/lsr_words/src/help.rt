@@ -78,7 +78,8 @@ line. Each line is one of these:
                     hexadecimal digits of an IEEE 754 word: 47f42400 is 125000. SETUP and HOLD
                     are its priorities, 0 (best) to 7; FLAGS are two hexadecimal digits: 01
                     asks for protection, 02 for recorded labels, 04 for shared reservations;
-                    NAME has 1 to 255 bytes. Each ROUTE is a step of its route from here on, as
+                    with 01, 08 asks for protected bandwidth, and 10 for a protected next
+                    router; NAME has 1 to 255 bytes. Each ROUTE is a step of its route from here on, as
                     10.0.0.3/32, or ~10.0.0.3/32 where it is loose
   change N RATE [ROUTE..]
                     tunnel N is to carry this rate over this route: its new LSP is set up beside

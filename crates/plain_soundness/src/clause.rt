@@ -15,7 +15,7 @@ pub enum Clause {
     RepairsStanding,
     /// Exactly the LSPs that don't begin here have labels, each its own.
     Labels,
-    /// No bypass promises more than its capacity.
+    /// Promises are within the capacities of bypasses, and held by LSPs that may have them.
     Assigned,
     /// The labels that rest are held by no LSP.
     Resting,

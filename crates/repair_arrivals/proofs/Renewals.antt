@@ -21,7 +21,7 @@ use Rattle.lsr_facts.specs.declared.resv_fact.ResvFact.{ResvFact}
 use Rattle.lsr_facts.specs.declared.resv_fact.ResvStyle.{ResvStyle}
 use Rattle.lsr_facts.specs.declared.resv_fact.ResvStyle.TheVariants.{FixedFilter}
 use Rattle.abstract_paths.specs.declared.events.Output.{Output}
-use Rattle.abstract_router.specs.Assigning.{has_share}
+use Rattle.abstract_router.specs.Assigning.{fits_share}
 use Rattle.abstract_router.specs.Lsps.{Around, around_of}
 use Rattle.abstract_router.specs.Outcomes.{reservation_error}
 use Rattle.abstract_router.specs.Reserving as reserving
@@ -58,7 +58,7 @@ module _ (r : Router) (style : ResvStyle) (v : Resv) (d : FlowDescriptor) (p : r
   renewed-bare None = refl
   renewed-bare (Some repair) =
       let fact = resv_by p.state.facts.moment repair.1.resv.link style v d in
-      carried-bare r v d repair fact p (verdict_by_style r p.state repair.0 fact (has_share p.state repair.0 fact))
+      carried-bare r v d repair fact p (verdict_by_style r p.state repair.0 fact (fits_share p.state repair.0 fact))
 
 -- The next flow descriptor is for the repair that it was for before all.
 pub next_is : (r : Router) (style : ResvStyle) (v : Resv) (d : FlowDescriptor) (s : State) (p : RepairProgress) (found : Option (Key × Repair)) → IsReached s p → found ≡ repair_from r s v.hop.address (key_in v d)
@@ -71,14 +71,14 @@ next_is r style v d s p found left is =
 
 -- One for a repair comes to what its verdict leads to.
 pub renewed_by : (r : Router) (s : State) (p : RepairProgress) (asked : Asked) (repair : Repair) (verdict : Verdict) → asked.link ≡ repair.resv.link
-    → verdict_by_style r s asked.key (fact_at s.facts.moment asked) (has_share s asked.key (fact_at s.facts.moment asked)) ≡ verdict
+    → verdict_by_style r s asked.key (fact_at s.facts.moment asked) (fits_share s asked.key (fact_at s.facts.moment asked)) ≡ verdict
     → renewed r asked.style asked.resv.now asked.descriptor.now (reached s p) (asked.key, repair) ≡ carried_back r asked.resv.now asked.descriptor.now (asked.key, repair) (fact_at s.facts.moment asked) (reached s p) verdict
 renewed_by r s p asked repair verdict same is =
     let v = asked.resv.now in
     let d = asked.descriptor.now in
     let by_link = λ (link : ℕ).
     let fact = resv_by s.facts.moment link asked.style v d in
-    carried_back r v d (asked.key, repair) fact (reached s p) (verdict_by_style r s asked.key fact (has_share s asked.key fact)) in
+    carried_back r v d (asked.key, repair) fact (reached s p) (verdict_by_style r s asked.key fact (fits_share s asked.key fact)) in
     ap by_link (sym same) ∙ ap (carried_back r v d (asked.key, repair) (fact_at s.facts.moment asked) (reached s p)) is
 
 -- One in error leads to what the code makes of it.
@@ -165,4 +165,4 @@ still_returned r style v p d was = by (repair_from r p.state v.hop.address (key_
     by None = was
     by (Some repair) =
         let fact = resv_by p.state.facts.moment repair.1.resv.link style v d in
-        still_carried r v d repair fact p (verdict_by_style r p.state repair.0 fact (has_share p.state repair.0 fact)) was
+        still_carried r v d repair fact p (verdict_by_style r p.state repair.0 fact (fits_share p.state repair.0 fact)) was

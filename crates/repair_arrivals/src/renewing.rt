@@ -4,7 +4,7 @@ ghost use Rattle.std.specs.FinMap.Entries.{find, is_sorted};
 ghost use Rattle.std.specs.Option.{option_map_or};
 ghost use Rattle.std.specs.Prelude.{◌≡◌, ◌∷◌, ◌^◌, ◌≤◌, [], IfOk, OnErr, Some, T, nat_le, true};
 ghost use Rattle.lsr_facts.specs.Orders.{key_cmp};
-ghost use Rattle.abstract_router.specs.Assigning.{has_share};
+ghost use Rattle.abstract_router.specs.Assigning.{fits_share};
 ghost use Rattle.abstract_router.specs.Reserving.{named, verdict_by_style};
 ghost use Rattle.abstract_router.specs.Reserving as reserving;
 ghost use Rattle.abstract_router.specs.Returning.{carried_back, next_returned, renewed};
@@ -34,11 +34,11 @@ fn is_promised<V: StateView>(view: &V, key: &Key, rate: u64) -> bool
 }
 
 /// What becomes of a flow descriptor for a repair. It is tested as any other; but it takes no bandwidth of the link, and it has
-/// to fit what its LSP is promised of the bypass (RFC 4090, 4.3).
+/// to fit what its LSP is promised of the bypass, if it is promised any.
 fn judge_renewal<V: WholeState>(view: &V, asked: &Asked) -> Judgement
     ensures { let s = V.state view.now in
         let fact = fact_at s.facts.moment asked.now in
-        IsJudgement fact result (verdict_by_style (V.router view.now) s asked.now.key fact (has_share s asked.now.key fact)) }
+        IsJudgement fact result (verdict_by_style (V.router view.now) s asked.now.key fact (fits_share s asked.now.key fact)) }
 {
     match judge_beside(view, asked) {
         Judgement::Failed(error) => Judgement::Failed(error),

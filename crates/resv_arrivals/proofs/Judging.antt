@@ -29,7 +29,7 @@ use Rattle.lsr_facts.specs.Errors.{no_bandwidth, no_path, no_sender, style_confl
 use Rattle.abstract_router.specs.Preempting.{claims_of, fits_link, giving_way, limit_of, request_of}
 use Rattle.abstract_paths.specs.Paths.{has_loop}
 use Rattle.abstract_paths.specs.Tears.{leaves_by}
-use Rattle.abstract_router.specs.Assigning.{has_share}
+use Rattle.abstract_router.specs.Assigning.{fits_share}
 use Rattle.abstract_router.specs.Reserving.{Verdict, Failed, PassedOver, Granted, conflicts, verdict_by_rate, verdict_by_style, verdict_of, verdict_on_path}
 use Rattle.abstract_router.specs.States.{State, is_repaired}
 use Rattle.forwarding_table.specs.Labels.{is_label}
@@ -100,11 +100,11 @@ style_by_room r s key fact has_room = by (find_first (conflicts fact.link fact.s
 -- So what is granted where there is room has to fit what its LSP is promised.
 pub granted_within : (r : Router) (s : State) (key : Key) (fact : ResvFact) (rate : ℕ) (fits : Bool) → verdict_by_style r s key fact true ≡ Granted → flowspec_rate fact.flowspec ≡ Ok rate
     → fits ≡ option_map_or (λ given. nat_le rate given.rate) (find key_cmp key s.assignments) true
-    → verdict_by_style r s key fact (has_share s key fact) ≡ in_room fits Granted
+    → verdict_by_style r s key fact (fits_share s key fact) ≡ in_room fits Granted
 granted_within r s key fact rate fits granted rated is =
-    let share : has_share s key fact ≡ fits =
+    let share : fits_share s key fact ≡ fits =
     ap (λ (rate : Result ℕ TrafficFault). option_map_or (λ (given : Assignment). nat_le (result_unwrap_or rate 0) given.rate) (find key_cmp key s.assignments) true) rated ∙ sym is in
-    style_by_room r s key fact (has_share s key fact) ∙ (λ i. in_room (share i) (granted i))
+    style_by_room r s key fact (fits_share s key fact) ∙ (λ i. in_room (share i) (granted i))
 
 -- So the verdict on a path that leaves by the link, of an LSP that isn't repaired, is told by the style of the first that
 -- stands against it.

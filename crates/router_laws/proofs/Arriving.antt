@@ -51,7 +51,7 @@ use Rattle.abstract_paths.specs.Paths.{failed, has_loop, key_of, path_arrival, p
 use Rattle.abstract_paths.specs.Places.{is_up, place_of}
 use Rattle.abstract_paths.specs.Tears as tears
 use Rattle.abstract_paths.specs.Tears.{err_of_path, leaves_by, left_with, origins_without, path_err_arrival, path_err_passed_on, path_tear_arrival, torn}
-use Rattle.abstract_router.specs.Assigning.{has_share}
+use Rattle.abstract_router.specs.Assigning.{fits_share}
 use Rattle.abstract_router.specs.Arrivals.{arrival, arrival_by, is_done, labelled_path_arrival, message_arrival, reading_arrival, routed_arrival, stack_arrival}
 use Rattle.abstract_router.specs.Labels.{has_free_label}
 use Rattle.abstract_router.specs.Outcomes.{Outcome, of_paths, refused}
@@ -136,7 +136,7 @@ module _ (r : Router) (P : State → Type 0) (renews : (s : State) (key : Key) (
       by None = h
       by (Some repair) =
           let fact = resv_by progress.state.facts.moment repair.1.resv.link style v d in
-          renewed_leaves d repair fact progress (verdict_by_style r progress.state repair.0 fact (has_share progress.state repair.0 fact)) h
+          renewed_leaves d repair fact progress (verdict_by_style r progress.state repair.0 fact (fits_share progress.state repair.0 fact)) h
 
   pub all_returned_leave : (ds : List FlowDescriptor) (progress : Progress) → P progress.state → P (fold (next_returned r style v) progress ds).state
   all_returned_leave [] progress h = h

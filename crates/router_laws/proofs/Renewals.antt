@@ -43,7 +43,7 @@ use Rattle.abstract_paths.specs.declared.ways.Arrive.{Arrive}
 use Rattle.abstract_paths.specs.Outcomes.{lsp}
 use Rattle.abstract_paths.specs.Paths.{failed, key_of, path_arrival, unknown_object}
 use Rattle.abstract_paths.specs.Places.{is_up}
-use Rattle.abstract_router.specs.Assigning.{assignments_left, has_share}
+use Rattle.abstract_router.specs.Assigning.{assignments_left, fits_share}
 use Rattle.abstract_router.specs.Arrivals.{arrival, arrival_by, is_done, labelled_path_arrival, message_arrival, reading_arrival, routed_arrival, stack_arrival}
 use Rattle.abstract_router.specs.BypassTunnels.{bypass_tunnels_of}
 use Rattle.abstract_router.specs.Labels.{has_free_label}
@@ -210,7 +210,7 @@ module _ (r : Router) (s : State) (key : Key) where
       by None of = stays
       by (Some repair) of =
           let fact = resv_by progress.state.facts.moment repair.1.resv.link style v d in
-          renewed-stays v d elsewhere repair fact progress stays of (verdict_by_style r progress.state repair.0 fact (has_share progress.state repair.0 fact))
+          renewed-stays v d elsewhere repair fact progress stays of (verdict_by_style r progress.state repair.0 fact (fits_share progress.state repair.0 fact))
 
   -- an outcome that leaves the repair of the LSP
   abbrev Leaves : Outcome → Type 0

@@ -30,7 +30,7 @@ use Rattle.abstract_paths.specs.declared.ways.ArrivalWay.TheVariants as ways
 use Rattle.abstract_paths.specs.declared.ways.Arrive.{Arrive}
 use Rattle.abstract_paths.specs.Places.{is_up}
 use Rattle.abstract_router.specs.Arrivals.{arrival, arrival_by}
-use Rattle.abstract_router.specs.Assigning.{assigned_anew, has_share}
+use Rattle.abstract_router.specs.Assigning.{assigned_anew, fits_share}
 use Rattle.abstract_router.specs.BypassTunnels.{bypass_tunnels_of}
 use Rattle.abstract_router.specs.Outcomes.{Outcome, refused, replied}
 use Rattle.abstract_router.specs.Repairing.{repair_stands, repaired, repairs_left}
@@ -74,7 +74,7 @@ module _ (r : Router) (s : State) (v : Resv) (d : FlowDescriptor) (style : ResvS
   by_repair None of done = absurd (let f = done in cc)
   by_repair (Some repair) of done =
       let fact = resv_by s.facts.moment repair.1.resv.link style v d in
-      by_verdict repair of (verdict_by_style r s repair.0 fact (has_share s repair.0 fact)) done
+      by_verdict repair of (verdict_by_style r s repair.0 fact (fits_share s repair.0 fact)) done
 
   resv-renews : v.descriptors ≡ d ∷ [] → style_of v.style ≡ Some style → Renews (returned_resv r s v)
   unfolding returned_resv

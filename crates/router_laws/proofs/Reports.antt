@@ -66,7 +66,7 @@ use Rattle.abstract_paths.specs.Tears.{is_torn_by, leaves_by, left_with, origins
 use Rattle.abstract_paths.specs.Time.{tick}
 use Rattle.abstract_paths.proofs.Merging.{stack_path_by}
 use Rattle.abstract_router.specs.Arrivals.{arrival, arrival_by, command_comes, commanded_by, for_reservations, is_done, labelled_path_arrival, message_arrival, moment_comes, outcome, reading_arrival, routed_arrival, stack_arrival, takes_used_bypass}
-use Rattle.abstract_router.specs.Assigning.{has_share}
+use Rattle.abstract_router.specs.Assigning.{fits_share}
 use Rattle.abstract_router.specs.BypassTunnels.{over_at}
 use Rattle.abstract_router.specs.Labels.{has_free_label}
 use Rattle.abstract_router.specs.Lsps.{Around, around_of}
@@ -320,7 +320,7 @@ module _ (P : Output → Type 0) (of : HoldOfErrors P) where
     next-reports style v progress d None before = before
     next-reports style v progress d (Some repair) before =
         let fact = resv_by progress.state.facts.moment repair.1.resv.link style v d in
-        back-carried v d repair fact progress (verdict_by_style r progress.state repair.0 fact (has_share progress.state repair.0 fact)) before
+        back-carried v d repair fact progress (verdict_by_style r progress.state repair.0 fact (fits_share progress.state repair.0 fact)) before
 
     returned-report : (style : ResvStyle) (v : Resv) (ds : List FlowDescriptor) (progress : Progress) → AreSuch progress.errors → AreSuch (fold (next_returned r style v) progress ds).errors
     returned-report style v [] progress before = before

@@ -56,7 +56,7 @@ use Rattle.abstract_paths.specs.Places.{is_up}
 use Rattle.abstract_paths.specs.StampLaws.{none-is}
 use Rattle.abstract_paths.specs.Tears.{err_of_path, leaves_by, path_err_arrival, path_tear_arrival}
 use Rattle.abstract_paths.specs.TouchedLaws.{find-made}
-use Rattle.abstract_router.specs.Assigning.{assignments_left, has_share}
+use Rattle.abstract_router.specs.Assigning.{assignments_left, fits_share}
 use Rattle.abstract_router.specs.Arrivals.{arrival_by, arrival, is_done, labelled_path_arrival, message_arrival, reading_arrival, routed_arrival, stack_arrival, unknown_routed_arrival, unknown_stack_arrival}
 use Rattle.abstract_router.specs.BypassTunnels.{bypass_tunnels_of, over_at}
 use Rattle.lsr_facts.specs.Errors.{unknown_style}
@@ -374,7 +374,7 @@ module _ (r : Router) (touched : Key → Bool) (s : State) (is : IsSound r s) wh
       by None among = keeps
       by (Some repair) among =
           let fact = resv_by progress.state.facts.moment repair.1.resv.link style v d in
-          renewal-keeps v d repair fact progress (verdict_by_style r progress.state repair.0 fact (has_share progress.state repair.0 fact)) among keeps
+          renewal-keeps v d repair fact progress (verdict_by_style r progress.state repair.0 fact (fits_share progress.state repair.0 fact)) among keeps
 
   -- what comes in a Routed frame
   returned_resv-keeps : (v : Resv) → AreTouched touched (touched_by_returned_resv r s v) → Keeps touched s (returned_resv r s v).after

@@ -20,7 +20,7 @@ use Rattle.abstract_paths.specs.declared.ways.Arrive.{Arrive}
 use Rattle.abstract_paths.specs.Merging.{came_through, may_join}
 use Rattle.abstract_paths.specs.Outcomes.{lsp}
 use Rattle.abstract_paths.specs.Paths.{key_of}
-use Rattle.abstract_router.specs.Assigning.{has_share}
+use Rattle.abstract_router.specs.Assigning.{fits_share}
 use Rattle.abstract_router.specs.Preempting.{giving_way}
 use Rattle.abstract_router.specs.Reserving.{Failed, Granted, PassedOver, Progress, Verdict, key_in, next_descriptor, resv_by, verdict_by_style, verdict_of}
 use Rattle.abstract_router.specs.Returning.{next_returned, repair_from, returned_keys, the_one}
@@ -91,7 +91,7 @@ touched_by_renewal key Granted = key ∷ []
 abbrev pub touched_by_renewed : Router → ResvStyle → Resv → FlowDescriptor → State → Key × Repair → List Key
 touched_by_renewed r style v d s repair =
     let fact = resv_by s.facts.moment repair.1.resv.link style v d in
-    touched_by_renewal repair.0 (verdict_by_style r s repair.0 fact (has_share s repair.0 fact))
+    touched_by_renewal repair.0 (verdict_by_style r s repair.0 fact (fits_share s repair.0 fact))
 
 -- those that the descriptors of a Resv from the end of a bypass touch, one after the other
 abbrev pub touched_by_returned : Router → ResvStyle → Resv → Progress → List FlowDescriptor → List Key

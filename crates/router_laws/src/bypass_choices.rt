@@ -11,7 +11,7 @@ ghost use Rattle.abstract_router.specs.Soundness.{IsSound};
 ghost use Rattle.abstract_router.specs.States.{State};
 ghost use Rattle.router_laws.specs.Serving.{IsProtected, MayServe, chosen_for};
 
-/// The bypass that is chosen for an LSP is the best of those that may serve it (RFC 4090, 6.2). One is chosen exactly
+/// The bypass that is chosen for an LSP is the best of those that may serve it (RFC 4090, 6.4.2). One is chosen exactly
 /// where the LSP is protected and some may serve it, and then it is one of them. Where the head wants the next router
 /// protected (RFC 4090, 4.3), it ends at a later router if any of them does, and else at the next one if any does; and of
 /// those that are alike in this, none has a lesser number.

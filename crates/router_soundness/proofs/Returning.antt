@@ -32,7 +32,7 @@ use Rattle.router_soundness.proofs.Reserving.{Fits, IsCarried, IsShort, asked_is
 use Rattle.router_soundness.proofs.Serving.{AreServed, enough_renewed, served_sound, served_where, served_with_repair}
 use Rattle.router_soundness.proofs.Settling.{Leaves}
 use Rattle.router_soundness.specs.Drafted.{HasEnough}
-use Rattle.abstract_router.specs.Assigning.{has_share}
+use Rattle.abstract_router.specs.Assigning.{fits_share}
 use Rattle.abstract_router.specs.Reserving.{Progress, Verdict, Failed, PassedOver, Granted, resv_by, verdict_by_style}
 use Rattle.abstract_router.specs.Returning.{all_returned, carried_back, ends_at, is_known_as, next_returned, renewed, repair_from, returned_err, returned_resv, returned_tear, returned_unknown, the_one}
 use Rattle.abstract_router.specs.Soundness.{AreRepaired, IsSound}
@@ -66,13 +66,13 @@ all_repairs s repaired served =
 module _ (r : Router) (s : State) (style : ResvStyle) (v : Resv) (fit : Fits v) where
   -- a descriptor that renews a repair, whose LSP isn't reserved
   renewed-is : (progress : Progress) (d : FlowDescriptor) (repair : Key × Repair) → IsShort d → IsRepairOf progress.state repair → IsCarried r s progress.state → (verdict : Verdict)
-      → verdict_by_style r progress.state repair.0 (resv_by progress.state.facts.moment repair.1.resv.link style v d) (has_share progress.state repair.0 (resv_by progress.state.facts.moment repair.1.resv.link style v d)) ≡ verdict
+      → verdict_by_style r progress.state repair.0 (resv_by progress.state.facts.moment repair.1.resv.link style v d) (fits_share progress.state repair.0 (resv_by progress.state.facts.moment repair.1.resv.link style v d)) ≡ verdict
       → IsCarried r s (carried_back r v d repair (resv_by progress.state.facts.moment repair.1.resv.link style v d) progress verdict).state
   renewed-is progress d repair short of is (Failed e) by = is
   renewed-is progress d repair short of is PassedOver by = is
   renewed-is progress d repair short of is Granted by =
       let fact = resv_by progress.state.facts.moment repair.1.resv.link style v d in
-      let share = has_share progress.state repair.0 fact in
+      let share = fits_share progress.state repair.0 fact in
       let may = accepted_means r progress.state repair.0 fact share by in
       let asked = asked_is progress.state repair.1.resv.link style v d repair.0 share fit short may in
       record {
@@ -95,7 +95,7 @@ module _ (r : Router) (s : State) (style : ResvStyle) (v : Resv) (fit : Fits v) 
       by None of = is
       by (Some repair) of =
           let fact = resv_by progress.state.facts.moment repair.1.resv.link style v d in
-          renewed-is progress d repair short of is (verdict_by_style r progress.state repair.0 fact (has_share progress.state repair.0 fact)) refl
+          renewed-is progress d repair short of is (verdict_by_style r progress.state repair.0 fact (fits_share progress.state repair.0 fact)) refl
 
   all_returned-are : (ds : List FlowDescriptor) (progress : Progress) → IsTrue (have_short_records ds) → IsCarried r s progress.state → IsCarried r s (fold (next_returned r style v) progress ds).state
   all_returned-are [] progress short is = is

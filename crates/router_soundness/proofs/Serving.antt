@@ -22,7 +22,7 @@ use Rattle.lsr_facts.specs.declared.router.Router.{Router}
 use Rattle.bypass_shares.specs.Shares.{IsWithin, assigned_of, taken_of}
 use Rattle.bypass_shares.specs.SumLaws.{assigned_of-among}
 use Rattle.abstract_paths.specs.Tears.{leaves_by}
-use Rattle.abstract_router.specs.Assigning.{capacity_in, has_share, in_use_of, is_in_use, rate_in}
+use Rattle.abstract_router.specs.Assigning.{capacity_in, fits_share, in_use_of, is_in_use, rate_in}
 use Rattle.abstract_router.specs.Soundness.{IsHolding, IsOfCapacity, IsServed, IsSound}
 use Rattle.abstract_router.specs.States.{State, is_repaired, with_facts, with_repair, with_repairs_where}
 use Rattle.router_soundness.proofs.AssigningRepairs.{found_where}
@@ -128,7 +128,7 @@ served_where s test is = (
 )
 
 -- what an LSP is promised is enough for a repair that was renewed, where it has its share
-pub enough_renewed : (s : State) (repair : Key × Repair) (fact : ResvFact) → HasEnough s repair → has_share s repair.0 fact ≡ true → HasEnough s (repair.0, record repair.1 { resv = fact })
+pub enough_renewed : (s : State) (repair : Key × Repair) (fact : ResvFact) → HasEnough s repair → fits_share s repair.0 fact ≡ true → HasEnough s (repair.0, record repair.1 { resv = fact })
 enough_renewed s repair fact = by (find key_cmp repair.0 s.assignments)
   where
     by : (o : Option Assignment) → IfSome o (λ given. (rate_in repair.1.resv ≤ given.rate) × (repair.1.bypass ≡ given.bypass) × (1 ≤ capacity_in s.facts.bypasses given.bypass))

@@ -78,7 +78,7 @@ pub record IsTrueResv (w : WorldState) (place : ℕ) (key : Key) (resv : ResvFac
   pub label : IsGivenOver w (record { router = place; link = resv.link }) (name_of key) resv.label
   pub recorded : IsTrueRecord w (name_of key) (unwrap_or resv.recorded [])
 
--- A repair: the router that its bypass ends at gave its label to the LSP (RFC 4090, 6.4.2).
+-- A repair: the router that its bypass ends at gave its label to the LSP (RFC 4090, 6.4.1).
 pub record IsTrueRepair (w : WorldState) (r : Router) (s : State) (key : Key) (repair : Repair) : Type 0 where
   pub bypass_tunnel : BypassTunnel
   pub known : find nat_cmp repair.bypass (bypass_tunnels_of r s) ≡ Some bypass_tunnel

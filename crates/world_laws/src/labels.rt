@@ -34,7 +34,7 @@ pub fn closed_worlds_stay_true()
 
 /// In a world that is true each label that a table of a router sends frames under, over a link, was given by the router at the
 /// other end for that same LSP (RFC 3209, 4.1). For an LSP that is repaired this holds of the outer label and the LSP that
-/// carries the bypass; and the inner label was given for the LSP by the router that the bypass ends at (RFC 4090, 6.4.2), also
+/// carries the bypass; and the inner label was given for the LSP by the router that the bypass ends at (RFC 4090, 6.4.1), also
 /// after a Resv has renewed the repair (RFC 4090, 6.4.3). It says "was given", and not that the label still names the LSP
 /// there.
 pub fn sent_labels_were_given()
