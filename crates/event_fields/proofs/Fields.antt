@@ -21,13 +21,13 @@ use Rattle.abstract_paths.specs.declared.events.Event.TheVariants as events
 use Rattle.abstract_paths.specs.declared.ways.ArrivalWay.{ArrivalWay}
 use Rattle.abstract_paths.specs.declared.ways.ArrivalWay.TheVariants as ways
 use Rattle.abstract_paths.specs.declared.ways.Arrive.{Arrive}
-use Rattle.journal_bytes.specs.Events.{counted_bytes, event_bytes, unknown_bytes, way_number}
+use Rattle.journal_bytes.specs.Events.{IsWrittenAgain, counted_bytes, event_bytes, unknown_bytes, way_number}
 use Rattle.event_fields.specs.Unread.{arrive_parts, kind_bytes, relay_parts, unread_bytes, unread_parts}
 use Rattle.event_fields.specs.declared.unread.UnreadArrive.{UnreadArrive}
 use Rattle.event_fields.specs.declared.unread.UnreadRelay.{UnreadRelay}
 use Rattle.event_fields.specs.declared.unread.UnreadEvent.{UnreadEvent}
 use Rattle.event_fields.specs.declared.unread.UnreadEvent.TheVariants as unread
-use Rattle.event_fields.specs.Spelled.{AreOfEvent, IsReadAs, IsReadBy, IsWrittenAgain, ReadsEvent, SpellsArrive, SpellsEvent, unknown_of}
+use Rattle.event_fields.specs.Spelled.{AreOfEvent, IsReadAs, IsReadBy, ReadsEvent, SpellsArrive, SpellsEvent, unknown_of}
 use Rattle.event_fields.specs.EventLaws.{KindFits, UnreadFits, WayFits}
 use Rattle.event_fields.specs.Fitting.{command_fits}
 use Rattle.event_fields.proofs.Told.{one_read}

@@ -8,7 +8,6 @@ use Rattle.rsvp_contents.specs.declared.dropped.Dropped.TheVariants as drops
 use Rattle.rsvp_contents.specs.declared.messages.Content.{Content}
 use Rattle.rsvp_contents.specs.declared.message.Reading.{Reading}
 use Rattle.rsvp_contents.specs.declared.message.Reading.TheVariants as readings
-use Rattle.link_frames.specs.Frames.{IsReadAgain}
 use Rattle.abstract_paths.specs.Events.{IsEvent}
 use Rattle.abstract_paths.specs.declared.events.Event.{Event}
 use Rattle.abstract_paths.specs.declared.events.Event.TheVariants as events
@@ -49,17 +48,6 @@ abbrev pub ReadsEvent : List ℕ → Result Event ReadFault → Type 0
 ReadsEvent bytes (Ok event) = SpellsEvent bytes event
 ReadsEvent bytes (Err faults.Format) = (event : Event) → SpellsEvent bytes event → ⊥
 ReadsEvent bytes (Err faults.Memory) = Unit {0}
-
--- The event's message, if it has one for this router, is what is read of the bytes that it is written as.
-abbrev pub IsWrittenAgain : Event → Type 0
-IsWrittenAgain (events.Arrive a) = IsReadAgain (content_in a.reading)
-IsWrittenAgain (events.Relay r) = Unit {0}
-IsWrittenAgain (events.Tick moment) = Unit {0}
-IsWrittenAgain (events.LinkUp link) = Unit {0}
-IsWrittenAgain (events.LinkDown link) = Unit {0}
-IsWrittenAgain (events.Command c) = Unit {0}
-IsWrittenAgain events.Restart = Unit {0}
-IsWrittenAgain events.Start = Unit {0}
 
 -- ---- events as their fields tell them
 

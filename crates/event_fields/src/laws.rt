@@ -3,8 +3,8 @@
 ghost use Rattle.std.specs.Prelude.{◌≡◌, List, ℕ};
 ghost use Rattle.abstract_paths.specs.Events.{IsEvent};
 ghost use Rattle.abstract_paths.specs.declared.events.Event.{Event};
-ghost use Rattle.journal_bytes.specs.Events.{event_bytes};
-ghost use Rattle.event_fields.specs.Spelled.{IsWrittenAgain, SpellsEvent};
+ghost use Rattle.journal_bytes.specs.Events.{IsWrittenAgain, event_bytes};
+ghost use Rattle.event_fields.specs.Spelled.{SpellsEvent};
 
 use crate::unread::EventField;
 use field_bytes::bytes_tell_apart;

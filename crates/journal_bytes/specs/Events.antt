@@ -17,6 +17,7 @@ use Rattle.rsvp_contents.specs.declared.message.Reading.{Reading}
 use Rattle.rsvp_contents.specs.declared.message.Reading.TheVariants as readings
 use Rattle.rsvp_contents.specs.Picking.{content_in}
 use Rattle.rsvp_contents.specs.Written.{message_bytes}
+use Rattle.link_frames.specs.Frames.{IsReadAgain}
 use Rattle.abstract_paths.specs.declared.ways.ArrivalWay.{ArrivalWay}
 use Rattle.abstract_paths.specs.declared.ways.ArrivalWay.TheVariants as ways
 use Rattle.abstract_paths.specs.declared.ways.Arrive.{Arrive}
@@ -145,3 +146,14 @@ event_fields (events.Command command) = command_code command ∷ command_fields 
 -- an event's bytes
 abbrev pub event_bytes : Event → List ℕ
 event_bytes event = event_kind event ∷ event_fields event
+
+-- The event's message, if it has one for this router, is what is read of the bytes that it is written as.
+abbrev pub IsWrittenAgain : Event → Type 0
+IsWrittenAgain (events.Arrive a) = IsReadAgain (content_in a.reading)
+IsWrittenAgain (events.Relay r) = Unit {0}
+IsWrittenAgain (events.Tick moment) = Unit {0}
+IsWrittenAgain (events.LinkUp link) = Unit {0}
+IsWrittenAgain (events.LinkDown link) = Unit {0}
+IsWrittenAgain (events.Command c) = Unit {0}
+IsWrittenAgain events.Restart = Unit {0}
+IsWrittenAgain events.Start = Unit {0}

@@ -2,7 +2,9 @@
 
 ghost use Rattle.std.specs.Prelude.{◌≡◌, ◌++◌, ◌∷◌, [], OnOk};
 ghost use Rattle.byteorder.specs.Endian.{big_bytes};
+ghost use Rattle.rsvp_contents.specs.Picking.{content_in};
 ghost use Rattle.rsvp_contents.specs.Written.{message_bytes};
+ghost use Rattle.link_frames.specs.Frames.{IsReadAgain};
 ghost use Rattle.journal_bytes.specs.Events.{arrive_bytes, counted_bytes, reading_bytes, relay_bytes, way_number};
 
 use crate::counted::put_counted;
@@ -27,6 +29,7 @@ fn way_number(way: ArrivalWay) -> u8
 fn put_message(message: &Message, out: &mut Vec<u8>) -> Result<(), AllocError>
     ensures ok { OnOk result
         (out.new.items ≡ out.old.items ++ counted_bytes (message_bytes message.now)) }
+    ensures again { OnOk result (IsReadAgain message.now) }
 {
     let mut bytes = Vec::new(*out.allocator());
     write_message(message, &mut bytes)?;
@@ -36,6 +39,7 @@ fn put_message(message: &Message, out: &mut Vec<u8>) -> Result<(), AllocError>
 /// Appends what the message was read as: its bytes, and the object that its type doesn't know.
 fn put_reading(reading: &Reading, out: &mut Vec<u8>) -> Result<(), AllocError>
     ensures ok { OnOk result (out.new.items ≡ out.old.items ++ reading_bytes reading.now) }
+    ensures again { OnOk result (IsReadAgain (content_in reading.now)) }
 {
     match reading {
         Reading::Whole(message) => {
@@ -61,6 +65,7 @@ fn put_arrival(link: u16, way: ArrivalWay, out: &mut Vec<u8>) -> Result<(), Allo
 /// Appends a message for this router.
 pub(crate) fn put_arrive(arrive: &Arrive, out: &mut Vec<u8>) -> Result<(), AllocError>
     ensures ok { OnOk result (out.new.items ≡ out.old.items ++ arrive_bytes arrive.now) }
+    ensures again { OnOk result (IsReadAgain (content_in arrive.now.reading)) }
 {
     put_arrival(arrive.link, arrive.way, out)?;
     put_reading(&arrive.reading, out)

@@ -1,5 +1,5 @@
 ghost use Rattle.std.specs.Prelude.{◌≡◌, ◌++◌, IfOk, OnOk, OnErr};
-ghost use Rattle.journal_bytes.specs.Events.{event_bytes, event_fields, event_kind};
+ghost use Rattle.journal_bytes.specs.Events.{IsWrittenAgain, event_bytes, event_fields, event_kind};
 
 use crate::commands::put_command;
 use crate::entry::Bytes;
@@ -28,6 +28,7 @@ fn event_kind(event: &Event) -> u8
 /// Appends what stands after the event's kind.
 fn put_fields(event: &Event, out: &mut Vec<u8>) -> Result<(), AllocError>
     ensures ok { OnOk result (out.new.items ≡ out.old.items ++ event_fields event.now) }
+    ensures again { OnOk result (IsWrittenAgain event.now) }
 {
     match event {
         Event::Arrive(arrive) => put_arrive(arrive, out),
@@ -42,6 +43,9 @@ fn put_fields(event: &Event, out: &mut Vec<u8>) -> Result<(), AllocError>
 /// Appends the event as a journal holds it. The only error is out of memory, which leaves `out` as it was.
 pub fn write_event(event: &Event, out: &mut Vec<u8>) -> Result<(), AllocError>
     ensures ok { OnOk result (out.new.items ≡ out.old.items ++ event_bytes event.now) }
+
+    // What is written of a message is read as the same message.
+    ensures again { OnOk result (IsWrittenAgain event.now) }
     ensures err { OnErr result (out.new.items ≡ out.old.items) }
 {
     let mut bytes = Vec::new(*out.allocator());
@@ -52,7 +56,10 @@ pub fn write_event(event: &Event, out: &mut Vec<u8>) -> Result<(), AllocError>
 
 /// What happened, as an entry keeps it. The only error is out of memory.
 pub fn written_event(alloc: Global, event: &Event) -> Result<Bytes, AllocError>
-    ensures { IfOk result (λ bytes. bytes ≡ event_bytes event.now) }
+    ensures bytes { IfOk result (λ bytes. bytes ≡ event_bytes event.now) }
+
+    // What is written of a message is read as the same message.
+    ensures again { OnOk result (IsWrittenAgain event.now) }
 {
     let mut bytes = Vec::new(alloc);
     write_event(event, &mut bytes)?;
