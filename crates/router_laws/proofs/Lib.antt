@@ -11,6 +11,7 @@ pub mod HeadAlone
 pub mod Holders
 pub mod Joined
 pub mod KeptBypasses
+pub mod KeptPromises
 pub mod Led
 pub mod LostLinks
 pub mod LspIds

@@ -133,7 +133,7 @@ module _ (r : Router) (before after : State) (made : Made) (n : ℕ) (router : I
   drafted : IsDrafted r before s
   drafted = subst (Leaves r before) (ap (outcome r before) event ∙ does) (outcome-leaves r before made.event router is x.possible x.awake)
 
-  may : MayPromise s
+  pub may : MayPromise s
   may = subst MayPromise (taken_over-same r s rests) (may_promise r before s is drafted)
 
   -- bypasses run over the same after the step
@@ -182,7 +182,7 @@ module _ (r : Router) (before after : State) (made : Made) (n : ℕ) (router : I
     down : is_up facts.up resv.link ≡ false
     down = ap (is_up facts.up) on ∙ down_then
 
-    falls : find key_cmp key (filter (stands facts) before.resvs) ≡ None
+    pub falls : find key_cmp key (filter (stands facts) before.resvs) ≡ None
     falls = falls_down r s (held_with_facts r before facts is.held is.held.each) key resv reserved down
 
     -- It is reserved no more.
@@ -225,6 +225,10 @@ module _ (r : Router) (before after : State) (made : Made) (n : ℕ) (router : I
       same_given : find key_cmp key after.assignments ≡ given
       unfolding repaired repairs_left
       same_given = ap (λ (t : State). find key_cmp key t.assignments) came ∙ find-touched key_cmp key_total key_exact (is_held left) key p.assignments held
+
+      -- It is repaired over that one, and is promised what it was promised anew.
+      pub repaired_over : (find key_cmp key after.repairs ≡ Some (repair_with resv choice)) × (find key_cmp key after.assignments ≡ given)
+      repaired_over = (ap (λ (t : State). find key_cmp key t.repairs) came ∙ left_repair, same_given)
 
       goes_on : IsRepairedAsSelected
       goes_on = ap (λ (t : State). find key_cmp key t.repairs) came ∙ left_repair ∙ sym (ap (option_map (repair_with resv)) (same_choice (Some choice) selects same_given))
