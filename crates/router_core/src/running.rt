@@ -9,6 +9,7 @@ ghost use Rattle.abstract_paths.specs.Relays.{exceeds_hop_limit};
 ghost use Rattle.abstract_router.specs.Soundness.{IsSound};
 ghost use Rattle.abstract_router.specs.Steps.{Step};
 ghost use Rattle.abstract_router.specs.Tables.{TellsChange};
+ghost use Rattle.router_soundness.specs.Assigned.{AreStanding};
 ghost use Rattle.router_core.specs.Plans.{IsOutFor, IsPlanOf, after_plan, made_by, quiet};
 ghost use Rattle.router_core.specs.States.{IsEmpty, cold, emptied, opened};
 
@@ -150,10 +151,11 @@ impl Running {
         &self.tables
     }
 
-    /// What the router knows is sound. A law: it does nothing when it runs.
+    /// What the router knows is sound, and nothing is left to promise of the bandwidth of bypasses. A law: it does nothing when it runs.
     pub fn soundness(&self)
         ensures router { IsRouter self.now.router }
         ensures sound { IsSound self.now.router self.now.state }
+        ensures standing { AreStanding self.now.router self.now.state }
         ensures running { self.now.state.facts.cold ≡ false }
     {
         self.tables.soundness();

@@ -10,6 +10,7 @@ ghost use Rattle.abstract_router.specs.BypassTunnels.{bypass_tunnels_of, over_at
 ghost use Rattle.abstract_router.specs.Preempting.{claims_of};
 ghost use Rattle.abstract_router.specs.Soundness.{IsSound};
 ghost use Rattle.abstract_router.specs.Tables.{TellsChange, forwarded, look_tunnel};
+ghost use Rattle.router_soundness.specs.Assigned.{AreStanding};
 ghost use Rattle.label_table.specs.Rows.{IsTableOf};
 ghost use Rattle.router_tables.specs.Changes.{IsChange, changed};
 ghost use Rattle.router_tables.specs.States.{AreOpened, emptied, opened};
@@ -193,10 +194,11 @@ impl Tables {
         self.rows.bandwidth.reserved(link, priority)
     }
 
-    /// What the router knows is sound. A law: it does nothing when it runs.
+    /// What the router knows is sound, and nothing is left to promise of the bandwidth of bypasses. A law: it does nothing when it runs.
     pub fn soundness(&self)
         ensures router { IsRouter self.now.router }
         ensures sound { IsSound self.now.router self.now.state }
+        ensures standing { AreStanding self.now.router self.now.state }
         ensures running { self.now.state.facts.cold ≡ false }
     {
         // Whoever opens the value sees its invariant.
