@@ -1,5 +1,5 @@
 -- How long what is written is.
-use Rattle.std.proofs.Common.{◌≡◌, ◌≤◌, ◌<◌, ◌+◌, ◌++◌, ℕ, List, [], ◌∷◌, length, get_or, take, refl, sym, ap, ◌∙◌, append_assoc, arith}
+use Rattle.std.proofs.Common.{◌≡◌, ◌≤◌, ◌<◌, ◌+◌, ◌++◌, ℕ, List, [], ◌∷◌, length, get_or, take, Result, Ok, Err, OnOk, is_ok, if◌then◌else◌, refl, sym, ap, ◌∙◌, append_assoc, arith}
 use Rattle.std.specs.List.{flat_map}
 use Rattle.std.proofs.lemmas.List.{take_more, flat_map_more, length-append}
 use Rattle.rsvp_bodies.proofs.Counts.{length-one_more}
@@ -17,6 +17,16 @@ message_countable bytes message reading same s =
 -- what is appended in two parts is appended
 pub two_parts : (old mid new a b : List ℕ) → mid ≡ old ++ a → new ≡ mid ++ b → new ≡ old ++ (a ++ b)
 two_parts old mid new a b p q = q ∙ (ap (λ (x : List ℕ). x ++ b) p ∙ append_assoc old a b)
+
+-- where there is memory for the second
+pub second_part : {A E : Type 0} (old mid new a b : List ℕ) (r : Result A E) → mid ≡ old ++ a → new ≡ (if is_ok r then mid ++ b else mid) → OnOk r (new ≡ old ++ (a ++ b))
+second_part old mid new a b (Ok done) p q = two_parts old mid new a b p q
+second_part old mid new a b (Err error) p q = tt
+
+-- what is so is so then, too
+pub then_too : {A E P : Type 0} (r : Result A E) → P → OnOk r P
+then_too (Ok done) p = p
+then_too (Err error) p = tt
 
 -- one more item is written after those so far
 pub one_more : {X : Type 0} (f : X → List ℕ) (before after : List ℕ) (xs : List X) (i : ℕ) (x : X) → i < length xs → x ≡ get_or xs i x →
