@@ -12,7 +12,7 @@ use abstract_paths::Event;
 use lookup_plane::OpenFault;
 use lsr_config::Config;
 use lsr_facts::{Refusal, Router, State};
-use run_journal::{Locked, Mark, Receipt, Segment};
+use run_journal::{Locked, MAX_PORTS, Mark, Receipt, Segment};
 use sorted_rows::TryCopy;
 use std::alloc::{AllocError, Global};
 use std::sync::ledger::{Blank, Book, Ledger, Share};
@@ -228,9 +228,9 @@ fn ports_of<L: Ledger>(
     Ok(all)
 }
 
-/// Opens the router of a configuration, with ports of the numbers 1 to `ports`, so many readers of its label table, and who keeps its
-/// journal, and has no segment yet. The blank names the core, and has a part for each port. The core keeps `rt`, to wait for readers. The
-/// fault is that there is too little memory, or no place for a reader.
+/// Opens the router of a configuration, with ports of the numbers 1 to `ports`, at most [`MAX_PORTS`], so many readers of its label table,
+/// and who keeps its journal, and has no segment yet. The blank names the core, and has a part for each port. The core keeps `rt`, to wait
+/// for readers. The fault is that there is too little memory, or no place for a reader.
 pub fn open<L: Ledger, R: Wait + Drop, K: KeepSegments + Drop>(
     alloc: Global,
     rt: R,
@@ -243,6 +243,7 @@ pub fn open<L: Ledger, R: Wait + Drop, K: KeepSegments + Drop>(
     requires name { blank.name ≡ L.name }
     requires parts { blank.parts ≡ L.parts }
     requires enough { ports ≤ blank.parts }
+    requires ports { ports ≤ MAX_PORTS }
     requires readers { readers ≤ 64 }
     requires none { K.given keeper ≡ 0 }
     ensures ports { IfOk result (λ opened. map (λ port. port.mark) opened.ports.items ≡ first_marks ports) }

@@ -19,6 +19,6 @@ pub use keeping::{KeepSegments, NotKept, SegmentCount};
 pub use lookup_plane::{Closed, OpenFault};
 pub use readers::CoreReader;
 pub use reading::read_by;
-pub use run_journal::{CountedEntry, Entry, JournalCounts, Mark, Receipt, Segment};
+pub use run_journal::{CountedEntry, Entry, JournalCounts, MAX_PORTS, Mark, Receipt, Segment};
 pub use wire::{Wire, WireFault};
 pub use worker::{Work, serve_event, serve_link};

@@ -13,7 +13,7 @@ use crate::entry::CountedEntry;
 use crate::mark::Mark;
 use crate::receipt::Receipt;
 use crate::segment::Segment;
-use crate::{MAX_ENTRIES, MAX_NUMBER};
+use crate::{MAX_ENTRIES, MAX_NUMBER, MAX_PORTS};
 use abstract_paths::Event;
 use journal_bytes::{Entry, Listed, written_event, written_frames};
 use lookup_plane::{LookupReader, OpenFault, Plane, TableChange};
@@ -148,9 +148,9 @@ fn show<R: Wait + Drop>(plane: &mut Plane<R>, machine: &Machine, changes_table: 
 }
 
 impl<R: Wait + Drop> Locked<R> {
-    /// The router of a configuration as it is opened, with ports of the numbers 1 to `ports`, no entry, and so many readers of its
-    /// label table. It reserves the memory of all LSPs that the router may ever know, of the entries of a segment, and of the table. It
-    /// keeps `rt`, to wait for readers. The fault is that there is too little memory, or no place for a reader.
+    /// The router of a configuration as it is opened, with ports of the numbers 1 to `ports`, at most [`MAX_PORTS`], no entry, and so many
+    /// readers of its label table. It reserves the memory of all LSPs that the router may ever know, of the entries of a segment, and of
+    /// the table. It keeps `rt`, to wait for readers. The fault is that there is too little memory, or no place for a reader.
     pub fn new(
         alloc: Global,
         rt: R,
@@ -158,7 +158,8 @@ impl<R: Wait + Drop> Locked<R> {
         ports: u16,
         readers: usize,
     ) -> Result<(Locked<R>, Vec<LookupReader>), OpenFault>
-        requires { readers ≤ 64 }
+        requires ports { ports ≤ MAX_PORTS }
+        requires readers { readers ≤ 64 }
         ensures locked { IfOk result (λ made. made.0 ≡ opened_journal (opened config) (first_counts ports) made.0.table) }
         ensures readers { IfOk result (λ made. (length made.1.items ≡ readers) × All (λ reader. reader ≡ new_reader made.0.table) made.1.items) }
     {
