@@ -1,5 +1,5 @@
 -- A worker's turns: what came, what became of it, and what was sent.
-use Rattle.std.specs.Prelude.{◌≡◌, ◌+◌, ◌-◌, ◌^◌, ◌<◌, ◌≤◌, ◌++◌, ℕ, min, List, [], ◌∷◌, Result, Ok, Err, length}
+use Rattle.std.specs.Prelude.{◌≡◌, ◌≢◌, ◌+◌, ◌-◌, ◌^◌, ◌<◌, ◌≤◌, ◌++◌, ℕ, min, List, [], ◌∷◌, Result, Ok, Err, length}
 use Rattle.lsr_facts.specs.declared.refusal.Refusal.{Refusal}
 use Rattle.lsr_facts.specs.declared.refusal.Refusal.TheVariants.{NoMemory}
 use Rattle.lsr_facts.specs.declared.router.Router.{Router}
@@ -35,6 +35,12 @@ IsTaken r seen link Fault taken = taken ≡ takes.WireFailed
 IsTaken r seen link (Came bytes) (takes.Came answer) = IsDatagram r (forward_of (look seen)) link bytes answer
 IsTaken r seen link (Came bytes) takes.NotShown = kind_of bytes ≡ 2
 IsTaken r seen link (Came bytes) taken = ⊥
+
+-- it is no labelled frame: nothing came, the wire failed, or what came is of another kind
+abbrev pub IsUnlabelled : Arrival → Type 0
+IsUnlabelled Silence = Unit {0}
+IsUnlabelled Fault = Unit {0}
+IsUnlabelled (Came bytes) = kind_of bytes ≢ 2
 
 -- An event is served: it is fed, its receipt is kept behind the others, and its frames are sent; or it is refused, and nothing is sent.
 abbrev pub IsEventServed : Event → Handled → List Receipt → List Receipt → List WrittenFrame → List Sending → Type 0
@@ -79,7 +85,7 @@ pub record Standing : Type 0 where
   pub history : WireHistory
 
 -- A turn: the wire was asked for a frame, once; what it gave was served, and counted by what became of it; and nothing else happened on the
--- wire.
+-- wire. The reader has seen more of the label table only where that was a labelled frame.
 pub record IsTurn (r : Router) (link : ℕ) (before now : Standing) : Type 0 where
   pub arrival : Arrival
   pub taken : Taken
@@ -94,6 +100,7 @@ pub record IsTurn (r : Router) (link : ℕ) (before now : Standing) : Type 0 whe
   pub turns : now.work.turns ≡ before.work.turns + 1
   pub goes_on : WorkGoesOn before.work before.mark now.work now.mark
   pub seen : StartsWith now.seen before.seen
+  pub unlabelled : IsUnlabelled arrival → now.seen ≡ before.seen
 
 -- So many turns were made from here, one after the other, all over this link.
 pub data AreTurns (r : Router) (link : ℕ) (start : Standing) : ℕ → Standing → Type 0 where

@@ -1,6 +1,6 @@
 //! What a datagram is, by what readers of the label table see.
 
-ghost use Rattle.std.specs.Prelude.{◌≡◌, IfNone, IfSome};
+ghost use Rattle.std.specs.Prelude.{◌≡◌, ◌≢◌, IfNone, IfSome};
 ghost use Rattle.forwarding_table.specs.Forwarding.{forward_of};
 ghost use Rattle.datagrams.specs.Datagrams.{IsDatagram};
 ghost use Rattle.link_frames.specs.Frames.{kind_of};
@@ -34,7 +34,7 @@ impl<'a> Forwards for Seen<'a> {
 
 /// What a datagram is that came over a link: a labelled frame by the label table that the reader sees, all its labels by one; any
 /// other whatever the reader sees. It waits for nobody. None for a labelled frame where the reader's table isn't shown any more, or
-/// not yet what it has learnt. The reader comes back: it has seen no less.
+/// not yet what it has learnt. The reader comes back: it has seen no less, and of any other datagram nothing more.
 pub fn read_by<L: Ledger>(
     alloc: Global,
     router: &Router,
@@ -44,6 +44,7 @@ pub fn read_by<L: Ledger>(
 ) -> (Option<Result<Datagram, Refusal>>, CoreReader<L>)
     ensures answer { IfSome result.0 (IsDatagram router.now (forward_of (look result.1.seen)) link bytes.now) }
     ensures labelled { IfNone result.0 (kind_of bytes.now ≡ 2) }
+    ensures unlabelled { kind_of bytes.now ≢ 2 → result.1 ≡ reader }
     ensures later { StartsWith result.1.seen reader.seen }
     ensures learnt { result.1.at_least ≡ reader.at_least }
 {

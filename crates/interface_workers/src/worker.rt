@@ -1,11 +1,12 @@
 //! A worker: it takes frames from a link's wire, feeds the core what they say, and sends what the core answers.
 
-ghost use Rattle.std.specs.Prelude.{◌≡◌, ◌+◌, ◌-◌, ◌^◌, ◌<◌, ◌≤◌, ◌⊎◌, ◌∷◌, ℕ, false, true, [], IfOk, List, OnErr, length, vec_capacity};
+ghost use Rattle.std.specs.Prelude.{◌≡◌, ◌≢◌, ◌+◌, ◌-◌, ◌^◌, ◌<◌, ◌≤◌, ◌⊎◌, ◌∷◌, ℕ, false, true, [], IfOk, List, OnErr, length, vec_capacity};
 ghost use Rattle.interface_workers.specs.Chains.{AddsUp, AreHandedOut, HasRoom, IsChain, IsFed, WorkGoesOn};
 ghost use Rattle.interface_workers.specs.Tallies.{counted, with_lost};
-ghost use Rattle.interface_workers.specs.Turns.{AreAmongFailures, HasSent, IsEventServed, IsNoWork, IsPassedOn, IsRunOf, IsServed, IsTaken, IsTallyOf, IsTurn};
+ghost use Rattle.interface_workers.specs.Turns.{AreAmongFailures, HasSent, IsEventServed, IsNoWork, IsPassedOn, IsRunOf, IsServed, IsTaken, IsTallyOf, IsTurn, IsUnlabelled};
 ghost use Rattle.interface_workers.specs.Wires.{AreSent, Arrival, Sending, after};
 ghost use Rattle.interface_workers.specs.Wires.Arrival.{Came};
+ghost use Rattle.link_frames.specs.Frames.{kind_of};
 ghost use Rattle.lookup_plane.specs.Changes.{StartsWith};
 
 use crate::cores::{Core, Port};
@@ -187,7 +188,7 @@ impl<'a, L: Ledger, R: Wait + Drop, K: KeepSegments + Drop, T: Wait, G: Gate> St
     }
 
     /// Asks the wire for a frame once: what came, as over the link. The label table is asked for labelled frames alone. The reader comes
-    /// back: it has seen no less.
+    /// back: it has seen no less, and nothing more but for a labelled frame.
     fn receive<W: Wire>(
         &self,
         reader: CoreReader<L>,
@@ -197,7 +198,7 @@ impl<'a, L: Ledger, R: Wait + Drop, K: KeepSegments + Drop, T: Wait, G: Gate> St
     ) -> (Taken, CoreReader<L>)
         requires { (W.history wire.old).failed < 2 ^ 64 - 1 }
         ensures took { (arrival : Arrival) × IsTaken self.now.core.now.router result.1.seen link arrival result.0
-            × (W.history wire.new ≡ after (W.history wire.old) (arrival ∷ []) []) }
+            × (W.history wire.new ≡ after (W.history wire.old) (arrival ∷ []) []) × (IsUnlabelled arrival → result.1 ≡ reader) }
         ensures later { StartsWith result.1.seen reader.seen }
         ensures learnt { result.1.at_least ≡ reader.at_least }
     {
@@ -208,9 +209,10 @@ impl<'a, L: Ledger, R: Wait + Drop, K: KeepSegments + Drop, T: Wait, G: Gate> St
         }
     }
 
-    /// What a frame is that came over the link. The reader comes back: it has seen no less.
+    /// What a frame is that came over the link. The reader comes back: it has seen no less, and nothing more but for a labelled frame.
     fn read(&self, reader: CoreReader<L>, link: u16, bytes: &[u8]) -> (Taken, CoreReader<L>)
         ensures took { IsTaken self.now.core.now.router result.1.seen link (Came bytes.now) result.0 }
+        ensures unlabelled { kind_of bytes.now ≢ 2 → result.1 ≡ reader }
         ensures later { StartsWith result.1.seen reader.seen }
         ensures learnt { result.1.at_least ≡ reader.at_least }
     {

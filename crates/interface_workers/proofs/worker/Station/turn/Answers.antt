@@ -1,6 +1,6 @@
 -- What was taken is served and counted.
 use Rattle.std.proofs.Common.{◌+◌, ◌∷◌, ℕ, List, [], ap, subst, sym, ◌∙◌}
-use Rattle.lookup_plane.specs.Changes.{StartsWith}
+use Rattle.lookup_plane.specs.Changes.{Reader, StartsWith}
 use Rattle.lookup_plane.specs.declared.change.TableChange.{TableChange}
 use Rattle.interface_workers.specs.Turns.{IsTaken}
 use Rattle.interface_workers.specs.Wires.{WireHistory, after, lost_in}
@@ -29,4 +29,5 @@ returns-clause-turn g c =
       turns = ap (λ (n : ℕ). n + 1) c.serve_taken-handled.ensures.tally.1;
       goes_on = record { chain = on.chain; receipts = on.receipts; segments = on.segments; receipts_room = on.receipts_room; segments_room = on.segments_room };
       seen = subst (λ (s : List TableChange). StartsWith s c.args.reader.seen) (sym c.serve_taken-handled.ensures.seen) c.receive-taken.ensures.later;
+      unlabelled = λ plain. c.serve_taken-handled.ensures.seen ∙ ap (λ (r : Reader). r.seen) (took.3 plain);
     }
