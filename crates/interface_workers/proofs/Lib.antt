@@ -1,6 +1,7 @@
 pub mod Chaining
 pub mod Counting
 pub mod Passing
+pub mod Refusing
 pub mod Sendings
 pub mod TakenKinds
 pub mod Turning

@@ -11,6 +11,7 @@ use Rattle.datagrams.specs.declared.datagram.Passed.{Passed}
 use Rattle.datagrams.specs.declared.datagram.Passed.TheVariants as passes
 use Rattle.journal_bytes.specs.declared.entry.WrittenFrame.{WrittenFrame}
 use Rattle.run_journal.specs.declared.receipt.Receipt.{Receipt}
+use Rattle.interface_workers.specs.Refused.{MayBeRefused}
 use Rattle.interface_workers.specs.Tallies.{faults_as, handled_for, receipts_as, taken_as}
 use Rattle.interface_workers.specs.Turns.{HasSent, IsEventServed, IsPassedOn, IsServed, IsTaken}
 use Rattle.interface_workers.specs.Wires.{Arrival, Sending, WireHistory, datagram_of, fault_of}
@@ -105,17 +106,19 @@ served_kind (takes.Came (Err refusal)) handled before now frames sendings is =
 
 -- an event that is refused is served so
 pub refused_event : (b : Bool) (event : Event) (refusal : Refusal) (handled : Handled) (before now : List Receipt) (frames : List WrittenFrame) (sendings : List Sending)
-    → handled_for refusal ≡ cond b (handles.Refused refusal) (handles.Dropped refusal) → handled ≡ handled_for refusal → now ≡ before → frames ≡ [] → IsEventServed event handled before now frames sendings
-refused_event true event refusal handled before now frames sendings cases is same none =
-    subst (λ (h : Handled). IsEventServed event h before now frames sendings) (sym (is ∙ cases)) (sym cases, same, none)
-refused_event false event refusal handled before now frames sendings cases is same none =
-    subst (λ (h : Handled). IsEventServed event h before now frames sendings) (sym (is ∙ cases)) (sym cases, same, none)
+    → handled_for refusal ≡ cond b (handles.Refused refusal) (handles.Dropped refusal) → handled ≡ handled_for refusal → now ≡ before → frames ≡ [] → MayBeRefused event refusal
+    → IsEventServed event handled before now frames sendings
+refused_event true event refusal handled before now frames sendings cases is same none may =
+    subst (λ (h : Handled). IsEventServed event h before now frames sendings) (sym (is ∙ cases)) (sym cases, same, none, may)
+refused_event false event refusal handled before now frames sendings cases is same none may =
+    subst (λ (h : Handled). IsEventServed event h before now frames sendings) (sym (is ∙ cases)) (sym cases, same, none, may)
 
 -- nothing is sent for an event that is refused
-pub event_refused : (event : Event) (refusal : Refusal) (handled : Handled) (before : List Receipt) (h : WireHistory) → handled ≡ handled_for refusal → HasSent (IsEventServed event handled before before) h h
-event_refused event refusal handled before h is = record {
+pub event_refused : (event : Event) (refusal : Refusal) (handled : Handled) (before : List Receipt) (h : WireHistory) → handled ≡ handled_for refusal → MayBeRefused event refusal
+    → HasSent (IsEventServed event handled before before) h h
+event_refused event refusal handled before h is may = record {
   frames = [];
   sendings = [];
-  is = refused_event (nat_le 40 (number_of refusal) && nat_le (number_of refusal) 43) event refusal handled before before [] [] refl is refl refl;
+  is = refused_event (nat_le 40 (number_of refusal) && nat_le (number_of refusal) 43) event refusal handled before before [] [] refl is refl refl may;
   sent = none_sent h h refl;
 }

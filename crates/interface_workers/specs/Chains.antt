@@ -7,6 +7,7 @@ use Rattle.run_journal.specs.Journals.{Stretch}
 use Rattle.run_journal.specs.Marks.{Follows}
 use Rattle.run_journal.specs.declared.mark.Mark.{Mark}
 use Rattle.run_journal.specs.declared.receipt.Receipt.{Receipt}
+use Rattle.interface_workers.specs.Refused.{MayBeRefused}
 use Rattle.interface_workers.specs.Tallies.{IsSum}
 use Rattle.interface_workers.specs.declared.handled.Handled.{Handled}
 use Rattle.interface_workers.specs.declared.handled.Handled.TheVariants.{Fed}
@@ -17,10 +18,11 @@ abbrev pub IsChain : Mark → List Receipt → Mark → Type 0
 IsChain first [] last = last ≡ first
 IsChain first (receipt ∷ receipts) last = Follows first receipt × IsChain receipt.mark receipts last
 
--- an event is fed: the receipt is of it, and the port has the receipt's mark; or it is refused, and the port has the mark that it had
+-- an event is fed: the receipt is of it, and the port has the receipt's mark; or it is refused, for one of the core's reasons, and the port
+-- has the mark that it had
 abbrev pub IsFed : Mark → Event → Result Receipt Refusal → Mark → Type 0
 IsFed before event (Ok receipt) after = Follows before receipt × (receipt.event ≡ event_bytes event) × (after ≡ receipt.mark)
-IsFed before event (Err refusal) after = after ≡ before
+IsFed before event (Err refusal) after = (after ≡ before) × MayBeRefused event refusal
 
 -- the work's tally adds up: each datagram is counted as one of four kinds, and there is a receipt for each that was fed
 abbrev pub AddsUp : Work → Type 0

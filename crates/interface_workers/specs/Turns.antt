@@ -17,6 +17,7 @@ use Rattle.journal_bytes.specs.declared.entry.WrittenFrame.{WrittenFrame}
 use Rattle.run_journal.specs.declared.mark.Mark.{Mark}
 use Rattle.run_journal.specs.declared.receipt.Receipt.{Receipt}
 use Rattle.interface_workers.specs.Chains.{WorkGoesOn}
+use Rattle.interface_workers.specs.Refused.{MayBeRefused}
 use Rattle.interface_workers.specs.Tallies.{counted, handled_for, no_tally, with_lost}
 use Rattle.interface_workers.specs.Wires.{AreGiven, AreSent, Arrival, Sending, WireHistory, after, datagrams_in, faults_in, lost_in}
 use Rattle.interface_workers.specs.Wires.Arrival.{Came, Fault, Silence}
@@ -42,12 +43,15 @@ IsUnlabelled Silence = Unit {0}
 IsUnlabelled Fault = Unit {0}
 IsUnlabelled (Came bytes) = kind_of bytes ≢ 2
 
--- An event is served: it is fed, its receipt is kept behind the others, and its frames are sent; or it is refused, and nothing is sent.
+-- An event is served: it is fed, its receipt is kept behind the others, and its frames are sent; or it is refused, for one of the core's
+-- reasons, and nothing is sent.
 abbrev pub IsEventServed : Event → Handled → List Receipt → List Receipt → List WrittenFrame → List Sending → Type 0
 IsEventServed event handles.Fed before now frames sendings =
     (receipt : Receipt) × (now ≡ before ++ receipt ∷ []) × (receipt.event ≡ event_bytes event) × (frames ≡ receipt.outputs)
-IsEventServed event (handles.Dropped refusal) before now frames sendings = (handles.Dropped refusal ≡ handled_for refusal) × (now ≡ before) × (frames ≡ [])
-IsEventServed event (handles.Refused refusal) before now frames sendings = (handles.Refused refusal ≡ handled_for refusal) × (now ≡ before) × (frames ≡ [])
+IsEventServed event (handles.Dropped refusal) before now frames sendings =
+    (handles.Dropped refusal ≡ handled_for refusal) × (now ≡ before) × (frames ≡ []) × MayBeRefused event refusal
+IsEventServed event (handles.Refused refusal) before now frames sendings =
+    (handles.Refused refusal ≡ handled_for refusal) × (now ≡ before) × (frames ≡ []) × MayBeRefused event refusal
 IsEventServed event handled before now frames sendings = ⊥
 
 -- What goes on by its labels is sent as it leaves, where there is memory for its bytes: it is forwarded exactly where the wire carried it. A

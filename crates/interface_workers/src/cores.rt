@@ -1,10 +1,11 @@
 //! A router under its lock, and the ports of those who feed it.
 
-ghost use Rattle.std.specs.Prelude.{◌≡◌, ◌+◌, ◌<◌, ◌≤◌, ℕ, All, IfOk, OnErr, OnOk, length, map};
+ghost use Rattle.std.specs.Prelude.{◌≡◌, ◌+◌, ◌<◌, ◌≤◌, ℕ, All, IfErr, IfOk, OnErr, OnOk, length, map};
 ghost use Rattle.journal_bytes.specs.Events.{event_bytes};
 ghost use Rattle.lookup_plane.specs.Changes.{new_reader};
 ghost use Rattle.run_journal.specs.Journals.{IsAnswered, rotated, stretch_of};
 ghost use Rattle.run_journal.specs.Marks.{Follows, first_marks};
+ghost use Rattle.interface_workers.specs.Refused.{MayBeRefused};
 
 use crate::keeping::{KeepSegments, KeptJournal, SegmentCount, TakenSegment};
 use crate::readers::{CoreReader, named_readers};
@@ -121,8 +122,8 @@ impl<L: Ledger, R: Wait + Drop> Booked<L, R> {
 
 impl<L: Ledger, R: Wait + Drop, K: KeepSegments + Drop> Core<L, R, K> {
     /// Feeds an event of a port, and tells the port of its entry: the port's next place, a later entry than its last one, and
-    /// the event that was fed. Waits for others who use the core. It is refused as [`Locked::apply`] refuses it, and then the
-    /// port is as it was.
+    /// the event that was fed. Waits for others who use the core. It is refused as [`Locked::apply`] refuses it, for no other reason, and
+    /// then the port is as it was.
     pub fn feed<W: Wait>(
         &self,
         rt: &W,
@@ -134,6 +135,7 @@ impl<L: Ledger, R: Wait + Drop, K: KeepSegments + Drop> Core<L, R, K> {
         ensures event { IfOk result (λ receipt. receipt.event ≡ event_bytes event.now) }
         ensures counted { OnOk result (port.new.share.amount ≡ port.old.share.amount + 1) }
         ensures taken { port.new.taken ≡ port.old.taken }
+        ensures refused { IfErr result (MayBeRefused event.now) }
         ensures kept { OnErr result (port.new ≡ port.old) }
     {
         let mut guard = self.lock.lock(rt);

@@ -163,7 +163,8 @@ impl<'a, L: Ledger, R: Wait + Drop, K: KeepSegments + Drop, T: Wait, G: Gate> St
         }
     }
 
-    /// Feeds an event, keeps its receipt, and sends what the core answers. What is refused leaves no receipt. Nothing is counted yet.
+    /// Feeds an event, keeps its receipt, and sends what the core answers. What is refused, for one of the core's reasons, leaves no receipt.
+    /// Nothing is counted yet.
     fn serve_event<W: Wire>(
         &self,
         port: &mut Port<L>,

@@ -18,4 +18,4 @@ returns-in-Ok-clause-served g c = record {
 }
 
 pub returns-in-Err-clause-served : goal.returns-in-Err-clause-served
-returns-in-Err-clause-served g c = event_refused c.args.event.now c.in-Err.refusal c.of_refusal.result c.args.work.now.receipts.items _ c.of_refusal.ensures
+returns-in-Err-clause-served g c = event_refused c.args.event.now c.in-Err.refusal c.of_refusal.result c.args.work.now.receipts.items _ c.of_refusal.ensures c.in-Err.ensures.fed.1

@@ -1,0 +1,54 @@
+-- Why an event is refused that is applied under the lock.
+use Rattle.std.proofs.Common.{◌≡◌, ◌≤◌, ◌^◌, ◌&&◌, ◌||◌, not, nat_le, Bool, true, false, Some, None, Result, Ok, Err, if◌then◌else◌, length, refl, subst, sym}
+use Rattle.std.proofs.lemmas.Bool.{leb-true}
+use Rattle.std.specs.Prelude.{IfErr}
+use Rattle.lsr_facts.specs.declared.facts.Facts.{Facts}
+use Rattle.lsr_facts.specs.declared.refusal.Refusal.{Refusal}
+use Rattle.lsr_facts.specs.declared.refusal.Refusal.TheVariants.{HopLimit, IsCold, JournalFull, NoMemory, WrongPort}
+use Rattle.lsr_facts.specs.declared.router.Router.{Router}
+use Rattle.abstract_paths.specs.Relays.{exceeds_hop_limit}
+use Rattle.abstract_paths.specs.declared.events.Event.{Event}
+use Rattle.abstract_paths.specs.declared.events.Event.TheVariants as events
+use Rattle.run_journal.specs.Journals.{IsAnswered, IsRefused, IsRefusedLate, Journal, early_refusal, is_start}
+use Rattle.run_journal.specs.Marks.{is_known}
+use Rattle.run_journal.specs.declared.mark.Mark.{Mark}
+use Rattle.run_journal.specs.declared.receipt.Receipt.{Receipt}
+use Rattle.interface_workers.specs.Refused.{IsLimitSpent, MayBeRefused}
+
+-- all three hold
+third : (a b c : Bool) → (a && b && c) ≡ true → c ≡ true
+third true true c is = is
+third true false c is = absurd (cc)
+third false b c is = absurd (cc)
+
+-- its limit ran out
+spent : (r : Router) (facts : Facts) (event : Event) → exceeds_hop_limit r facts event ≡ true → IsLimitSpent event
+spent r facts (events.Relay message) is = leb-true message.limit 1 (third _ _ (nat_le message.limit 1) is)
+spent r facts event is = absurd (cc)
+
+-- why it is refused that is looked at
+late : (j : Journal) (event : Event) (refusal : Refusal) → IsRefusedLate j event refusal → MayBeRefused event refusal
+late j event NoMemory is = tt
+late j event HopLimit is = spent j.router j.state.facts event is
+late j event refusal is = absurd is
+
+-- a cold router is asked for a start
+no_start : (cold start : Bool) → (cold && not start) ≡ true → start ≡ false
+no_start true true is = absurd (cc)
+no_start true false is = refl
+no_start false start is = absurd (cc)
+
+-- the tests of a refusal, one after the other
+first_of : (known waits full : Bool) (j : Journal) (event : Event) (refusal : Refusal) → (waits ≡ true → is_start event ≡ false)
+    → IsRefused (if not known then Some WrongPort else if waits then Some IsCold else if full then Some JournalFull else None) j event refusal → MayBeRefused event refusal
+first_of false waits full j event refusal begins is = subst (MayBeRefused event) (sym is) tt
+first_of true true full j event refusal begins is = subst (MayBeRefused event) (sym is) (begins refl)
+first_of true false true j event refusal begins is = subst (MayBeRefused event) (sym is) tt
+first_of true false false j event refusal begins is = late j event refusal is
+
+-- what an event is answered is a receipt, or a reason for which it may be refused
+pub answered_so : (old : Journal) (m : Mark) (event : Event) (result : Result Receipt Refusal) (new : Journal) → IsAnswered old m event result new → IfErr result (MayBeRefused event)
+answered_so old m event (Ok receipt) new is = tt
+answered_so old m event (Err refusal) new is =
+    first_of (is_known old.counts m) (old.state.facts.cold && not (is_start event)) (nat_le 4096 (length old.entries) || nat_le (2 ^ 62) old.counts.number) old event refusal
+    (no_start old.state.facts.cold (is_start event)) is.1
