@@ -1,4 +1,5 @@
 mod Counting
 mod Digits
+mod Locality
 mod SocketTexts
 mod Telling
