@@ -10,7 +10,7 @@ use worker_fixtures::{Fault, Wire};
 
 /// The number of a link that isn't there.
 const NO_LINK: u16 = 2;
-/// The number of a link whose neighbour isn't of this machine and of IPv4.
+/// The number of a link with an address that isn't of this machine, or isn't of its other one's family.
 const OTHER: u16 = 3;
 /// What is sent.
 const FRAME: &[u8] = b"frame";
@@ -108,12 +108,29 @@ fn carry<R: Net + Print>(rt: &R, alloc: Global, ends: &Ends) -> Result<(), Fault
     }
 }
 
-/// Prints why there is no wire to a neighbour at an address that isn't of this machine or not of IPv4.
-fn tell_other<R: Net + Print>(rt: &R, alloc: Global, send: &str) -> Result<(), Fault> {
-    match (ANY.parse(), send.parse()) {
-        (Ok(listen), Ok(to)) => tell_fault(rt, alloc, send, &one_link(alloc, OTHER, listen, to)?),
+/// Prints why there is no wire between these addresses.
+fn tell_between<R: Net + Print>(
+    rt: &R,
+    alloc: Global,
+    of: &str,
+    listen: &str,
+    send: &str,
+) -> Result<(), Fault> {
+    match (listen.parse(), send.parse()) {
+        (Ok(at), Ok(to)) => tell_fault(rt, alloc, of, &one_link(alloc, OTHER, at, to)?),
         _ => Err(Fault::System),
     }
+}
+
+/// Prints why there is no wire to a neighbour at an address that isn't of this machine or not of IPv4.
+fn tell_other<R: Net + Print>(rt: &R, alloc: Global, send: &str) -> Result<(), Fault> {
+    tell_between(rt, alloc, send, ANY, send)
+}
+
+/// Prints why there is no wire on which frames come at such an address.
+fn tell_listening<R: Net + Print>(rt: &R, alloc: Global, listen: &str) -> Result<(), Fault> {
+    let of = format!(in alloc; "at {listen}")?;
+    tell_between(rt, alloc, of.as_str(), listen, ANY)
 }
 
 /// A frame goes over sockets from one router to the other, and one over a link that isn't there: prints what comes. Prints the
@@ -125,6 +142,9 @@ pub fn run<R: Net + Print>(rt: &R, alloc: Global) -> Result<(), Fault> {
     }
     for send in OTHERS {
         tell_other(rt, alloc, send)?;
+    }
+    for listen in OTHERS {
+        tell_listening(rt, alloc, listen)?;
     }
     Ok(())
 }
