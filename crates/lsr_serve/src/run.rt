@@ -1,6 +1,6 @@
 //! A router's run: a thread for each link and one for the clock, over any wires.
 ghost use Rattle.std.specs.Prelude.{◌≡◌, ◌+◌, ◌<◌, ◌≤◌, IfNone, IfOk, OnOk, length};
-ghost use Rattle.lsr_serve.specs.Reports.{IsCounted};
+ghost use Rattle.lsr_serve.specs.Reports.{IsCounted, IsPutTo};
 
 use crate::udp_wire::LinkWire;
 use abstract_paths::Event;
@@ -200,6 +200,7 @@ impl RunReport {
 
 /// Puts the work of one more port to what the others left. The only error is out of memory.
 fn add_work(served: &mut RunReport, work: Work) -> Result<(), AllocError>
+    ensures put { OnOk result (IsPutTo served.old work served.new) }
     ensures ports { OnOk result (length served.new.ports.items ≡ length served.old.ports.items + 1) }
     ensures counted { IsCounted served.old → OnOk result (IsCounted served.new) }
 {
