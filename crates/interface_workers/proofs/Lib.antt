@@ -1,11 +1,6 @@
-pub mod Calling
 pub mod Chaining
 pub mod Counting
-pub mod Joining
 pub mod Passing
-pub mod Ports
 pub mod Sendings
 pub mod TakenKinds
 pub mod Turning
-pub mod Walking
-pub mod Whole

@@ -1,5 +1,4 @@
 mod Counting
 mod Digits
-mod Ports
 mod SocketTexts
 mod Telling

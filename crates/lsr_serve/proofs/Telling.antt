@@ -9,7 +9,7 @@ use Rattle.interface_workers.specs.Below.journal.Journals.{Stretch}
 use Rattle.interface_workers.specs.Below.journal.Marks.{Counts, counted}
 use Rattle.interface_workers.specs.Below.journal.declared.entry.CountedEntry.{CountedEntry}
 use Rattle.interface_workers.specs.Below.journal.declared.receipt.Receipt.{Receipt}
-use Rattle.interface_workers.specs.Reconciled.{IsReconciled, called_for, counts_at, entries_in, is_of}
+use Rattle.run_reconciler.specs.Reconciled.{IsReconciled, called_for, counts_at, entries_in, is_of}
 use Rattle.lsr_serve.specs.Told.{Serves, TellsRun}
 
 -- each entry calls for one receipt

@@ -1,7 +1,6 @@
 //! A router over sockets.
 #![tactic(auto)]
 
-mod judging;
 mod run;
 mod serving;
 mod sockets;
@@ -9,7 +8,6 @@ mod turns;
 mod udp_wire;
 
 pub use interface_workers::{KeepSegments, NotKept, SegmentCount};
-pub use judging::judge;
 pub use lsr_config::LinkSockets;
 pub use run::{
     BesideClock, ClockAlone, PortCount, RunReport, TICK_MS, Worker, link_workers, run_worker,

@@ -3,15 +3,15 @@ ghost use Rattle.std.specs.Prelude.{◌≡◌, ◌+◌, ◌<◌, ℕ, List, leng
 ghost use Rattle.std.specs.Io.KnownBytes.{Appends};
 ghost use Rattle.lsr_serve.specs.Told.{Serves, TellsRun};
 
-use crate::judging::{copy_config, judge};
 use crate::run::{BesideClock, PortCount, RunReport, serve_on};
 use crate::udp_wire::{LinkWire, ServeFault, UdpWire, open_clock_wire, open_wires};
-use interface_workers::{KeepSegments, Mismatch, OpenGate, Segment};
+use interface_workers::{KeepSegments, OpenGate, Segment};
 use log::sink::Writer;
 use log::{Log, info};
 use lsr_config::{Config, LinkSockets};
-use sorted_rows::Table;
-use std::alloc::Global;
+use run_reconciler::{Mismatch, judge};
+use sorted_rows::{Table, TryCopy};
+use std::alloc::{AllocError, Global};
 use std::io;
 use std::io::Write;
 use std::net::Net;
@@ -23,6 +23,19 @@ use std::time::Clock;
 const DONE: u8 = 0;
 /// The status of one that isn't, or that didn't begin.
 const FAILED: u8 = 1;
+
+/// A configuration like this one. The only error is out of memory.
+fn copy_config(alloc: Global, config: &Config) -> Result<Config, AllocError>
+    ensures { IfOk result (λ copy. copy ≡ config.now) }
+{
+    config.opens();
+    Ok(Config {
+        router: config.router.try_copy(alloc)?,
+        routes: config.routes.try_copy(alloc)?,
+        tunnels: config.tunnels.try_copy(alloc)?,
+        bypasses: config.bypasses.try_copy(alloc)?,
+    })
+}
 
 /// Logs how much each port did, the first of which has the number 1. A line that can't be written is left out.
 fn tell_ports<L: Log>(log: &L, ports: &[PortCount]) {
@@ -53,9 +66,11 @@ pub fn tell_run<W: Write>(config: &Config, served: &RunReport, output: &mut W) -
     ensures { IfOk result (λ status. (text : List ℕ) × Appends (W.contents output.old) (W.contents output.new) text
         × TellsRun config.now (length served.now.ports.items) served.now.segments.items served.now.receipts.items text status) }
 {
-    match judge(config, served) {
+    let segments = served.segments.as_slice();
+    let receipts = served.receipts.as_slice();
+    match judge(config, served.ports.len(), segments, receipts) {
         Ok(()) => {
-            let count = served.receipts.len();
+            let count = receipts.len();
             write!(output, "reconciled {count} entries\n")?;
             Ok(DONE)
         }

@@ -1,6 +1,7 @@
 //! What threads leave that feed a router.
 
-use interface_workers::{Core, Finished, Port, Receipt, Segment, Work, is_same_state, reconcile};
+use interface_workers::{Core, Finished, Port, Receipt, Segment, Work, is_same_state};
+use run_reconciler::reconcile;
 use std::alloc::{AllocError, Global};
 use std::sync::Wait;
 use std::sync::ledger::Ledger;

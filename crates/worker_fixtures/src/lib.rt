@@ -21,10 +21,11 @@ pub use frames::{
 };
 pub use interface_workers::{
     Closed, Core, CoreReader, CountedEntry, Entry, Gate, KeepSegments, NotKept, OpenGate, Opened,
-    Port, Receipt, Segment, SegmentCount, Wire, WireFault, Work, is_same_state, reconcile,
-    serve_event, serve_link,
+    Port, Receipt, Segment, SegmentCount, Wire, WireFault, Work, is_same_state, serve_event,
+    serve_link,
 };
 pub use left::{Left, count_entries};
+pub use run_reconciler::reconcile;
 pub use sockets::free_links;
 pub use timing::per_second;
 pub use words::{BAD_WORDS, DONE, FAILED, count_in, read_words, tell};

@@ -1,7 +1,0 @@
--- So are those before this one.
-use Rattle.std.proofs.Common.{All, take}
-use Rattle.run_journal.specs.Journals.{IsSegment}
-use Rattle.interface_workers.proofs.reconciling.are_segments.Given as goal
-
-abbrev pub invariant-loop-segment : goal.invariant-loop-segment
-invariant-loop-segment l = All IsSegment (take l.segment-index l.segments)

@@ -1,7 +1,0 @@
--- No receipt before this one is the port's.
-use Rattle.std.proofs.Common.{◌≡◌, drop}
-use Rattle.interface_workers.specs.Walks.{mine}
-use Rattle.interface_workers.proofs.reconciling.next_of.Given as goal
-
-abbrev pub invariant-loop-i : goal.invariant-loop-i
-invariant-loop-i l = mine l.port l.receipts ≡ mine l.port (drop l.i l.receipts)

@@ -1,5 +1,0 @@
-use Rattle.interface_workers.proofs.Whole.{joined_run}
-use Rattle.interface_workers.proofs.reconciling.whole_journals_are_runs.Goals as goal
-
-pub returns : goal.returns
-returns c = joined_run c.args.segments.now c.are_segments.ensures

@@ -1,5 +1,0 @@
-use Rattle.lsr_serve.proofs.Ports.{of_ports}
-use Rattle.lsr_serve.proofs.judging.has_ports.Goals as goal
-
-pub returns : goal.returns
-returns c = rw c.marks.ensures (of_ports c.args.from.now c.args.ports c.requires)

@@ -1,0 +1,4 @@
+pub mod Judged
+pub mod Mismatches
+pub mod Reconciled
+pub mod Walks
