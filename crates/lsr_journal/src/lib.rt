@@ -1,6 +1,7 @@
 //! A session of `lsr step --journal`: a router whose journal is kept, what it answers to requests, and the file of its journal.
 #![tactic(auto)]
 
+pub mod laws;
 mod receipts;
 mod recorded;
 mod seen;

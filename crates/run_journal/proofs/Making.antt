@@ -4,6 +4,7 @@ use Rattle.abstract_paths.specs.declared.events.Event.{Event}
 use Rattle.abstract_router.specs.States.{State}
 use Rattle.abstract_router.specs.Steps.{Step}
 use Rattle.abstract_router.specs.Tables.{TellsChange}
+use Rattle.journal_bytes.specs.Events.{IsWrittenAgain}
 use Rattle.router_core.specs.Readies.{IsReady, after_ready, made_of}
 use Rattle.router_core.specs.States.{RouterState}
 use Rattle.router_core.specs.declared.ready.Ready.{Ready}
@@ -25,6 +26,7 @@ recorded_made s t event ready e is its after step = (
     made = made_of event ready;
     step = step;
     entry = its.entry;
+    again = subst IsWrittenAgain (sym (made-event event ready)) its.again;
     told = subst (λ (x : State). TellsChange e.changes_table s.router s.state x) (sym (ap (λ (x : RouterState). x.state) after)) (its.told s is);
   },
   made-event event ready,

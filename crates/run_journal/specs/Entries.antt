@@ -6,13 +6,16 @@ use Rattle.abstract_router.specs.States.{State}
 use Rattle.abstract_router.specs.Steps.{Run, Step}
 use Rattle.abstract_router.specs.Tables.{TellsChange}
 use Rattle.journal_bytes.specs.Entries.{IsEntryOf}
+use Rattle.journal_bytes.specs.Events.{IsWrittenAgain}
 use Rattle.run_journal.specs.declared.entry.CountedEntry.{CountedEntry}
 
--- The entry records a step of the router from one state to the other, and tells whether what is forwarded changed.
+-- The entry records a step of the router from one state to the other, and tells whether what is forwarded changed. What it has of a message
+-- that came is read as the same message.
 pub record Recorded (r : Router) (before : State) (e : CountedEntry) (after : State) : Type 0 where
   pub made : Made
   pub step : Step r before made after
   pub entry : IsEntryOf made e.entry
+  pub again : IsWrittenAgain made.event
   pub told : TellsChange e.changes_table r before after
 
 -- Entries record steps, one after the other.

@@ -18,7 +18,7 @@ use Rattle.lookup_plane.specs.Changes as planes
 use Rattle.lookup_plane.specs.Changes.{Changes, IsChangeOf}
 use Rattle.lookup_plane.specs.declared.change.TableChange.{TableChange}
 use Rattle.journal_bytes.specs.Entries.{IsEntryOf}
-use Rattle.journal_bytes.specs.Events.{event_bytes}
+use Rattle.journal_bytes.specs.Events.{IsWrittenAgain, event_bytes}
 use Rattle.router_core.specs.States.{RouterState}
 use Rattle.router_core.specs.Readies.{IsReady, after_ready, made_of}
 use Rattle.router_core.specs.declared.ready.Ready.{Ready}
@@ -140,10 +140,11 @@ IsRefused (Some why) j event refusal = refusal ≡ why
 IsRefused None j event refusal = IsRefusedLate j event refusal
 
 -- The entry is that of a port's event and of its step that is made ready: whatever the router knows for which it was made
--- ready, it tells whether what is forwarded changes then.
+-- ready, it tells whether what is forwarded changes then. What it has of a message that came is read as the same message.
 pub record IsEntryFor (port : ℕ) (event : Event) (ready : Ready) (e : CountedEntry) : Type 0 where
   pub port_is : e.entry.port ≡ port
   pub entry : IsEntryOf (made_of event ready) e.entry
+  pub again : IsWrittenAgain event
   pub told : (s : RouterState) → IsReady s event ready → TellsChange e.changes_table s.router s.state (after_ready ready s.state)
 
 -- The change is that of a step that is made ready: whatever the router knows for which it was made ready, and whatever changes lead to its
