@@ -4,7 +4,7 @@ use Rattle.std.specs.Prelude.{◌↔◌, IsTrue}
 use Rattle.toml.specs.Data.{Members, table}
 use Rattle.toml.specs.Parse.{parse_document}
 use Rattle.journal_files.specs.Texts.{NamesNoCapacity, names_some_capacity}
-use Rattle.journal_files.proofs.ConfigLaws.{same_members}
+use Rattle.journal_files.proofs.OneConfig.{same_members}
 
 is_not : (b : Bool) → not b ≡ true → b ≡ false
 is_not true e = cc

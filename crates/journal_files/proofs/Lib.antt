@@ -5,6 +5,7 @@ pub mod Documents
 pub mod FirstRead
 pub mod Mapped
 pub mod Named
+pub mod OneConfig
 pub mod Parts
 pub mod PendingLaws
 pub mod Recorded

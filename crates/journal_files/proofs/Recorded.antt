@@ -21,6 +21,7 @@ use Rattle.journal_files.specs.declared.formats.FileFormat.{FileFormat}
 use Rattle.journal_files.specs.declared.formats.FileFormat.TheVariants as formats
 use Rattle.journal_files.specs.declared.recordings.Recording.{Recording}
 use Rattle.journal_files.proofs.ConfigLaws.{allowed_alike}
+use Rattle.journal_files.proofs.OneConfig.{one_config}
 use Rattle.journal_files.proofs.PendingLaws.{fitting_untold, told_so, untold_told}
 
 -- ---- the text
@@ -147,9 +148,11 @@ same_stored one f g x y p q e =
     let here : P f = subst P (sym (same_format f g (format_bytes f x) (format_bytes g y) e)) (q, same_body f g (format_bytes f x) (format_bytes g y) e) in
     (one f x y [] [] p here.0 (ap (λ (v : List ℕ). v ++ []) here.1)).0
 
--- no file spells two recordings of one configuration
-pub one_recording : ((format : FileFormat) → IsOne (FormatFits format) (format_bytes format)) → (bytes : List ℕ) (a b : Recording) → SpellsFile bytes a → SpellsFile bytes b → a.config ≡ b.config → a ≡ b
-one_recording one bytes a b s t same =
+-- no file spells two recordings
+pub one_recording : ((format : FileFormat) → IsOne (FormatFits format) (format_bytes format)) → (bytes : List ℕ) (a b : Recording) → SpellsFile bytes a → SpellsFile bytes b → a ≡ b
+one_recording one bytes a b s t =
     let parts : stored a ≡ stored b = same_stored one s.format t.format (stored a) (stored b) s.fits t.fits (sym s.parts ∙ t.parts) in
+    let P : List ℕ → Type 0 = λ text. IsRead text (Ok a.config) in
+    let same : a.config ≡ b.config = one_config b.text a.config b.config (subst P (ap (λ (v : Stored). v.0) parts) s.recording.says.read) t.recording.says.read in
     let base : a.base ≡ b.base = s.recording.pending ∙ ((λ i. told_state (same i).router ((parts i).1.0)) ∙ sym t.recording.pending) in
     (λ i. record { text = (parts i).0; config = same i; base = base i; entries = (parts i).1.1 })

@@ -26,9 +26,9 @@ pub fn files_spell_recordings()
         → SpellsFile (file_bytes format (format_bytes format (stored r))) r }
 {}
 
-/// No file spells two recordings of one configuration: so what is written is read back.
+/// No file spells two recordings: so what is written is read back.
 pub fn files_spell_one_recording()
-    ensures { (bytes : List ℕ) (a b : Recording) → SpellsFile bytes a → SpellsFile bytes b → a.config ≡ b.config → a ≡ b }
+    ensures { (bytes : List ℕ) (a b : Recording) → SpellsFile bytes a → SpellsFile bytes b → a ≡ b }
 {
     bytes_tell_apart::<FirstBody>();
     bytes_tell_apart::<SecondBody>();
