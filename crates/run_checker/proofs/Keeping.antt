@@ -1,13 +1,14 @@
 -- What a journal keeps of a run records it.
-use Rattle.std.specs.Prelude.{◌≡◌, ℕ, List, [], ◌∷◌}
+use Rattle.std.specs.Prelude.{ℕ, List, [], ◌∷◌}
 use Rattle.std.proofs.Common.{subst, sym}
 use Rattle.lsr_facts.specs.declared.router.Router.{Router}
 use Rattle.abstract_paths.specs.declared.events.Made.{Made}
 use Rattle.abstract_router.specs.States.{State}
 use Rattle.abstract_router.specs.Steps.{Run, Step}
 use Rattle.journal_bytes.specs.Entries.{IsEntryOf}
+use Rattle.journal_bytes.specs.Events.{IsWrittenAgain}
 use Rattle.journal_bytes.specs.declared.entry.Entry.{Entry}
-use Rattle.event_fields.specs.Spelled.{IsWrittenAgain, SpellsEvent}
+use Rattle.event_fields.specs.Spelled.{SpellsEvent}
 use Rattle.event_fields.proofs.Fields.{written_event}
 use Rattle.run_checker.specs.Recorded.{AreKept, AreRecorded, IsRecorded}
 

@@ -23,6 +23,26 @@ module _ {E S : Type 0} (Leads : S → E → S → Type 0) where
   taken_at : (entries : List E) (place : ℕ) (entry : E) → place < length entries → entry ≡ get_or entries place entry → take (place + 1) entries ≡ take place entries ++ entry ∷ []
   taken_at entries place entry within is = take_more entries place entry within ∙ ap (λ (x : E). take place entries ++ x ∷ []) (sym is)
 
+  module _ (one : (s : S) (entry : E) (a b : S) → Leads s entry a → Leads s entry b → a ≡ b) where
+    -- entries lead to one state alone, where each does
+    led_one : (base : S) (entries : List E) (a b : S) → IsLed Leads base entries a → IsLed Leads base entries b → a ≡ b
+    led_one base [] a b x y = x ∙ sym y
+    led_one base (entry ∷ entries) a b x y = led_one y.0 entries a b (subst (λ (s : S). IsLed Leads s entries a) (one base entry x.0 y.0 x.1 y.1) x.2) y.2
+
+    -- the first of them lead somewhere, and the others on from there
+    led_parts : (base : S) (earlier later : List E) (end : S) → IsLed Leads base (earlier ++ later) end → (between : S) × IsLed Leads base earlier between × IsLed Leads between later end
+    led_parts base [] later end led = (base, refl, led)
+    led_parts base (entry ∷ earlier) later end led = let rest = led_parts led.0 earlier later end led.2 in (rest.0, (led.0, led.1, rest.1), rest.2)
+
+    -- With none of them anything is wrong, where what is wrong leads nowhere.
+    pub none_wrong : (Wrong : S → E → Type 0) → ((s : S) (entry : E) (after : S) → Wrong s entry → Leads s entry after → ⊥) → (base end : S) (entries : List E) (number : ℕ)
+        → IsLed Leads base entries end → IsFirstWrong Leads Wrong base entries number → ⊥
+    none_wrong Wrong nowhere base end entries number led first =
+        let parts = led_parts base first.earlier (first.entry ∷ first.later) end (subst (λ (es : List E). IsLed Leads base es end) first.parts led) in
+        let same : parts.0 ≡ first.between = led_one base first.earlier parts.0 first.between parts.1 first.led in
+        let rest = subst (λ (s : S). IsLed Leads s (first.entry ∷ first.later) end) same parts.2 in
+        nowhere first.between first.entry rest.0 first.wrong rest.1
+
   module _ (Keeps : S → Type 0) (base : S) (entries : List E) where
     -- before the first entry
     pub none_yet : Keeps base → IsSoFar Leads Keeps base entries 0 base

@@ -1,6 +1,6 @@
-mod Keeping
+pub mod Keeping
 mod Leading
-mod Refusing
+pub mod Refusing
 mod Steps
 mod Telling
 mod Unlabelled

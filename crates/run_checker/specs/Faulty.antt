@@ -73,3 +73,7 @@ IsRunFault r base entries runs.Memory = Unit {0}
 IsRunFault r base entries (runs.Base clause) = (IsSound r base → ⊥) × IsBroken clause r base
 IsRunFault r base entries (runs.Entry number fault) =
     IsSound r base × IsFirstWrong (IsRecorded r) (IsWrong fault r) base entries number
+
+-- Whoever checks entries from a base is told of no fault, but that memory ran out.
+abbrev pub IsFaultless : Router → State → List Entry → Type 0
+IsFaultless r base entries = (fault : RunFault) → IsRunFault r base entries fault → fault ≡ runs.Memory

@@ -5,8 +5,9 @@ use Rattle.abstract_paths.specs.declared.events.Made.{Made}
 use Rattle.abstract_router.specs.States.{State}
 use Rattle.abstract_router.specs.Steps.{Step}
 use Rattle.journal_bytes.specs.Entries.{IsEntryOf, written_frame}
+use Rattle.journal_bytes.specs.Events.{IsWrittenAgain}
 use Rattle.journal_bytes.specs.declared.entry.Entry.{Entry}
-use Rattle.event_fields.specs.Spelled.{IsWrittenAgain, SpellsEvent}
+use Rattle.event_fields.specs.Spelled.{SpellsEvent}
 
 -- The entry tells of this step what happened, which labels were chosen, what was answered, and what was sent, as it was written. What
 -- happened may be spelled otherwise than this router writes it.

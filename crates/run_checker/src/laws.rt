@@ -3,12 +3,13 @@
 ghost use Rattle.std.specs.Prelude.{◌≡◌, List};
 ghost use Rattle.lsr_facts.specs.declared.router.Router.{Router};
 ghost use Rattle.abstract_paths.specs.declared.events.Made.{Made};
+ghost use Rattle.abstract_router.specs.Soundness.{IsSound};
 ghost use Rattle.abstract_router.specs.States.{State};
 ghost use Rattle.abstract_router.specs.Steps.{Run, Step};
 ghost use Rattle.journal_bytes.specs.Entries.{IsEntryOf};
+ghost use Rattle.journal_bytes.specs.Events.{IsWrittenAgain};
 ghost use Rattle.journal_bytes.specs.declared.entry.Entry.{Entry};
-ghost use Rattle.event_fields.specs.Spelled.{IsWrittenAgain};
-ghost use Rattle.run_checker.specs.Faulty.{IsWrong};
+ghost use Rattle.run_checker.specs.Faulty.{IsFaultless, IsWrong};
 ghost use Rattle.run_checker.specs.Recorded.{AreKept, AreRecorded, IsRecorded};
 ghost use Rattle.run_checker.specs.declared.fault.EntryFault.{EntryFault};
 
@@ -30,4 +31,9 @@ pub fn one_step_is_recorded()
 pub fn wrong_entries_record_nothing()
     ensures { (r : Router) (before after : State) (e : Entry) (fault : EntryFault) →
         IsWrong fault r before e → IsRecorded r before e after → ⊥ }
+{}
+
+/// A check of a run from a sound base tells of no fault, but that memory ran out.
+pub fn runs_are_faultless()
+    ensures { (r : Router) (base end : State) (entries : List Entry) → IsSound r base → AreRecorded r base entries end → IsFaultless r base entries }
 {}
