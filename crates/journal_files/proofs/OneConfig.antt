@@ -1,32 +1,26 @@
 -- A text says one configuration.
-use Rattle.std.proofs.Common.{◌≡◌, ◌^◌, ◌++◌, ◌∷◌, ◌<◌, ◌∙◌, ℕ, suc, zero, Bool, true, false, List, [], length, get_or, drop, take, codes, append_assoc, Option, Some, None, Result, Ok, refl, sym, ap, subst, arith}
+use Rattle.std.proofs.Common.{◌≡◌, ◌^◌, ◌++◌, ◌∷◌, ◌<◌, ◌∙◌, ℕ, suc, zero, Bool, true, false, List, [], length, get_or, drop, take, codes, append_assoc, Option, Some, None, Ok, refl, sym, ap, subst, arith}
 use Rattle.std.specs.Prelude.{IsSomeAnd, MatchOption, pos}
 use Rattle.std.specs.Fmt.{decimal}
 use Rattle.std.specs.List.{before_first, position_or_len}
 use Rattle.std.specs.Net.Grammar.{IsIpv4Text}
 use Rattle.std.specs.Ordering.{nat_cmp}
 use Rattle.std.specs.Option.{unwrap_or}
-use Rattle.std.specs.Str.Parse.{AllDigits, IsNumeral, digits_value}
+use Rattle.std.specs.Str.Parse.{AllDigits, digits_value}
 use Rattle.std.specs.declared.cmp.Ordering.{Ordering}
 use Rattle.std.specs.declared.net.ipv4_addr.Ipv4Addr.{Ipv4Addr}
 use Rattle.std.proofs.NetLemmas.Theorems.{IsIpv4Text_unique}
 use Rattle.std.proofs.lemmas.Fmt.{decimal_nonempty, digits_decimal}
 use Rattle.std.proofs.lemmas.Str.Parse.{IsNumeralModel, not_in_digits, numerals_by_value, tells_digits}
-use Rattle.toml.specs.Data.{Data, string, integer, boolean, array, table, Items, no_items, item, Members, get}
+use Rattle.toml.specs.Data.{Data, string, integer, boolean, table, Members, get}
 use Rattle.toml.specs.Parse.{parse_document}
 use Rattle.rsvp_bodies.specs.RateWords.{tspec_with}
 use Rattle.rsvp_bodies.specs.RouteWords.{is_slash, IsPrefixText, IsStepText}
-use Rattle.rsvp_bodies.specs.declared.attr.Attr.{Attr}
 use Rattle.rsvp_bodies.specs.declared.prefix.Prefix.{Prefix}
 use Rattle.rsvp_bodies.specs.declared.step.Step.{Step}
 use Rattle.rsvp_bodies.specs.declared.step.Step.TheVariants.{Ipv4, Other}
 use Rattle.lsr_facts.specs.Orders.{prefix_cmp}
 use Rattle.lsr_facts.specs.Routers.{masked}
-use Rattle.lsr_facts.specs.declared.bypass.Bypass.{Bypass}
-use Rattle.lsr_facts.specs.declared.router.LabelRange.{LabelRange}
-use Rattle.lsr_facts.specs.declared.router.Link.{Link}
-use Rattle.lsr_facts.specs.declared.router.Router.{Router}
-use Rattle.lsr_facts.specs.declared.tunnel.Tunnel.{Tunnel}
 use Rattle.lsr_config.specs.Configs.{Setup}
 use Rattle.lsr_config.specs.Documents.{Says, SaysAttributes, SaysBypass, SaysLink, SaysRoute, SaysTable, SaysTunnel, array_elements, in_order, new_tunnel, records}
 use Rattle.lsr_config.specs.Keys.{key_name}
