@@ -1,11 +1,13 @@
 -- Why an event is refused that is applied under the lock.
-use Rattle.std.proofs.Common.{◌≡◌, ◌≤◌, ◌^◌, ◌&&◌, ◌||◌, not, nat_le, Bool, true, false, Some, None, Result, Ok, Err, if◌then◌else◌, length, refl, subst, sym}
+use Rattle.std.proofs.Common.{◌≡◌, ◌^◌, ◌&&◌, ◌||◌, not, nat_le, Bool, true, false, Some, None, Result, Ok, Err, if◌then◌else◌, length, refl, subst, sym}
 use Rattle.std.proofs.lemmas.Bool.{leb-true}
-use Rattle.std.specs.Prelude.{IfErr}
+use Rattle.std.specs.Prelude.{IfErr, is_some}
+use Rattle.lsr_facts.specs.Routers.{link_at}
 use Rattle.lsr_facts.specs.declared.facts.Facts.{Facts}
 use Rattle.lsr_facts.specs.declared.refusal.Refusal.{Refusal}
 use Rattle.lsr_facts.specs.declared.refusal.Refusal.TheVariants.{HopLimit, IsCold, JournalFull, NoMemory, WrongPort}
 use Rattle.lsr_facts.specs.declared.router.Router.{Router}
+use Rattle.abstract_paths.specs.Places.{is_up}
 use Rattle.abstract_paths.specs.Relays.{exceeds_hop_limit}
 use Rattle.abstract_paths.specs.declared.events.Event.{Event}
 use Rattle.abstract_paths.specs.declared.events.Event.TheVariants as events
@@ -23,7 +25,7 @@ third false b c is = absurd (cc)
 
 -- its limit ran out
 spent : (r : Router) (facts : Facts) (event : Event) → exceeds_hop_limit r facts event ≡ true → IsLimitSpent event
-spent r facts (events.Relay message) is = leb-true message.limit 1 (third _ _ (nat_le message.limit 1) is)
+spent r facts (events.Relay message) is = leb-true message.limit 1 (third (is_some (link_at r message.link)) (is_up facts.up message.link) (nat_le message.limit 1) is)
 spent r facts event is = absurd (cc)
 
 -- why it is refused that is looked at
