@@ -1,7 +1,7 @@
 -- Why an event is refused that is applied under the lock.
-use Rattle.std.proofs.Common.{◌≡◌, ◌^◌, ◌&&◌, ◌||◌, not, nat_le, Bool, true, false, Some, None, Result, Ok, Err, if◌then◌else◌, length, refl, subst, sym}
+use Rattle.std.proofs.Common.{◌≡◌, ◌^◌, ◌&&◌, ◌||◌, not, nat_le, Bool, true, false, Some, None, if◌then◌else◌, length, refl, subst, sym}
 use Rattle.std.proofs.lemmas.Bool.{leb-true}
-use Rattle.std.specs.Prelude.{IfErr, is_some}
+use Rattle.std.specs.Prelude.{is_some}
 use Rattle.lsr_facts.specs.Routers.{link_at}
 use Rattle.lsr_facts.specs.declared.facts.Facts.{Facts}
 use Rattle.lsr_facts.specs.declared.refusal.Refusal.{Refusal}
@@ -11,10 +11,9 @@ use Rattle.abstract_paths.specs.Places.{is_up}
 use Rattle.abstract_paths.specs.Relays.{exceeds_hop_limit}
 use Rattle.abstract_paths.specs.declared.events.Event.{Event}
 use Rattle.abstract_paths.specs.declared.events.Event.TheVariants as events
-use Rattle.run_journal.specs.Journals.{IsAnswered, IsRefused, IsRefusedLate, Journal, early_refusal, is_start}
+use Rattle.run_journal.specs.Journals.{IsRefused, IsRefusedLate, Journal, early_refusal, is_start}
 use Rattle.run_journal.specs.Marks.{is_known}
 use Rattle.run_journal.specs.declared.mark.Mark.{Mark}
-use Rattle.run_journal.specs.declared.receipt.Receipt.{Receipt}
 use Rattle.interface_workers.specs.Refused.{IsLimitSpent, MayBeRefused}
 
 -- all three hold
@@ -48,9 +47,8 @@ first_of true true full j event refusal begins is = subst (MayBeRefused event) (
 first_of true false true j event refusal begins is = subst (MayBeRefused event) (sym is) tt
 first_of true false false j event refusal begins is = late j event refusal is
 
--- what an event is answered is a receipt, or a reason for which it may be refused
-pub answered_so : (old : Journal) (m : Mark) (event : Event) (result : Result Receipt Refusal) (new : Journal) → IsAnswered old m event result new → IfErr result (MayBeRefused event)
-answered_so old m event (Ok receipt) new is = tt
-answered_so old m event (Err refusal) new is =
+-- why an event is refused is a reason for which it may be
+pub refused_so : (old : Journal) (m : Mark) (event : Event) (refusal : Refusal) → IsRefused (early_refusal old m event) old event refusal → MayBeRefused event refusal
+refused_so old m event refusal is =
     first_of (is_known old.counts m) (old.state.facts.cold && not (is_start event)) (nat_le 4096 (length old.entries) || nat_le (2 ^ 62) old.counts.number) old event refusal
-    (no_start old.state.facts.cold (is_start event)) is.1
+    (no_start old.state.facts.cold (is_start event)) is

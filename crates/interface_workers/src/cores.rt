@@ -100,12 +100,17 @@ impl<L: Ledger, R: Wait + Drop> Booked<L, R> {
         ensures follows { IfOk result (λ receipt. Follows port.old.mark receipt × (port.new.mark ≡ receipt.mark)) }
         ensures counted { OnOk result (port.new.share.amount ≡ port.old.share.amount + 1) }
         ensures taken { port.new.taken ≡ port.old.taken }
+        ensures refused { IfErr result (MayBeRefused event.now) }
         ensures kept { OnErr result (port.new ≡ port.old) }
     {
-        let receipt = self.locked.apply(alloc, port.mark, event)?;
-        self.calls.add(&mut port.share, 1);
-        port.mark = receipt.mark();
-        Ok(receipt)
+        match self.locked.apply(alloc, port.mark, event) {
+            Ok(receipt) => {
+                self.calls.add(&mut port.share, 1);
+                port.mark = receipt.mark();
+                Ok(receipt)
+            }
+            Err(refusal) => Err(refusal),
+        }
     }
 
     /// Takes the entries away, as a segment that has to be given to who keeps them. The only error is out of memory, and then nothing
