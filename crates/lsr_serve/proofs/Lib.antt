@@ -1,5 +1,4 @@
 mod Counting
 mod Digits
-mod Locality
 mod SocketTexts
 mod Telling

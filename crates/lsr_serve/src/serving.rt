@@ -1,6 +1,7 @@
 //! `lsr serve`: the links of a configuration over sockets, and what is told of the run.
-ghost use Rattle.std.specs.Prelude.{◌≡◌, ◌+◌, ◌<◌, ℕ, List, length, IfOk};
+ghost use Rattle.std.specs.Prelude.{◌≡◌, ◌+◌, ◌<◌, ℕ, List, length, IfErr, IfOk, OnOk};
 ghost use Rattle.std.specs.Io.KnownBytes.{Appends};
+ghost use Rattle.run_reconciler.specs.Judged.{IsNoRun, ServesRun};
 ghost use Rattle.lsr_serve.specs.Told.{Serves, TellsRun};
 
 use crate::run::{BesideClock, PortCount, RunReport, serve_on};
@@ -60,17 +61,27 @@ fn tell_end<L: Log>(log: &L, segments: &[Segment]) {
     }
 }
 
+/// Whether what a run left is one run of the router of this configuration, as [`judge`] says.
+fn judge_report(config: &Config, served: &RunReport) -> Result<(), Mismatch>
+    ensures run { OnOk result
+        (ServesRun config.now (length served.now.ports.items) served.now.segments.items served.now.receipts.items) }
+    ensures mismatch { IfErr result
+        (IsNoRun config.now (length served.now.ports.items) served.now.segments.items served.now.receipts.items) }
+{
+    let segments = served.segments.as_slice();
+    let receipts = served.receipts.as_slice();
+    judge(config, served.ports.len(), segments, receipts)
+}
+
 /// Prints whether what a run left is one run of the router of this configuration, as [`judge`] says, and how many entries its journal
 /// has; and gives the status, 0 or 1. The error is the stream's.
 pub fn tell_run<W: Write>(config: &Config, served: &RunReport, output: &mut W) -> io::Result<u8>
     ensures { IfOk result (λ status. (text : List ℕ) × Appends (W.contents output.old) (W.contents output.new) text
         × TellsRun config.now (length served.now.ports.items) served.now.segments.items served.now.receipts.items text status) }
 {
-    let segments = served.segments.as_slice();
-    let receipts = served.receipts.as_slice();
-    match judge(config, served.ports.len(), segments, receipts) {
+    match judge_report(config, served) {
         Ok(()) => {
-            let count = receipts.len();
+            let count = served.receipts.len();
             write!(output, "reconciled {count} entries\n")?;
             Ok(DONE)
         }
