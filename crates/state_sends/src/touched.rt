@@ -155,10 +155,14 @@ pub(crate) fn is_same_everywhere<I: KeptAlive, V: StateView>(
 fn sharing_or(alloc: Global, lsps: &Lsps, sharing: &Option<Lsps>) -> Result<Lsps, AllocError>
     ensures { IfOk result (λ all. all ≡ unwrap_or sharing.now lsps.now) }
 {
-    match sharing {
-        Some(all) => all.try_copy(alloc),
-        None => lsps.try_copy(alloc),
+    let all = match sharing {
+        Some(all) => all,
+        None => lsps,
+    };
+    if all.as_slice().is_empty() {
+        return Ok(Table::new(alloc));
     }
+    all.try_copy(alloc)
 }
 
 /// All LSPs that a step touches, for items of one kind: those of which its messages don't say the same after its edits, those

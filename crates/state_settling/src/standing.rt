@@ -241,6 +241,9 @@ pub(crate) fn take_resvs<V: WholeState>(
     ensures { OnOk result (edited edits.new (V.state view.now) ≡ resvs_left (edited edits.old (V.state view.now))) }
 {
     let gone = fallen::<ResvFact, V>(alloc, view, edits)?;
+    if gone.is_empty() {
+        return Ok(());
+    }
     let resvs = mem::replace(&mut edits.resvs, Table::new(alloc));
     edits.resvs = without_rows(resvs, &gone)?;
     Ok(())
@@ -261,6 +264,9 @@ pub(crate) fn take_repairs<V: WholeState>(
         ≡ repairs_left (V.router view.now) (edited edits.old (V.state view.now))) }
 {
     let gone = fallen::<Repair, V>(alloc, view, edits)?;
+    if gone.is_empty() {
+        return Ok(());
+    }
     let repairs = mem::replace(&mut edits.repairs, Table::new(alloc));
     edits.repairs = without_rows(repairs, &gone)?;
     Ok(())
