@@ -174,6 +174,18 @@ fn put_body<E: AsEntry>(
     put_entries(entries, out)
 }
 
+/// Appends bytes, which are taken as they are where nothing stands before them. The only error is out of memory, and then nothing changed.
+fn append(bytes: Vec<u8>, out: &mut Vec<u8>) -> Result<(), AllocError>
+    ensures ok { OnOk result (out.new.items ≡ out.old.items ++ bytes.items) }
+    ensures err { OnErr result (out.new.items ≡ out.old.items) }
+{
+    if out.is_empty() {
+        *out = bytes;
+        return Ok(());
+    }
+    out.extend_from_slice(bytes.as_slice())
+}
+
 /// Appends the file of a configuration's text, what a router knew, and entries. The only errors are out of memory, and what no file holds;
 /// then nothing changed.
 pub fn write_file<E: AsEntry>(
@@ -189,5 +201,5 @@ pub fn write_file<E: AsEntry>(
 {
     let mut file = Vec::from_slice(*out.allocator(), &HEAD)?;
     put_body(text, base, entries, &mut file)?;
-    out.extend_from_slice(file.as_slice())
+    append(file, out)
 }

@@ -60,6 +60,11 @@ module _ (r : Router) (opening : State) where
   knew_more : (before after : State) (e : CountedEntry) → Knew r opening before → Recorded r before e after → Knew r opening after
   knew_more before after e knew is = (knew.0 ++ is.made ∷ [], run_push r knew.0 is.made opening before after knew.1 is.step)
 
+  -- and what it knew after many entries
+  knew_all : (es : List CountedEntry) (before after : State) (shown all : List TableChange) → AreShown r before shown es after all → Knew r opening before → Knew r opening after
+  knew_all [] before after shown all is knew = subst (Knew r opening) (sym is.0) knew
+  knew_all (e ∷ es) before after shown all is knew = knew_all es is.0 after is.1 all is.5 (knew_more before is.0 e knew is.2)
+
   -- one entry more
   tables_more : (flag : Bool) (s : State) (shown next : List TableChange) → IsShownMore flag shown next → ((seen : List TableChange) → StartsWith shown seen → IsTableOnce r opening seen) → Knew r opening s → LeadToTable r s next
       → (seen : List TableChange) → StartsWith next seen → IsTableOnce r opening seen
@@ -75,6 +80,13 @@ module _ (r : Router) (opening : State) where
   tables_all (e ∷ es) before after shown all is knew were seen starts =
       let next : Knew r opening is.0 = knew_more before is.0 e knew is.2 in
       tables_all es is.0 after is.1 all is.5 next (tables_more e.changes_table is.0 shown is.1 is.3 were next is.4) seen starts
+
+-- the router knew once what it knows at the base, and what it knows now
+pub knew_base : (j : Journal) → IsKept j → Knew j.router j.opening j.base
+knew_base j is = let h = is.history in knew_all j.router j.opening h.0 j.opening j.base [] h.1 h.2 ([], refl)
+
+pub knew_now : (j : Journal) → IsKept j → Knew j.router j.opening j.state
+knew_now j is = let h = is.history in knew_all j.router j.opening j.entries j.base j.state h.1 j.shown h.3 (knew_base j is)
 
 -- each beginning of what readers are shown was the table of a state that the router was in
 pub tables_once : (j : Journal) → IsKept j → (seen : List TableChange) → StartsWith j.shown seen → IsTableOnce j.router j.opening seen

@@ -192,6 +192,11 @@ abbrev pub IsAnswered : Journal → Mark → Event → Result Receipt Refusal �
 IsAnswered old m event (Ok receipt) new = (early_refusal old m event ≡ None) × IsApplied old m.port event receipt new
 IsAnswered old m event (Err refusal) new = (new ≡ old) × IsRefused (early_refusal old m event) old event refusal
 
+-- What an event at a port is answered, where of a receipt its mark alone is given.
+abbrev pub IsMarked : Journal → Mark → Event → Result Mark Refusal → Journal → Type 0
+IsMarked old m event (Ok after) new = (receipt : Receipt) × (after ≡ receipt.mark) × IsAnswered old m event (Ok receipt) new
+IsMarked old m event (Err refusal) new = IsAnswered old m event (Err refusal) new
+
 -- A stretch of the journal: what the router knew and what the numbers were before it, its entries, and what the router knew
 -- after it.
 pub record Stretch : Type 0 where

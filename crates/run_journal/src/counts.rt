@@ -86,7 +86,7 @@ impl JournalCounts {
     }
 
     /// The mark of an entry's port after it.
-    fn mark_after(&self, entry: &CountedEntry) -> Mark
+    pub(crate) fn mark_after(&self, entry: &CountedEntry) -> Mark
         requires port { entry.now.entry.port - 1 < length self.now.marks }
         requires low { self.now.number < 2 ^ 62 }
         requires published { self.now.published ≤ self.now.number }

@@ -1,11 +1,12 @@
 //! A router with its journal, as it stands under a lock.
 
-ghost use Rattle.std.specs.Prelude.{◌≡◌, ◌<◌, ◌≤◌, ◌-◌, ◌+◌, ◌^◌, ◌++◌, ◌∷◌, [], All, IfOk, List, MatchResult, None, OnErr, OnOk, false, length};
+ghost use Rattle.std.specs.Prelude.{◌≡◌, ◌<◌, ◌≤◌, ◌-◌, ◌+◌, ◌^◌, ◌++◌, ◌∷◌, [], All, IfErr, IfOk, List, MatchResult, None, OnErr, OnOk, false, length};
 ghost use Rattle.router_core.specs.States.{opened};
 ghost use Rattle.router_core.specs.Readies.{IsReady};
 ghost use Rattle.lookup_plane.specs.Changes.{IsChangeOf, StartsWith, new_reader, opening_changes};
 ghost use Rattle.lookup_plane.specs.declared.change.TableChange.{TableChange};
-ghost use Rattle.run_journal.specs.Journals.{IsAnnounced, IsAnswered, IsChangeFor, IsEntered, IsEntryFor, IsKept, IsOpening, IsTableOnce, LeadToTable, early_refusal, opened_journal, rotated, router_in, stretch_of};
+ghost use Rattle.run_journal.specs.Entries.{Knew};
+ghost use Rattle.run_journal.specs.Journals.{IsAnnounced, IsAnswered, IsChangeFor, IsEntered, IsEntryFor, IsKept, IsMarked, IsOpening, IsRefused, IsSegment, IsTableOnce, LeadToTable, early_refusal, opened_journal, rotated, router_in, stretch_of};
 ghost use Rattle.run_journal.specs.Marks.{Follows, first_counts};
 
 use crate::counts::JournalCounts;
@@ -245,6 +246,26 @@ impl<R: Wait + Drop> Locked<R> {
         Ok(())
     }
 
+    /// The step of an event of a port, made ready, and the entry of it; or why the event is refused. Nothing changes yet.
+    fn prepare(
+        &self,
+        alloc: Global,
+        mark: Mark,
+        event: &Event,
+    ) -> Result<(Ready, CountedEntry), Refusal>
+        ensures taken { OnOk result (early_refusal self.now mark event.now ≡ None) }
+        ensures ready { IfOk result (λ made. IsReady (router_in self.now) event.now made.0) }
+        ensures entry { IfOk result (λ made. IsEntryFor mark.port event.now made.0 made.1) }
+        ensures refused { IfErr result (IsRefused (early_refusal self.now mark event.now) self.now event.now) }
+    {
+        if let Some(refusal) = self.early_refusal(mark, event) {
+            return Err(refusal);
+        }
+        let ready = self.machine.ready(alloc, event)?;
+        let entry = entry_of(alloc, mark.port, event, &ready)?;
+        Ok((ready, entry))
+    }
+
     /// Applies an event of a port, and tells the port of its entry. It is refused, in this order, where the mark isn't the
     /// one that the journal has for its port ([`Refusal::WrongPort`]); where the router is cold, and it is no start
     /// ([`Refusal::IsCold`]); where the segment has 4,096 entries, or there were 2^62 in all ([`Refusal::JournalFull`]); and
@@ -256,14 +277,21 @@ impl<R: Wait + Drop> Locked<R> {
         ensures follows { IfOk result (Follows mark) }
     {
         self.soundness();
-        if let Some(refusal) = self.early_refusal(mark, event) {
-            return Err(refusal);
-        }
-        let ready = self.machine.ready(alloc, event)?;
-        let entry = entry_of(alloc, mark.port, event, &ready)?;
+        let (ready, entry) = self.prepare(alloc, mark, event)?;
         let receipt = self.counts.receipt(alloc, &entry)?;
         self.record(alloc, event, ready, entry)?;
         Ok(receipt)
+    }
+
+    /// Applies an event of a port as [`Locked::apply`] does, and gives of the port's receipt the mark alone: what was answered and what is
+    /// to be sent stand in the last entry, and nothing is copied of it.
+    pub fn enter(&mut self, alloc: Global, mark: Mark, event: &Event) -> Result<Mark, Refusal>
+        ensures { IsMarked self.old mark event.now result self.new }
+    {
+        let (ready, entry) = self.prepare(alloc, mark, event)?;
+        let after = self.counts.mark_after(&entry);
+        self.record(alloc, event, ready, entry)?;
+        Ok(after)
     }
 
     /// Takes the entries away as a segment; what the router knows now is the new base. The memory of the next segment's
@@ -295,6 +323,20 @@ impl<R: Wait + Drop> Locked<R> {
         self.machine.export(alloc)
     }
 
+    /// What the router knew before the first entry that isn't taken away.
+    pub fn base(&self) -> &State
+        ensures { result.now ≡ self.now.base }
+    {
+        &self.base
+    }
+
+    /// The entries that aren't taken away, from the base on.
+    pub fn entries(&self) -> &[CountedEntry]
+        ensures { result.now ≡ self.now.entries }
+    {
+        self.entries.as_slice()
+    }
+
     /// What never changes of the router.
     pub fn router(&self) -> &Router
         ensures { result.now ≡ self.now.router }
@@ -306,6 +348,22 @@ impl<R: Wait + Drop> Locked<R> {
     /// reader answers is what the router forwarded by in a state that it was in. A law: it does nothing when it runs.
     pub fn tables_were(&self)
         ensures { (seen : List TableChange) → StartsWith self.now.shown seen → IsTableOnce self.now.router self.now.opening seen }
+    {
+        self.soundness();
+    }
+
+    /// What the router knew at the base, and what it knows now, it came to know by steps that it made since it was opened. A law: it does
+    /// nothing when it runs.
+    pub fn knew(&self)
+        ensures base { Knew self.now.router self.now.opening self.now.base }
+        ensures state { Knew self.now.router self.now.opening self.now.state }
+    {
+        self.soundness();
+    }
+
+    /// The entries that aren't taken away are a segment as they stand. A law: it does nothing when it runs.
+    pub fn is_segment(&self)
+        ensures { IsSegment (stretch_of self.now) }
     {
         self.soundness();
     }
