@@ -1,5 +1,5 @@
 -- What a turn counts.
-use Rattle.std.proofs.Common.{◌≡◌, ◌+◌, ◌-◌, ◌<◌, ◌^◌, ◌≤◌, ℕ, List, [], ap, arith, subst, sym, ◌∙◌}
+use Rattle.std.proofs.Common.{◌≡◌, ◌-◌, ◌≤◌, ℕ, List, [], ap, arith, ◌∙◌}
 use Rattle.interface_workers.specs.Tallies.{counted, with_lost}
 use Rattle.interface_workers.specs.Wires.{Sending, WireHistory, after, lost_in}
 use Rattle.interface_workers.specs.declared.handled.Handled.{Handled}

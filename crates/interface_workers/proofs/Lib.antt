@@ -1,5 +1,6 @@
 pub mod Chaining
 pub mod Counting
+pub mod Naming
 pub mod Passing
 pub mod Refusing
 pub mod Sendings

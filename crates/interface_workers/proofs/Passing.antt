@@ -2,7 +2,6 @@
 use Rattle.std.proofs.Common.{◌≡◌, ◌-◌, ◌^◌, ◌∷◌, ℕ, List, [], Result, Ok, Err, ap, refl, sym}
 use Rattle.link_frames.specs.Frames.{frame_bytes}
 use Rattle.link_frames.specs.declared.frame.Frame.{Frame}
-use Rattle.datagrams.specs.declared.datagram.Passed.{Passed}
 use Rattle.datagrams.specs.declared.datagram.Passed.TheVariants as passes
 use Rattle.interface_workers.specs.Turns.{HasSent, IsPassedOn}
 use Rattle.interface_workers.specs.Wires.{WireHistory, after, lost_in, sending_of}

@@ -1,9 +1,9 @@
 -- Frames that a wire is given, and how its history goes on.
-use Rattle.std.proofs.Common.{◌≡◌, ◌+◌, ◌-◌, ◌<◌, ◌++◌, ◌∷◌, ◌^◌, ℕ, List, [], Option, Some, None, Result, drop, length, map, slice_index_or, take, sum_by, ap, arith, refl, subst, sym, ◌∙◌}
+use Rattle.std.proofs.Common.{◌≡◌, ◌+◌, ◌-◌, ◌<◌, ◌++◌, ◌∷◌, ◌^◌, ℕ, List, [], Option, Some, None, Result, drop, length, map, slice_index_or, take, ap, arith, refl, sym, ◌∙◌}
 use Rattle.std.proofs.lemmas.List.{append-nil, append_assoc, map-append, take-append-drop, take_all, take_more}
 use Rattle.std.proofs.lemmas.List.Sums.{sum_by-append}
 use Rattle.journal_bytes.specs.declared.entry.WrittenFrame.{WrittenFrame}
-use Rattle.interface_workers.specs.Wires.{AreGiven, AreSent, Arrival, Sending, WireHistory, after, datagram_of, fault_of, faults_in, known_with, loss_of, lost_in, sending_of}
+use Rattle.interface_workers.specs.Wires.{AreSent, Arrival, Sending, WireHistory, after, fault_of, faults_in, known_with, loss_of, lost_in, sending_of}
 
 -- nothing more is known
 known_none : {X : Type 0} (known : Option (List X)) → known_with known [] ≡ known

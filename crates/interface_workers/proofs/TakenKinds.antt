@@ -1,5 +1,5 @@
 -- What was taken is of the kind of what the wire answered, and is counted as such.
-use Rattle.std.proofs.Common.{◌≡◌, ◌+◌, ◌∷◌, ◌++◌, ◌&&◌, ℕ, Bool, true, false, cond, List, [], Result, Ok, Err, length, ap, arith, refl, sym, subst, length-append, ◌∙◌}
+use Rattle.std.proofs.Common.{◌≡◌, ◌+◌, ◌∷◌, ◌&&◌, ℕ, Bool, true, false, cond, List, [], Ok, Err, length, ap, arith, refl, sym, subst, length-append, ◌∙◌}
 use Rattle.std.specs.Prelude.{nat_le}
 use Rattle.lsr_facts.specs.Refusals.{number_of}
 use Rattle.lsr_facts.specs.declared.refusal.Refusal.{Refusal}

@@ -1,5 +1,6 @@
 -- Receipts of one port, each after the other, and a worker's work.
-use Rattle.std.specs.Prelude.{◌≡◌, ◌+◌, ◌-◌, ◌^◌, ◌<◌, ◌≤◌, ℕ, List, [], ◌∷◌, Result, Ok, Err, length, vec_capacity}
+use Rattle.std.specs.Prelude.{◌≡◌, ◌+◌, ◌-◌, ◌^◌, ◌<◌, ◌≤◌, ℕ, All, List, [], ◌∷◌, Result, Ok, Err, length, vec_capacity}
+use Rattle.lsr_config.specs.Configs.{Setup}
 use Rattle.lsr_facts.specs.declared.refusal.Refusal.{Refusal}
 use Rattle.abstract_paths.specs.declared.events.Event.{Event}
 use Rattle.journal_bytes.specs.Events.{event_bytes}
@@ -7,6 +8,7 @@ use Rattle.run_journal.specs.Journals.{Stretch}
 use Rattle.run_journal.specs.Marks.{Follows}
 use Rattle.run_journal.specs.declared.mark.Mark.{Mark}
 use Rattle.run_journal.specs.declared.receipt.Receipt.{Receipt}
+use Rattle.interface_workers.specs.Names.{IsReceiptOf, IsSegmentOf}
 use Rattle.interface_workers.specs.Refused.{MayBeRefused}
 use Rattle.interface_workers.specs.Tallies.{IsSum}
 use Rattle.interface_workers.specs.declared.handled.Handled.{Handled}
@@ -53,3 +55,12 @@ AreHandedOut taken before now_taken now = now_taken + length before ≡ taken + 
 abbrev pub HasReceiptFor : Handled → Work → Work → Type 0
 HasReceiptFor Fed before after = length after.receipts.items ≡ length before.receipts.items + 1
 HasReceiptFor handled before after = after.receipts ≡ before.receipts
+
+-- Its receipts and its segments are those of the router of this configuration.
+pub record IsWorkOf (c : Setup) (work : Work) : Type 0 where
+  pub receipts : All (IsReceiptOf c) work.receipts.items
+  pub segments : All (IsSegmentOf c) work.segments.items
+
+-- Work whose receipts and segments were those of this router goes on so.
+abbrev pub StaysWorkOf : Setup → Work → Work → Type 0
+StaysWorkOf c before after = IsWorkOf c before → IsWorkOf c after

@@ -1,6 +1,5 @@
 -- A worker's turns: what came, what became of it, and what was sent.
-use Rattle.std.specs.Prelude.{◌≡◌, ◌≢◌, ◌+◌, ◌-◌, ◌^◌, ◌<◌, ◌≤◌, ◌++◌, ℕ, min, List, [], ◌∷◌, Result, Ok, Err, length}
-use Rattle.lsr_facts.specs.declared.refusal.Refusal.{Refusal}
+use Rattle.std.specs.Prelude.{◌≡◌, ◌≢◌, ◌+◌, ◌-◌, ◌^◌, ◌≤◌, ◌++◌, ℕ, min, List, [], ◌∷◌, Ok, Err, length}
 use Rattle.lsr_facts.specs.declared.refusal.Refusal.TheVariants.{NoMemory}
 use Rattle.lsr_facts.specs.declared.router.Router.{Router}
 use Rattle.abstract_paths.specs.declared.events.Event.{Event}

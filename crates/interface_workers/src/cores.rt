@@ -5,9 +5,11 @@ ghost use Rattle.journal_bytes.specs.Events.{event_bytes};
 ghost use Rattle.lookup_plane.specs.Changes.{new_reader};
 ghost use Rattle.run_journal.specs.Journals.{IsAnswered, rotated, stretch_of};
 ghost use Rattle.run_journal.specs.Marks.{Follows, first_marks};
+ghost use Rattle.interface_workers.specs.Names.{IsKnown, IsReceiptOf, IsSegmentOf, opened};
 ghost use Rattle.interface_workers.specs.Refused.{MayBeRefused};
 
 use crate::keeping::{KeepSegments, KeptJournal, SegmentCount, TakenSegment};
+use crate::names::CoreName;
 use crate::readers::{CoreReader, named_readers};
 use abstract_paths::Event;
 use lookup_plane::OpenFault;
@@ -19,24 +21,29 @@ use std::alloc::{AllocError, Global};
 use std::sync::ledger::{Blank, Book, Ledger, Share};
 use std::sync::{Mutex, Wait};
 
-/// A router with its journal, and the book of its ledger: as many entries were made as the ports have in all.
+/// A router with its journal, and the book of its ledger: as many entries were made as the ports have in all. It is the router of its name's
+/// configuration, as it was opened.
 #[derive(Drop)]
-struct Booked<L: Ledger, R: Wait + Drop> {
+struct Booked<L: CoreName, R: Wait + Drop> {
     locked: Locked<R>,
     calls: Book<L>,
     ghost counted: { locked.counts.number ≡ calls.total },
+    ghost router: { locked.router ≡ L.config.router },
+    ghost opening: { locked.opening ≡ (opened L.config).state },
 }
 
 /// A router that many threads feed, each by a port of its own, and a `K` that keeps the segments of its journal. Its name is that of its
-/// ledger: no other core has it. The router's lock is taken within the journal's, and never the other way round.
-pub struct Core<L: Ledger, R: Wait + Drop, K: KeepSegments + Drop = SegmentCount> {
+/// ledger: no other core has it; and it knows the configuration, which is this router's. The router's lock is taken within the journal's,
+/// and never the other way round.
+pub struct Core<L: CoreName, R: Wait + Drop, K: KeepSegments + Drop = SegmentCount> {
     lock: Mutex<Booked<L, R>>,
     journal: Mutex<KeptJournal<K>>,
     router: Router,
+    ghost configured: { router ≡ L.config.router },
 }
 
 /// Written out, so that it is dropped by one call, whatever it holds.
-impl<L: Ledger, R: Wait + Drop, K: KeepSegments + Drop> Drop for Core<L, R, K> {
+impl<L: CoreName, R: Wait + Drop, K: KeepSegments + Drop> Drop for Core<L, R, K> {
     fn drop(self) {
         let Core {
             lock: _lock,
@@ -59,7 +66,7 @@ pub struct Port<L: Ledger> {
 
 /// A core with its ports, and readers of its label table.
 #[derive(Drop)]
-pub struct Opened<L: Ledger, R: Wait + Drop, K: KeepSegments + Drop = SegmentCount> {
+pub struct Opened<L: CoreName, R: Wait + Drop, K: KeepSegments + Drop = SegmentCount> {
     /// The core.
     pub core: Core<L, R, K>,
     /// Its ports, in the order of their numbers.
@@ -88,7 +95,7 @@ impl<L: Ledger> Port<L> {
     }
 }
 
-impl<L: Ledger, R: Wait + Drop> Booked<L, R> {
+impl<L: CoreName, R: Wait + Drop> Booked<L, R> {
     /// Applies an event of a port. What is refused changes neither.
     fn apply(
         &mut self,
@@ -100,9 +107,12 @@ impl<L: Ledger, R: Wait + Drop> Booked<L, R> {
         ensures follows { IfOk result (λ receipt. Follows port.old.mark receipt × (port.new.mark ≡ receipt.mark)) }
         ensures counted { OnOk result (port.new.share.amount ≡ port.old.share.amount + 1) }
         ensures taken { port.new.taken ≡ port.old.taken }
+        ensures own { IfOk result (IsReceiptOf L.config) }
         ensures refused { IfErr result (MayBeRefused event.now) }
         ensures kept { OnErr result (port.new ≡ port.old) }
     {
+        self.locked.knew();
+        self.locked.soundness();
         match self.locked.apply(alloc, port.mark, event) {
             Ok(receipt) => {
                 self.calls.add(&mut port.share, 1);
@@ -118,17 +128,29 @@ impl<L: Ledger, R: Wait + Drop> Booked<L, R> {
     fn take(&mut self, alloc: Global) -> Result<TakenSegment, AllocError>
         ensures segment { IfOk result (λ taken. taken.segment ≡ stretch_of self.old.locked) }
         ensures rotated { OnOk result (self.new.locked ≡ rotated self.old.locked) }
+        ensures own { IfOk result (λ taken. IsSegmentOf L.config taken.segment) }
         ensures kept { OnErr result (self.new.locked ≡ self.old.locked) }
     {
+        self.locked.knew();
+        self.locked.soundness();
         let segment = self.locked.rotate(alloc)?;
         Ok(TakenSegment::new(segment))
     }
+
+    /// What the router knows: a copy. The only error is out of memory.
+    fn export(&self, alloc: Global) -> Result<State, AllocError>
+        ensures { IfOk result (IsKnown L.config) }
+    {
+        self.locked.knew();
+        self.locked.soundness();
+        self.locked.export(alloc)
+    }
 }
 
-impl<L: Ledger, R: Wait + Drop, K: KeepSegments + Drop> Core<L, R, K> {
+impl<L: CoreName, R: Wait + Drop, K: KeepSegments + Drop> Core<L, R, K> {
     /// Feeds an event of a port, and tells the port of its entry: the port's next place, a later entry than its last one, and
-    /// the event that was fed. Waits for others who use the core. It is refused as [`Locked::apply`] refuses it, for no other reason, and
-    /// then the port is as it was.
+    /// the event that was fed, in an entry of the router of the configuration. Waits for others who use the core. It is refused as
+    /// [`Locked::apply`] refuses it, for no other reason, and then the port is as it was.
     pub fn feed<W: Wait>(
         &self,
         rt: &W,
@@ -140,6 +162,7 @@ impl<L: Ledger, R: Wait + Drop, K: KeepSegments + Drop> Core<L, R, K> {
         ensures event { IfOk result (λ receipt. receipt.event ≡ event_bytes event.now) }
         ensures counted { OnOk result (port.new.share.amount ≡ port.old.share.amount + 1) }
         ensures taken { port.new.taken ≡ port.old.taken }
+        ensures own { IfOk result (IsReceiptOf L.config) }
         ensures refused { IfErr result (MayBeRefused event.now) }
         ensures kept { OnErr result (port.new ≡ port.old) }
     {
@@ -148,15 +171,17 @@ impl<L: Ledger, R: Wait + Drop, K: KeepSegments + Drop> Core<L, R, K> {
     }
 
     /// Takes the entries away, under the router's lock.
-    fn take<W: Wait>(&self, rt: &W, alloc: Global) -> Result<TakenSegment, AllocError> {
+    fn take<W: Wait>(&self, rt: &W, alloc: Global) -> Result<TakenSegment, AllocError>
+        ensures { IfOk result (λ taken. IsSegmentOf L.config taken.segment) }
+    {
         let mut guard = self.lock.lock(rt);
         guard.take(alloc)
     }
 
     /// Takes the entries that were made since the last time, and counts them as a segment that the port took. The segment is given to who
     /// keeps the journal before it is handed out, and before anyone takes another one: so the numbers of segments are in the order of their
-    /// entries. The router is fed meanwhile. Waits for others who use the core; the error is out of memory, also where the port took
-    /// 2^64 - 1 segments, and then nothing changed.
+    /// entries. It is one of the router of the configuration, which is fed meanwhile. Waits for others who use the core; the error is out of
+    /// memory, also where the port took 2^64 - 1 segments, and then nothing changed.
     pub fn rotate<W: Wait>(
         &self,
         rt: &W,
@@ -166,6 +191,7 @@ impl<L: Ledger, R: Wait + Drop, K: KeepSegments + Drop> Core<L, R, K> {
         ensures taken { OnOk result (port.new.taken ≡ port.old.taken + 1) }
         ensures mark { port.new.mark ≡ port.old.mark }
         ensures share { port.new.share ≡ port.old.share }
+        ensures own { IfOk result (IsSegmentOf L.config) }
         ensures kept { OnErr result (port.new ≡ port.old) }
     {
         let Some(count) = port.taken.checked_add(1) else {
@@ -179,7 +205,8 @@ impl<L: Ledger, R: Wait + Drop, K: KeepSegments + Drop> Core<L, R, K> {
 
     /// Takes the entries that are left, as the last segment, which is given to who keeps the journal. The only error is out of memory.
     pub fn finish(self, alloc: Global) -> Result<Finished<K>, AllocError>
-        ensures { IfOk result (λ finished. K.given finished.keeper ≡ finished.kept) }
+        ensures given { IfOk result (λ finished. K.given finished.keeper ≡ finished.kept) }
+        ensures own { IfOk result (λ finished. IsSegmentOf L.config finished.last) }
     {
         let Core {
             lock,
@@ -193,15 +220,18 @@ impl<L: Ledger, R: Wait + Drop, K: KeepSegments + Drop> Core<L, R, K> {
         Ok(Finished { last, keeper, kept })
     }
 
-    /// What the router knows: a copy. Waits for others who use the core; the only error is out of memory.
-    pub fn inspect<W: Wait>(&self, rt: &W, alloc: Global) -> Result<State, AllocError> {
+    /// What the router of the configuration knows: a copy, and sound. Waits for others who use the core; the only error is out of memory.
+    pub fn inspect<W: Wait>(&self, rt: &W, alloc: Global) -> Result<State, AllocError>
+        ensures { IfOk result (IsKnown L.config) }
+    {
         let guard = self.lock.lock(rt);
-        guard.locked.export(alloc)
+        guard.export(alloc)
     }
 
-    /// What never changes of the router.
+    /// What never changes of the router, as the configuration says it.
     pub fn router(&self) -> &Router
-        ensures { result.now ≡ self.now.router }
+        ensures router { result.now ≡ self.now.router }
+        ensures configured { result.now ≡ L.config.router }
     {
         &self.router
     }
@@ -236,9 +266,9 @@ fn ports_of<L: Ledger>(
 }
 
 /// Opens the router of a configuration, with ports of the numbers 1 to `ports`, at most [`MAX_PORTS`], so many readers of its label table,
-/// and who keeps its journal, and has no segment yet. The blank names the core, and has a part for each port. The core keeps `rt`, to wait
-/// for readers. The fault is that there is too little memory, or no place for a reader.
-pub fn open<L: Ledger, R: Wait + Drop, K: KeepSegments + Drop>(
+/// and who keeps its journal, and has no segment yet. The blank names the core, and has a part for each port; the name knows the
+/// configuration. The core keeps `rt`, to wait for readers. The fault is that there is too little memory, or no place for a reader.
+pub fn open<L: CoreName, R: Wait + Drop, K: KeepSegments + Drop>(
     alloc: Global,
     rt: R,
     blank: Blank,
@@ -249,6 +279,7 @@ pub fn open<L: Ledger, R: Wait + Drop, K: KeepSegments + Drop>(
 ) -> Result<Opened<L, R, K>, OpenFault>
     requires name { blank.name ≡ L.name }
     requires parts { blank.parts ≡ L.parts }
+    requires config { config ≡ L.config }
     requires enough { ports ≤ blank.parts }
     requires ports { ports ≤ MAX_PORTS }
     requires readers { readers ≤ 64 }

@@ -1,7 +1,8 @@
 //! A worker: it takes frames from a link's wire, feeds the core what they say, and sends what the core answers.
 
-ghost use Rattle.std.specs.Prelude.{◌≡◌, ◌≢◌, ◌+◌, ◌-◌, ◌^◌, ◌<◌, ◌≤◌, ◌⊎◌, ◌∷◌, ℕ, false, true, [], IfOk, List, OnErr, length, vec_capacity};
-ghost use Rattle.interface_workers.specs.Chains.{AddsUp, AreHandedOut, HasRoom, IsChain, IsFed, WorkGoesOn};
+ghost use Rattle.std.specs.Prelude.{◌≡◌, ◌≢◌, ◌+◌, ◌-◌, ◌^◌, ◌<◌, ◌≤◌, ◌⊎◌, ◌∷◌, ℕ, All, false, true, [], IfOk, List, OnErr, length, vec_capacity};
+ghost use Rattle.interface_workers.specs.Chains.{AddsUp, AreHandedOut, HasRoom, IsChain, IsFed, IsWorkOf, StaysWorkOf, WorkGoesOn};
+ghost use Rattle.interface_workers.specs.Names.{IsReceiptOf, IsSegmentOf};
 ghost use Rattle.interface_workers.specs.Tallies.{counted, with_lost};
 ghost use Rattle.interface_workers.specs.Turns.{AreAmongFailures, HasSent, IsEventServed, IsNoWork, IsPassedOn, IsRunOf, IsServed, IsTaken, IsTallyOf, IsTurn, IsUnlabelled};
 ghost use Rattle.interface_workers.specs.Wires.{AreSent, Arrival, Sending, after};
@@ -13,6 +14,7 @@ use crate::cores::{Core, Port};
 use crate::gate::Gate;
 use crate::handled::{Handled, Tally};
 use crate::keeping::KeepSegments;
+use crate::names::CoreName;
 use crate::readers::CoreReader;
 use crate::reading::read_by;
 use crate::wire::Wire;
@@ -23,7 +25,6 @@ use rsvp_messages::frame_bytes;
 use run_journal::{Datagram, Passed, Receipt, Segment};
 use std::alloc::{AllocError, Global};
 use std::sync::Wait;
-use std::sync::ledger::Ledger;
 
 /// The most bytes of a datagram.
 const BUFFER_LEN: usize = 65_536;
@@ -112,14 +113,14 @@ enum Taken {
 
 /// Where a worker stands: the core that it feeds, the gate between them, and what it waits and takes memory by.
 #[derive(Drop)]
-struct Station<'a, L: Ledger, R: Wait + Drop, K: KeepSegments + Drop, T: Wait, G: Gate> {
+struct Station<'a, L: CoreName, R: Wait + Drop, K: KeepSegments + Drop, T: Wait, G: Gate> {
     rt: &'a T,
     alloc: Global,
     core: &'a Core<L, R, K>,
     gate: &'a G,
 }
 
-impl<'a, L: Ledger, R: Wait + Drop, K: KeepSegments + Drop, T: Wait, G: Gate> Station<
+impl<'a, L: CoreName, R: Wait + Drop, K: KeepSegments + Drop, T: Wait, G: Gate> Station<
     'a,
     L,
     R,
@@ -131,6 +132,7 @@ impl<'a, L: Ledger, R: Wait + Drop, K: KeepSegments + Drop, T: Wait, G: Gate> St
     fn feed_once(&self, port: &mut Port<L>, event: &Event) -> Result<Receipt, Refusal>
         ensures fed { IsFed port.old.mark event.now result port.new.mark }
         ensures taken { port.new.taken ≡ port.old.taken }
+        ensures own { IfOk result (IsReceiptOf L.config) }
     {
         let mark = port.mark();
         let call = mark.place.saturating_add(1);
@@ -153,6 +155,8 @@ impl<'a, L: Ledger, R: Wait + Drop, K: KeepSegments + Drop, T: Wait, G: Gate> St
         ensures segments { length segments.new.items ≤ length segments.old.items + 1 }
         ensures room { vec_capacity segments.new ≡ vec_capacity segments.old }
         ensures handed_out { AreHandedOut port.old.taken segments.old.items port.new.taken segments.new.items }
+        ensures own { IfOk result (IsReceiptOf L.config) }
+        ensures stays { All (IsSegmentOf L.config) segments.old.items → All (IsSegmentOf L.config) segments.new.items }
     {
         match self.feed_once(port, event) {
             Err(Refusal::JournalFull) => {
@@ -175,6 +179,7 @@ impl<'a, L: Ledger, R: Wait + Drop, K: KeepSegments + Drop, T: Wait, G: Gate> St
         requires { HasRoom work.old }
         ensures goes_on { WorkGoesOn work.old port.old.mark work.new port.new.mark }
         ensures handed_out { AreHandedOut port.old.taken work.old.segments.items port.new.taken work.new.segments.items }
+        ensures own { StaysWorkOf L.config work.old work.new }
         ensures served { HasSent (IsEventServed event.now result work.old.receipts.items work.new.receipts.items) (W.history wire.old) (W.history wire.new) }
         ensures tally { (work.new.tally ≡ work.old.tally) × (work.new.turns ≡ work.old.turns) }
     {
@@ -236,6 +241,7 @@ impl<'a, L: Ledger, R: Wait + Drop, K: KeepSegments + Drop, T: Wait, G: Gate> St
         requires { HasRoom work.old }
         ensures goes_on { WorkGoesOn work.old port.old.mark work.new port.new.mark }
         ensures handed_out { AreHandedOut port.old.taken work.old.segments.items port.new.taken work.new.segments.items }
+        ensures own { StaysWorkOf L.config work.old work.new }
         ensures served { HasSent (IsServed taken.now result work.old.receipts.items work.new.receipts.items) (W.history wire.old) (W.history wire.new) }
         ensures tally { (work.new.tally ≡ work.old.tally) × (work.new.turns ≡ work.old.turns) }
         ensures seen { reader.new.seen ≡ reader.old.seen }
@@ -261,6 +267,7 @@ impl<'a, L: Ledger, R: Wait + Drop, K: KeepSegments + Drop, T: Wait, G: Gate> St
         requires { HasRoom work.old }
         ensures goes_on { WorkGoesOn work.old port.old.mark work.new port.new.mark }
         ensures handed_out { AreHandedOut port.old.taken work.old.segments.items port.new.taken work.new.segments.items }
+        ensures own { StaysWorkOf L.config work.old work.new }
         ensures served { HasSent (IsServed (Taken.Came answer.now) result work.old.receipts.items work.new.receipts.items) (W.history wire.old) (W.history wire.new) }
         ensures tally { (work.new.tally ≡ work.old.tally) × (work.new.turns ≡ work.old.turns) }
         ensures seen { reader.new.seen ≡ reader.old.seen }
@@ -296,6 +303,7 @@ impl<'a, L: Ledger, R: Wait + Drop, K: KeepSegments + Drop, T: Wait, G: Gate> St
             (record { work = work.new; mark = port.new.mark; seen = result.seen; history = W.history wire.new }) }
         ensures learnt { reader.at_least ≤ result.at_least }
         ensures handed_out { AreHandedOut port.old.taken work.old.segments.items port.new.taken work.new.segments.items }
+        ensures own { StaysWorkOf L.config work.old work.new }
     {
         let (taken, mut reader) = self.receive(reader, link, wire, buffer);
         let failures = wire.failures();
@@ -308,8 +316,8 @@ impl<'a, L: Ledger, R: Wait + Drop, K: KeepSegments + Drop, T: Wait, G: Gate> St
 }
 
 /// Feeds an event, keeps its receipt, and sends what the core answers. What is refused leaves no receipt. Which it was is counted, as of a
-/// datagram, and so are the frames that the wire lost.
-pub fn serve_event<L: Ledger, R: Wait + Drop, K: KeepSegments + Drop, T: Wait, W: Wire, G: Gate>(
+/// datagram, and so are the frames that the wire lost. Work that was of the router of the core's configuration stays so.
+pub fn serve_event<L: CoreName, R: Wait + Drop, K: KeepSegments + Drop, T: Wait, W: Wire, G: Gate>(
     rt: &T,
     alloc: Global,
     core: &Core<L, R, K>,
@@ -322,6 +330,7 @@ pub fn serve_event<L: Ledger, R: Wait + Drop, K: KeepSegments + Drop, T: Wait, W
     requires { HasRoom work.old }
     ensures goes_on { WorkGoesOn work.old port.old.mark work.new port.new.mark }
     ensures handed_out { AreHandedOut port.old.taken work.old.segments.items port.new.taken work.new.segments.items }
+    ensures own { StaysWorkOf L.config work.old work.new }
     ensures served { HasSent (IsEventServed event.now result work.old.receipts.items work.new.receipts.items) (W.history wire.old) (W.history wire.new) }
     ensures tally { (lost : ℕ) × (work.new.tally ≡ counted (with_lost work.old.tally lost) result)
         × ((W.history wire.new).failed ≡ (W.history wire.old).failed + lost) }
@@ -355,8 +364,8 @@ fn make_room(alloc: Global, turns: u32) -> Result<(Work, Vec<u8>), AllocError>
 /// frames go by what the reader sees of the label table, which waits for nobody; the reader comes back. It ends before where the wire
 /// failed as often as can be counted. The room for its work is made first: the only error is out of memory, and then no turn was
 /// made. Its receipts are those of the port's entries, each after the other, and its segments are all that the core handed out to the
-/// port.
-pub fn serve_link<L: Ledger, R: Wait + Drop, K: KeepSegments + Drop, T: Wait, W: Wire, G: Gate>(
+/// port; all are of the router of the core's configuration.
+pub fn serve_link<L: CoreName, R: Wait + Drop, K: KeepSegments + Drop, T: Wait, W: Wire, G: Gate>(
     rt: &T,
     alloc: Global,
     core: &Core<L, R, K>,
@@ -378,6 +387,7 @@ pub fn serve_link<L: Ledger, R: Wait + Drop, K: KeepSegments + Drop, T: Wait, W:
     ensures later { StartsWith result.0.seen reader.seen }
     ensures learnt { reader.at_least ≤ result.0.at_least }
     ensures handed_out { IfOk result.1 (λ work. port.new.taken ≡ port.old.taken + length work.segments.items) }
+    ensures own { IfOk result.1 (IsWorkOf L.config) }
     ensures kept { OnErr result.1 ((port.new ≡ port.old) × (wire.new ≡ wire.old) × (result.0 ≡ reader)) }
 {
     let station = Station {

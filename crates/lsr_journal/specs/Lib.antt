@@ -1,3 +1,3 @@
-pub mod Receipts
+pub mod Entries
 pub mod Recorded
 pub mod Segments

@@ -1,8 +1,8 @@
 //! A session of `lsr step --journal`: a router whose journal is kept, what it answers to requests, and the file of its journal.
 #![tactic(auto)]
 
+mod entries;
 pub mod laws;
-mod receipts;
 mod recorded;
 mod seen;
 mod segments;

@@ -1,16 +1,22 @@
 //! A session whose router's journal is kept, and what it answers to requests.
-ghost use Rattle.std.specs.Prelude.{◌≡◌, ◌∷◌, ℕ, List, IfOk, Err, OnErr, OnOk, string_bytes};
+ghost use Rattle.std.specs.Prelude.{◌≡◌, ◌<◌, ◌∷◌, [], ◌++◌, ℕ, List, IfOk, Ok, Err, OnErr, OnOk, length, string_bytes};
 ghost use Rattle.std.specs.Option.{option_map};
 ghost use Rattle.abstract_paths.specs.declared.events.Event.TheVariants as events;
 ghost use Rattle.lsr_lines.specs.Runs.{answers_of};
 ghost use Rattle.lsr_lines.specs.Steps.{IsUntold};
+ghost use Rattle.lsr_session.specs.Requests.{latest};
 ghost use Rattle.lsr_text.specs.Answers.{refusal_line};
-ghost use Rattle.run_journal.specs.Journals.{rotated, stretch_of};
-ghost use Rattle.lsr_journal.specs.Receipts.{told_reply, told_text};
-ghost use Rattle.lsr_journal.specs.Recorded.{PrintsDatagram, PrintsEvent, PrintsRead, Records, begun, is_full_reply, learnt, marked};
+ghost use Rattle.lsr_config.specs.Configs.{Setup};
+ghost use Rattle.lsr_config.specs.Reading.{IsRead};
+ghost use Rattle.run_journal.specs.Journals.{stretch_of};
+ghost use Rattle.run_journal.specs.declared.entry.CountedEntry.{CountedEntry};
+ghost use Rattle.lsr_journal.specs.Entries.{IsLast, entry_text};
+ghost use Rattle.lsr_journal.specs.Recorded.{PrintsDatagram, PrintsEvent, PrintsRead, Records, begun, is_full_reply};
+ghost use Rattle.lsr_journal.specs.Segments.{SpellsSegment};
 
-use crate::receipts::receipt_text;
+use crate::entries::entry_text;
 use crate::seen::read_seen;
+use crate::segments::write_stretch;
 use abstract_paths::{Command, Event};
 use datagrams::Datagram;
 use lookup_plane::{LookupReader, OpenFault};
@@ -19,7 +25,7 @@ use lsr_facts::{Refusal, Reply};
 use lsr_lines::{Arrival, Request, Serves};
 use lsr_session::{Recent, hop_frame, passed_text};
 use lsr_text::push_refusal;
-use run_journal::{Locked, Mark, Receipt, Segment};
+use run_journal::{Locked, Mark};
 use std::alloc::{AllocError, Global};
 use std::marker::Model;
 use std::sync::Wait;
@@ -32,7 +38,8 @@ const READERS: usize = 1;
 /// A session of `lsr step --journal`: its router with the journal, the mark of its port, a reader of the label table, by which labelled
 /// frames go, and the last replies. Contracts see these. It is over once an event was refused since the journal is full.
 pub struct RecordedSession<R: Wait + Drop> {
-    locked: Locked<R>,
+    /// In a box, since a session is handed on with each line.
+    locked: Box<Locked<R>>,
     mark: Mark,
     reader: LookupReader,
     recent: Recent,
@@ -56,10 +63,17 @@ impl<R: Wait + Drop> Model for RecordedSession<R> {
 
     ghost Value = { RecordedState };
 
-    ghost view = { λ s. record { journal = s.locked; mark = s.mark; reader = s.reader; recent = s.recent } };
+    ghost view = { λ s. record { journal = s.locked.value; mark = s.mark; reader = s.reader; recent = s.recent } };
 
     // the journal has one port, and knows its mark: no event is refused as another port's
-    ghost invariant = { λ s. (s.locked.counts.marks ≡ s.mark ∷ []) × (s.mark.port ≡ 1) };
+    ghost invariant = { λ s. (s.locked.value.counts.marks ≡ s.mark ∷ []) × (s.mark.port ≡ 1) };
+}
+
+/// The router with its journal, in a box. The only error is out of memory.
+fn boxed<R: Wait + Drop>(alloc: Global, locked: Locked<R>) -> Result<Box<Locked<R>>, AllocError>
+    ensures { IfOk result (λ made. made.value ≡ locked) }
+{
+    Ok(Box::new(alloc, locked)?)
 }
 
 impl<R: Wait + Drop> RecordedSession<R> {
@@ -69,6 +83,7 @@ impl<R: Wait + Drop> RecordedSession<R> {
         ensures { IfOk result (λ session. session ≡ begun config session.journal.table) }
     {
         let (locked, mut readers) = Locked::new(alloc, rt, config, PORTS, READERS)?;
+        let locked = boxed(alloc, locked)?;
         let Some(reader) = readers.pop() else {
             return Err(OpenFault::Reader);
         };
@@ -85,14 +100,17 @@ impl<R: Wait + Drop> RecordedSession<R> {
         })
     }
 
-    /// Takes the entries that were made since the session began, or since the last time, as a segment. The only error is that memory
-    /// ran out, and then nothing changed.
-    pub fn rotate(&mut self, alloc: Global) -> Result<Segment, AllocError>
-        ensures segment { IfOk result (λ segment. segment ≡ stretch_of self.old.journal) }
-        ensures rotated { OnOk result (self.new ≡ record self.old { journal = rotated self.old.journal }) }
-        ensures kept { OnErr result (self.new ≡ self.old) }
+    /// Appends the file of the entries that were made since the session began, in the newest format, with the text of the
+    /// configuration. The text has to say the configuration of the session's router: else what is appended spells nothing. The only
+    /// errors are out of memory, and more than a file can hold; then nothing changed.
+    pub fn write_journal(&self, text: &str, out: &mut Vec<u8>) -> Result<(), AllocError>
+        ensures ok { OnOk result ((bytes : List ℕ) × (out.new.items ≡ out.old.items ++ bytes)
+            × ((config : Setup) → IsRead text.now (Ok config) → self.now.journal.router ≡ config.router
+            → SpellsSegment bytes text.now config (stretch_of self.now.journal))) }
+        ensures err { OnErr result (out.new.items ≡ out.old.items) }
     {
-        self.locked.rotate(alloc)
+        self.locked.is_segment();
+        write_stretch(text, self.locked.base(), self.locked.entries(), out)
     }
 }
 
@@ -161,27 +179,6 @@ fn serve<R: Wait + Drop>(
     Ok(Some(text))
 }
 
-/// Goes on from an answer: the mark is that of the receipt, and the reader learns how many changes of the label table there are.
-fn follow(mark: &mut Mark, reader: &mut LookupReader, answer: &Result<Receipt, Refusal>)
-    ensures mark { mark.new ≡ marked mark.old answer.now }
-    ensures reader { reader.new ≡ learnt reader.old answer.now }
-{
-    if let Ok(receipt) = answer {
-        *mark = receipt.mark();
-        reader.learn(receipt.mark().published);
-    }
-}
-
-/// What was answered, without what is sent.
-fn reply_of(answer: &Result<Receipt, Refusal>) -> Reply
-    ensures { result ≡ told_reply answer.now }
-{
-    match answer {
-        Ok(receipt) => receipt.reply(),
-        Err(refusal) => Reply::Refused(*refusal),
-    }
-}
-
 /// The line of a refusal.
 fn refusal_text(alloc: Global, refusal: Refusal) -> Result<String, AllocError>
     ensures { IfOk result (λ text. string_bytes text ≡ refusal_line refusal) }
@@ -191,14 +188,22 @@ fn refusal_text(alloc: Global, refusal: Refusal) -> Result<String, AllocError>
     Ok(text)
 }
 
-/// The lines of an answer.
-fn answer_text(alloc: Global, answer: &Result<Receipt, Refusal>) -> Result<String, AllocError>
-    ensures { IfOk result (λ text. string_bytes text ≡ told_text answer.now) }
+/// Tells of the last entry, as an event was just answered: its reply is the newest, and its lines are printed. It asks that there is one.
+/// Where memory ran out for the lines its reply is the newest too.
+fn tell_last<R: Wait + Drop>(
+    alloc: Global,
+    session: &mut RecordedSession<R>,
+) -> Result<String, AllocError>
+    requires { 0 < length session.old.journal.entries }
+    ensures { (last : CountedEntry) × IsLast session.old.journal.entries last
+        × (session.new ≡ record session.old { recent = latest (session.old.recent ++ last.entry.reply ∷ []) })
+        × IfOk result (λ text. string_bytes text ≡ entry_text last.entry) }
 {
-    match answer {
-        Ok(receipt) => receipt_text(alloc, receipt),
-        Err(refusal) => refusal_text(alloc, *refusal),
-    }
+    let Some(last) = session.locked.entries().last() else {
+        unreachable!();
+    };
+    session.recent.push(last.entry.reply);
+    entry_text(alloc, &last.entry)
 }
 
 /// Applies an event at the session's port. Where memory ran out for its lines it was applied too.
@@ -210,10 +215,14 @@ fn answer_event<R: Wait + Drop>(
     ensures told { IfOk result (λ text. PrintsEvent session.old event.now (string_bytes text) session.new) }
     ensures untold { OnErr result ((text : List ℕ) × PrintsEvent session.old event.now text session.new) }
 {
-    let answer = session.locked.apply(alloc, session.mark, event);
-    follow(&mut session.mark, &mut session.reader, &answer);
-    session.recent.push(reply_of(&answer));
-    answer_text(alloc, &answer)
+    match session.locked.enter(alloc, session.mark, event) {
+        Ok(mark) => {
+            session.mark = mark;
+            session.reader.learn(mark.published);
+            tell_last(alloc, session)
+        }
+        Err(refusal) => refuse(alloc, session, refusal),
+    }
 }
 
 /// Applies a command. Where memory ran out for a copy of the command the session is as it was.
@@ -229,7 +238,7 @@ fn answer_command<R: Wait + Drop>(
     answer_event(alloc, session, &Event::Command(command))
 }
 
-/// Refuses a datagram that is no event and goes no further. Where memory ran out for its line it was refused too.
+/// Refuses an event, or a datagram that is none and goes no further. Where memory ran out for its line it was refused too.
 fn refuse<R: Wait + Drop>(
     alloc: Global,
     session: &mut RecordedSession<R>,

@@ -2,10 +2,12 @@
 ghost use Rattle.std.specs.Prelude.{◌≡◌, ◌++◌, ℕ, List, Ok, IfOk, OnErr, OnOk, map};
 ghost use Rattle.lsr_config.specs.Configs.{Setup};
 ghost use Rattle.lsr_config.specs.Reading.{IsRead};
+ghost use Rattle.run_journal.specs.Journals.{IsSegment, Stretch};
 ghost use Rattle.lsr_journal.specs.Segments.{SpellsSegment};
 
 use journal_files::laws::{files_spell_recordings, standing_routers_are_told};
 use journal_files::{AsEntry, write_file};
+use lsr_facts::State;
 use run_journal::{CountedEntry, Entry, Segment};
 use std::alloc::{AllocError, Global};
 
@@ -37,6 +39,25 @@ fn plain_entries<'a>(
     Ok(plain)
 }
 
+/// Appends the file of a stretch that begins with what a router knew, and has these entries, in the newest format. The only errors are
+/// out of memory, and more than a file can hold; then nothing changed.
+pub(crate) fn write_stretch(
+    text: &str,
+    base: &State,
+    entries: &[CountedEntry],
+    out: &mut Vec<u8>,
+) -> Result<(), AllocError>
+    ensures ok { OnOk result ((bytes : List ℕ) × (out.new.items ≡ out.old.items ++ bytes)
+        × ((config : Setup) (stretch : Stretch) → IsRead text.now (Ok config) → stretch.router ≡ config.router → IsSegment stretch
+        → stretch.base ≡ base.now → stretch.entries ≡ entries.now → SpellsSegment bytes text.now config stretch)) }
+    ensures err { OnErr result (out.new.items ≡ out.old.items) }
+{
+    files_spell_recordings();
+    standing_routers_are_told();
+    let entries = plain_entries(*out.allocator(), entries)?;
+    write_file(text.as_bytes(), base, entries.as_slice(), out)
+}
+
 /// Appends the file of a segment, in the newest format: the text of the configuration, what the router knew before the first entry, and
 /// the entries. The text has to say the configuration of the segment's router: else what is appended spells nothing. The only errors are
 /// out of memory, and more than a file can hold; then nothing changed.
@@ -45,9 +66,6 @@ pub fn write_segment(text: &str, segment: &Segment, out: &mut Vec<u8>) -> Result
         × ((config : Setup) → IsRead text.now (Ok config) → segment.now.router ≡ config.router → SpellsSegment bytes text.now config segment.now)) }
     ensures err { OnErr result (out.new.items ≡ out.old.items) }
 {
-    files_spell_recordings();
-    standing_routers_are_told();
     segment.is_run();
-    let entries = plain_entries(*out.allocator(), segment.entries())?;
-    write_file(text.as_bytes(), segment.base(), entries.as_slice(), out)
+    write_stretch(text, segment.base(), segment.entries(), out)
 }

@@ -1,4 +1,6 @@
 mod Counting
 mod Digits
+mod Locality
+mod Owning
 mod SocketTexts
 mod Telling

@@ -1,5 +1,5 @@
 -- A document that is judged answers the text that spells it.
-use Rattle.std.proofs.Common.{◌≡◌, ℕ, List, Some, Result, Ok, Err, inl, inr}
+use Rattle.std.proofs.Common.{◌≡◌, ℕ, List, Some, Result, Ok, Err, inr}
 use Rattle.std.specs.Prelude.{IfErr, IfOk}
 use Rattle.std.specs.Ordering.{nat_cmp}
 use Rattle.toml.specs.Data.{Members, table}

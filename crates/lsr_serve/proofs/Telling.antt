@@ -1,5 +1,5 @@
 -- What a status of 0 says, and how many entries receipts of one run tell of.
-use Rattle.std.proofs.Common.{◌≡◌, ◌≢◌, ◌+◌, ◌≤◌, ◌++◌, ◌∷◌, ⊎_elim, suc, zero, ℕ, Bool, List, [], Option, true, false, inl, inr, length, not, refl, sym, ap, subst, ◌∙◌, arith}
+use Rattle.std.proofs.Common.{◌≡◌, ◌≢◌, ◌≤◌, ◌∷◌, ⊎_elim, suc, zero, ℕ, List, [], Option, false, inl, inr, length, not, refl, sym, ap, subst, ◌∙◌, arith}
 use Rattle.std.proofs.lemmas.Bool.{cases_eq, eq-eqb, ne_eqb}
 use Rattle.std.proofs.lemmas.List.Filters.{length-filter_both}
 use Rattle.std.specs.Prelude.{filter, cond, ◌==◌}

@@ -1,18 +1,21 @@
 //! A router's run: a thread for each link and one for the clock, over any wires.
-ghost use Rattle.std.specs.Prelude.{◌≡◌, ◌+◌, ◌<◌, ◌≤◌, IfNone, IfOk, OnOk, length};
-ghost use Rattle.lsr_serve.specs.Reports.{IsCounted, IsPutTo};
+ghost use Rattle.std.specs.Prelude.{◌≡◌, ◌+◌, ◌<◌, ◌≤◌, All, IfNone, IfOk, IsPermutation, OnOk, length};
+ghost use Rattle.lsr_config.specs.Configs.{Setup};
+ghost use Rattle.interface_workers.specs.Chains.{IsWorkOf};
+ghost use Rattle.interface_workers.specs.Names.{IsSegmentOf};
+ghost use Rattle.lsr_serve.specs.Reports.{IsCounted, IsPutTo, IsReportOf};
 
 use crate::udp_wire::LinkWire;
 use abstract_paths::Event;
 use interface_workers::{
-    Core, CoreReader, Finished, Gate, KeepSegments, OpenFault, Opened, Port, Receipt, Segment,
-    Tally, Wire, Work, open, serve_event, serve_link,
+    Core, CoreName, CoreReader, Finished, Gate, KeepSegments, OpenFault, Opened, Port, Receipt,
+    Segment, Tally, Wire, Work, open, serve_event, serve_link,
 };
 use lsr_config::Config;
 use std::alloc::{AllocError, Global};
 use std::marker::Brand;
 use std::sync::Wait;
-use std::sync::ledger::{Blank, Ledger};
+use std::sync::ledger::Blank;
 use std::thread;
 use std::thread::Threads;
 use std::time::{Clock, Duration};
@@ -71,7 +74,7 @@ impl BesideClock for ClockAlone {
 
 /// A link's worker before it starts.
 #[derive(Drop)]
-pub struct Worker<L: Ledger, W> {
+pub struct Worker<L: CoreName, W> {
     port: Port<L>,
     reader: CoreReader<L>,
     link: u16,
@@ -80,7 +83,7 @@ pub struct Worker<L: Ledger, W> {
 
 /// A worker's thread: its turns, with what it did.
 pub fn run_worker<
-    L: Ledger,
+    L: CoreName,
     R: Wait + Drop,
     K: KeepSegments + Drop,
     T: Wait,
@@ -93,7 +96,9 @@ pub fn run_worker<
     gate: &G,
     turns: u32,
     worker: Worker<L, W>,
-) -> Result<Work, AllocError> {
+) -> Result<Work, AllocError>
+    ensures { IfOk result (IsWorkOf L.config) }
+{
     let Worker {
         mut port,
         reader,
@@ -108,7 +113,7 @@ pub fn run_worker<
 
 /// The clock's turns: each waits for the next moment and feeds it, and then does what is done beside it; with what it did.
 fn run_clock<
-    L: Ledger,
+    L: CoreName,
     R: Wait + Drop,
     K: KeepSegments + Drop,
     T: Wait,
@@ -126,7 +131,9 @@ fn run_clock<
     gate: &G,
     turns: u32,
     beside: &mut B,
-) -> Result<Work, AllocError> {
+) -> Result<Work, AllocError>
+    ensures { IfOk result (IsWorkOf L.config) }
+{
     let mut work = Work::new(alloc, turns)?;
     for turn in 0..turns {
         thread::sleep(clock, Duration::from_millis(TICK_MS));
@@ -148,7 +155,7 @@ fn run_clock<
 
 /// The workers of the links, each with the port and the reader of its place. The only error is out of memory, or that there are fewer ports
 /// or readers than links.
-pub fn link_workers<L: Ledger, W: Drop>(
+pub fn link_workers<L: CoreName, W: Drop>(
     alloc: Global,
     ports: Vec<Port<L>>,
     readers: Vec<CoreReader<L>>,
@@ -178,6 +185,7 @@ impl RunReport {
     fn new(alloc: Global) -> RunReport
         ensures ports { length result.ports.items ≡ 0 }
         ensures counted { IsCounted result }
+        ensures own { (c : Setup) → IsReportOf c result }
     {
         RunReport {
             ports: Vec::new(alloc),
@@ -203,6 +211,7 @@ fn add_work(served: &mut RunReport, work: Work) -> Result<(), AllocError>
     ensures put { OnOk result (IsPutTo served.old work served.new) }
     ensures ports { OnOk result (length served.new.ports.items ≡ length served.old.ports.items + 1) }
     ensures counted { IsCounted served.old → OnOk result (IsCounted served.new) }
+    ensures own { (c : Setup) → IsReportOf c served.old → IsWorkOf c work → OnOk result (IsReportOf c served.new) }
 {
     let Work {
         mut receipts,
@@ -224,6 +233,7 @@ fn add_works(served: &mut RunReport, works: Vec<Result<Work, AllocError>>) -> Re
     requires { IsCounted served.old }
     ensures ports { OnOk result (length served.new.ports.items ≡ length served.old.ports.items + length works.items) }
     ensures counted { OnOk result (IsCounted served.new) }
+    ensures own { (c : Setup) → IsReportOf c served.old → All (λ work. IfOk work (IsWorkOf c)) works.items → OnOk result (IsReportOf c served.new) }
 {
     for work in works {
         add_work(served, work?)?;
@@ -232,7 +242,9 @@ fn add_works(served: &mut RunReport, works: Vec<Result<Work, AllocError>>) -> Re
 }
 
 /// Puts segments in their order: by the number at their beginning, an empty one first. The only error is out of memory.
-fn sort_segments(segments: &mut Vec<Segment>) -> Result<(), AllocError> {
+fn sort_segments(segments: &mut Vec<Segment>) -> Result<(), AllocError>
+    ensures { IsPermutation segments.old.items segments.new.items }
+{
     segments.sort_by_key(|segment| (segment.from().number(), segment.entries().len()))?;
     Ok(())
 }
@@ -246,6 +258,8 @@ fn gather(
     requires { IsCounted served.old }
     ensures ports { OnOk result (length served.new.ports.items ≡ length served.old.ports.items + length works.items + 1) }
     ensures counted { OnOk result (IsCounted served.new) }
+    ensures own { (c : Setup) → IsReportOf c served.old → All (λ work. IfOk work (IsWorkOf c)) works.items → IsWorkOf c clock_work
+        → OnOk result (IsReportOf c served.new) }
 {
     match add_works(served, works) {
         Ok(()) => add_work(served, clock_work),
@@ -261,6 +275,7 @@ fn add_finished<K: KeepSegments + Drop>(
     ensures ports { served.new.ports ≡ served.old.ports }
     ensures receipts { served.new.receipts ≡ served.old.receipts }
     ensures kept { IfOk result (λ keeper. (keeper ≡ finished.keeper) × (served.new.kept ≡ finished.kept)) }
+    ensures own { (c : Setup) → IsReportOf c served.old → IsSegmentOf c finished.last → OnOk result (IsReportOf c served.new) }
 {
     let Finished { last, keeper, kept } = finished;
     served.segments.push(last)?;
@@ -271,7 +286,7 @@ fn add_finished<K: KeepSegments + Drop>(
 
 /// The threads of the links: what each worker did, in their order. The only error is out of memory.
 fn run_workers<
-    L: Ledger + Send + Sync,
+    L: CoreName + Send + Sync,
     R: Threads + Wait + Send + Sync + Drop,
     K: KeepSegments + Send + Drop,
     W: Wire + Send + Drop,
@@ -284,7 +299,8 @@ fn run_workers<
     gate: &G,
     turns: u32,
 ) -> Result<Vec<Result<Work, AllocError>>, AllocError>
-    ensures { IfOk result (λ works. length works.items ≡ length workers.items) }
+    ensures each { IfOk result (λ works. length works.items ≡ length workers.items) }
+    ensures own { IfOk result (λ works. All (λ work. IfOk work (IsWorkOf L.config)) works.items) }
 {
     thread::map_vec(
         rt,
@@ -295,7 +311,7 @@ fn run_workers<
 
 /// The threads of the links and of the clock, and what they leave. The only error is out of memory.
 fn run_threads<
-    L: Ledger + Send + Sync,
+    L: CoreName + Send + Sync,
     R: Threads + Wait + Clone + Send + Sync + Drop,
     K: KeepSegments + Send + Drop,
     C: Clock,
@@ -316,6 +332,7 @@ fn run_threads<
 ) -> Result<RunReport, AllocError>
     ensures ports { IfOk result (λ served. length served.ports.items ≡ length workers.items + 1) }
     ensures counted { IfOk result IsCounted }
+    ensures own { IfOk result (IsReportOf L.config) }
 {
     let (works, clock_work) = thread::join(
         rt,
@@ -333,7 +350,7 @@ fn run_threads<
 
 /// The run of a router of this name.
 fn serve_named<
-    L: Ledger + Send + Sync,
+    L: CoreName + Send + Sync,
     R: Threads + Wait + Clone + Send + Sync + Drop,
     K: KeepSegments + Send + Drop,
     C: Clock,
@@ -355,10 +372,12 @@ fn serve_named<
 ) -> Result<(RunReport, K), OpenFault>
     requires name { blank.name ≡ L.name }
     requires parts { blank.parts ≡ L.parts }
+    requires config { config ≡ L.config }
     requires ports { (length links.items + 1 ≤ L.parts) × (L.parts ≤ 64) }
     requires none { K.given keeper ≡ 0 }
     ensures ports { IfOk result (λ served. length served.0.ports.items ≡ length links.items + 1) }
     ensures counted { IfOk result (λ served. IsCounted served.0) }
+    ensures own { IfOk result (λ served. IsReportOf L.config served.0) }
     ensures kept { IfOk result (λ served. K.given served.1 ≡ served.0.kept) }
 {
     let count = links.len();
@@ -400,8 +419,8 @@ fn serve_named<
 /// many turns on its wire; the last port is the clock's, which feeds as many moments, 100 milliseconds apart, and sends from a
 /// wire of its own; after each moment that thread, which began the run, does what is done beside the clock. All threads have ended when it returns. Where a thread can't be made, its turns are made after the others'.
 /// Who keeps the journal has no segment yet. It is given each segment as soon as it is taken, where the journal is full and when all threads
-/// have ended, up to the first that can't be kept; it comes back. The report has all ports, and the receipts of all. The fault is that
-/// there is too little memory, or no place for a reader of the label table.
+/// have ended, up to the first that can't be kept; it comes back. The report has all ports, and the receipts of all; receipts and segments
+/// are of the router of the configuration. The fault is that there is too little memory, or no place for a reader of the label table.
 pub fn serve_on<
     R: Threads + Wait + Clone + Send + Sync + Drop,
     K: KeepSegments + Send + Drop,
@@ -425,6 +444,7 @@ pub fn serve_on<
     requires none { K.given keeper ≡ 0 }
     ensures ports { IfOk result (λ served. length served.0.ports.items ≡ length links.items + 1) }
     ensures counted { IfOk result (λ served. IsCounted served.0) }
+    ensures own { IfOk result (λ served. IsReportOf config served.0) }
     ensures kept { IfOk result (λ served. K.given served.1 ≡ served.0.kept) }
 {
     let blank = Blank::new(links.len() as u64 + 1);

@@ -1,6 +1,6 @@
 //! Wires over UDP sockets of this machine.
 ghost use Rattle.std.specs.Prelude.{◌≡◌, ◌+◌, ◌-◌, ◌^◌, ◌<◌, ◌↔◌, map, take, IfOk, IsTrue, OnOk};
-ghost use Rattle.lsr_serve.specs.Local.{IsLocal};
+ghost use Rattle.lsr_serve.specs.Local.{AreLinkLocal, AreLocal, IsLocal};
 
 use interface_workers::{Wire, WireFault};
 use lsr_config::LinkSockets;
@@ -139,7 +139,7 @@ fn open_wire<'a, R: Net>(
     sockets: LinkSockets,
 ) -> Result<LinkWire<UdpWire<'a>>, ServeFault>
     ensures number { IfOk result (λ opened. opened.number ≡ number) }
-    ensures local { OnOk result (IsLocal like sockets.listen × IsLocal like sockets.send) }
+    ensures local { OnOk result (AreLinkLocal like sockets) }
 {
     if !is_local(sockets.listen, like) || !is_local(sockets.send, like) {
         return Err(ServeFault::Socket(number));
@@ -168,7 +168,8 @@ pub fn open_wires<'a, R: Net>(
     alloc: Global,
     links: &'a Table<u16, LinkSockets>,
 ) -> Result<Vec<LinkWire<UdpWire<'a>>>, ServeFault>
-    ensures { IfOk result (λ wires. map (λ wire. wire.number) wires.items ≡ map (λ row. row.0) links.now) }
+    ensures numbers { IfOk result (λ wires. map (λ wire. wire.number) wires.items ≡ map (λ row. row.0) links.now) }
+    ensures local { OnOk result (AreLocal links.now) }
 {
     let like = any_address(links);
     let rows = links.as_slice();

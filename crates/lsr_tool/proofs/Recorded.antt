@@ -14,7 +14,7 @@ use Rattle.lsr_lines.proofs.Serving.{stops_kept}
 use Rattle.lsr_journal.specs.Recorded.{RecordedState, Records, begun, is_over}
 use Rattle.lsr_journal.specs.Segments.{SpellsSegment}
 use Rattle.lsr_journal.proofs.Keeping.{IsSameBase, records_kept}
-use Rattle.run_journal.specs.Journals.{Journal, Stretch, stretch_of}
+use Rattle.run_journal.specs.Journals.{Journal, stretch_of}
 use Rattle.lsr_tool.specs.Endings.{ending_text}
 use Rattle.lsr_tool.specs.Recording.{HoldsJournal, IsRecordable, RanRecorded, RunsRecorded}
 use Rattle.lsr_tool.specs.declared.written.OutputFault.{OutputFault}
@@ -47,12 +47,12 @@ unopened_recorded opens fails stream holds journal echo file name input printed 
     subst (λ (f : Option (Bor (List ℕ))). RunsRecorded opens fails stream holds journal echo (option_map (λ g. g.now) f) input printed printed error told 1) (sym e) (inr (fault, h, refl, refl, t))
 
 -- A file whose bytes were written to an empty vector for what the session recorded.
-pub holds_written : (holds : List ℕ → List ℕ → Type 0) (name text : List ℕ) (journal : Journal) (segment : Stretch) (before after written : List ℕ) → segment ≡ stretch_of journal → before ≡ []
-    → ((bytes : List ℕ) × (after ≡ before ++ bytes) × ((config : Setup) → IsRead text (Ok config) → segment.router ≡ config.router → SpellsSegment bytes text config segment)) → written ≡ after → holds name written
+pub holds_written : (holds : List ℕ → List ℕ → Type 0) (name text : List ℕ) (journal : Journal) (before after written : List ℕ) → before ≡ []
+    → ((bytes : List ℕ) × (after ≡ before ++ bytes) × ((config : Setup) → IsRead text (Ok config) → journal.router ≡ config.router → SpellsSegment bytes text config (stretch_of journal))) → written ≡ after → holds name written
     → (config : Setup) → IsRead text (Ok config) → journal.router ≡ config.router → HoldsJournal holds name text config (stretch_of journal)
-holds_written holds name text journal segment before after written is empty spells same held config read router =
+holds_written holds name text journal before after written empty spells same held config read router =
     let bytes = same ∙ spells.1 ∙ ap (λ (b : List ℕ). b ++ spells.0) empty in
-    (spells.0, subst (λ (s : Stretch). SpellsSegment spells.0 text config s) is (spells.2 config read (ap (λ (s : Stretch). s.router) is ∙ router)), subst (λ (b : List ℕ). holds name b) bytes held)
+    (spells.0, spells.2 config read router, subst (λ (b : List ℕ). holds name b) bytes held)
 
 -- A session that began served the lines, and what it recorded was written.
 pub ran_recorded : (holds : List ℕ → List ℕ → Type 0) (journal : List ℕ) (echo : Bool) (stream : Option Stream) (input : Stream) (printed : List ℕ) (stop : RunStop) (kept : Result (Unit {0}) OutputFault) (session after : RecordedState) (configured text : List ℕ)

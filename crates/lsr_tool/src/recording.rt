@@ -15,7 +15,7 @@ use crate::files::FilesByName;
 use crate::session::{configured, read_texts, said};
 use crate::written::{OutputFault, WritesFiles, tell_output_fault};
 use line_streams::ByteStream;
-use lsr_journal::{RecordedSession, write_segment};
+use lsr_journal::RecordedSession;
 use lsr_lines::{Ending, RunStop, expected_form, form_among, run_lines, tell_bad_form};
 use lsr_text::OUT_OF_MEMORY;
 use std::alloc::{AllocError, Global};
@@ -87,20 +87,19 @@ fn begin_recorded<'a, N: Wait + Clone + Drop>(
     }
 }
 
-/// Takes what the session recorded, and writes it to the file of this name, with the text that says the router.
+/// Writes what the session recorded to the file of this name, with the text that says the router.
 fn keep_journal<F: WritesFiles, N: Wait + Drop>(
     files: &F,
     alloc: Global,
     text: &str,
-    mut session: RecordedSession<N>,
+    session: &RecordedSession<N>,
     name: &str,
 ) -> Result<(), OutputFault>
-    ensures { OnOk result ((config : Setup) → IsRead text.now (Ok config) → session.journal.router ≡ config.router
-        → HoldsJournal (F.holds files.now) name.now text.now config (stretch_of session.journal)) }
+    ensures { OnOk result ((config : Setup) → IsRead text.now (Ok config) → session.now.journal.router ≡ config.router
+        → HoldsJournal (F.holds files.now) name.now text.now config (stretch_of session.now.journal)) }
 {
-    let segment = session.rotate(alloc)?;
     let mut bytes = Vec::new(alloc);
-    write_segment(text, &segment, &mut bytes)?;
+    session.write_journal(text, &mut bytes)?;
     files.write(alloc, name, bytes.as_slice())
 }
 
@@ -154,7 +153,7 @@ pub fn run_recorded<
         }
     };
     let (session, stop) = run_lines(alloc, session, echo, text.as_str(), output)?;
-    let kept = keep_journal(files, alloc, said(&config_text), session, journal);
+    let kept = keep_journal(files, alloc, said(&config_text), &session, journal);
     tell_stop(error, stop)?;
     tell_kept(error, journal, kept)?;
     Ok(recorded_status(stop, kept))

@@ -2,15 +2,15 @@
 ghost use Rattle.std.specs.Prelude.{◌≡◌};
 
 use abstract_paths::Event;
-use lsr_config::BUILT_IN;
+use lsr_config::{BUILT_IN, Config};
 use std::alloc::{AllocError, Global};
 use std::marker::Brand;
 use std::sync::Wait;
-use std::sync::ledger::{Blank, Ledger};
+use std::sync::ledger::Blank;
 use worker_fixtures::{
-    Core, CoreReader, CountedEntry, Entry, FailingWire, Fault, IN_LINK, LABELLED_FRAME, Left,
-    OUT_LINK, OpenGate, Opened, PATH_FRAME, Port, RESV_FRAME, Segment, TEAR_FRAME, WirePlan, Work,
-    is_same_state, open_router, serve_event, serve_link,
+    Core, CoreName, CoreReader, CountedEntry, Entry, FailingWire, Fault, IN_LINK, LABELLED_FRAME,
+    Left, OUT_LINK, OpenGate, Opened, PATH_FRAME, Port, RESV_FRAME, Segment, TEAR_FRAME, WirePlan,
+    Work, is_same_state, open_router, read_config, serve_event, serve_link,
 };
 
 /// How many ports there are: one for each visit to a link, and one for moments.
@@ -40,14 +40,14 @@ struct WiredRun {
 
 /// A router's ports and readers that are left.
 #[derive(Drop)]
-struct Places<L: Ledger> {
+struct Places<L: CoreName> {
     ports: Vec<Port<L>>,
     readers: Vec<CoreReader<L>>,
 }
 
 /// A visit to a link: as many turns on the wire as frames come, by the last port and the last reader that are left. The only error is out
 /// of memory.
-fn visit<L: Ledger, R: Wait + Drop>(
+fn visit<L: CoreName, R: Wait + Drop>(
     rt: &R,
     alloc: Global,
     core: &Core<L, R>,
@@ -70,7 +70,7 @@ fn visit<L: Ledger, R: Wait + Drop>(
 }
 
 /// The moments at which messages are due again, by the last port that is left. The only error is out of memory.
-fn feed_moments<L: Ledger, R: Wait + Drop>(
+fn feed_moments<L: CoreName, R: Wait + Drop>(
     rt: &R,
     alloc: Global,
     core: &Core<L, R>,
@@ -91,7 +91,7 @@ fn feed_moments<L: Ledger, R: Wait + Drop>(
 }
 
 /// The visits and the moments between them, in their order: what each left. The only error is out of memory.
-fn visit_all<L: Ledger, R: Wait + Drop>(
+fn visit_all<L: CoreName, R: Wait + Drop>(
     rt: &R,
     alloc: Global,
     core: Core<L, R>,
@@ -107,21 +107,23 @@ fn visit_all<L: Ledger, R: Wait + Drop>(
 }
 
 /// The run of a router of this name.
-fn run_named<L: Ledger, R: Wait + Clone + Drop>(
+fn run_named<L: CoreName, R: Wait + Clone + Drop>(
     rt: &R,
     alloc: Global,
     blank: Blank,
+    config: Config,
     plan: WirePlan,
 ) -> Result<WiredRun, Fault>
     requires name { blank.name ≡ L.name }
     requires parts { blank.parts ≡ L.parts }
+    requires config { config ≡ L.config }
     requires four { blank.parts ≡ PORTS }
 {
     let Opened {
         core,
         ports,
         readers,
-    } = open_router::<L, R>(alloc, rt.clone()?, blank, BUILT_IN, PORTS)?;
+    } = open_router::<L, R>(alloc, rt.clone()?, blank, config, PORTS)?;
     let mut places = Places { ports, readers };
     let mut wire = FailingWire::new(alloc, plan);
     let left = visit_all(rt, alloc, core, &mut places, &mut wire)?;
@@ -140,7 +142,10 @@ fn run_plan<R: Wait + Clone + Drop>(
         fails_at,
         without,
     };
-    run_named::<Brand, R>(rt, alloc, Blank::new(u64::from(PORTS)), plan)
+    match read_config(alloc, BUILT_IN) {
+        Ok(config) => run_named::<Brand, R>(rt, alloc, Blank::new(u64::from(PORTS)), config, plan),
+        Err(fault) => Err(fault),
+    }
 }
 
 /// Whether two entries say the same: the event and its port, the answer and what was sent.

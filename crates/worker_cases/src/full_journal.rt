@@ -4,14 +4,13 @@ use abstract_paths::Event;
 use lsr_facts::Refusal;
 use std::alloc::Global;
 use std::sync::Wait;
-use std::sync::ledger::Ledger;
-use worker_fixtures::{Core, CoreReader, Fault, Feed, Port, count_entries, feed_router};
+use worker_fixtures::{Core, CoreName, CoreReader, Fault, Feed, Port, count_entries, feed_router};
 
 /// How many events are fed.
 const EVENTS: u64 = 4_097;
 
 /// Feeds a moment. The error is its refusal.
-fn feed_moment<L: Ledger, R: Wait + Drop>(
+fn feed_moment<L: CoreName, R: Wait + Drop>(
     rt: &R,
     alloc: Global,
     core: &Core<L, R>,
@@ -25,7 +24,7 @@ fn feed_moment<L: Ledger, R: Wait + Drop>(
 }
 
 /// Feeds moments from 0 on, until one is refused: how many were taken, and why the next was refused.
-fn feed_until<L: Ledger, R: Wait + Drop>(
+fn feed_until<L: CoreName, R: Wait + Drop>(
     rt: &R,
     alloc: Global,
     core: &Core<L, R>,
@@ -41,7 +40,7 @@ fn feed_until<L: Ledger, R: Wait + Drop>(
 }
 
 /// Feeds so many moments and prints what came: how many were taken.
-fn tell_fed<L: Ledger, R: Wait + Print + Drop>(
+fn tell_fed<L: CoreName, R: Wait + Print + Drop>(
     rt: &R,
     alloc: Global,
     core: &Core<L, R>,
@@ -62,7 +61,7 @@ fn tell_fed<L: Ledger, R: Wait + Print + Drop>(
 }
 
 /// Feeds a moment that was refused, once more, and prints whether it is taken.
-fn tell_again<L: Ledger, R: Wait + Print + Drop>(
+fn tell_again<L: CoreName, R: Wait + Print + Drop>(
     rt: &R,
     alloc: Global,
     core: &Core<L, R>,
@@ -78,7 +77,7 @@ fn tell_again<L: Ledger, R: Wait + Print + Drop>(
 }
 
 /// Fills the journal of this router by a port, takes its entries, and feeds the event that was refused once more.
-fn fill<L: Ledger, R: Wait + Print + Drop>(
+fn fill<L: CoreName, R: Wait + Print + Drop>(
     rt: &R,
     alloc: Global,
     core: &Core<L, R>,
@@ -98,7 +97,7 @@ impl<R: Wait + Print + Drop> Feed<R> for Fills {
     type Output = ();
 
     /// Fills the journal by the port.
-    fn feed<L: Ledger>(
+    fn feed<L: CoreName>(
         self,
         rt: &R,
         alloc: Global,

@@ -4,10 +4,9 @@ use forwarding_table::Action;
 use std::alloc::Global;
 use std::fmt;
 use std::sync::Wait;
-use std::sync::ledger::Ledger;
 use worker_fixtures::{
-    Closed, Core, CoreReader, Fault, Feed, Follower, IN_LINK, LABELLED_FRAME, OUT_LINK, PATH_FRAME,
-    Port, RESV_FRAME, TEAR_FRAME, feed_router,
+    Closed, Core, CoreName, CoreReader, Fault, Feed, Follower, IN_LINK, LABELLED_FRAME, OUT_LINK,
+    PATH_FRAME, Port, RESV_FRAME, TEAR_FRAME, feed_router,
 };
 
 /// The label that is looked up: the first that the router gives out.
@@ -35,7 +34,7 @@ impl fmt::Display for Found {
 }
 
 /// Feeds a frame, and prints what the reader finds that has learnt of it.
-fn follow<L: Ledger, R: Wait + Print + Drop>(
+fn follow<L: CoreName, R: Wait + Print + Drop>(
     rt: &R,
     alloc: Global,
     core: &Core<L, R>,
@@ -54,7 +53,7 @@ fn follow<L: Ledger, R: Wait + Print + Drop>(
 }
 
 /// Prints what becomes of a labelled frame, by what the reader sees.
-fn tell_forward<L: Ledger, R: Wait + Print + Drop>(
+fn tell_forward<L: CoreName, R: Wait + Print + Drop>(
     rt: &R,
     alloc: Global,
     core: &Core<L, R>,
@@ -87,7 +86,7 @@ const STEPS: [Step; 6] = [
 ];
 
 /// Prints what becomes of all that comes.
-fn follow_all<L: Ledger, R: Wait + Print + Drop>(
+fn follow_all<L: CoreName, R: Wait + Print + Drop>(
     rt: &R,
     alloc: Global,
     core: &Core<L, R>,
@@ -110,7 +109,7 @@ impl<R: Wait + Print + Drop> Feed<R> for Follows {
     type Output = ();
 
     /// Follows by the port and the reader.
-    fn feed<L: Ledger>(
+    fn feed<L: CoreName>(
         self,
         rt: &R,
         alloc: Global,

@@ -4,9 +4,8 @@ use abstract_paths::Event;
 use std::alloc::Global;
 use std::slice;
 use std::sync::Wait;
-use std::sync::ledger::Ledger;
 use worker_fixtures::{
-    Core, CoreReader, Fault, Feed, Port, Receipt, Segment, feed_router, reconcile,
+    Core, CoreName, CoreReader, Fault, Feed, Port, Receipt, Segment, feed_router, reconcile,
 };
 
 /// The segment of a router that was fed one event, and its receipt.
@@ -25,7 +24,7 @@ impl Drop for FedOnce {
 }
 
 /// Takes the entries of this router by this port, which was told this. The fault is out of memory.
-fn with_segment<L: Ledger, R: Wait + Drop>(
+fn with_segment<L: CoreName, R: Wait + Drop>(
     rt: &R,
     alloc: Global,
     core: &Core<L, R>,
@@ -39,7 +38,7 @@ fn with_segment<L: Ledger, R: Wait + Drop>(
 }
 
 /// What this router leaves that is fed this moment by this port.
-fn feed_one<L: Ledger, R: Wait + Drop>(
+fn feed_one<L: CoreName, R: Wait + Drop>(
     rt: &R,
     alloc: Global,
     core: &Core<L, R>,
@@ -62,7 +61,7 @@ impl<R: Wait + Drop> Feed<R> for Once {
     type Output = FedOnce;
 
     /// Feeds the moment by the port.
-    fn feed<L: Ledger>(
+    fn feed<L: CoreName>(
         self,
         rt: &R,
         alloc: Global,

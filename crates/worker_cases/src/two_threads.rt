@@ -3,14 +3,17 @@ ghost use Rattle.std.specs.Prelude.{◌≡◌};
 
 use crate::wires::Silent;
 use abstract_paths::Event;
-use lsr_config::BUILT_IN;
+use lsr_config::{BUILT_IN, Config};
 use std::alloc::{AllocError, Global};
 use std::marker::Brand;
 use std::sync::Wait;
-use std::sync::ledger::{Blank, Ledger};
+use std::sync::ledger::Blank;
 use std::thread;
 use std::thread::Threads;
-use worker_fixtures::{Core, Fault, Left, OpenGate, Opened, Port, Work, open_router, serve_event};
+use worker_fixtures::{
+    Core, CoreName, Fault, Left, OpenGate, Opened, Port, Work, open_router, read_config,
+    serve_event,
+};
 
 /// How many threads there are.
 const THREADS: u16 = 2;
@@ -18,7 +21,7 @@ const THREADS: u16 = 2;
 const MOMENTS: u32 = 3_000;
 
 /// Feeds so many moments, and takes the entries where the journal is full. The only error is out of memory.
-fn feed_moments<L: Ledger, R: Wait + Drop>(
+fn feed_moments<L: CoreName, R: Wait + Drop>(
     rt: &R,
     alloc: Global,
     core: &Core<L, R>,
@@ -44,7 +47,7 @@ fn feed_moments<L: Ledger, R: Wait + Drop>(
 }
 
 /// A thread for each port feeds the router: what they leave. The only error is out of memory.
-fn feed_all<L: Ledger + Send + Sync, R: Threads + Wait + Send + Sync + Drop>(
+fn feed_all<L: CoreName + Send + Sync, R: Threads + Wait + Send + Sync + Drop>(
     rt: &R,
     alloc: Global,
     core: Core<L, R>,
@@ -77,7 +80,7 @@ fn tell_left<R: Print>(rt: &R, left: &Left) -> Result<(), Fault> {
 }
 
 /// Feeds this router, and prints what came.
-fn feed_and_tell<L: Ledger + Send + Sync, R: Threads + Wait + Print + Send + Sync + Drop>(
+fn feed_and_tell<L: CoreName + Send + Sync, R: Threads + Wait + Print + Send + Sync + Drop>(
     rt: &R,
     alloc: Global,
     core: Core<L, R>,
@@ -90,16 +93,18 @@ fn feed_and_tell<L: Ledger + Send + Sync, R: Threads + Wait + Print + Send + Syn
 }
 
 /// The case, over a router of this name.
-fn run_named<L: Ledger + Send + Sync, R: Threads + Wait + Print + Clone + Send + Sync + Drop>(
+fn run_named<L: CoreName + Send + Sync, R: Threads + Wait + Print + Clone + Send + Sync + Drop>(
     rt: &R,
     alloc: Global,
     blank: Blank,
+    config: Config,
 ) -> Result<(), Fault>
     requires name { blank.name ≡ L.name }
     requires parts { blank.parts ≡ L.parts }
+    requires config { config ≡ L.config }
     requires two { blank.parts ≡ THREADS }
 {
-    match open_router::<L, R>(alloc, rt.clone()?, blank, BUILT_IN, THREADS) {
+    match open_router::<L, R>(alloc, rt.clone()?, blank, config, THREADS) {
         Ok(
             Opened {
                 core,
@@ -117,5 +122,8 @@ pub fn run<R: Threads + Wait + Print + Clone + Send + Sync + Drop>(
     rt: &R,
     alloc: Global,
 ) -> Result<(), Fault> {
-    run_named::<Brand, R>(rt, alloc, Blank::new(u64::from(THREADS)))
+    match read_config(alloc, BUILT_IN) {
+        Ok(config) => run_named::<Brand, R>(rt, alloc, Blank::new(u64::from(THREADS)), config),
+        Err(fault) => Err(fault),
+    }
 }

@@ -2,40 +2,46 @@
 ghost use Rattle.std.specs.Prelude.{◌≡◌, ◌≤◌};
 
 use crate::fault::Fault;
-use interface_workers::{Core, CoreReader, Opened, Port, SegmentCount, open};
+use interface_workers::{Core, CoreName, CoreReader, Opened, Port, SegmentCount, open};
 use lsr_config::{BUILT_IN, Config};
 use std::alloc::Global;
 use std::marker::Brand;
 use std::sync::Wait;
-use std::sync::ledger::{Blank, Ledger};
+use std::sync::ledger::Blank;
 
-/// A router of this configuration, with ports of the numbers 1 to `ports`, and as many readers of its label table: for threads that feed
-/// it. The segments of its journal are counted. The fault is out of memory.
-pub fn open_router<L: Ledger, R: Wait + Drop>(
+/// The configuration that a text says. The fault is out of memory: the text says one.
+pub fn read_config(alloc: Global, text: &str) -> Result<Config, Fault> {
+    match Config::read(alloc, text) {
+        Ok(config) => Ok(config),
+        Err(_) => Err(Fault::Memory),
+    }
+}
+
+/// The router of this name and its configuration, with ports of the numbers 1 to `ports`, and as many readers of its label table: for
+/// threads that feed it. The segments of its journal are counted. The fault is out of memory.
+pub fn open_router<L: CoreName, R: Wait + Drop>(
     alloc: Global,
     rt: R,
     blank: Blank,
-    text: &str,
+    config: Config,
     ports: u16,
 ) -> Result<Opened<L, R>, Fault>
     requires name { blank.name ≡ L.name }
     requires parts { blank.parts ≡ L.parts }
+    requires config { config ≡ L.config }
     requires enough { ports ≤ blank.parts }
     requires readers { ports ≤ 64 }
 {
-    match Config::read(alloc, text) {
-        Ok(config) => match open::<L, R, SegmentCount>(
-            alloc,
-            rt,
-            blank,
-            config,
-            ports,
-            ports as usize,
-            SegmentCount::new(),
-        ) {
-            Ok(opened) => Ok(opened),
-            Err(_) => Err(Fault::Memory),
-        },
+    match open::<L, R, SegmentCount>(
+        alloc,
+        rt,
+        blank,
+        config,
+        ports,
+        ports as usize,
+        SegmentCount::new(),
+    ) {
+        Ok(opened) => Ok(opened),
         Err(_) => Err(Fault::Memory),
     }
 }
@@ -46,7 +52,7 @@ pub trait Feed<R: Wait + Drop>: Sized {
     type Output;
 
     /// Feeds the router of this core by its port, with a reader of its label table. The fault says what to do.
-    fn feed<L: Ledger>(
+    fn feed<L: CoreName>(
         self,
         rt: &R,
         alloc: Global,
@@ -57,7 +63,7 @@ pub trait Feed<R: Wait + Drop>: Sized {
 }
 
 /// Feeds a router by its last port.
-fn feed_last<L: Ledger, R: Wait + Drop, F: Feed<R> + Drop>(
+fn feed_last<L: CoreName, R: Wait + Drop, F: Feed<R> + Drop>(
     rt: &R,
     alloc: Global,
     core: &Core<L, R>,
@@ -77,17 +83,19 @@ fn feed_last<L: Ledger, R: Wait + Drop, F: Feed<R> + Drop>(
 }
 
 /// Feeds a router of this name.
-fn feed_named<L: Ledger, R: Wait + Clone + Drop, F: Feed<R> + Drop>(
+fn feed_named<L: CoreName, R: Wait + Clone + Drop, F: Feed<R> + Drop>(
     rt: &R,
     alloc: Global,
     blank: Blank,
+    config: Config,
     feeder: F,
 ) -> Result<F::Output, Fault>
     requires name { blank.name ≡ L.name }
     requires parts { blank.parts ≡ L.parts }
+    requires config { config ≡ L.config }
     requires one { blank.parts ≡ 1 }
 {
-    match open_router::<L, R>(alloc, rt.clone()?, blank, BUILT_IN, 1) {
+    match open_router::<L, R>(alloc, rt.clone()?, blank, config, 1) {
         Ok(
             Opened {
                 core,
@@ -105,5 +113,8 @@ pub fn feed_router<R: Wait + Clone + Drop, F: Feed<R> + Drop>(
     alloc: Global,
     feeder: F,
 ) -> Result<F::Output, Fault> {
-    feed_named::<Brand, R, F>(rt, alloc, Blank::new(1), feeder)
+    match read_config(alloc, BUILT_IN) {
+        Ok(config) => feed_named::<Brand, R, F>(rt, alloc, Blank::new(1), config, feeder),
+        Err(fault) => Err(fault),
+    }
 }

@@ -4,12 +4,11 @@ use crate::left::count_entries;
 use abstract_paths::Event;
 use datagrams::{Datagram, Passed};
 use forwarding_table::Action;
-use interface_workers::{Closed, Core, CoreReader, Mark, Port, read_by};
+use interface_workers::{Closed, Core, CoreName, CoreReader, Mark, Port, read_by};
 use lsr_facts::{Refusal, Router};
 use std::alloc::{AllocError, Global};
 use std::fmt;
 use std::sync::Wait;
-use std::sync::ledger::Ledger;
 
 /// What becomes of a frame.
 #[derive(Clone, Copy)]
@@ -69,7 +68,7 @@ fn read_as(answer: Option<Result<Datagram, Refusal>>) -> Came {
 }
 
 /// Feeds an event. What the router answers is let go; the error is its refusal.
-fn feed_event<L: Ledger, R: Wait + Drop>(
+fn feed_event<L: CoreName, R: Wait + Drop>(
     rt: &R,
     alloc: Global,
     core: &Core<L, R>,
@@ -83,7 +82,7 @@ fn feed_event<L: Ledger, R: Wait + Drop>(
 }
 
 /// Feeds an event, once more where the journal was full, whose entries are taken then; whether it was taken.
-fn feed_rotating<L: Ledger, R: Wait + Drop>(
+fn feed_rotating<L: CoreName, R: Wait + Drop>(
     rt: &R,
     alloc: Global,
     core: &Core<L, R>,
@@ -102,12 +101,12 @@ fn feed_rotating<L: Ledger, R: Wait + Drop>(
 
 /// A port of a router, and a reader that learns of its entries. The reader is away only while it reads.
 #[derive(Drop)]
-pub struct Follower<L: Ledger> {
+pub struct Follower<L: CoreName> {
     port: Port<L>,
     reader: Option<CoreReader<L>>,
 }
 
-impl<L: Ledger> Follower<L> {
+impl<L: CoreName> Follower<L> {
     /// A follower by this port and this reader.
     pub fn new(port: Port<L>, reader: CoreReader<L>) -> Follower<L> {
         Follower {
@@ -173,7 +172,7 @@ impl<L: Ledger> Follower<L> {
 }
 
 /// A follower by each port of a router and the reader of its place. The only error is out of memory.
-pub fn followers<L: Ledger>(
+pub fn followers<L: CoreName>(
     alloc: Global,
     ports: Vec<Port<L>>,
     readers: Vec<CoreReader<L>>,

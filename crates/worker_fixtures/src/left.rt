@@ -1,13 +1,12 @@
 //! What threads leave that feed a router.
 
-use interface_workers::{Core, Finished, Port, Receipt, Segment, Work, is_same_state};
+use interface_workers::{Core, CoreName, Finished, Port, Receipt, Segment, Work, is_same_state};
 use run_reconciler::reconcile;
 use std::alloc::{AllocError, Global};
 use std::sync::Wait;
-use std::sync::ledger::Ledger;
 
 /// Takes the entries of a router's journal by a port, and lets them go: how many there were. The only error is out of memory.
-pub fn count_entries<L: Ledger, R: Wait + Drop>(
+pub fn count_entries<L: CoreName, R: Wait + Drop>(
     rt: &R,
     alloc: Global,
     core: &Core<L, R>,
@@ -75,7 +74,7 @@ impl Left {
 
     /// Takes the last segment of a router, which is fed no more, and compares its end with what the router knows. The only error is out
     /// of memory.
-    fn close<L: Ledger, R: Wait + Drop>(
+    fn close<L: CoreName, R: Wait + Drop>(
         &mut self,
         rt: &R,
         alloc: Global,
@@ -92,7 +91,7 @@ impl Left {
     }
 
     /// The works of all ports of a router, with its last segment, all in their order. The only error is out of memory.
-    pub fn gathered<L: Ledger, R: Wait + Drop>(
+    pub fn gathered<L: CoreName, R: Wait + Drop>(
         rt: &R,
         alloc: Global,
         core: Core<L, R>,

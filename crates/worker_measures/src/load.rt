@@ -3,6 +3,7 @@ ghost use Rattle.std.specs.Prelude.{◌≡◌};
 
 use crate::four_links::{LINKS, Traffic, four_links, open_senders};
 use crate::sending::{CountedWire, Sender};
+use lsr_config::Config;
 use lsr_serve::{
     LinkSockets, LinkWire, ServeFault, UdpWire, Worker, link_workers, open_wires, run_worker,
 };
@@ -12,13 +13,13 @@ use std::marker::Brand;
 use std::net::Net;
 use std::sync::Wait;
 use std::sync::atomic::{AtomicU64, Ordering};
-use std::sync::ledger::{Blank, Ledger};
+use std::sync::ledger::Blank;
 use std::thread;
 use std::thread::Threads;
 use std::time::{Clock, Duration, Instant};
 use worker_fixtures::{
-    Core, CoreReader, Fault, Left, OpenGate, Opened, Port, Wire, Work, free_links, open_router,
-    per_second,
+    Core, CoreName, CoreReader, Fault, Left, OpenGate, Opened, Port, Wire, Work, free_links,
+    open_router, per_second, read_config,
 };
 
 /// How many turns a worker makes beyond those in which it takes a frame: it waits 100 milliseconds in each for one that is late.
@@ -51,7 +52,7 @@ fn counted<'a, W: Drop>(
 }
 
 /// The workers of the links, whose wires count what they took for these neighbours. The only error is out of memory.
-fn counted_workers<'a, L: Ledger, W: Wire + Drop>(
+fn counted_workers<'a, L: CoreName, W: Wire + Drop>(
     alloc: Global,
     ports: Vec<Port<L>>,
     readers: Vec<CoreReader<L>>,
@@ -80,7 +81,7 @@ struct Loaded {
 }
 
 /// Puts together what threads left that took so many datagrams in this time. The fault is out of memory.
-fn put_together<L: Ledger, R: Wait + Drop>(
+fn put_together<L: CoreName, R: Wait + Drop>(
     rt: &R,
     alloc: Global,
     core: Core<L, R>,
@@ -106,7 +107,7 @@ fn sum_of(counts: &[AtomicU64]) -> u64 {
 /// Runs the workers beside the neighbours: what they leave, and how long it took since this moment. The fault is that a neighbour gave
 /// up, or that memory ran out.
 fn run_since<
-    L: Ledger + Send + Sync,
+    L: CoreName + Send + Sync,
     R: Threads + Wait + Clock + Send + Sync + Drop,
     W: Wire + Send + Drop,
 >(
@@ -142,7 +143,7 @@ fn run_since<
 
 /// Serves the neighbours by these ports and readers of a router: what its threads leave, and how long they took.
 fn serve_by<
-    L: Ledger + Send + Sync,
+    L: CoreName + Send + Sync,
     R: Threads + Wait + Clock + Send + Sync + Drop,
     W: Wire + Send + Drop,
 >(
@@ -163,22 +164,23 @@ fn serve_by<
 
 /// Serves the neighbours by a router of this name.
 fn serve_named<
-    L: Ledger + Send + Sync,
+    L: CoreName + Send + Sync,
     R: Threads + Wait + Clock + Clone + Send + Sync + Drop,
     W: Wire + Send + Drop,
 >(
     rt: &R,
     alloc: Global,
     blank: Blank,
+    config: Config,
     wires: Vec<LinkWire<W>>,
     neighbours: Neighbours<'_>,
 ) -> Result<Loaded, Fault>
     requires name { blank.name ≡ L.name }
     requires parts { blank.parts ≡ L.parts }
+    requires config { config ≡ L.config }
     requires four { blank.parts ≡ LINKS }
 {
-    let text = four_links(alloc)?;
-    match open_router::<L, R>(alloc, rt.clone()?, blank, text.as_str(), LINKS) {
+    match open_router::<L, R>(alloc, rt.clone()?, blank, config, LINKS) {
         Ok(
             Opened {
                 core,
@@ -221,8 +223,12 @@ fn serve_neighbours<R: Net + Threads + Wait + Clock + Clone + Send + Sync + Drop
     neighbours: Neighbours<'_>,
 ) -> Result<Loaded, Fault> {
     let blank = Blank::new(u64::from(LINKS));
+    let text = four_links(alloc)?;
+    let config = read_config(alloc, text.as_str())?;
     match wires(rt, alloc, links) {
-        Ok(wires) => serve_named::<Brand, R, UdpWire<'_>>(rt, alloc, blank, wires, neighbours),
+        Ok(wires) => serve_named::<Brand, R, UdpWire<'_>>(
+            rt, alloc, blank, config, wires, neighbours,
+        ),
         Err(fault) => Err(fault),
     }
 }

@@ -1,19 +1,19 @@
 //! Frames that are forwarded while the entry of their label comes and goes.
 ghost use Rattle.std.specs.Prelude.{◌≡◌};
 
-use lsr_config::BUILT_IN;
+use lsr_config::{BUILT_IN, Config};
 use lsr_facts::Refusal;
 use std::alloc::Global;
 use std::marker::Brand;
 use std::sync::Wait;
 use std::sync::atomic::{AtomicBool, Ordering};
-use std::sync::ledger::{Blank, Ledger};
+use std::sync::ledger::Blank;
 use std::thread;
 use std::thread::Threads;
 use std::time::{Clock, Duration, Instant};
 use worker_fixtures::{
-    Core, CoreReader, Fate, Fault, Follower, IN_LINK, LABELLED_FRAME, OUT_LINK, Opened, PATH_FRAME,
-    Port, RESV_FRAME, TEAR_FRAME, followers, open_router, per_second,
+    Core, CoreName, CoreReader, Fate, Fault, Follower, IN_LINK, LABELLED_FRAME, OUT_LINK, Opened,
+    PATH_FRAME, Port, RESV_FRAME, TEAR_FRAME, followers, open_router, per_second, read_config,
 };
 
 /// How many ports and readers the router has: one that signals, and three that forward.
@@ -88,7 +88,7 @@ impl Seen {
 }
 
 /// What becomes of a labelled frame that comes once the messages before it were taken.
-fn forward_after<L: Ledger, R: Wait + Drop>(
+fn forward_after<L: CoreName, R: Wait + Drop>(
     alloc: Global,
     core: &Core<L, R>,
     follower: &mut Follower<L>,
@@ -103,7 +103,7 @@ fn forward_after<L: Ledger, R: Wait + Drop>(
 
 /// In each round a Path, its Resv and its PathTear come, and after the Resv and the PathTear a labelled frame, each looked up once
 /// the receipt of the message before is learnt.
-fn signal<L: Ledger, R: Wait + Drop>(
+fn signal<L: CoreName, R: Wait + Drop>(
     rt: &R,
     alloc: Global,
     core: &Core<L, R>,
@@ -124,7 +124,7 @@ fn signal<L: Ledger, R: Wait + Drop>(
 }
 
 /// Labelled frames come until it is done. The reader learns of no entry.
-fn forward_until<L: Ledger, R: Wait + Drop>(
+fn forward_until<L: CoreName, R: Wait + Drop>(
     alloc: Global,
     core: &Core<L, R>,
     follower: &mut Follower<L>,
@@ -141,7 +141,7 @@ fn forward_until<L: Ledger, R: Wait + Drop>(
 }
 
 /// A thread: the first port signals, and the others forward until that is done.
-fn play<L: Ledger, R: Wait + Drop>(
+fn play<L: CoreName, R: Wait + Drop>(
     rt: &R,
     alloc: Global,
     core: &Core<L, R>,
@@ -168,7 +168,7 @@ fn sum_of(all: &[Seen]) -> Seen {
 }
 
 /// A thread for each port: what all saw. The fault is out of memory.
-fn play_all<L: Ledger + Send + Sync, R: Threads + Wait + Send + Sync + Drop>(
+fn play_all<L: CoreName + Send + Sync, R: Threads + Wait + Send + Sync + Drop>(
     rt: &R,
     alloc: Global,
     core: &Core<L, R>,
@@ -186,19 +186,20 @@ fn play_all<L: Ledger + Send + Sync, R: Threads + Wait + Send + Sync + Drop>(
     Ok(sum_of(seen.as_slice()))
 }
 
-/// The run of a router of this name: the built-in one, where it has one label to give out.
-fn run_named<L: Ledger + Send + Sync, R: Threads + Wait + Clone + Send + Sync + Drop>(
+/// The run of a router of this name.
+fn run_named<L: CoreName + Send + Sync, R: Threads + Wait + Clone + Send + Sync + Drop>(
     rt: &R,
     alloc: Global,
     blank: Blank,
+    config: Config,
     rounds: u32,
 ) -> Result<Seen, Fault>
     requires name { blank.name ≡ L.name }
     requires parts { blank.parts ≡ L.parts }
+    requires config { config ≡ L.config }
     requires four { blank.parts ≡ PORTS }
 {
-    let text = BUILT_IN.replace(alloc, ITS_LABELS, ONE_LABEL)?;
-    match open_router::<L, R>(alloc, rt.clone()?, blank, text.as_str(), PORTS) {
+    match open_router::<L, R>(alloc, rt.clone()?, blank, config, PORTS) {
         Ok(
             Opened {
                 core,
@@ -210,13 +211,15 @@ fn run_named<L: Ledger + Send + Sync, R: Threads + Wait + Clone + Send + Sync + 
     }
 }
 
-/// So many rounds.
+/// So many rounds of the built-in router, where it has one label to give out.
 fn run_rounds<R: Threads + Wait + Clone + Send + Sync + Drop>(
     rt: &R,
     alloc: Global,
     rounds: u32,
 ) -> Result<Seen, Fault> {
-    run_named::<Brand, R>(rt, alloc, Blank::new(u64::from(PORTS)), rounds)
+    let text = BUILT_IN.replace(alloc, ITS_LABELS, ONE_LABEL)?;
+    let config = read_config(alloc, text.as_str())?;
+    run_named::<Brand, R>(rt, alloc, Blank::new(u64::from(PORTS)), config, rounds)
 }
 
 /// Prints what became of frames.

@@ -16,3 +16,6 @@ returns-clause-datagrams g c =
     ap (λ (t : Tally). t.datagrams)
     (tally_is before c.serve_event-handled.new.work.tally c.lose.new.self c.count.new.self handled lost lost c.serve_event-handled.ensures.tally.0 c.lose.ensures c.count.ensures refl)
     ∙ counted_datagrams before handled lost ∙ ap (λ (n : ℕ). before.datagrams + n) kind.taken
+
+pub returns-clause-own : goal.returns-clause-own
+returns-clause-own g c = λ is. let served = c.serve_event-handled.ensures.own is in record { receipts = served.receipts; segments = served.segments }

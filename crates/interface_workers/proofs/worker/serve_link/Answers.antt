@@ -1,5 +1,6 @@
 -- Turns that were made, and one more.
-use Rattle.std.proofs.Common.{◌+◌, ◌<◌, ◌≤◌, ap, arith, inl, length}
+use Rattle.std.proofs.Common.{ap, arith, inl, length}
+use Rattle.interface_workers.proofs.Naming.{none_own}
 use Rattle.interface_workers.proofs.Turning.{among_failures, few_of, run_more, run_none, run_turned, run_whole, turn_room}
 use Rattle.interface_workers.proofs.worker.serve_link.Goals as goal
 
@@ -10,6 +11,7 @@ loop-turn-init g c = record {
   segments_room = c.in-Ok.ensures.segments;
   learnt = omega arith;
   handed_out = omega (arith, ap length c.in-Ok.ensures.none.segments);
+  own = none_own g.L.CoreName.config c.in-Ok.room.0 c.in-Ok.ensures.none;
 }
 
 pub turn-reader-requires-clause-room : goal.turn-reader-requires-clause-room
@@ -29,6 +31,7 @@ loop-turn-preserved g c =
       segments_room = omega (arith, turn.goes_on.segments_room, before.segments_room);
       learnt = omega (arith, c.turn-reader.ensures.learnt, before.learnt);
       handed_out = omega (arith, c.turn-reader.ensures.handed_out, before.handed_out);
+      own = c.turn-reader.ensures.own before.own;
     }
 
 pub returns-then-is_spent-clause-chain : goal.returns-then-is_spent-clause-chain

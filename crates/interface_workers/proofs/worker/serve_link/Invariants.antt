@@ -1,5 +1,7 @@
--- So many turns were made, there is room for the rest, the reader has learnt no less, and no segment is missing.
+-- So many turns were made, there is room for the rest, the reader has learnt no less, and no segment is missing; the work is that of the
+-- name's own router.
 use Rattle.std.proofs.Common.{◌≡◌, ◌+◌, ◌≤◌, length, vec_capacity}
+use Rattle.interface_workers.specs.Chains.{IsWorkOf}
 use Rattle.interface_workers.specs.Turns.{IsRunOf}
 use Rattle.interface_workers.proofs.worker.serve_link.Given as goal
 
@@ -11,4 +13,5 @@ invariant-loop-turn g l = record {
   segments_room : l.turns ≤ vec_capacity l.work.segments;
   learnt : l.initial.reader.at_least ≤ l.reader.at_least;
   handed_out : l.port.taken ≡ l.initial.port.taken + length l.work.segments.items;
+  own : IsWorkOf g.L.CoreName.config l.work;
 }

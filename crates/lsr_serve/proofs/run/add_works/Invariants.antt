@@ -1,10 +1,14 @@
--- So many ports were added.
-use Rattle.std.proofs.Common.{◌≡◌, ◌+◌, length}
-use Rattle.lsr_serve.specs.Reports.{IsCounted}
+-- So many ports were added, and what they did was put to what the others left.
+use Rattle.std.proofs.Common.{◌≡◌, ◌+◌, All, length}
+use Rattle.std.specs.Prelude.{IfOk}
+use Rattle.lsr_config.specs.Configs.{Setup}
+use Rattle.interface_workers.specs.Chains.{IsWorkOf}
+use Rattle.lsr_serve.specs.Reports.{IsCounted, IsReportOf}
 use Rattle.lsr_serve.proofs.run.add_works.Given as goal
 
 abbrev pub invariant-loop-work : goal.invariant-loop-work
 invariant-loop-work l = record {
   ports : length l.served.ports.items ≡ length l.initial.served.ports.items + length l.yielded;
   counted : IsCounted l.served;
+  own : (c : Setup) → IsReportOf c l.initial.served → All (λ work. IfOk work (IsWorkOf c)) l.yielded → IsReportOf c l.served;
 }

@@ -1,6 +1,6 @@
--- There is room for one event more in each turn, and no more was counted than there were turns.
+-- There is room for one event more in each turn, and no more was counted than there were turns; the work is that of the name's own router.
 use Rattle.std.proofs.Common.{◌≤◌, length, vec_capacity}
-use Rattle.interface_workers.specs.Chains.{AddsUp}
+use Rattle.interface_workers.specs.Chains.{AddsUp, IsWorkOf}
 use Rattle.lsr_serve.proofs.run.run_clock.Given as goal
 
 abbrev pub invariant-loop-turn : goal.invariant-loop-turn
@@ -11,4 +11,5 @@ invariant-loop-turn g l = record {
   segments_room : l.turns ≤ vec_capacity l.work.segments;
   adds_up : AddsUp l.work;
   datagrams : l.work.tally.datagrams ≤ l.turn;
+  own : IsWorkOf g.L.CoreName.config l.work;
 }

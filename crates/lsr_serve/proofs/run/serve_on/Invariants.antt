@@ -1,4 +1,7 @@
 use Rattle.lsr_serve.proofs.run.serve_on.Given as goal
 
-abbrev pub ghosts-serve_named : goal.ghosts-serve_named
-ghosts-serve_named g a = record { name = a.blank.name; parts = a.blank.parts }
+abbrev pub ghosts-serve_named-L-CoreName : goal.ghosts-serve_named-L-CoreName
+ghosts-serve_named-L-CoreName g a = record { config = a.config }
+
+abbrev pub ghosts-serve_named-L-Ledger : goal.ghosts-serve_named-L-Ledger
+ghosts-serve_named-L-Ledger g a = record { name = a.blank.name; parts = a.blank.parts }

@@ -1,10 +1,7 @@
 -- The rules in turn.
-use Rattle.std.proofs.Common.{arith, length, refl, subst}
+use Rattle.std.proofs.Common.{arith}
 use Rattle.std.proofs.lemmas.Result.{err_from_is_err_and}
-use Rattle.toml.specs.View.{view}
-use Rattle.lsr_config.specs.Rules.{Holds, few, fault_of}
-use Rattle.lsr_config.specs.declared.key.Key.TheVariants as key
-use Rattle.lsr_config.proofs.Judging.{turn_front, turn_past, turn_kept, turn_end, broken_alone, kept_alone}
+use Rattle.lsr_config.proofs.Judging.{turn_front, turn_past, turn_kept, turn_end}
 use Rattle.lsr_serve.specs.Sockets.{socket_rules}
 use Rattle.lsr_serve.proofs.Counting.{few_kept, few_broken}
 use Rattle.lsr_serve.proofs.sockets.read_row.Goals as goal

@@ -1,5 +1,5 @@
 -- One record more.
-use Rattle.std.proofs.Common.{◌≡◌, ◌<◌, ◌∷◌, [], List, ap, arith, length, length-append, map, subst, sym, take, ◌∙◌}
+use Rattle.std.proofs.Common.{◌<◌, ◌∷◌, [], List, ap, arith, length, length-append, map, subst, take}
 use Rattle.std.proofs.lemmas.Result.{err_from_is_err_and}
 use Rattle.toml.specs.Data.{Data}
 use Rattle.toml.specs.View.{view}

@@ -2,7 +2,7 @@
 use Rattle.std.proofs.Common.{arith, sym, Ok, false}
 use Rattle.std.specs.declared.num.ParseIntError.{ParseIntError}
 use Rattle.std.proofs.lemmas.Str.Pattern.{starts_char}
-use Rattle.lsr_serve.proofs.Digits.{digits_parsed, no_sign, no_turns}
+use Rattle.lsr_serve.proofs.Digits.{digits_parsed, no_turns}
 use Rattle.lsr_serve.proofs.turns.spelled_turns.Goals as goal
 
 pub returns : goal.returns

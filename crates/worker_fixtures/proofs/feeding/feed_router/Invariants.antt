@@ -1,4 +1,7 @@
 use Rattle.worker_fixtures.proofs.feeding.feed_router.Given as goal
 
-abbrev pub ghosts-feed_named : goal.ghosts-feed_named
-ghosts-feed_named g a = record { name = a.blank.name; parts = a.blank.parts }
+abbrev pub ghosts-feed_named-L-CoreName : goal.ghosts-feed_named-L-CoreName
+ghosts-feed_named-L-CoreName g a = record { config = a.config }
+
+abbrev pub ghosts-feed_named-L-Ledger : goal.ghosts-feed_named-L-Ledger
+ghosts-feed_named-L-Ledger g a = record { name = a.blank.name; parts = a.blank.parts }

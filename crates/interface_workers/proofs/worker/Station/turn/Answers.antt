@@ -31,3 +31,6 @@ returns-clause-turn g c =
       seen = subst (λ (s : List TableChange). StartsWith s c.args.reader.seen) (sym c.serve_taken-handled.ensures.seen) c.receive-taken.ensures.later;
       unlabelled = λ plain. c.serve_taken-handled.ensures.seen ∙ ap (λ (r : Reader). r.seen) (took.3 plain);
     }
+
+pub returns-clause-own : goal.returns-clause-own
+returns-clause-own g c = λ is. let served = c.serve_taken-handled.ensures.own is in record { receipts = served.receipts; segments = served.segments }
