@@ -17,6 +17,10 @@
 //! - A line `NAME: FAULT | PLACE | ALLOWED` or `NAME: good` of `config/answers.txt` says what is told of the configuration
 //!   config/NAME.toml: the lines, with ` | ` between them in place of a newline and two spaces.
 //! - Inputs and outputs that fail, and inputs that are folders, are of its own.
+//! - What `growth_cases` makes of its files is printed last.
+//!
+//! With the word `growths` it runs `growth_cases` alone, all of it or what further words name: a part, or `steps` and one of its
+//! cases.
 #![tactic(auto)]
 
 mod captures;
@@ -48,6 +52,8 @@ const CONFIG: &str = "configuration";
 const ANSWERS: &str = "config/answers.txt";
 /// The answer to a configuration that has no fault.
 const GOOD: &str = "good";
+/// The word for the cases of calls that find no memory.
+const GROWTHS: &str = "growths";
 /// What parts the lines of an answer.
 const LINE_END: &str = " | ";
 
@@ -295,7 +301,37 @@ fn tell_threads<R: Net + Threads + Wait + Clock + Print + AllocGlobal + Clone + 
     }
 }
 
+/// Tells what comes of calls that find no memory, of those that the words name. Where something isn't as it has to be, it fails.
+fn tell_growths<R: Wait + Clone + Drop>(
+    rt: &HostRuntime,
+    waits: &R,
+    words: &[String],
+    is_marked: bool,
+) -> io::Result<()> {
+    if growth_cases::run(rt, waits, words, is_marked)? {
+        return Ok(());
+    }
+    Err(io::Error::from(ErrorKind::Other))
+}
+
+/// Does what a word asks for, with the words behind it.
+fn tell_asked<R: Wait + Clone + Drop>(
+    rt: &HostRuntime,
+    waits: &R,
+    word: &str,
+    words: &[String],
+) -> io::Result<()> {
+    if word == GROWTHS {
+        return tell_growths(rt, waits, words, true);
+    }
+    Err(io::Error::from(ErrorKind::InvalidInput))
+}
+
 fn main(rt: HostRuntime) -> io::Result<()> {
+    let words = growth_cases::read_words(&rt)?;
+    if let [word, words @ ..] = words.as_slice() {
+        return tell_asked(&rt, &rt, word.as_str(), words);
+    }
     tell_runs(&rt)?;
     tell_messages(&rt)?;
     tell_many(&rt)?;
@@ -306,5 +342,6 @@ fn main(rt: HostRuntime) -> io::Result<()> {
     runs::tell_unreadable(&rt, &mut rt.stdout())?;
     captures::tell_captures(&rt, &mut rt.stdout())?;
     streams::tell_streams(&rt)?;
-    tell_threads(&rt)
+    tell_threads(&rt)?;
+    tell_growths(&rt, &rt, &[], false)
 }

@@ -1,0 +1,78 @@
+//! What feeding a router leaves.
+
+use crate::again::{Starved, again};
+use crate::bench::Bench;
+use run_journal::{Mark, Receipt, Segment};
+use run_reconciler::reconcile;
+use std::alloc::{AllocError, Global};
+use std::io;
+
+/// The most receipts, and the most segments, of a case.
+const MOST: usize = 32;
+
+/// What feeding a router leaves: what its ports are told, and its journal.
+#[derive(Drop)]
+pub struct Left {
+    /// The receipts, those of each port in their order.
+    pub receipts: Vec<Receipt>,
+    /// The segments, in their order.
+    pub segments: Vec<Segment>,
+}
+
+/// Nothing yet, with room for all.
+fn room(alloc: Global) -> Result<Left, AllocError> {
+    Ok(Left {
+        receipts: Vec::with_capacity(alloc, MOST)?,
+        segments: Vec::with_capacity(alloc, MOST)?,
+    })
+}
+
+/// Tells what a port is told of its entry.
+pub fn tell_receipt(bench: &mut Bench<'_>, receipt: &Receipt) -> io::Result<()> {
+    let Mark {
+        port,
+        place,
+        entry,
+        published,
+    } = receipt.mark();
+    let sent = receipt.outputs().as_slice().len();
+    let text = again!(format!(in bench.alloc;
+        "port {port}: place {place} entry {entry} published {published}, {sent} frames\n"
+    ))?;
+    Ok(bench.tell(text.as_str())?)
+}
+
+/// Tells how many entries a stretch of the journal has, and those before it.
+fn tell_segment(bench: &mut Bench<'_>, segment: &Segment) -> io::Result<()> {
+    let entries = segment.entries().len();
+    let number = segment.from().number();
+    let published = segment.from().published();
+    let text = again!(format!(in bench.alloc;
+        "segment: {entries} entries after {number}, {published} published\n"
+    ))?;
+    Ok(bench.tell(text.as_str())?)
+}
+
+impl Left {
+    /// Nothing yet.
+    pub fn new(alloc: Global) -> Result<Left, AllocError> {
+        again!(room(alloc))
+    }
+
+    /// Tells of a segment, and keeps it.
+    pub fn put_segment(&mut self, bench: &mut Bench<'_>, segment: Segment) -> io::Result<()> {
+        tell_segment(bench, &segment)?;
+        Ok(self.segments.push(segment)?)
+    }
+
+    /// Tells whether all are those of one run.
+    pub fn tell_run(&self, bench: &mut Bench<'_>) -> Result<(), AllocError> {
+        bench.begin_without();
+        let answer = reconcile(self.segments.as_slice(), self.receipts.as_slice());
+        bench.end_without();
+        match answer {
+            Ok(_) => bench.tell("one run\n"),
+            Err(_) => bench.tell("no run\n"),
+        }
+    }
+}
