@@ -1,6 +1,7 @@
 //! A router under its lock, and the ports of those who feed it.
 
 ghost use Rattle.std.specs.Prelude.{◌≡◌, ◌+◌, ◌<◌, ◌≤◌, ℕ, All, IfErr, IfOk, OnErr, OnOk, length, map};
+ghost use Rattle.abstract_router.specs.States.{State};
 ghost use Rattle.journal_bytes.specs.Events.{event_bytes};
 ghost use Rattle.lookup_plane.specs.Changes.{new_reader};
 ghost use Rattle.run_journal.specs.Journals.{IsAnswered, rotated, stretch_of};
@@ -8,6 +9,7 @@ ghost use Rattle.run_journal.specs.Marks.{Follows, first_marks};
 ghost use Rattle.interface_workers.specs.Names.{IsKnown, IsReceiptOf, IsSegmentOf, opened};
 ghost use Rattle.interface_workers.specs.Refused.{MayBeRefused};
 
+use crate::asking::Question;
 use crate::keeping::{KeepSegments, KeptJournal, SegmentCount, TakenSegment};
 use crate::names::CoreName;
 use crate::readers::{CoreReader, named_readers};
@@ -137,6 +139,15 @@ impl<L: CoreName, R: Wait + Drop> Booked<L, R> {
         Ok(TakenSegment::new(segment))
     }
 
+    /// The answer of the router as it stands.
+    fn ask<Q: Question>(&self, question: &Q) -> Q::Answer
+        ensures { (s : State) × IsKnown L.config s × Q.answered question.now (record { router = L.config.router; state = s }) result }
+    {
+        self.locked.knew();
+        self.locked.soundness();
+        question.ask(self.locked.machine())
+    }
+
     /// What the router knows: a copy. The only error is out of memory.
     fn export(&self, alloc: Global) -> Result<State, AllocError>
         ensures { IfOk result (IsKnown L.config) }
@@ -226,6 +237,15 @@ impl<L: CoreName, R: Wait + Drop, K: KeepSegments + Drop> Core<L, R, K> {
     {
         let guard = self.lock.lock(rt);
         guard.export(alloc)
+    }
+
+    /// The answer of the router, as it knew things once, to a question. Waits for others who use the core, and they wait until it is
+    /// answered.
+    pub fn ask<W: Wait, Q: Question>(&self, rt: &W, question: &Q) -> Q::Answer
+        ensures { (s : State) × IsKnown L.config s × Q.answered question.now (record { router = L.config.router; state = s }) result }
+    {
+        let guard = self.lock.lock(rt);
+        guard.ask(question)
     }
 
     /// What never changes of the router, as the configuration says it.

@@ -2,6 +2,7 @@
 //! told is one run of it.
 #![tactic(auto)]
 
+mod asking;
 mod cores;
 mod gate;
 mod handled;
@@ -12,6 +13,7 @@ mod reading;
 mod wire;
 mod worker;
 
+pub use asking::Question;
 pub use cores::{Core, Finished, Opened, Port, open};
 pub use gate::{Gate, OpenGate};
 pub use handled::{Handled, Tally};
@@ -21,6 +23,7 @@ pub use lookup_plane::{Closed, OpenFault};
 pub use names::CoreName;
 pub use readers::CoreReader;
 pub use reading::read_by;
+pub use router_core::Machine;
 pub use run_journal::{CountedEntry, Entry, JournalCounts, MAX_PORTS, Mark, Receipt, Segment};
 pub use wire::{Wire, WireFault};
 pub use worker::{Work, serve_event, serve_link};

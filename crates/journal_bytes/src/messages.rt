@@ -14,6 +14,9 @@ use rsvp_contents::{Message, Reading};
 use rsvp_messages::write_message;
 use std::alloc::AllocError;
 
+/// Room for what most messages are written as, so that it doesn't move as it grows.
+pub(crate) const MESSAGE_ROOM: usize = 512;
+
 /// The number of the way.
 fn way_number(way: ArrivalWay) -> u8
     ensures { result ≡ way_number way }
@@ -31,7 +34,7 @@ fn put_message(message: &Message, out: &mut Vec<u8>) -> Result<(), AllocError>
         (out.new.items ≡ out.old.items ++ counted_bytes (message_bytes message.now)) }
     ensures again { OnOk result (IsReadAgain message.now) }
 {
-    let mut bytes = Vec::new(*out.allocator());
+    let mut bytes = Vec::with_capacity(*out.allocator(), MESSAGE_ROOM)?;
     write_message(message, &mut bytes)?;
     put_counted(bytes.as_slice(), out)
 }

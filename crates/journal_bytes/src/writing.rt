@@ -3,7 +3,7 @@ ghost use Rattle.journal_bytes.specs.Events.{IsWrittenAgain, event_bytes, event_
 
 use crate::commands::put_command;
 use crate::entry::Bytes;
-use crate::messages::{put_arrive, put_relay};
+use crate::messages::{MESSAGE_ROOM, put_arrive, put_relay};
 use crate::numbers::*;
 use abstract_paths::Event;
 use rsvp_bodies::Kept;
@@ -48,7 +48,7 @@ pub fn write_event(event: &Event, out: &mut Vec<u8>) -> Result<(), AllocError>
     ensures again { OnOk result (IsWrittenAgain event.now) }
     ensures err { OnErr result (out.new.items ≡ out.old.items) }
 {
-    let mut bytes = Vec::new(*out.allocator());
+    let mut bytes = Vec::with_capacity(*out.allocator(), MESSAGE_ROOM)?;
     bytes.push(event_kind(event))?;
     put_fields(event, &mut bytes)?;
     out.extend_from_slice(bytes.as_slice())

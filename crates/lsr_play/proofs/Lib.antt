@@ -2,3 +2,4 @@ mod DeclaringLaws
 mod PlayLaws
 mod AnswerLaws
 mod LabLaws
+mod ChartLaws

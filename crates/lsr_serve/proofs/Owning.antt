@@ -20,12 +20,13 @@ put_own c before now work receipts segments left done = record {
 }
 
 -- the works of many ports, and of one more
-pub works_more : {E : Type 0} (c : Setup) (start before now : RunReport) (works : List (Result Work E)) (result : Result Work E) (work : Work) → result ≡ Ok work
-    → (IsReportOf c start → All (λ w. IfOk w (IsWorkOf c)) works → IsReportOf c before) → (IsReportOf c before → IsWorkOf c work → IsReportOf c now)
-    → IsReportOf c start → All (λ w. IfOk w (IsWorkOf c)) (works ++ result ∷ []) → IsReportOf c now
-works_more {E} c start before now works result work is earlier put begun all =
+pub works_more : {X E : Type 0} (c : Setup) (work_of : X → Result Work E) (start before now : RunReport) (done : List X) (one : X) (work : Work) → work_of one ≡ Ok work
+    → (IsReportOf c start → All (λ w. IfOk (work_of w) (IsWorkOf c)) done → IsReportOf c before) → (IsReportOf c before → IsWorkOf c work → IsReportOf c now)
+    → IsReportOf c start → All (λ w. IfOk (work_of w) (IsWorkOf c)) (done ++ one ∷ []) → IsReportOf c now
+works_more {X} {E} c work_of start before now done one work is earlier put begun all =
     let Own : Result Work E → Type 0 = λ (w : Result Work E). IfOk w (IsWorkOf c) in
-    let split = All-pop Own (works ++ result ∷ []) works (Some result) refl all in
+    let Done : X → Type 0 = λ (w : X). Own (work_of w) in
+    let split = All-pop Done (done ++ one ∷ []) done (Some one) refl all in
     put (earlier begun split.0) (subst Own is split.1)
 
 -- the last segment, and all of them in another order

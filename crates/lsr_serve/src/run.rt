@@ -81,6 +81,15 @@ pub struct Worker<L: CoreName, W> {
     wire: W,
 }
 
+/// A link's worker whose turns are over, and what it did in them. The only error is out of memory, and then it made none.
+#[derive(Drop)]
+pub struct Turned<L: CoreName, W> {
+    /// The worker, which can make more turns.
+    pub worker: Worker<L, W>,
+    /// What it did.
+    pub work: Result<Work, AllocError>,
+}
+
 /// A worker's thread: its turns, with what it did.
 pub fn run_worker<
     L: CoreName,
@@ -96,8 +105,8 @@ pub fn run_worker<
     gate: &G,
     turns: u32,
     worker: Worker<L, W>,
-) -> Result<Work, AllocError>
-    ensures { IfOk result (IsWorkOf L.config) }
+) -> Turned<L, W>
+    ensures { IfOk result.work (IsWorkOf L.config) }
 {
     let Worker {
         mut port,
@@ -105,10 +114,18 @@ pub fn run_worker<
         link,
         mut wire,
     } = worker;
-    let (_reader, work) = serve_link(
+    let (reader, work) = serve_link(
         rt, alloc, core, &mut port, reader, link, &mut wire, gate, turns,
     );
-    work
+    Turned {
+        worker: Worker {
+            port,
+            reader,
+            link,
+            wire,
+        },
+        work,
+    }
 }
 
 /// The clock's turns: each waits for the next moment and feeds it, and then does what is done beside it; with what it did.
@@ -182,7 +199,7 @@ pub fn link_workers<L: CoreName, W: Drop>(
 
 impl RunReport {
     /// Nothing yet.
-    fn new(alloc: Global) -> RunReport
+    pub fn new(alloc: Global) -> RunReport
         ensures ports { length result.ports.items ≡ 0 }
         ensures counted { IsCounted result }
         ensures own { (c : Setup) → IsReportOf c result }
@@ -207,7 +224,7 @@ impl RunReport {
 }
 
 /// Puts the work of one more port to what the others left. The only error is out of memory.
-fn add_work(served: &mut RunReport, work: Work) -> Result<(), AllocError>
+pub fn add_work(served: &mut RunReport, work: Work) -> Result<(), AllocError>
     ensures put { OnOk result (IsPutTo served.old work served.new) }
     ensures ports { OnOk result (length served.new.ports.items ≡ length served.old.ports.items + 1) }
     ensures counted { IsCounted served.old → OnOk result (IsCounted served.new) }
@@ -228,14 +245,21 @@ fn add_work(served: &mut RunReport, work: Work) -> Result<(), AllocError>
     Ok(())
 }
 
-/// Puts the work of more ports to what the others left. The only error is out of memory.
-fn add_works(served: &mut RunReport, works: Vec<Result<Work, AllocError>>) -> Result<(), AllocError>
+/// Puts what workers did to what the others left, and the workers to those whose turns are over. The only error is out of memory.
+pub fn add_turned<L: CoreName, W: Drop>(
+    served: &mut RunReport,
+    workers: &mut Vec<Worker<L, W>>,
+    turned: Vec<Turned<L, W>>,
+) -> Result<(), AllocError>
     requires { IsCounted served.old }
-    ensures ports { OnOk result (length served.new.ports.items ≡ length served.old.ports.items + length works.items) }
+    ensures ports { OnOk result (length served.new.ports.items ≡ length served.old.ports.items + length turned.items) }
+    ensures workers { OnOk result (length workers.new.items ≡ length workers.old.items + length turned.items) }
     ensures counted { OnOk result (IsCounted served.new) }
-    ensures own { (c : Setup) → IsReportOf c served.old → All (λ work. IfOk work (IsWorkOf c)) works.items → OnOk result (IsReportOf c served.new) }
+    ensures own { (c : Setup) → IsReportOf c served.old → All (λ one. IfOk one.work (IsWorkOf c)) turned.items → OnOk result (IsReportOf c served.new) }
 {
-    for work in works {
+    for one in turned {
+        let Turned { worker, work } = one;
+        workers.push(worker)?;
         add_work(served, work?)?;
     }
     Ok(())
@@ -249,26 +273,19 @@ fn sort_segments(segments: &mut Vec<Segment>) -> Result<(), AllocError>
     Ok(())
 }
 
-/// Puts together what the ports left. The only error is out of memory.
-fn gather(
-    served: &mut RunReport,
-    works: Vec<Result<Work, AllocError>>,
-    clock_work: Work,
-) -> Result<(), AllocError>
-    requires { IsCounted served.old }
-    ensures ports { OnOk result (length served.new.ports.items ≡ length served.old.ports.items + length works.items + 1) }
-    ensures counted { OnOk result (IsCounted served.new) }
-    ensures own { (c : Setup) → IsReportOf c served.old → All (λ work. IfOk work (IsWorkOf c)) works.items → IsWorkOf c clock_work
-        → OnOk result (IsReportOf c served.new) }
+/// Puts one more segment to what the ports left, all segments in their order. The only error is out of memory.
+pub fn add_segment(served: &mut RunReport, segment: Segment) -> Result<(), AllocError>
+    ensures ports { served.new.ports ≡ served.old.ports }
+    ensures receipts { served.new.receipts ≡ served.old.receipts }
+    ensures own { (c : Setup) → IsReportOf c served.old → IsSegmentOf c segment → OnOk result (IsReportOf c served.new) }
 {
-    match add_works(served, works) {
-        Ok(()) => add_work(served, clock_work),
-        Err(error) => Err(error),
-    }
+    served.segments.push(segment)?;
+    sort_segments(&mut served.segments)?;
+    Ok(())
 }
 
 /// Puts what the core leaves to what the ports left, all segments in their order: who keeps them. The only error is out of memory.
-fn add_finished<K: KeepSegments + Drop>(
+pub fn add_finished<K: KeepSegments + Drop>(
     served: &mut RunReport,
     finished: Finished<K>,
 ) -> Result<K, AllocError>
@@ -278,14 +295,13 @@ fn add_finished<K: KeepSegments + Drop>(
     ensures own { (c : Setup) → IsReportOf c served.old → IsSegmentOf c finished.last → OnOk result (IsReportOf c served.new) }
 {
     let Finished { last, keeper, kept } = finished;
-    served.segments.push(last)?;
-    sort_segments(&mut served.segments)?;
+    add_segment(served, last)?;
     served.kept = kept;
     Ok(keeper)
 }
 
-/// The threads of the links: what each worker did, in their order. The only error is out of memory.
-fn run_workers<
+/// The threads of the links: the workers in their order, and what each did. The only error is out of memory.
+pub fn run_workers<
     L: CoreName + Send + Sync,
     R: Threads + Wait + Send + Sync + Drop,
     K: KeepSegments + Send + Drop,
@@ -298,9 +314,9 @@ fn run_workers<
     workers: Vec<Worker<L, W>>,
     gate: &G,
     turns: u32,
-) -> Result<Vec<Result<Work, AllocError>>, AllocError>
-    ensures each { IfOk result (λ works. length works.items ≡ length workers.items) }
-    ensures own { IfOk result (λ works. All (λ work. IfOk work (IsWorkOf L.config)) works.items) }
+) -> Result<Vec<Turned<L, W>>, AllocError>
+    ensures each { IfOk result (λ turned. length turned.items ≡ length workers.items) }
+    ensures own { IfOk result (λ turned. All (λ one. IfOk one.work (IsWorkOf L.config)) turned.items) }
 {
     thread::map_vec(
         rt,
@@ -334,17 +350,17 @@ fn run_threads<
     ensures counted { IfOk result IsCounted }
     ensures own { IfOk result (IsReportOf L.config) }
 {
-    let (works, clock_work) = thread::join(
+    let (turned, clock_work) = thread::join(
         rt,
         || run_workers(rt, alloc, core, workers, gate, turns),
         || run_clock(
             rt, clock, alloc, core, clock_port, clock_wire, gate, turns, beside,
         ),
     );
-    let works = works?;
-    let clock_work = clock_work?;
     let mut served = RunReport::new(alloc);
-    gather(&mut served, works, clock_work)?;
+    let mut workers = Vec::new(alloc);
+    add_turned(&mut served, &mut workers, turned?)?;
+    add_work(&mut served, clock_work?)?;
     Ok(served)
 }
 

@@ -26,7 +26,7 @@ const DONE: u8 = 0;
 const FAILED: u8 = 1;
 
 /// A configuration like this one. The only error is out of memory.
-fn copy_config(alloc: Global, config: &Config) -> Result<Config, AllocError>
+pub fn copy_config(alloc: Global, config: &Config) -> Result<Config, AllocError>
     ensures { IfOk result (λ copy. copy ≡ config.now) }
 {
     config.opens();
@@ -39,7 +39,7 @@ fn copy_config(alloc: Global, config: &Config) -> Result<Config, AllocError>
 }
 
 /// Logs how much each port did, the first of which has the number 1. A line that can't be written is left out.
-fn tell_ports<L: Log>(log: &L, ports: &[PortCount]) {
+pub fn tell_ports<L: Log>(log: &L, ports: &[PortCount]) {
     for (before, count) in ports.iter().enumerate() {
         let port = before.saturating_add(1);
         let tally = count.tally;
@@ -50,9 +50,9 @@ fn tell_ports<L: Log>(log: &L, ports: &[PortCount]) {
     }
 }
 
-/// Logs how many LSPs the router knows at the end of the last segment. A line that can't be written is left out.
-fn tell_end<L: Log>(log: &L, segments: &[Segment]) {
-    if let Some(last) = segments.last() {
+/// Logs how many LSPs the router knows at the end of its last segment. A line that can't be written is left out.
+pub fn tell_end<L: Log>(log: &L, last: Option<&Segment>) {
+    if let Some(last) = last {
         let state = last.end();
         let paths = state.facts.paths.as_slice().len();
         let resvs = state.resvs.as_slice().len();
@@ -148,7 +148,7 @@ fn tell_served<W: Write, E: Write>(
 {
     let log = Writer::new(error);
     tell_ports(&log, served.ports.as_slice());
-    tell_end(&log, served.segments.as_slice());
+    tell_end(&log, served.segments.as_slice().last());
     tell_run(config, served, output)
 }
 

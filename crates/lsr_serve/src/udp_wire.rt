@@ -2,6 +2,7 @@
 ghost use Rattle.std.specs.Prelude.{◌≡◌, ◌+◌, ◌-◌, ◌^◌, ◌<◌, ◌↔◌, map, take, IfOk, IsTrue, OnOk};
 ghost use Rattle.lsr_serve.specs.Local.{AreLinkLocal, AreLocal, IsLocal};
 
+use crate::round_flag::RoundFlag;
 use interface_workers::{Wire, WireFault};
 use lsr_config::LinkSockets;
 use sorted_rows::Table;
@@ -48,6 +49,8 @@ pub struct LinkWire<W> {
 pub struct UdpWire<'a> {
     socket: UdpSocket,
     links: &'a Table<u16, LinkSockets>,
+    /// When it waits for nothing any more, if it may be told so.
+    round: Option<&'a RoundFlag>,
     failures: u64,
 }
 
@@ -63,8 +66,33 @@ impl<'a> UdpWire<'a> {
         Ok(UdpWire {
             socket,
             links,
+            round: None,
             failures: 0,
         })
+    }
+
+    /// The same wire, which gives nothing, and doesn't wait, while the round is over.
+    pub fn until(self, round: &'a RoundFlag) -> UdpWire<'a> {
+        let UdpWire {
+            socket,
+            links,
+            round: _,
+            failures,
+        } = self;
+        UdpWire {
+            socket,
+            links,
+            round: Some(round),
+            failures,
+        }
+    }
+
+    /// Whether it is told to wait for nothing.
+    fn is_over(&self) -> bool {
+        match self.round {
+            Some(round) => round.is_over(),
+            None => false,
+        }
     }
 
     /// One more failure.
@@ -87,8 +115,11 @@ impl<'a> Wire for UdpWire<'a> {
 
     ghost history = { λ wire. record { failed = wire.failures; answered = None; given = None } };
 
-    /// The next frame that came, or none where none came in 100 milliseconds.
+    /// The next frame that came, or none where none came in 100 milliseconds. While its round is over there is none, at once.
     fn receive(&mut self, buffer: &mut [u8]) -> Result<Option<usize>, WireFault> {
+        if self.is_over() {
+            return Ok(None);
+        }
         match self.socket.recv_from(buffer) {
             Ok((len, _)) => Ok(Some(len)),
             Err(fault) if is_silence(fault.kind()) => Ok(None),

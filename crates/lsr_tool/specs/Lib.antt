@@ -1,3 +1,4 @@
+pub mod Attended
 pub mod Checking
 pub mod Endings
 pub mod Recording
@@ -9,4 +10,5 @@ pub mod Live
 pub mod Configuring
 pub mod Decoding
 pub mod Playing
+pub mod Charting
 pub mod Commands

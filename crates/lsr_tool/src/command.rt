@@ -4,12 +4,14 @@ ghost use Rattle.std.specs.Io.KnownBytes.{Appends};
 ghost use Rattle.std.specs.IoError.{error_kind};
 ghost use Rattle.std.specs.declared.io.ErrorKind.TheVariants.{OutOfMemory};
 ghost use Rattle.clap.specs.Words.{kind_of};
-ghost use Rattle.lsr_words.specs.declared.words.Asked.TheVariants.{Step};
+ghost use Rattle.lsr_words.specs.declared.words.Asked.TheVariants.{Play, Serve, Step};
 ghost use Rattle.lsr_tool.specs.Commands.{Does, Runs, words_status};
 ghost use Rattle.lsr_tool.specs.Endings.{memory_text, unread_words_text, unwritable_text};
 
+use crate::charting::{refuse_lab_chart, run_chart_of};
 use crate::checking::run_check_of;
 use crate::configuring::run_config_of;
+use crate::console::{refuse_words, run_console_of};
 use crate::decoding::run_decode_on;
 use crate::endings::FAILED;
 use crate::files::{FilesByName, SystemFiles};
@@ -108,12 +110,75 @@ fn run_lines_of<
     }
 }
 
+/// Serves the links of the router of the file of this name over sockets: for a number of turns, or with a console until its operator ends it.
+/// Gives the status, 2 where it has a console and a number of turns, or is to echo or to log without a console. The error is that a stream
+/// could not be written, or that memory ran out.
+fn run_sockets_of<
+    F: FilesByName + WritesFiles,
+    N: Net + Threads + Wait + Clock + Clone + Send + Sync + Drop,
+    R: ByteStream + Send,
+    W: Write,
+    E: Write,
+>(
+    files: &F,
+    rt: &N,
+    alloc: Global,
+    file: &str,
+    turns: Option<&str>,
+    journal: Option<&str>,
+    console: bool,
+    echo: bool,
+    log: Option<&str>,
+    input: &mut R,
+    output: &mut W,
+    error: &mut E,
+) -> io::Result<u8>
+    ensures { IfOk result (Does (F.opens files.now) (F.fails files.now) F.File.stream (F.holds files.now)
+        (Serve file.entry turns.entry journal.entry console echo log.entry)
+        (R.stream input.old) (R.stream input.new) (W.contents output.old) (W.contents output.new) (E.contents error.old) (E.contents error.new)) }
+{
+    match (console, turns, echo, log) {
+        (false, _, false, None) => {
+            run_serve_of(files, rt, alloc, file, turns, journal, output, error)
+        }
+        (true, None, _, _) => run_console_of(
+            files, rt, alloc, file, journal, echo, log, input, output, error,
+        ),
+        (true, Some(_), _, _) => refuse_words(error, console),
+        (false, _, true, _) => refuse_words(error, console),
+        (false, _, false, Some(_)) => refuse_words(error, console),
+    }
+}
+
+/// Plays the world of the file of this name, and may draw the run in another file. Gives the status, 2 where it is to take lines of `--lab` and to
+/// draw the run. The input isn't read. The error is that a stream could not be written, or that memory ran out.
+fn run_world_of<F: FilesByName + WritesFiles, R: ByteStream, W: Write, E: Write>(
+    files: &F,
+    alloc: Global,
+    file: &str,
+    lab: bool,
+    chart: Option<&str>,
+    _input: &mut R,
+    output: &mut W,
+    error: &mut E,
+) -> io::Result<u8>
+    ensures { IfOk result (Does (F.opens files.now) (F.fails files.now) F.File.stream (F.holds files.now) (Play file.entry lab chart.entry)
+        (R.stream _input.old) (R.stream _input.new) (W.contents output.old) (W.contents output.new) (E.contents error.old) (E.contents error.new)) }
+{
+    match (lab, chart) {
+        (false, None) => run_play_of(files, alloc, file, output, error),
+        (true, None) => run_lab_of(files, alloc, file, output, error),
+        (false, Some(chart)) => run_chart_of(files, alloc, file, chart, output, error),
+        (true, Some(_)) => refuse_lab_chart(error),
+    }
+}
+
 /// Does what was asked for, and gives the status. Links are served by `rt`. The error is that a stream could not be
 /// written, or that memory ran out.
 pub fn run_asked<
     F: FilesByName + WritesFiles,
     N: Net + Threads + Wait + Clock + Clone + Send + Sync + Drop,
-    R: ByteStream,
+    R: ByteStream + Send,
     W: Write,
     E: Write,
 >(
@@ -146,9 +211,15 @@ pub fn run_asked<
             file,
             turns,
             journal,
-        } => run_serve_of(files, rt, alloc, file, turns, journal, output, error),
-        Asked::Play { file, lab: false } => run_play_of(files, alloc, file, output, error),
-        Asked::Play { file, lab: true } => run_lab_of(files, alloc, file, output, error),
+            console,
+            echo,
+            log,
+        } => run_sockets_of(
+            files, rt, alloc, file, turns, journal, console, echo, log, input, output, error,
+        ),
+        Asked::Play { file, lab, chart } => {
+            run_world_of(files, alloc, file, lab, chart, input, output, error)
+        }
         Asked::Check(names) => run_check_of(files, alloc, names.as_slice(), output, error),
         Asked::ShowJournal(file) => run_show_journal_of(files, alloc, file, output, error),
     }
@@ -160,7 +231,7 @@ fn run_words<
     F: FilesByName + WritesFiles,
     N: Net + Threads + Wait + Clock + Clone + Send + Sync + Drop,
     S: AsStr,
-    R: ByteStream,
+    R: ByteStream + Send,
     W: Write,
     E: Write,
 >(
@@ -189,7 +260,7 @@ fn run_words<
 pub fn run<
     F: Files + Net + Threads + Wait + Clock + Clone + Send + Sync + Drop,
     S: AsStr,
-    R: ByteStream,
+    R: ByteStream + Send,
     W: Write,
     E: Write,
 >(

@@ -1,9 +1,12 @@
 //! The program `lsr` as functions over streams and files: what its words ask for is done, told and given as a status.
 #![tactic(auto)]
 
+mod attending;
+mod charting;
 mod checking;
 mod command;
 mod configuring;
+mod console;
 mod decoding;
 mod endings;
 mod files;
@@ -16,9 +19,11 @@ mod session;
 mod showing;
 mod written;
 
+pub use charting::run_chart_of;
 pub use checking::run_check_of;
 pub use command::{end, run, run_asked, tell_unread_words};
 pub use configuring::run_config_of;
+pub use console::run_console_of;
 pub use decoding::run_decode_on;
 pub use endings::{RunEnding, Source};
 pub use files::{FilesByName, SystemFiles};

@@ -29,12 +29,12 @@ pub(crate) const BAD_WORDS: u8 = 2;
 const BAD_TURNS: &str = "error: N is a number from 1 to 1000000; see lsr serve --help\n";
 
 /// The configuration that a text says, with the sockets of its links.
-fn configured<'a>(
+pub(crate) fn configured<'a>(
     alloc: Global,
     text: &str,
 ) -> Result<(Config, Table<u16, LinkSockets>), RunEnding<'a>>
     ensures said { IfOk result (λ ready. SaysRun text.now ready.0 ready.1) }
-    ensures few { IfOk result (λ ready. length ready.1 < 64) }
+    ensures few { IfOk result (λ ready. length ready.1 < 62) }
     ensures fault { IfErr result (λ ending. status_of ending ≡ 1) }
 {
     let config = match Config::read(alloc, text) {
@@ -51,7 +51,7 @@ fn configured<'a>(
 }
 
 /// The text of the file of this name.
-fn read_served<'a, F: FilesByName>(
+pub(crate) fn read_served<'a, F: FilesByName>(
     files: &F,
     alloc: Global,
     file: &str,
@@ -105,7 +105,7 @@ fn serve_text<
 
 /// The status of a run with this status, when its journal is written or isn't: 1 where it isn't, which is told. The error is the
 /// stream's.
-fn tell_written<E: Write>(
+pub(crate) fn tell_written<E: Write>(
     error: &mut E,
     prefix: &str,
     written: Result<(), OutputFault>,

@@ -78,9 +78,9 @@ lacks command word given (asked.Decode digits fields) needs none (is, text, said
     let t = sym none ∙ ap (λ w. first_of w given) (sym (word_is command _ word _ is needs refl)) ∙ text in cc
 lacks command word given (asked.Explain topic) needs none (is, text) =
     let t = sym none ∙ ap (λ w. first_of w given) (sym (word_is command _ word _ is needs refl)) ∙ text in cc
-lacks command word given (asked.Serve file turns journal) needs none (is, text, count, recorded) =
+lacks command word given (asked.Serve file turns journal console echo log) needs none (is, text, count, recorded, attended, echoed, told) =
     let t = sym none ∙ ap (λ w. first_of w given) (sym (word_is command _ word _ is needs refl)) ∙ text in cc
-lacks command word given (asked.Play file lab) needs none (is, text, said) =
+lacks command word given (asked.Play file lab chart) needs none (is, text, said, drawn) =
     let t = sym none ∙ ap (λ w. first_of w given) (sym (word_is command _ word _ is needs refl)) ∙ text in cc
 lacks command word given (asked.Check files) needs none (is, text, some) =
     has_first (codes "FILE") given files.items text some (ap (λ w. first_of w given) (word_is command _ word _ is needs refl) ∙ none)

@@ -62,9 +62,21 @@ served_word = record (new_rule (codes "FILE")) { required = true }
 abbrev pub turns_words : Rule
 turns_words = record (new_rule (codes "turns")) { long = Some (codes "turns"); value_names = 1 }
 
+-- `--console`
+abbrev pub console_word : Rule
+console_word = record (new_rule (codes "console")) { long = Some (codes "console"); action = Some SetTrue }
+
+-- `--log LEVEL`
+abbrev pub log_words : Rule
+log_words = record (new_rule (codes "log")) { long = Some (codes "log"); value_names = 1 }
+
 -- `serve FILE [--turns N] [--journal PREFIX]`
+abbrev pub counted_words : App
+counted_words = with_rule (with_rule (with_rule (new_app (codes "serve")) served_word) turns_words) journal_words
+
+-- `serve FILE [--turns N] [--journal PREFIX] [--console] [--echo] [--log LEVEL]`
 abbrev pub serve_words : App
-serve_words = with_rule (with_rule (with_rule (new_app (codes "serve")) served_word) turns_words) journal_words
+serve_words = with_rule (with_rule (with_rule counted_words console_word) echo_word) log_words
 
 -- `FILE`
 abbrev pub played_word : Rule
@@ -74,9 +86,13 @@ played_word = record (new_rule (codes "FILE")) { required = true }
 abbrev pub lab_word : Rule
 lab_word = record (new_rule (codes "lab")) { long = Some (codes "lab"); action = Some SetTrue }
 
--- `play FILE [--lab]`
+-- `--chart FILE`
+abbrev pub chart_words : Rule
+chart_words = record (new_rule (codes "chart")) { long = Some (codes "chart"); value_names = 1 }
+
+-- `play FILE [--lab] [--chart FILE]`
 abbrev pub play_words : App
-play_words = with_rule (with_rule (new_app (codes "play")) played_word) lab_word
+play_words = with_rule (with_rule (with_rule (new_app (codes "play")) played_word) lab_word) chart_words
 
 -- `FILE..`, one or more
 abbrev pub checked_words : Rule
@@ -120,11 +136,13 @@ Asks command given (asked.Config file) = (command ≡ codes "config") × (option
 Asks command given (asked.Decode word fields) =
     (command ≡ codes "decode") × (first_of (codes "HEX") given ≡ Some word.now) × (fields ≡ is_given (first_of (codes "fields") given))
 Asks command given (asked.Explain word) = (command ≡ codes "explain") × (first_of (codes "WHAT") given ≡ Some word.now)
-Asks command given (asked.Serve file turns journal) =
+Asks command given (asked.Serve file turns journal console echo log) =
     (command ≡ codes "serve") × (first_of (codes "FILE") given ≡ Some file.now) × (option_map (λ n. n.now) turns ≡ first_of (codes "turns") given)
-    × (option_map (λ p. p.now) journal ≡ first_of (codes "journal") given)
-Asks command given (asked.Play file lab) =
+    × (option_map (λ p. p.now) journal ≡ first_of (codes "journal") given) × (console ≡ is_given (first_of (codes "console") given))
+    × (echo ≡ is_given (first_of (codes "echo") given)) × (option_map (λ l. l.now) log ≡ first_of (codes "log") given)
+Asks command given (asked.Play file lab chart) =
     (command ≡ codes "play") × (first_of (codes "FILE") given ≡ Some file.now) × (lab ≡ is_given (first_of (codes "lab") given))
+    × (option_map (λ f. f.now) chart ≡ first_of (codes "chart") given)
 Asks command given (asked.Check files) =
     (command ≡ codes "check") × (all_of (codes "FILE") given ≡ Some (map (λ f. f.now) files.items)) × (files.items ≢ [])
 Asks command given (asked.ShowJournal file) = (command ≡ codes "show-journal") × (first_of (codes "FILE") given ≡ Some file.now)

@@ -4,7 +4,7 @@ ghost use Rattle.clap.specs.Built.{AddsSubcommand};
 ghost use Rattle.clap.specs.Words.{app_of, new_app, new_rule, rule_of};
 ghost use Rattle.clap.specs.declared.builder.action.ArgAction.TheVariants.{SetTrue};
 ghost use Rattle.clap.specs.declared.builder.command.Command.{Command, out-Command};
-ghost use Rattle.lsr_words.specs.Words.{check_words, checked_words, config_words, decode_words, digits_word, echo_word, explain_words, fields_word, file_words, journal_words, lab_word, live_word, lsr_words, play_words, played_word, printed_word, program_words, serve_words, served_word, show_journal_words, shown_word, step_words, topic_word, turns_words, with_commands};
+ghost use Rattle.lsr_words.specs.Words.{chart_words, check_words, checked_words, config_words, console_word, counted_words, decode_words, digits_word, echo_word, explain_words, fields_word, file_words, journal_words, lab_word, live_word, log_words, lsr_words, play_words, played_word, printed_word, program_words, serve_words, served_word, show_journal_words, shown_word, step_words, topic_word, turns_words, with_commands};
 
 use clap::{Arg, ArgAction, Command};
 use std::alloc::{AllocError, Global};
@@ -25,7 +25,7 @@ Where to go on:
   lsr config --help   a router's configuration, checked and printed whole
   lsr decode --help   what messages are made of
   lsr explain --help  what a refusal, an error or a fault means, and what to do about it
-  lsr serve --help    a router over sockets
+  lsr serve --help    a router over sockets, which an operator may ask and tell things as it runs
   lsr play --help     many routers, joined by wires that lose, repeat and reorder
   lsr check --help    whether recorded runs are what such a router does
   lsr show-journal --help
@@ -46,7 +46,9 @@ The status is, of each command:
                       `check` is given isn't one; the output can't be written; or memory ran out
   2                   the words after `lsr` aren't taken, and nothing was done: too few, too
                       many or unknown ones, HEX that isn't hexadecimal digits, WHAT that asks
-                      for nothing, N that isn't a number of turns, or --journal beside --live
+                      for nothing, N that isn't a number of turns, LEVEL that is none, or words
+                      that don't go together: --journal and --live, --chart and --lab, --turns and
+                      --console, --echo or --log of `serve` without --console
 Why it isn't 0 is said on standard error, and by `decode` of lines or a file in its answers too.
 The first line says what it is, and `lsr explain` knows its first word; lines after it that begin
 with two spaces say where it is and what to do.
@@ -385,6 +387,13 @@ events, written while the run goes on, and one at its end. Keep them: `lsr check
 ..` says later, anywhere, whether that is what such a router does, and `lsr show-journal PREFIX.1`
 prints the first.
 
+With --console the router runs until it is told to end, and answers the lines of its input: those
+of `lsr step` for operators (tunnel, change, cancel, drop, bypass, unbypass, route, unroute, up,
+down, restart, start, and each show), `help`, and `quit`. What happens is told on standard error as
+it happens. The clock goes by real time. The operator's lines have the last port, and the clock's
+is the one before it. Once a minute, or sooner, what was told so far is reconciled and given up, so
+that memory stays bounded; with --journal a file is written then.
+
 What is printed in the end:
   reconciled M entries     each event that was served is in the journal once, in one order, and
                            each port's receipts are those of its own; there are M in all
@@ -416,6 +425,8 @@ command aren't taken, or N isn't 1 to 1000000:
 Example: in two terminals, two routers that set up an LSP from the first to the second.
   lsr serve examples/serve-tail.toml --turns 100
   lsr serve examples/serve-head.toml --turns 100
+Example: a router that runs until `quit`.
+  lsr serve examples/serve-head.toml --console
 ";
 
 const PLAY_ABOUT: &str = "\
@@ -470,6 +481,13 @@ With --lab these lines are taken, too:
                     loss is printed before its answer, as `> deliver 7`, and can be played again
                     without --lab
 
+With --chart the run is drawn in a file, once it has ended, as a sequence chart that a browser shows:
+routers are columns, and the line of each move stands above what came of it. Each frame is an arrow,
+drawn where it is sent, to the router at the other end of its wire: with its number, its message and
+LSP as TUNNEL/LSP, and its labels. It arrives where a line `deliver I` says so. Thick ones go through
+a bypass, or tell of a repair. Beside a router stands what it answered, unless that is `done`. A
+chart has 4096 rows at most. There is none where routers and wires make no world, or memory ran out.
+
 The status is 0 where each line was taken, whatever is answered; 1 with one of these on standard
 error; 2 where the words of the command aren't taken:
   unreadable        FILE, or a file that a line `router NAME FILE` names, can't be opened or read,
@@ -484,7 +502,8 @@ error; 2 where the words of the command aren't taken:
                     is joined already
   world Memory      there is no memory for the routers
   memory            there is no memory; what was printed before is done
-  unwritable        the output or the error stream can't be written
+  unwritable        the output or the error stream can't be written, or the file of --chart, and
+                    then the line after it says why
 
 Example: three routers in a line, between which a tunnel comes up.
   lsr play examples/world/line.play --lab
@@ -561,6 +580,9 @@ const PLAYED_FILE_HELP: &str =
 const LAB_HELP: &str = "\
 Takes remarks, `show NAME WHAT`, `run` and `seed N MOVES`, too";
 
+const CHART_HELP: &str = "\
+Draws the run in FILE, as a sequence chart (SVG); not beside --lab";
+
 const TURNS_HELP: &str =
     "How many turns each link makes, of 100 milliseconds at most: 1 to 1000000; without it 1000";
 
@@ -578,6 +600,16 @@ Records the run in FILE, for `lsr check` and `lsr show-journal`; not beside --li
 
 const SERVE_JOURNAL_HELP: &str = "\
 Records the run in PREFIX.1, PREFIX.2 and so on, for `lsr check` and `lsr show-journal`";
+
+const CONSOLE_HELP: &str = "\
+Answers each line of the input at once, and runs until `quit` or the end of the input; not beside
+--turns";
+
+const SERVE_ECHO_HELP: &str = "\
+Prints what a line has the router send after its answer; only beside --console";
+
+const LOG_HELP: &str = "\
+How much is told of what happens: info, warn or off; only beside --console; without it info";
 
 const CHECKED_FILES_HELP: &str =
     "The files of recorded runs, each of which begins where the one before it ended";
@@ -609,20 +641,26 @@ pub(crate) const SHOW_JOURNAL: &str = "show-journal";
 pub(crate) const FILE: &str = "FILE";
 /// The name of the option of `serve` that takes a number of turns.
 pub(crate) const TURNS: &str = "turns";
-/// The name of the option of `play`.
+/// The name of the option of `play` that takes more lines.
 pub(crate) const LAB: &str = "lab";
+/// The name of the option of `play` that draws the run.
+pub(crate) const CHART: &str = "chart";
 /// The name of the argument of `explain`.
 pub(crate) const WHAT: &str = "WHAT";
 /// The name of the argument of `decode`.
 pub(crate) const HEX: &str = "HEX";
 /// The name of the option of `step` that takes a file.
 pub(crate) const CONFIG_OPTION: &str = "config";
-/// The name of the option of `step` that prints lines, too.
+/// The name of the option of `step` that prints lines, too, and of the one of `serve` that prints what is sent.
 pub(crate) const ECHO: &str = "echo";
 /// The name of the option of `step` that answers lines as they come.
 pub(crate) const LIVE: &str = "live";
 /// The name of the option of `step` and of `serve` that records the run.
 pub(crate) const JOURNAL: &str = "journal";
+/// The name of the option of `serve` that answers an operator.
+pub(crate) const CONSOLE: &str = "console";
+/// The name of the option of `serve` that says how much is told.
+pub(crate) const LOG: &str = "log";
 /// The name of the option of `decode` that names fields.
 pub(crate) const FIELDS: &str = "fields";
 
@@ -696,6 +734,30 @@ fn serve_journal_option<'a>(alloc: Global) -> Arg<'a>
     option(alloc, JOURNAL, "PREFIX", SERVE_JOURNAL_HELP)
 }
 
+/// `--console`.
+fn console_option<'a>(alloc: Global) -> Arg<'a>
+    ensures rule { rule_of result ≡ console_word }
+    ensures local { result.global ≡ false }
+{
+    switch(alloc, CONSOLE, CONSOLE_HELP)
+}
+
+/// `--echo` of `serve`.
+fn serve_echo_option<'a>(alloc: Global) -> Arg<'a>
+    ensures rule { rule_of result ≡ echo_word }
+    ensures local { result.global ≡ false }
+{
+    switch(alloc, ECHO, SERVE_ECHO_HELP)
+}
+
+/// `--log LEVEL`.
+fn log_option<'a>(alloc: Global) -> Arg<'a>
+    ensures rule { rule_of result ≡ log_words }
+    ensures local { result.global ≡ false }
+{
+    option(alloc, LOG, "LEVEL", LOG_HELP)
+}
+
 /// `FILE`, which may be left out.
 fn printed_file<'a>(alloc: Global) -> Arg<'a>
     ensures rule { rule_of result ≡ printed_word }
@@ -750,6 +812,14 @@ fn lab_option<'a>(alloc: Global) -> Arg<'a>
     ensures local { result.global ≡ false }
 {
     switch(alloc, LAB, LAB_HELP)
+}
+
+/// `--chart FILE`.
+fn chart_option<'a>(alloc: Global) -> Arg<'a>
+    ensures rule { rule_of result ≡ chart_words }
+    ensures local { result.global ≡ false }
+{
+    option(alloc, CHART, FILE, CHART_HELP)
 }
 
 /// `--turns N`.
@@ -820,9 +890,9 @@ fn explain_command<'a>(alloc: Global) -> Result<Command<'a>, AllocError>
     bare_command(alloc, EXPLAIN, EXPLAIN_ABOUT, EXPLAIN_HELP).arg(topic_word(alloc))
 }
 
-/// `serve FILE [--turns N] [--journal PREFIX]`. The only error is that memory ran out.
-fn serve_command<'a>(alloc: Global) -> Result<Command<'a>, AllocError>
-    ensures words { IfOk result (λ command. app_of command ≡ serve_words) }
+/// `serve FILE [--turns N] [--journal PREFIX]`, and what a run with a console takes more is left out. The only error is that memory ran out.
+fn counted_command<'a>(alloc: Global) -> Result<Command<'a>, AllocError>
+    ensures words { IfOk result (λ command. app_of command ≡ counted_words) }
     ensures local { IfOk result (λ command. (out-Command command).has_globals ≡ false) }
 {
     let file = bare_command(alloc, SERVE, SERVE_ABOUT, SERVE_HELP).arg(served_file(alloc))?;
@@ -830,13 +900,24 @@ fn serve_command<'a>(alloc: Global) -> Result<Command<'a>, AllocError>
     turns.arg(serve_journal_option(alloc))
 }
 
-/// `play FILE [--lab]`. The only error is that memory ran out.
+/// `serve FILE [--turns N] [--journal PREFIX] [--console] [--echo] [--log LEVEL]`. The only error is that memory ran out.
+fn serve_command<'a>(alloc: Global) -> Result<Command<'a>, AllocError>
+    ensures words { IfOk result (λ command. app_of command ≡ serve_words) }
+    ensures local { IfOk result (λ command. (out-Command command).has_globals ≡ false) }
+{
+    let console = counted_command(alloc)?.arg(console_option(alloc))?;
+    let echo = console.arg(serve_echo_option(alloc))?;
+    echo.arg(log_option(alloc))
+}
+
+/// `play FILE [--lab] [--chart FILE]`. The only error is that memory ran out.
 fn play_command<'a>(alloc: Global) -> Result<Command<'a>, AllocError>
     ensures words { IfOk result (λ command. app_of command ≡ play_words) }
     ensures local { IfOk result (λ command. (out-Command command).has_globals ≡ false) }
 {
     let file = bare_command(alloc, PLAY, PLAY_ABOUT, PLAY_HELP).arg(played_file(alloc))?;
-    file.arg(lab_option(alloc))
+    let lab = file.arg(lab_option(alloc))?;
+    lab.arg(chart_option(alloc))
 }
 
 /// `check FILE..`. The only error is that memory ran out.
@@ -927,7 +1008,7 @@ fn program_with_check<'a>(alloc: Global) -> Result<Command<'a>, AllocError>
 }
 
 /// The words that `lsr` takes: `--version`, `step [--config FILE] [--echo] [--live] [--journal FILE]`, `config [FILE]`, `decode HEX [--fields]`,
-/// `explain WHAT`, `serve FILE [--turns N] [--journal PREFIX]`, `play FILE [--lab]`, `check FILE..` and `show-journal FILE`. The only error is
+/// `explain WHAT`, `serve FILE [--turns N] [--journal PREFIX] [--console] [--echo] [--log LEVEL]`, `play FILE [--lab] [--chart FILE]`, `check FILE..` and `show-journal FILE`. The only error is
 /// that memory ran out.
 pub(crate) fn command<'a>(alloc: Global) -> Result<Command<'a>, AllocError>
     ensures { IfOk result (λ command. app_of command ≡ lsr_words) }

@@ -7,8 +7,8 @@ ghost use Rattle.lsr_words.specs.declared.words.Asked.{Asked};
 ghost use Rattle.lsr_words.specs.Words.{Asks, AsksFor, AsksIn, is_given, lsr_words};
 
 use crate::help::{
-    CHECK, CONFIG, CONFIG_OPTION, DECODE, ECHO, EXPLAIN, FIELDS, FILE, HEX, JOURNAL, LAB, LIVE,
-    PLAY, SERVE, SHOW_JOURNAL, STEP, TURNS, WHAT, command,
+    CHART, CHECK, CONFIG, CONFIG_OPTION, CONSOLE, DECODE, ECHO, EXPLAIN, FIELDS, FILE, HEX,
+    JOURNAL, LAB, LIVE, LOG, PLAY, SERVE, SHOW_JOURNAL, STEP, TURNS, WHAT, command,
 };
 use clap::ArgMatches;
 use clap::error::{Error, ErrorKind};
@@ -49,6 +49,12 @@ pub enum Asked<'a> {
         turns: Option<&'a str>,
         /// What the names of the files begin with that the run is recorded in; without it it isn't recorded.
         journal: Option<&'a str>,
+        /// Whether an operator's lines are answered, until the run is told to end.
+        console: bool,
+        /// Whether what an operator's line has the router send is printed, too.
+        echo: bool,
+        /// How much is told of what happens, as the words give it.
+        log: Option<&'a str>,
     },
     /// `play FILE`: the world of the file of this name is played.
     Play {
@@ -56,6 +62,8 @@ pub enum Asked<'a> {
         file: &'a str,
         /// Whether lines are taken, too, that remark something, show what a router knows, or deliver all frames.
         lab: bool,
+        /// The name of the file that the run is drawn in; without one it isn't drawn.
+        chart: Option<&'a str>,
     },
     /// `check FILE..`: the recorded runs of the files of these names are checked, in this order. There is one at least.
     Check(Vec<&'a str>),
@@ -126,6 +134,9 @@ fn serve_asked<'a>(given: &ArgMatches<'a>) -> Option<Asked<'a>>
             file,
             turns: given.get_str(TURNS),
             journal: given.get_str(JOURNAL),
+            console: is_given(given.get_str(CONSOLE)),
+            echo: is_given(given.get_str(ECHO)),
+            log: given.get_str(LOG),
         }),
         None => None,
     }
@@ -141,6 +152,7 @@ fn play_asked<'a>(given: &ArgMatches<'a>) -> Option<Asked<'a>>
         Some(file) => Some(Asked::Play {
             file,
             lab: is_given(given.get_str(LAB)),
+            chart: given.get_str(CHART),
         }),
         None => None,
     }

@@ -337,6 +337,13 @@ impl<R: Wait + Drop> Locked<R> {
         self.entries.as_slice()
     }
 
+    /// The router as it stands, to be looked at.
+    pub fn machine(&self) -> &Machine
+        ensures { result.now ≡ router_in self.now }
+    {
+        &self.machine
+    }
+
     /// What never changes of the router.
     pub fn router(&self) -> &Router
         ensures { result.now ≡ self.now.router }

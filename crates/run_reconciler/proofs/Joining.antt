@@ -1,15 +1,16 @@
 -- Segments that go on one from the other.
 use Rattle.std.proofs.Common.{◌≡◌, ◌↔◌, ◌+◌, ◌-◌, ◌<◌, ◌≤◌, ◌++◌, ◌∷◌, suc, zero, ℕ, Bool, false, IsTrue, List, [], length, take, slice_index_or, ⊎_elim, arith, refl, sym, ap, subst, ◌∙◌}
 use Rattle.std.proofs.lemmas.Bool.{both_ways, cases_lt, false≢true}
-use Rattle.std.proofs.lemmas.List.{get_or_default, get_or-set_other, get_or-set_same, get_or_append_left, get_or_push, length-append, length-set, take_more}
+use Rattle.std.proofs.lemmas.List.{get_or_default, get_or-set_other, get_or-set_same, get_or_append_left, get_or_push, length-append, length-set, take_all, take_more}
 use Rattle.lsr_facts.specs.declared.router.Router.{Router}
 use Rattle.abstract_router.specs.States.{State}
 use Rattle.run_journal.specs.Journals.{Stretch}
-use Rattle.run_journal.specs.Marks.{Counts, counted, counted_all, first_mark, first_marks, mark_after}
+use Rattle.run_journal.specs.Marks.{Counts, counted, counted_all, first_counts, first_mark, first_marks, mark_after}
 use Rattle.run_journal.specs.declared.entry.CountedEntry.{CountedEntry}
 use Rattle.run_journal.specs.declared.mark.Mark.{Mark}
 use Rattle.run_reconciler.specs.Mismatches.{IsFirstGap}
 use Rattle.run_reconciler.specs.Reconciled.{AreContinued, AreJoined}
+use Rattle.run_reconciler.specs.Rounds.{GoOnFrom, IsFirstBreak, counts_after}
 use Rattle.run_reconciler.specs.Walks.{GoesOn, IsAt, IsNext, passed}
 use Rattle.run_reconciler.specs.declared.reconciling.Walk.{Walk}
 use Rattle.run_journal.proofs.Marking.{counted_push}
@@ -81,7 +82,7 @@ no_end ms ends i d b test is low same =
     both_ways b is (test.1 (get_or_default ms i d (slice_index_or ms i d) low ∙ ap (λ (xs : List Mark). slice_index_or xs i (slice_index_or ms i d)) same))
 
 -- stretches that go on, and one more that goes on from the last
-cont_more : (r : Router) (m : Counts) (p : Stretch) (qs : List Stretch) (k : ℕ) (before next : Stretch) → k < length qs → p.router ≡ r → m ≡ counted_all p.from p.entries
+pub cont_more : (r : Router) (m : Counts) (p : Stretch) (qs : List Stretch) (k : ℕ) (before next : Stretch) → k < length qs → p.router ≡ r → m ≡ counted_all p.from p.entries
     → before ≡ slice_index_or (p ∷ qs) k before → next ≡ slice_index_or qs k next → GoesOn before next → AreContinued r p.end m (take k qs) → AreContinued r p.end m (take (suc k) qs)
 cont_more r m p [] k before next low router counts b x goes are = absurd (omega (arith, low))
 cont_more r m p (q ∷ qs) zero before next low router counts b x goes are =
@@ -114,28 +115,42 @@ joined_take [] (suc k) are = tt
 joined_take (p ∷ qs) zero are = tt
 joined_take (p ∷ qs) (suc k) are = (are.0, cont_take p.router p.end (counted_all p.from p.entries) qs k are.1)
 
--- a whole journal, and a segment more that goes on from its last
-pub joined_more : (pieces : List Stretch) (p : Stretch) (qs : List Stretch) (i : ℕ) (before next : Stretch) → pieces ≡ p ∷ qs → i < length qs → before ≡ slice_index_or pieces i before → next ≡ slice_index_or qs i next → GoesOn before next
-    → AreJoined (take (i + 1) pieces) → AreJoined (take (i + 1 + 1) pieces)
-joined_more pieces p qs i before next split low b x goes are =
-    let e : i + 1 ≡ suc i = omega arith in
-    let f : i + 1 + 1 ≡ suc (suc i) = omega arith in
-    let had : AreJoined (take (suc i) (p ∷ qs)) = subst (λ (ps : List Stretch). AreJoined (take (suc i) ps)) split (subst (λ (k : ℕ). AreJoined (take k pieces)) e are) in
-    let has : AreJoined (take (suc (suc i)) (p ∷ qs)) = (had.0, cont_more p.router (counted_all p.from p.entries) p qs i before next low refl refl (b ∙ ap (λ (ps : List Stretch). slice_index_or ps i before) split) x goes had.1) in
-    subst (λ (k : ℕ). AreJoined (take k pieces)) (sym f) (subst (λ (ps : List Stretch). AreJoined (take (suc (suc i)) ps)) (sym split) has)
-
--- where a segment doesn't go on from the one before, it is the first gap
-pub gap_here : (pieces : List Stretch) (p : Stretch) (qs : List Stretch) (i : ℕ) (before next : Stretch) → pieces ≡ p ∷ qs → i < length qs → before ≡ slice_index_or pieces i before → next ≡ slice_index_or qs i next → (GoesOn before next → ⊥)
-    → AreJoined (take (i + 1) pieces) → IsFirstGap (i + 1 + 1) pieces
-gap_here pieces p qs i before next split low b x never are =
-    let e : i + 1 + 1 - 1 ≡ i + 1 = omega arith in
-    let f : i + 1 + 1 ≡ suc (suc i) = omega arith in
+-- where a segment doesn't go on from the one before, it is the first that doesn't
+pub break_here : (last : Stretch) (pieces : List Stretch) (i : ℕ) (before next : Stretch) → i < length pieces → before ≡ slice_index_or (last ∷ pieces) i before → next ≡ slice_index_or pieces i next → (GoesOn before next → ⊥)
+    → GoOnFrom last (take i pieces) → IsFirstBreak last (i + 1) pieces
+break_here last pieces i before next low b x never are =
+    let e : i + 1 - 1 ≡ i = omega arith in
+    let f : i + 1 ≡ suc i = omega arith in
     record {
       from_one = omega arith;
-      before = subst (λ (k : ℕ). AreJoined (take k pieces)) (sym e) are;
-      there = λ joined. never (cont_last p.router (counted_all p.from p.entries) p qs i before next low refl refl (b ∙ ap (λ (ps : List Stretch). slice_index_or ps i before) split) x
-          (subst (λ (ps : List Stretch). AreJoined (take (suc (suc i)) ps)) split (subst (λ (k : ℕ). AreJoined (take k pieces)) f joined)).1);
+      before = subst (λ (k : ℕ). GoOnFrom last (take k pieces)) (sym e) are;
+      there = λ goes. never (cont_last last.router (counts_after last) last pieces i before next low refl refl b x (subst (λ (k : ℕ). GoOnFrom last (take k pieces)) f goes));
     }
+
+-- it is one of them
+pub break_within : (last : Stretch) (pieces : List Stretch) (number : ℕ) → IsFirstBreak last number pieces → number ≤ length pieces
+break_within last pieces number is = ⊎_elim
+    (λ (far : length pieces < number).
+    let before : take (number - 1) pieces ≡ pieces = take_all (number - 1) pieces (omega (arith, far)) in
+    let all : take number pieces ≡ pieces = take_all number pieces (omega (arith, far)) in
+    absurd (is.there (subst (GoOnFrom last) (before ∙ sym all) is.before)))
+    (λ (near : number ≤ length pieces). near)
+    (cases_lt (length pieces) number)
+
+-- and where the segments go on from the first of a journal up to there, it is the first gap of the journal
+pub break_gap : (first : Stretch) (rest : List Stretch) (number : ℕ) → first.from ≡ first_counts (length first.from.marks) → IsFirstBreak first number rest → IsFirstGap (number + 1) (first ∷ rest)
+break_gap first rest number opens is =
+    let e : number + 1 - 1 ≡ suc (number - 1) = omega (arith, is.from_one) in
+    let f : number + 1 ≡ suc number = omega arith in
+    record {
+      from_one = omega arith;
+      before = subst (λ (k : ℕ). AreJoined (take k (first ∷ rest))) (sym e) (opens, is.before);
+      there = λ joined. is.there (subst (λ (k : ℕ). AreJoined (take k (first ∷ rest))) f joined).1;
+    }
+
+-- segments of which one doesn't go on don't
+pub break_apart : (last : Stretch) (pieces : List Stretch) (number : ℕ) → IsFirstBreak last number pieces → GoOnFrom last pieces → ⊥
+break_apart last pieces number is goes = is.there (cont_take last.router last.end (counts_after last) pieces number goes)
 
 -- where there is a gap, the segments are no whole journal
 pub gap_apart : (pieces : List Stretch) (number : ℕ) → IsFirstGap number pieces → AreJoined pieces → ⊥

@@ -2,5 +2,6 @@ pub mod Calling
 pub mod Joining
 mod OwnPorts
 pub mod Ports
+pub mod Rounds
 pub mod Walking
 pub mod Whole

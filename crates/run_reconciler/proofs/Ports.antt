@@ -5,11 +5,12 @@ use Rattle.run_journal.specs.Journals.{Stretch}
 use Rattle.run_journal.specs.Marks.{Counts, counted}
 use Rattle.run_journal.specs.declared.entry.CountedEntry.{CountedEntry}
 use Rattle.run_journal.specs.declared.receipt.Receipt.{Receipt}
-use Rattle.run_reconciler.specs.Mismatches.{IsFirstDifference, IsOdd}
-use Rattle.run_reconciler.specs.Reconciled.{AreJoined, IsReconciled, called_for}
+use Rattle.run_reconciler.specs.Mismatches.{IsOdd}
+use Rattle.run_reconciler.specs.Reconciled.{AreJoined, IsReconciled, called_for, counts_at, entries_in}
+use Rattle.run_reconciler.specs.Rounds.{AgreeByPort, IsFirstOdd}
 use Rattle.run_reconciler.specs.Walks.{HasPorts, called_in, mine}
 use Rattle.run_reconciler.specs.declared.reconciling.Mismatch.{Mismatch}
-use Rattle.run_reconciler.proofs.Calling.{joined_called, mine_append}
+use Rattle.run_reconciler.proofs.Calling.{differs, joined_called, mine_append}
 
 -- what holds of all holds of those behind the first
 pub All_rest : {X : Type 0} (P : X → Type 0) (x : X) (xs : List X) → All P (x ∷ xs) → All P xs
@@ -42,27 +43,26 @@ none_called_in port greatest (piece ∷ more) far all =
     ∙ ap (λ (rs : List Receipt). rs ++ mine port (called_in more)) (none_called port greatest piece.from piece.entries far (All_first (HasPorts greatest) piece more all))
     ∙ none_called_in port greatest more far (All_rest (HasPorts greatest) piece more all)
 
--- where each port up to the greatest has what its entries call for, they are of one run
-pub all_reconciled : (pieces : List Stretch) (rs : List Receipt) (least greatest : ℕ) → AreJoined pieces → least ≤ greatest → All (λ (r : Receipt). r.mark.port ≤ least) rs → All (HasPorts greatest) pieces
-    → ((q : ℕ) → q ≤ greatest → mine q rs ≡ mine q (called_in pieces)) → IsReconciled pieces rs
-all_reconciled pieces rs least greatest joined above receipts entries same =
-    (joined, λ port. each port ∙ ap (mine port) (sym (joined_called pieces joined)))
-  where
-    each : (port : ℕ) → mine port rs ≡ mine port (called_in pieces)
-    each port = ⊎_elim
-        (λ (far : greatest < port). none_mine port least rs (omega (arith, far, above)) receipts ∙ sym (none_called_in port greatest pieces far entries))
-        (λ (near : port ≤ greatest). same port near)
-        (cases_lt greatest port)
+-- where each port up to the greatest has what the segments' entries call for, all ports have
+pub all_ports : (pieces : List Stretch) (rs : List Receipt) (least greatest : ℕ) → least ≤ greatest → All (λ (r : Receipt). r.mark.port ≤ least) rs → All (HasPorts greatest) pieces
+    → ((q : ℕ) → q ≤ greatest → mine q rs ≡ mine q (called_in pieces)) → AgreeByPort rs (called_in pieces)
+all_ports pieces rs least greatest above receipts entries same port = ⊎_elim
+    (λ (far : greatest < port). none_mine port least rs (omega (arith, far, above)) receipts ∙ sym (none_called_in port greatest pieces far entries))
+    (λ (near : port ≤ greatest). same port near)
+    (cases_lt greatest port)
 
--- where a port hasn't, they aren't
-pub not_reconciled : (pieces : List Stretch) (rs : List Receipt) (port : ℕ) → (mine port rs ≡ mine port (called_in pieces) → ⊥) → IsReconciled pieces rs → ⊥
-not_reconciled pieces rs port differ is = differ (is.1 port ∙ ap (mine port) (joined_called pieces is.0))
+-- segments that are a whole journal, and receipts that are those that their entries call for, are of one run
+pub all_reconciled : (pieces : List Stretch) (rs : List Receipt) → AreJoined pieces → AgreeByPort rs (called_in pieces) → IsReconciled pieces rs
+all_reconciled pieces rs joined those = (joined, λ port. those port ∙ ap (mine port) (sym (joined_called pieces joined)))
 
--- the first port that hasn't
-pub first_odd : (pieces : List Stretch) (rs : List Receipt) (m : Mismatch) → AreJoined pieces → ((q : ℕ) → q < m.port → mine q rs ≡ mine q (called_in pieces))
-    → IsFirstDifference m.place (mine m.port rs) (mine m.port (called_in pieces)) → IsOdd pieces rs m
-first_odd pieces rs m joined before place = record {
-  joined = joined;
-  before = λ q low. before q low ∙ ap (mine q) (sym (joined_called pieces joined));
-  place = subst (λ (all : List Receipt). IsFirstDifference m.place (mine m.port rs) (mine m.port all)) (sym (joined_called pieces joined)) place;
-}
+-- the first port whose receipts aren't those that a whole journal's entries call for
+pub odd_run : (pieces : List Stretch) (rs : List Receipt) (m : Mismatch) → AreJoined pieces → IsFirstOdd rs (called_in pieces) m → IsOdd pieces rs m
+odd_run pieces rs m joined odd =
+    let called = called_for (counts_at pieces) (entries_in pieces) in
+    let same : IsFirstOdd rs called m = subst (λ (all : List Receipt). IsFirstOdd rs all m) (sym (joined_called pieces joined)) odd in
+    record { joined = joined; before = same.before; place = same.place }
+
+-- where a port's aren't, they aren't of one run
+pub odd_apart : (pieces : List Stretch) (rs : List Receipt) (m : Mismatch) → IsOdd pieces rs m → IsReconciled pieces rs → ⊥
+odd_apart pieces rs m odd is =
+    differs (mine m.port rs) (mine m.port (called_for (counts_at pieces) (entries_in pieces))) m.place odd.place (is.1 m.port)

@@ -1,4 +1,5 @@
 pub mod Judged
 pub mod Mismatches
 pub mod Reconciled
+pub mod Rounds
 pub mod Walks

@@ -11,9 +11,9 @@ use lsr_config::Config;
 use run_journal::{JournalCounts, Receipt, Segment};
 
 /// The port of a mismatch that is of no port.
-const NO_PORT: u16 = 0;
+pub(crate) const NO_PORT: u16 = 0;
 /// The place of what doesn't belong to the run: the first.
-const FIRST: u64 = 1;
+pub(crate) const FIRST: u64 = 1;
 
 /// Whether a segment, before which there was no entry, begins with the router of the configuration as it is opened.
 fn is_opening(config: &Config, first: &Segment) -> bool
@@ -56,7 +56,7 @@ fn is_port(ports: usize, port: u16) -> bool
 }
 
 /// The port of the first receipt that is of none of so many ports.
-fn stray_port(ports: usize, receipts: &[Receipt]) -> Option<u16>
+pub(crate) fn stray_port(ports: usize, receipts: &[Receipt]) -> Option<u16>
     ensures { MatchOption result (AreOfPorts ports receipts.now)
         (λ port. (IsPort ports port → ⊥) × (AreOfPorts ports receipts.now → ⊥)) }
 {

@@ -6,6 +6,7 @@ ghost use Rattle.run_journal.specs.Marks.{Counts, counted_all, first_counts, fir
 ghost use Rattle.run_journal.specs.declared.receipt.Receipt.{Receipt};
 ghost use Rattle.run_reconciler.specs.Mismatches.{IsFirstDifference, IsFirstGap, IsMismatch};
 ghost use Rattle.run_reconciler.specs.Reconciled.{AreJoined, AreOneRun, IsReconciled, called_for};
+ghost use Rattle.run_reconciler.specs.Rounds.{AgreeByPort, GoOnFrom, IsFirstBreak, IsFirstOdd};
 ghost use Rattle.run_reconciler.specs.Walks.{GoesOn, HasPorts, IsAt, IsNext, IsTold, IsWithin, called_in, mine, passed, place_at};
 
 use journal_bytes::{are_same_items, is_same_router, is_same_state};
@@ -258,6 +259,21 @@ fn greatest_port(segments: &[Segment], least: u16) -> u16
     greatest
 }
 
+/// Whether the receipts of each port are exactly those that the segments' entries call for, in their order, each once; else the first
+/// port whose aren't, and the place, from 1, where these differ first.
+pub(crate) fn match_ports(segments: &[Segment], receipts: &[Receipt]) -> Result<(), Mismatch>
+    ensures same { OnOk result (AgreeByPort receipts.now (called_in segments.now)) }
+    ensures odd { IfErr result (IsFirstOdd receipts.now (called_in segments.now)) }
+{
+    let greatest = greatest_port(segments, greatest_receipt(receipts));
+    for port in 0..=greatest {
+        if let Err(place) = match_port(segments, receipts, port) {
+            return Err(Mismatch { port, place });
+        }
+    }
+    Ok(())
+}
+
 /// Whether this is the mark at an index after a segment's entries.
 fn ends_with(segment: &Segment, index: usize, mark: Mark) -> bool
     requires { index < length segment.now.from.marks }
@@ -347,6 +363,23 @@ fn are_first_numbers(counts: &JournalCounts) -> bool
     counts.number() == 0 && counts.published() == 0 && are_first_marks(counts.marks())
 }
 
+/// Whether segments go on one from the other, the first of them from this one; else the number, from 1, of the first that doesn't.
+pub(crate) fn find_break(last: &Segment, segments: &[Segment]) -> Result<(), u64>
+    ensures continued { OnOk result (GoOnFrom last.now segments.now) }
+    ensures place { IfErr result (λ number. IsFirstBreak last.now number segments.now) }
+{
+    let mut before = last;
+    let mut number: u64 = 0;
+    for next in segments {
+        if !goes_on(before, next) {
+            return Err(number + 1);
+        }
+        before = next;
+        number += 1;
+    }
+    Ok(())
+}
+
 /// Whether segments are a whole journal; else the number, from 1, of the first that doesn't go on from the one before, which is
 /// 1 where the first isn't the beginning of a journal.
 fn find_gap(segments: &[Segment]) -> Result<(), u64>
@@ -359,20 +392,14 @@ fn find_gap(segments: &[Segment]) -> Result<(), u64>
     if !are_first_numbers(first.from()) {
         return Err(1);
     }
-    let mut before = first;
-    let mut number: u64 = 1;
-    for next in rest {
-        if !goes_on(before, next) {
-            return Err(number + 1);
-        }
-        before = next;
-        number += 1;
+    match find_break(first, rest) {
+        Ok(()) => Ok(()),
+        Err(number) => Err(number + 1),
     }
-    Ok(())
 }
 
 /// Each segment's entries record a run. A law: it changes nothing when it runs.
-fn are_segments(segments: &[Segment])
+pub(crate) fn are_segments(segments: &[Segment])
     ensures { All IsSegment segments.now }
 {
     for segment in segments {
@@ -399,11 +426,8 @@ pub fn reconcile(segments: &[Segment], receipts: &[Receipt]) -> Result<OneRun, M
     if let Err(place) = find_gap(segments) {
         return Err(Mismatch { port: 0, place });
     }
-    let greatest = greatest_port(segments, greatest_receipt(receipts));
-    for port in 0..=greatest {
-        if let Err(place) = match_port(segments, receipts, port) {
-            return Err(Mismatch { port, place });
-        }
+    match match_ports(segments, receipts) {
+        Ok(()) => Ok(OneRun),
+        Err(mismatch) => Err(mismatch),
     }
-    Ok(OneRun)
 }

@@ -130,7 +130,7 @@ fn run_since<
         || thread::map_vec(
             rt,
             workers,
-            &|worker| run_worker(rt, alloc, shared, &OpenGate, turns, worker),
+            &|worker| run_worker(rt, alloc, shared, &OpenGate, turns, worker).work,
         ),
         || send_all(rt, senders),
     );

@@ -4,6 +4,8 @@ use Rattle.std.proofs.KnownBytes.{Appends-trans}
 use Rattle.line_streams.specs.Cuts.{lines_of}
 use Rattle.lsr_lines.proofs.Stepping.{none_by, served_all, told_none}
 use Rattle.lsr_play.specs.Playing.{PlaysLines, PlaysSome}
+use Rattle.sequence_charts.specs.Pictures.{grown}
+use Rattle.lsr_play.proofs.ChartLaws.{grown_by}
 use Rattle.lsr_play.proofs.PlayLaws.{plays_push}
 use Rattle.lsr_play.proofs.playing.move_all.Goals as goal
 
@@ -14,21 +16,25 @@ pub returns-in-NoMove : goal.returns-in-NoMove
 returns-in-NoMove g c =
     let before = c.loop-line.invariant in
     let became = rw c.in-NoMove.is at c.in_ok-moved.ensures in
-    let some : PlaysSome c.args.beginning.now.declared.names c.args.world.now (lines_of c.args.beginning.now.rest.now) before.printed =
+    let some : PlaysSome c.args.beginning.now.declared c.args.world.now (lines_of c.args.beginning.now.rest.now) before.printed before.rows =
     record { played = before.played; left = lines_of c.loop-line.rest.now; after = c.loop-line.world; parts = before.parts; plays = before.plays } in (
       before.printed,
-      told_none _ _ _ _ _ before.told became.1 became.2.0,
-      (some, lines_of c.in-Some.others.now, c.in-Some.ensures.line, ap (λ n. n + 1) before.counted, became.2.1),
+      before.rows,
+      told_none _ _ _ _ _ before.told became.2 became.4.0,
+      became.3 ∙ ap (grown c.loop-line.chart) became.4.1 ∙ before.drawn,
+      (some, lines_of c.in-Some.others.now, c.in-Some.ensures.line, ap (λ n. n + 1) before.counted, became.4.2),
     )
 
 pub returns-in-Memory : goal.returns-in-Memory
 returns-in-Memory g c =
     let before = c.loop-line.invariant in
     let became = rw c.in-Memory.is at c.in_ok-moved.ensures in
-    let some : PlaysSome c.args.beginning.now.declared.names c.args.world.now (lines_of c.args.beginning.now.rest.now) before.printed =
+    let some : PlaysSome c.args.beginning.now.declared c.args.world.now (lines_of c.args.beginning.now.rest.now) before.printed before.rows =
     record { played = before.played; left = lines_of c.loop-line.rest.now; after = c.loop-line.world; parts = before.parts; plays = before.plays } in (
       before.printed,
-      told_none _ _ _ _ _ before.told became.1 became.2,
+      before.rows,
+      told_none _ _ _ _ _ before.told became.2 became.4.0,
+      tt,
       (some, c.in-Some.line.now, lines_of c.in-Some.others.now, c.in-Some.ensures.line),
     )
 
@@ -40,9 +46,11 @@ loop-line-preserved g c =
     record {
       played = before.played ++ (line ∷ []);
       printed = before.printed ++ became.0;
+      rows = before.rows ++ became.1;
       parts = before.parts ∙ ap (λ l. before.played ++ l) c.in-Some.ensures.line ∙ sym (append_assoc before.played (line ∷ []) (lines_of c.in-Some.others.now));
-      plays = plays_push _ _ _ _ _ _ _ _ before.plays became.2;
-      told = Appends-trans _ _ _ _ _ before.told became.1;
+      plays = plays_push _ _ _ _ _ _ _ _ _ _ before.plays became.4;
+      told = Appends-trans _ _ _ _ _ before.told became.2;
+      drawn = grown_by _ _ _ before.rows became.1 before.drawn became.3;
       counted = omega (arith, before.counted, length-append before.played (line ∷ []));
       room = omega (arith, before.room, c.in-Some.ensures.shorter);
       utf8 = search rules;
@@ -54,6 +62,8 @@ returns g c =
     let text = c.args.beginning.now.rest.now in
     let all = served_all text c.loop-line.rest.now before.played before.parts (c.next_line.ensures.end.0 (none_by c.next_line.result c.in_default.not-Some)) in (
       before.printed,
+      before.rows,
       before.told,
-      (c.loop-line.world, subst (λ lines. PlaysLines c.args.beginning.now.declared.names c.args.world.now lines before.printed c.loop-line.world) (sym all) before.plays),
+      before.drawn,
+      (c.loop-line.world, subst (λ lines. PlaysLines c.args.beginning.now.declared c.args.world.now lines before.printed before.rows c.loop-line.world) (sym all) before.plays),
     )

@@ -6,6 +6,8 @@ pub returns : goal.returns
 returns g c =
     let lined = c.move_line-moved.ensures in (
       lined.0,
-      Appends-kept _ _ _ _ (append_known-grown _ _ _ _ _ (Keeps-refl _) lined.1) c.in_ok-put_full.ensures,
-      lined.2,
+      lined.1,
+      Appends-kept _ _ _ _ (append_known-grown _ _ _ _ _ (Keeps-refl _) lined.2) c.in_ok-put_full.ensures,
+      lined.3,
+      lined.4,
     )

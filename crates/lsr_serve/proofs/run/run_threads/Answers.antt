@@ -3,4 +3,6 @@ use Rattle.std.proofs.Common.{rules}
 use Rattle.lsr_serve.proofs.run.run_threads.Goals as goal
 
 pub returns-clause-own : goal.returns-clause-own
-returns-clause-own g c = c.in_ok-gather.ensures.own g.L.CoreName.config (c.new-served.ensures.own g.L.CoreName.config) (search rules) (search rules)
+returns-clause-own g c =
+    let links = c.in_ok-add_turned.ensures.own g.L.CoreName.config (c.new-served.ensures.own g.L.CoreName.config) (search rules) in
+    c.in_ok-add_work.ensures.own g.L.CoreName.config links (search rules)

@@ -1,14 +1,14 @@
--- The command adds its three words.
-use Rattle.std.proofs.Common.{rules, codes, ◌≡◌}
+-- The command adds three words more.
+use Rattle.std.proofs.Common.{◌≡◌}
 use Rattle.std.proofs.lemmas.Result.{IfOk-weaker}
-use Rattle.clap.specs.Words.{App, app_of, new_app, with_rule}
-use Rattle.lsr_words.specs.Words.{journal_words, served_word, turns_words}
+use Rattle.clap.specs.Words.{App, app_of, with_rule}
+use Rattle.lsr_words.specs.Words.{console_word, counted_words, echo_word, log_words}
 use Rattle.lsr_words.proofs.WordLaws.{adds_word}
 use Rattle.lsr_words.proofs.help.serve_command.Goals as goal
 
 pub returns-clause-words : goal.returns-clause-words
 returns-clause-words c =
-    let one : App = with_rule (new_app (codes "serve")) served_word in
-    let first : app_of c.in_ok-file.file ≡ one = adds_word _ _ c.in_ok-file.file (new_app (codes "serve")) served_word c.in_ok-file.ensures c.served_file.ensures.rule c.served_file.ensures.local (search rules) in
-    let second : app_of c.in_ok-turns.turns ≡ with_rule one turns_words = adds_word _ _ c.in_ok-turns.turns one turns_words c.in_ok-turns.ensures c.turns_option.ensures.rule c.turns_option.ensures.local first in
-    IfOk-weaker c.arg-3.result _ _ (λ new a. adds_word _ _ new (with_rule one turns_words) journal_words a c.serve_journal_option.ensures.rule c.serve_journal_option.ensures.local second) c.arg-3.ensures
+    let four : App = with_rule counted_words console_word in
+    let fourth : app_of c.in_ok-console.console ≡ four = adds_word _ _ c.in_ok-console.console counted_words console_word c.in_ok-console.ensures c.console_option.ensures.rule c.console_option.ensures.local c.in_ok-counted_command.ensures.words in
+    let fifth : app_of c.in_ok-echo.echo ≡ with_rule four echo_word = adds_word _ _ c.in_ok-echo.echo four echo_word c.in_ok-echo.ensures c.serve_echo_option.ensures.rule c.serve_echo_option.ensures.local fourth in
+    IfOk-weaker c.arg-3.result _ _ (λ new a. adds_word _ _ new (with_rule four echo_word) log_words a c.log_option.ensures.rule c.log_option.ensures.local fifth) c.arg-3.ensures

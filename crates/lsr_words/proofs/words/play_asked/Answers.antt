@@ -8,7 +8,7 @@ use Rattle.lsr_words.proofs.words.play_asked.Goals as goal
 pub returns-in-Some : goal.returns-in-Some
 returns-in-Some c =
     let found = found_of c.args.given.now in
-    (refl, sym (first_value-rows found (codes "FILE")) ∙ sym c.in-Some.ensures, c.is_given.ensures ∙ ap is_given (c.get_str-in-Some.ensures ∙ first_value-rows found (codes "lab")))
+    (refl, sym (first_value-rows found (codes "FILE")) ∙ sym c.in-Some.ensures, c.is_given.ensures ∙ ap is_given (c.get_str-in-Some.ensures ∙ first_value-rows found (codes "lab")), c.get_str-in-Some-2.ensures ∙ first_value-rows found (codes "chart"))
 
 pub returns-in-None : goal.returns-in-None
 returns-in-None c = sym (first_value-rows (found_of c.args.given.now) (codes "FILE")) ∙ sym c.in-None.ensures

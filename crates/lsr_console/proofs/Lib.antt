@@ -1,0 +1,6 @@
+mod Attended
+mod Hearing
+mod Receipts
+mod Requested
+mod Telling
+mod Written

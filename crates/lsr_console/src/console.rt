@@ -1,0 +1,192 @@
+//! The console of a router that runs.
+ghost use Rattle.std.specs.Prelude.{◌≡◌, ℕ, List, [], IfOk, None, OnOk, is_some};
+ghost use Rattle.std.specs.Io.KnownBytes.{Appends};
+ghost use Rattle.interface_workers.specs.Chains.{HasRoom};
+ghost use Rattle.lsr_rounds.specs.Attending.{IsAttended};
+ghost use Rattle.lsr_console.specs.Consoles.{TellsHeard, TellsLine, TellsOnce};
+ghost use Rattle.lsr_console.specs.Endings.{IsWritten, ending_of};
+
+use crate::answering::answer_line;
+use crate::attending::fed_nothing;
+use crate::ending::{ConsoleEnding, ending_of};
+use crate::listening::Heard;
+use crate::printing::{put, put_untext};
+use crossbeam_channel::{Receiver, RecvTimeoutError};
+use interface_workers::{CoreName, Gate, KeepSegments, Port, Wire, Work};
+use lsr_rounds::{Desk, Operator};
+use lsr_serve::PortCount;
+use lsr_session::Recent;
+use std::alloc::{AllocError, Global};
+use std::io;
+use std::io::Write;
+use std::sync::Wait;
+use std::time::{Clock, Duration};
+
+/// The console of a router that runs: lines come from who reads its input ([`crate::listen`]), and each is answered on the output.
+#[derive(Drop)]
+pub struct Console<O: Write + Drop> {
+    lines: Receiver<Heard>,
+    output: O,
+    /// Whether what is sent for a line is printed, too.
+    echo: bool,
+    /// The last replies to this console.
+    recent: Recent,
+    /// How many lines there were.
+    number: usize,
+    /// Why the run is to end, if it is.
+    ending: Option<ConsoleEnding>,
+}
+
+impl<O: Write + Drop> Console<O> {
+    /// A console to which no line came. Its lines come from the other end of [`crate::open_lines`]; answers go to the output, with `echo`
+    /// also what is sent for a line. The only error is that memory ran out.
+    pub fn new(
+        alloc: Global,
+        lines: Receiver<Heard>,
+        output: O,
+        echo: bool,
+    ) -> Result<Console<O>, AllocError>
+        ensures output { IfOk result (λ console. console.output ≡ output) }
+        ensures echo { IfOk result (λ console. console.echo ≡ echo) }
+        ensures recent { IfOk result (λ console. console.recent ≡ []) }
+        ensures number { IfOk result (λ console. console.number ≡ 0) }
+        ensures ending { IfOk result (λ console. console.ending ≡ None) }
+    {
+        Ok(Console {
+            lines,
+            output,
+            echo,
+            recent: Recent::new(alloc)?,
+            number: 0,
+            ending: None,
+        })
+    }
+
+    /// Why the run was to end, if it was: where an answer couldn't be written, for which error.
+    pub fn into_ending(self) -> Option<ConsoleEnding>
+        ensures { result ≡ self.ending }
+    {
+        let Console {
+            lines: _lines,
+            output: _output,
+            echo: _,
+            recent: _recent,
+            number: _,
+            ending,
+        } = self;
+        ending
+    }
+
+    /// Answers the line, whose number is how many there were with it, at once. The error is the output's.
+    fn serve_line<
+        L: CoreName,
+        R: Wait + Drop,
+        K: KeepSegments + Drop,
+        T: Wait + Clock,
+        W: Wire,
+        G: Gate,
+    >(
+        &mut self,
+        desk: &Desk<'_, L, R, K, T, G>,
+        port: &mut Port<L>,
+        wire: &mut W,
+        work: &mut Work,
+        line: &str,
+    ) -> io::Result<()>
+        requires { HasRoom work.old }
+        ensures attended { IsAttended L.config work.old port.old.mark port.old.taken work.new port.new.mark port.new.taken }
+        ensures told { OnOk result ((text : List ℕ) × Appends (O.contents self.old.output) (O.contents self.new.output) text
+            × TellsLine L.config self.old.echo self.old.number line.now (record { work = work.old; recent = self.old.recent })
+            text (record { work = work.new; recent = self.new.recent })) }
+        ensures kept { (self.new.ending ≡ self.old.ending) × (self.new.number ≡ self.old.number) × (self.new.echo ≡ self.old.echo) }
+    {
+        let recent = &mut self.recent;
+        match answer_line(desk, port, wire, work, recent, self.echo, self.number, line) {
+            Ok(text) => put(&mut self.output, text.as_str()),
+            Err(lack) => put(&mut self.output, lack.text()),
+        }
+    }
+
+    /// Answers what was heard, at once. The error is the output's.
+    fn take<L: CoreName, R: Wait + Drop, K: KeepSegments + Drop, T: Wait + Clock, W: Wire, G: Gate>(
+        &mut self,
+        desk: &Desk<'_, L, R, K, T, G>,
+        port: &mut Port<L>,
+        wire: &mut W,
+        work: &mut Work,
+        heard: Heard,
+    ) -> io::Result<()>
+        requires { HasRoom work.old }
+        ensures attended { IsAttended L.config work.old port.old.mark port.old.taken work.new port.new.mark port.new.taken }
+        ensures told { OnOk result ((text : List ℕ) × Appends (O.contents self.old.output) (O.contents self.new.output) text
+            × TellsHeard L.config self.old.echo self.new.number heard (record { work = work.old; recent = self.old.recent })
+            text (record { work = work.new; recent = self.new.recent })) }
+        ensures ending { self.new.ending ≡ ending_of heard }
+    {
+        fed_nothing(port, work);
+        self.number = self.number.saturating_add(1);
+        self.ending = ending_of(&heard);
+        match heard {
+            Heard::Line(line) => self.serve_line(desk, port, wire, work, line.as_str()),
+            Heard::NotText(at) => put_untext(&mut self.output, self.number, at),
+            Heard::Fault(_) | Heard::End => Ok(()),
+        }
+    }
+}
+
+impl<O: Write + Drop> Operator for Console<O> {
+    /// Whether the run is to end: the operator wrote `quit`, the input ended or can't be read, or an answer can't be written.
+    fn is_done(&self) -> bool
+        ensures { result ≡ is_some self.now.ending }
+    {
+        self.ending.is_some()
+    }
+
+    /// Takes at most one line, waiting for it so many milliseconds at most, and answers it at once.
+    fn attend<
+        L: CoreName,
+        R: Wait + Drop,
+        K: KeepSegments + Drop,
+        T: Wait + Clock,
+        W: Wire,
+        G: Gate,
+    >(
+        &mut self,
+        desk: &Desk<'_, L, R, K, T, G>,
+        port: &mut Port<L>,
+        wire: &mut W,
+        work: &mut Work,
+        within_ms: u64,
+    )
+        requires { HasRoom work.old }
+        ensures attended { IsAttended L.config work.old port.old.mark port.old.taken work.new port.new.mark port.new.taken }
+        ensures told { IsWritten self.new.ending → (text : List ℕ)
+            × Appends (O.contents self.old.output) (O.contents self.new.output) text
+            × TellsOnce L.config self.old.echo self.new.number (record { work = work.old; recent = self.old.recent })
+            text (record { work = work.new; recent = self.new.recent }) }
+    {
+        fed_nothing(port, work);
+        if self.is_done() {
+            return;
+        }
+        let within = Duration::from_millis(within_ms);
+        let heard = match self.lines.recv_timeout(desk.rt, within) {
+            Ok(heard) => heard,
+            Err(RecvTimeoutError::Timeout) => return,
+            Err(RecvTimeoutError::Disconnected) => Heard::End,
+        };
+        let Err(error) = self.take(desk, port, wire, work, heard) else {
+            return;
+        };
+        self.ending = Some(ConsoleEnding::Unwritten(error));
+    }
+
+    /// Nothing.
+    fn after_moment<L: CoreName, R: Wait + Drop, K: KeepSegments + Drop, T: Wait + Clock, G: Gate>(
+        &mut self,
+        _desk: &Desk<'_, L, R, K, T, G>,
+    ) {}
+
+    /// Nothing.
+    fn after_round(&mut self, _ports: &[PortCount]) {}
+}

@@ -1,0 +1,15 @@
+-- The round goes on from those before it.
+use Rattle.std.proofs.Common.{◌≡◌, ◌+◌, ap, arith, length}
+use Rattle.lsr_rounds.proofs.GoingOn.{moved}
+use Rattle.lsr_rounds.proofs.rounds.run_rounds.Goals as goal
+
+pub loop-preserved : goal.loop-preserved
+loop-preserved g c =
+    let round = c.add_segment.new.served in
+    let workers : length c.loop.workers.items ≡ length c.args.workers.items = c.loop.invariant.3 in
+    let ports : length round.ports.items ≡ length c.args.workers.items + 2 = omega (arith, ap (λ all. length all.items) c.add_segment.ensures.ports, c.in_ok-made.ensures.ports, workers) in (
+      tt,
+      tt,
+      moved g.L.CoreName.config c.args.config.now (length c.args.workers.items + 2) (length round.ports.items) c.loop.so_far c.add.new.self c.requires ports c.in_ok-add.ensures c.loop.invariant.2,
+      omega (arith, c.in_ok-made.ensures.workers, workers),
+    )

@@ -1,0 +1,3 @@
+pub mod Attending
+pub mod Ended
+pub mod Rounds

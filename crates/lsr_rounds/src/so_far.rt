@@ -1,0 +1,121 @@
+//! What is known of a run whose rounds are given up one after the other.
+ghost use Rattle.std.specs.Prelude.{◌≡◌, ◌+◌, ℕ, IfErr, IfSome, OnOk, length};
+ghost use Rattle.lsr_config.specs.Configs.{Setup};
+ghost use Rattle.lsr_serve.specs.Reports.{IsReportOf};
+ghost use Rattle.lsr_rounds.specs.Ended.{IsJudged, IsSoFar};
+
+use crate::fault::RunFault;
+use interface_workers::{Segment, Tally};
+use lsr_config::Config;
+use lsr_serve::{PortCount, RunReport};
+use run_reconciler::{Mismatch, judge, judge_round};
+use std::alloc::{AllocError, Global};
+
+/// A run so far: its last segment, how many entries its rounds had in all, and how much each port did. Everything else of a round is given
+/// up when it is reconciled.
+#[derive(Debug)]
+pub struct RunSoFar {
+    /// The last segment of the last round; none before the first.
+    pub last: Option<Segment>,
+    /// How many entries there were.
+    pub entries: u64,
+    /// How many segments there were.
+    pub segments: u64,
+    /// How much each port did, in the order of the ports.
+    pub ports: Vec<PortCount>,
+}
+
+/// Written out, so that it is dropped by one call, whatever it holds.
+impl Drop for RunSoFar {
+    fn drop(self) {
+        let RunSoFar {
+            last: _last,
+            entries: _,
+            segments: _,
+            ports: _ports,
+        } = self;
+    }
+}
+
+/// How many entries a run has with those of this segment, its last. None where they are more than can be counted.
+fn entries_with(last: &Segment) -> Option<u64>
+    ensures { IfSome result (λ count. count ≡ last.now.from.number + length last.now.entries) }
+{
+    let before = last.from().number();
+    before.checked_add(last.entries().len() as u64)
+}
+
+/// What was counted of both. What is too great to be counted stays at the most that can be.
+fn added(before: Tally, more: Tally) -> Tally {
+    Tally {
+        datagrams: before.datagrams.saturating_add(more.datagrams),
+        dropped: before.dropped.saturating_add(more.dropped),
+        passed: before.passed.saturating_add(more.passed),
+        fed: before.fed.saturating_add(more.fed),
+        refused: before.refused.saturating_add(more.refused),
+        lost: before.lost.saturating_add(more.lost),
+        faults: before.faults.saturating_add(more.faults),
+    }
+}
+
+/// How much the ports did in a round and in those before it, in their order.
+fn add_ports(before: &mut Vec<PortCount>, more: &[PortCount]) -> Result<(), AllocError> {
+    for (place, count) in more.iter().enumerate() {
+        match before.get_mut(place) {
+            Some(sum) => {
+                sum.receipts = sum.receipts.saturating_add(count.receipts);
+                sum.tally = added(sum.tally, count.tally);
+            }
+            None => before.push(*count)?,
+        }
+    }
+    Ok(())
+}
+
+impl RunSoFar {
+    /// Before the first round.
+    pub fn new(alloc: Global) -> RunSoFar
+        ensures { (c : Setup) → (ports : ℕ) → IsSoFar c ports result }
+    {
+        RunSoFar {
+            last: None,
+            entries: 0,
+            segments: 0,
+            ports: Vec::new(alloc),
+        }
+    }
+
+    /// Whether a round goes on from this, as one run of the router of the configuration.
+    fn judge(&self, config: &Config, round: &RunReport) -> Result<(), Mismatch>
+        ensures { OnOk result (IsJudged config.now (length round.now.ports.items) self.now round.now) }
+    {
+        let segments = round.segments.as_slice();
+        let receipts = round.receipts.as_slice();
+        match &self.last {
+            None => judge(config, round.ports.len(), segments, receipts),
+            Some(last) => judge_round(last, round.ports.len(), segments, receipts),
+        }
+    }
+
+    /// Reconciles one more round, and gives up all of it but its last segment. The fault is that it doesn't go on from this as one run of
+    /// the router of the configuration, or that memory ran out.
+    pub fn add(&mut self, config: &Config, round: RunReport) -> Result<(), RunFault>
+        requires { IsReportOf config.now round }
+        ensures { IsSoFar config.now (length round.ports.items) self.old → OnOk result (IsSoFar config.now (length round.ports.items) self.new) }
+    {
+        self.judge(config, &round)?;
+        let mut round = round;
+        let segments = round.segments.len() as u64;
+        let Some(last) = round.segments.pop() else {
+            return Err(RunFault::from(AllocError));
+        };
+        let Some(entries) = entries_with(&last) else {
+            return Err(RunFault::from(AllocError));
+        };
+        add_ports(&mut self.ports, round.ports.as_slice())?;
+        self.segments = self.segments.saturating_add(segments);
+        self.entries = entries;
+        self.last = Some(last);
+        Ok(())
+    }
+}

@@ -1,0 +1,4 @@
+pub mod Lsps
+pub mod Errors
+pub mod Tunnels
+pub mod Changes
