@@ -52,7 +52,7 @@ impl Read for Unreadable {
 /// Runs the program on these words, one in each line, and on this input.
 fn run_lines<
     R: Files + Net + Threads + Wait + Clock + Clone + Send + Sync + Drop + AllocGlobal,
-    I: Read,
+    I: Read + Send,
 >(rt: &R, words: &str, input: &mut I) -> io::Result<Ran> {
     let alloc = rt.alloc();
     let mut all = Vec::new(alloc);
