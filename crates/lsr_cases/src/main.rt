@@ -17,6 +17,8 @@
 //! - A line `NAME: FAULT | PLACE | ALLOWED` or `NAME: good` of `config/answers.txt` says what is told of the configuration
 //!   config/NAME.toml: the lines, with ` | ` between them in place of a newline and two spaces.
 //! - Inputs and outputs that fail, and inputs that are folders, are of its own.
+//! - The two routers of `console-head.toml` and `console-tail.toml` are served over sockets, and what `console.md` has is typed at
+//!   their consoles.
 //! - What `growth_cases` makes of its files is printed last.
 //!
 //! With the word `growths` it runs `growth_cases` alone, all of it or what further words name: a part, or `steps` and one of its
@@ -27,6 +29,7 @@ mod captures;
 mod runs;
 mod streams;
 
+use console_cases::Texts;
 use lsr_tool::{run_decode, run_step};
 use std::alloc::{AllocError, Global};
 use std::fmt::Write;
@@ -52,6 +55,12 @@ const CONFIG: &str = "configuration";
 const ANSWERS: &str = "config/answers.txt";
 /// The answer to a configuration that has no fault.
 const GOOD: &str = "good";
+/// The configurations of two routers with consoles, and what is typed there.
+const CONSOLE_HEAD: &str = "console-head.toml";
+
+const CONSOLE_TAIL: &str = "console-tail.toml";
+
+const CONSOLE_LINES: &str = "console.md";
 /// The word for the cases of calls that find no memory.
 const GROWTHS: &str = "growths";
 /// What parts the lines of an answer.
@@ -301,6 +310,27 @@ fn tell_threads<R: Net + Threads + Wait + Clock + Print + AllocGlobal + Clone + 
     }
 }
 
+/// Tells what came of what is typed at the consoles of two routers, or why they weren't run.
+fn tell_consoles<
+    R: Net + Threads + Wait + Clock + Print + Files + AllocGlobal + Clone + Send + Sync + Drop,
+>(rt: &R) -> io::Result<()> {
+    let head = fs::read_to_string(rt, CONSOLE_HEAD)?;
+    let tail = fs::read_to_string(rt, CONSOLE_TAIL)?;
+    let transcript = fs::read_to_string(rt, CONSOLE_LINES)?;
+    let texts = Texts {
+        head: head.as_str(),
+        tail: tail.as_str(),
+        transcript: transcript.as_str(),
+    };
+    match console_cases::run(rt, rt.alloc(), texts) {
+        Ok(()) => Ok(()),
+        Err(fault) => {
+            println!(rt; "two consoles: {fault}")?;
+            Ok(())
+        }
+    }
+}
+
 /// Tells what comes of calls that find no memory, of those that the words name. Where something isn't as it has to be, it fails.
 fn tell_growths<R: Wait + Clone + Drop>(
     rt: &HostRuntime,
@@ -343,5 +373,6 @@ fn main(rt: HostRuntime) -> io::Result<()> {
     captures::tell_captures(&rt, &mut rt.stdout())?;
     streams::tell_streams(&rt)?;
     tell_threads(&rt)?;
+    tell_consoles(&rt)?;
     tell_growths(&rt, &rt, &[], false)
 }

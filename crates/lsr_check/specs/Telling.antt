@@ -83,7 +83,7 @@ fault_text (runs.Base clause) entries = codes "  what the router knew before the
 fault_text (runs.Entry number fault) entries = option_map_or (entry_text fault) (slice_get entries (number - 1)) []
 
 abbrev pub flaw_text : Flaw → Recorded → List ℕ
-flaw_text flaws.Gap run = codes "  it doesn't begin where the file before it ended: one is missing, or they stand in another order\n"
+flaw_text flaws.Gap run = codes "  it doesn't begin where the file before it ended: one is missing, or they stand in another order: give all, by their numbers\n"
 flaw_text (flaws.Fault fault) run = fault_text fault run.entries
 
 -- the file's name

@@ -22,7 +22,7 @@ const FOUND: &str = "found";
 const EXPECTED: &str = "expected";
 /// What is told of a gap.
 const GAP: &str =
-    "  it doesn't begin where the file before it ended: one is missing, or they stand in another order\n";
+    "  it doesn't begin where the file before it ended: one is missing, or they stand in another order: give all, by their numbers\n";
 
 /// Appends a label.
 fn push_label(text: &mut String, word: &str, row: &(Key, u32)) -> Result<(), AllocError>

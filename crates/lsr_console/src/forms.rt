@@ -9,8 +9,8 @@ use std::alloc::{AllocError, Global};
 pub const HELP: &str = "\
 up LINK, with LINK 1 to 65535: link LINK came up
 down LINK, with LINK 1 to 65535: link LINK went down
-restart alone: the router lost what messages had set up in it, and is cold
-start alone: a cold router is started; a running one goes on as it is
+restart, with nothing after it: the router lost what messages had set up in it, and is cold
+start, with nothing after it: a cold router is started; a running one goes on as it is
 tunnel N ENDPOINT RATE SETUP HOLD FLAGS NAME [ROUTE..], as tunnel 5 10.0.0.4 47f42400 3 3 04 t5 10.0.0.3/32: tunnel N is to begin here and to end at ENDPOINT
 change N RATE [ROUTE..], as change 5 47f42400 ~10.0.0.4/32: tunnel N is to carry this rate over this route
 cancel N, with N 0 to 65535: the change of tunnel N is given up
@@ -20,8 +20,8 @@ unbypass N, with N 0 to 65535: bypass N goes
 route PREFIX LINK, as route 10.9.0.0/16 2: what goes to PREFIX leaves over link LINK
 unroute PREFIX, as unroute 10.9.0.0/16: the static route to PREFIX goes
 show paths, resvs, table, labels, links, tunnels, bypasses, recent or summary, or path or resv and an LSP as show path 10.0.0.4/1/10.0.0.1 10.0.0.1/1: what the router knows, or the last 32 replies to this console
-help alone: these lines
-quit alone: the run ends
+help, with nothing after it: these lines
+quit, with nothing after it: the run ends
 ";
 
 /// What is expected of a line with another first word.

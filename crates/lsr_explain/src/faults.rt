@@ -119,6 +119,21 @@ memory
   There is no memory. What was printed before is done.
   What to do: free some memory and try again.
   See: README.md (What is promised)
+link L: socket
+  Of `lsr serve`: the sockets of link L can't be had. Another program has one of its addresses;
+  or one isn't a loopback address of this machine, such as 127.0.0.1, or isn't of the family (IPv4
+  or IPv6) of the first link's. Of L 0 it is the socket from which the clock's port sends.
+  What to do: end the other program, or write other ports into the configuration.
+  See: docs/PROGRAM.md (`lsr serve`: a router over sockets)
+mismatch PORT PLACE
+  Of `lsr serve`: what its threads were told and the journal aren't one run of the router: they
+  differ first at the PLACEth entry of the port PORT. It is a fault of this program.
+  What to do: keep the journal's files and report it.
+  See: docs/PROGRAM.md (`lsr serve`: a router over sockets)
+clock
+  Of `lsr serve --console`: the system's clock, by which its moments go, can't be read.
+  What to do: see that the system lets the program read its clock, and run it again.
+  See: docs/PROGRAM.md (`lsr serve`: a router over sockets)
 unwritable
   The output or the error stream can't be written: its reader has gone, or a disk is
   full. It ended the run.

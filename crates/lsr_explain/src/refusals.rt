@@ -175,10 +175,12 @@ pub const REFUSALS: &str = "\
   What to do: free some memory and try again; neighbours repeat their messages by themselves.
   See: README.md (What is promised)
 41 JournalFull
-  The journal has all the entries that it can hold. Nothing changed. `lsr step` keeps no
-  journal, and the workers of `lsr serve` take its entries away before: neither says so.
-  What to do: of a router that you embed, rotate the journal and try again.
-  See: docs/PROGRAM.md (`lsr serve`: a router over sockets); docs/CRATES.md (To embed the router)
+  The journal has all the entries that it can hold. Nothing changed. It ends a run of
+  `lsr step --journal`, whose file has 4096 entries at most. `lsr serve` takes the entries away
+  before, and doesn't say so.
+  What to do: record fewer lines in a run; of a router that you embed, rotate the journal and try
+  again.
+  See: docs/PROGRAM.md (`lsr step`: echo, and what goes wrong); docs/CRATES.md (To embed the router)
 42 IsCold
   The router was restarted, and lost what messages had set up in it. Until it is started it
   takes no message, no moment, no command, and no link that comes up or goes down.

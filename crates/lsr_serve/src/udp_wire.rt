@@ -24,7 +24,7 @@ const CLOCK: u16 = 0;
 #[derive(Clone, Copy, Debug, PartialEq, Eq, Error)]
 pub enum ServeFault {
     /// The sockets of the link of this number can't be had, or, of number 0, the one from which the clock's port sends.
-    #[error("link {0}: socket")]
+    #[error("link {0}: socket\n  its sockets can't be had: another program has an address of it, or one isn't a loopback address")]
     Socket(u16),
     /// There is no memory.
     #[error("memory")]

@@ -1,5 +1,5 @@
 -- What a session answers to a request.
-use Rattle.std.specs.Prelude.{◌≡◌, ◌-◌, ◌==◌, ℕ, Bool, List, ◌∷◌, ◌++◌, [], length, drop, map, flat_map, if◌then◌else◌, is_some, T, Result, Ok, Err}
+use Rattle.std.specs.Prelude.{◌≡◌, ◌-◌, ◌==◌, ℕ, Bool, List, ◌∷◌, ◌++◌, [], length, drop, map, flat_map, if◌then◌else◌, is_some, string_bytes, T, Result, Ok, Err}
 use Rattle.std.specs.FinMap.Entries.{is_sorted}
 use Rattle.std.specs.List.{count_by}
 use Rattle.std.specs.Option.{option_map_or}
@@ -40,6 +40,8 @@ use Rattle.lsr_text.specs.Tunnels.{tunnels_text}
 use Rattle.lsr_lines.specs.declared.lines.Request.{Request}
 use Rattle.lsr_lines.specs.declared.lines.Request.TheVariants as requests
 use Rattle.lsr_lines.specs.declared.lsps.LspName.{LspName}
+use Rattle.lsr_session.specs.declared.requests.Answered.{Answered}
+use Rattle.lsr_session.specs.declared.requests.Answered.TheVariants as answers
 
 -- a session: what its router is and knows, and the last replies, the newest at the end
 pub record SessionState : Type 0 where
@@ -67,11 +69,6 @@ abbrev pub reply_of : Result Made Refusal → Reply
 reply_of (Ok e) = e.reply
 reply_of (Err refusal) = replies.Refused refusal
 
--- An answer is printed, and its reply is the newest of the last ones.
-pub record Tells (before : SessionState) (answer : Result Made Refusal) (printed : List ℕ) (after : SessionState) : Type 0 where
-  pub shown : printed ≡ answer_text answer
-  pub recent : after.recent ≡ latest (before.recent ++ reply_of answer ∷ [])
-
 -- what is printed for what becomes of a labelled frame: `frame LINK HEX` where it is sent on, `deliver HEX` where its
 -- payload is for this router
 abbrev pub passed_text : Passed → List ℕ
@@ -91,24 +88,26 @@ remembered recent (Ok (serves.Made made)) = latest (recent ++ made.reply ∷ [])
 remembered recent (Ok (serves.Passed passed)) = recent
 remembered recent (Err refusal) = latest (recent ++ replies.Refused refusal ∷ [])
 
--- What came of a datagram is printed, and its reply, if it has one, is the newest of the last ones.
-pub record TellsServed (before : SessionState) (answer : Result Served Refusal) (printed : List ℕ) (after : SessionState) : Type 0 where
-  pub shown : printed ≡ served_text answer
+-- what came of an event, as of anything that comes
+abbrev pub served_of : Result Made Refusal → Result Served Refusal
+served_of (Ok made) = Ok (serves.Made made)
+served_of (Err refusal) = Err refusal
+
+-- A datagram came, and is served. Its reply, if it has one, is the newest of the last ones.
+pub record ServesDatagram (before : SessionState) (link : ℕ) (datagram : List ℕ) (answer : Result Served Refusal) (after : SessionState) : Type 0 where
+  pub taken : TakesDatagram before.router link datagram answer after.router
   pub recent : after.recent ≡ remembered before.recent answer
 
--- what is printed for a datagram that came
-abbrev pub PrintsDatagram : SessionState → ℕ → List ℕ → List ℕ → SessionState → Type 0
-PrintsDatagram before link datagram printed after =
-    (answer : Result Served Refusal) × TakesDatagram before.router link datagram answer after.router × TellsServed before answer printed after
+-- a message came: the Hop frame that holds it is served, whose first byte is 1
+abbrev pub ServesArrival : SessionState → ℕ → List ℕ → Result Served Refusal → SessionState → Type 0
+ServesArrival before link message answer after = ServesDatagram before link (1 ∷ message) answer after
 
--- what is printed for a message that came: what comes of the Hop frame that holds it, whose first byte is 1
-abbrev pub PrintsArrival : SessionState → ℕ → List ℕ → List ℕ → SessionState → Type 0
-PrintsArrival before link message printed after = PrintsDatagram before link (1 ∷ message) printed after
-
--- what is printed for an event
-abbrev pub PrintsEvent : SessionState → Event → List ℕ → SessionState → Type 0
-PrintsEvent before event printed after =
-    (answer : Result Made Refusal) × TakesEvent before.router event answer after.router × Tells before answer printed after
+-- An event is served, and its reply is the newest of the last ones.
+pub record ServesEvent (before : SessionState) (event : Event) (answer : Result Served Refusal) (after : SessionState) : Type 0 where
+  pub made : Result Made Refusal
+  pub taken : TakesEvent before.router event made after.router
+  pub served : answer ≡ served_of made
+  pub recent : after.recent ≡ remembered before.recent answer
 
 -- the line of what is done with the traffic of a tunnel, if anything is
 abbrev pub head_text : RouterState → ℕ × Tunnel → List ℕ
@@ -189,17 +188,34 @@ Shows r (requests.ShowPath lsp) printed = printed ≡ path_lsp_text r.router r.s
 Shows r (requests.ShowResv lsp) printed = printed ≡ resv_lsp_text r.state (key_of lsp)
 Shows r request printed = printed ≡ []
 
--- What is printed for a request, and what the session is then: the answer to an event, whose reply is the newest of
--- the last ones, be it a command or not; what comes of a datagram, be it a labelled frame or not; or what the session
--- shows of itself as it stands.
+-- something happened to the router, and this holds of what came of it; the session was asked what it knows, and this holds of the lines
+abbrev pub IsServed : Answered → (Result Served Refusal → Type 0) → Type 0
+IsServed (answers.Served answer) holds = holds answer
+IsServed (answers.Shown text) holds = ⊥
+
+abbrev pub IsShown : Answered → (List ℕ → Type 0) → Type 0
+IsShown (answers.Served answer) holds = ⊥
+IsShown (answers.Shown text) holds = holds (string_bytes text)
+
+-- What came of a request, and what the session is then: the answer to an event, be it a command or not; what comes of a datagram, be it a
+-- labelled frame or not; or what the session shows of itself as it stands.
+abbrev pub IsAnswered : SessionState → Request → Answered → SessionState → Type 0
+IsAnswered before (requests.Receive arrival) answered after = IsServed answered (λ answer. ServesArrival before arrival.link arrival.bytes.items answer after)
+IsAnswered before (requests.Frame arrival) answered after = IsServed answered (λ answer. ServesDatagram before arrival.link arrival.bytes.items answer after)
+IsAnswered before (requests.Tick moment) answered after = IsServed answered (λ answer. ServesEvent before (events.Tick moment) answer after)
+IsAnswered before (requests.LinkUp link) answered after = IsServed answered (λ answer. ServesEvent before (events.LinkUp link) answer after)
+IsAnswered before (requests.LinkDown link) answered after = IsServed answered (λ answer. ServesEvent before (events.LinkDown link) answer after)
+IsAnswered before requests.Restart answered after = IsServed answered (λ answer. ServesEvent before events.Restart answer after)
+IsAnswered before requests.Start answered after = IsServed answered (λ answer. ServesEvent before events.Start answer after)
+IsAnswered before (requests.Command command) answered after = IsServed answered (λ answer. ServesEvent before (events.Command command) answer after)
+IsAnswered before requests.ShowRecent answered after = IsShown answered (λ text. text ≡ replies_text before.recent) × (after ≡ before)
+IsAnswered before request answered after = IsShown answered (Shows before.router request) × (after ≡ before)
+
+-- what is printed of it
+abbrev pub answered_text : Answered → List ℕ
+answered_text (answers.Served answer) = served_text answer
+answered_text (answers.Shown text) = string_bytes text
+
+-- what is printed for a request, and what the session is then
 abbrev pub PrintsAnswer : SessionState → Request → List ℕ → SessionState → Type 0
-PrintsAnswer before (requests.Receive arrival) printed after = PrintsArrival before arrival.link arrival.bytes.items printed after
-PrintsAnswer before (requests.Frame arrival) printed after = PrintsDatagram before arrival.link arrival.bytes.items printed after
-PrintsAnswer before (requests.Tick moment) printed after = PrintsEvent before (events.Tick moment) printed after
-PrintsAnswer before (requests.LinkUp link) printed after = PrintsEvent before (events.LinkUp link) printed after
-PrintsAnswer before (requests.LinkDown link) printed after = PrintsEvent before (events.LinkDown link) printed after
-PrintsAnswer before requests.Restart printed after = PrintsEvent before events.Restart printed after
-PrintsAnswer before requests.Start printed after = PrintsEvent before events.Start printed after
-PrintsAnswer before (requests.Command command) printed after = PrintsEvent before (events.Command command) printed after
-PrintsAnswer before requests.ShowRecent printed after = (printed ≡ replies_text before.recent) × (after ≡ before)
-PrintsAnswer before request printed after = Shows before.router request printed × (after ≡ before)
+PrintsAnswer before request printed after = (answered : Answered) × IsAnswered before request answered after × (printed ≡ answered_text answered)

@@ -1,9 +1,9 @@
 //! What a session answers to a request.
-ghost use Rattle.std.specs.Prelude.{◌≡◌, ◌∷◌, ◌++◌, ℕ, List, [], IfOk, Ok, OnErr, string_bytes};
+ghost use Rattle.std.specs.Prelude.{◌≡◌, ◌∷◌, [], IfOk, Ok, OnErr, string_bytes};
 ghost use Rattle.lsr_lines.specs.Steps.{IsUntold};
 ghost use Rattle.lsr_text.specs.Answers.{answer_text, refusal_line};
 ghost use Rattle.abstract_paths.specs.declared.events.Event.TheVariants as events;
-ghost use Rattle.lsr_session.specs.Requests.{PrintsAnswer, PrintsArrival, PrintsDatagram, PrintsEvent, remembered, reply_of, served_text};
+ghost use Rattle.lsr_session.specs.Requests.{IsAnswered, IsServed, PrintsAnswer, ServesArrival, ServesDatagram, ServesEvent, answered_text, remembered, served_of, served_text};
 
 use crate::passing::passed_text;
 use crate::recent::Recent;
@@ -15,6 +15,15 @@ use lsr_text::answer_text;
 use router_core::{Machine, Served};
 use std::alloc::{AllocError, Global};
 use std::marker::Model;
+
+/// What came of a request, before it is text.
+#[derive(Drop)]
+pub enum Answered {
+    /// Something happened to the router, and this came of it.
+    Served(Result<Served, Refusal>),
+    /// The session was asked what it knows: these lines.
+    Shown(String),
+}
 
 /// A session of `lsr step`: its router, and the last replies. Contracts see what the router is and knows, and the list
 /// of these replies.
@@ -42,6 +51,57 @@ impl Session {
             recent: Recent::new(alloc)?,
         })
     }
+
+    /// The session's router.
+    pub fn router(&self) -> &Machine
+        ensures { result.now ≡ self.now.router }
+    {
+        &self.router
+    }
+
+    /// Serves a request, and gives what came of it. The only error is that memory ran out; then the session is as it was.
+    pub fn serve(&mut self, alloc: Global, request: &Request) -> Result<Answered, AllocError>
+        ensures served { IfOk result (λ answered. IsAnswered self.old request.now answered self.new) }
+        ensures left { OnErr result (self.new ≡ self.old) }
+    {
+        match request {
+            Request::Receive(arrival) => {
+                Ok(Answered::Served(serve_arrival(alloc, self, arrival)?))
+            }
+            Request::Frame(arrival) => Ok(answer_frame(alloc, self, arrival)),
+            Request::Tick(moment) => Ok(answer_event(alloc, self, Event::Tick(*moment))),
+            Request::LinkUp(link) => Ok(answer_event(alloc, self, Event::LinkUp(*link))),
+            Request::LinkDown(link) => Ok(answer_event(alloc, self, Event::LinkDown(*link))),
+            Request::Restart => Ok(answer_event(alloc, self, Event::Restart)),
+            Request::Start => Ok(answer_event(alloc, self, Event::Start)),
+            Request::Command(command) => {
+                Ok(Answered::Served(serve_command(alloc, self, command)?))
+            }
+            Request::ShowRecent => Ok(Answered::Shown(self.recent.text(alloc)?)),
+            Request::ShowPaths
+            | Request::ShowResvs
+            | Request::ShowTable
+            | Request::ShowLabels
+            | Request::ShowLinks
+            | Request::ShowTunnels
+            | Request::ShowBypasses
+            | Request::ShowSummary
+            | Request::ShowPath(_)
+            | Request::ShowResv(_) => Ok(Answered::Shown(show(alloc, &self.router, request)?)),
+        }
+    }
+}
+
+impl Answered {
+    /// The lines that are printed of it. The only error is that memory ran out.
+    pub fn into_text(self, alloc: Global) -> Result<String, AllocError>
+        ensures { IfOk result (λ text. string_bytes text ≡ answered_text self) }
+    {
+        match self {
+            Answered::Served(answer) => served_text(alloc, answer),
+            Answered::Shown(text) => Ok(text),
+        }
+    }
 }
 
 impl Answers for Session {
@@ -59,37 +119,8 @@ fn answer(alloc: Global, session: &mut Session, request: &Request) -> Result<Str
     ensures told { IfOk result (λ text. PrintsAnswer session.old request.now (string_bytes text) session.new) }
     ensures untold { OnErr result (IsUntold (PrintsAnswer session.old request.now) session.old session.new) }
 {
-    match request {
-        Request::Receive(arrival) => answer_arrival(alloc, session, arrival),
-        Request::Frame(arrival) => answer_frame(alloc, session, arrival),
-        Request::Tick(moment) => answer_event(alloc, session, Event::Tick(*moment)),
-        Request::LinkUp(link) => answer_event(alloc, session, Event::LinkUp(*link)),
-        Request::LinkDown(link) => answer_event(alloc, session, Event::LinkDown(*link)),
-        Request::Restart => answer_event(alloc, session, Event::Restart),
-        Request::Start => answer_event(alloc, session, Event::Start),
-        Request::Command(command) => answer_command(alloc, session, command),
-        Request::ShowRecent => session.recent.text(alloc),
-        Request::ShowPaths
-        | Request::ShowResvs
-        | Request::ShowTable
-        | Request::ShowLabels
-        | Request::ShowLinks
-        | Request::ShowTunnels
-        | Request::ShowBypasses
-        | Request::ShowSummary
-        | Request::ShowPath(_)
-        | Request::ShowResv(_) => show(alloc, &session.router, request),
-    }
-}
-
-/// What was answered, without what is sent.
-fn reply_of(answer: &Result<Made, Refusal>) -> Reply
-    ensures { result ≡ reply_of answer.now }
-{
-    match answer {
-        Ok(made) => made.reply,
-        Err(refusal) => Reply::Refused(*refusal),
-    }
+    let answered = session.serve(alloc, request)?;
+    answered.into_text(alloc)
 }
 
 /// The lines of a step that was made.
@@ -116,13 +147,23 @@ fn lines_of(alloc: Global, served: Served) -> Result<String, AllocError>
     }
 }
 
-/// The lines of what came of a datagram. The only error is that memory ran out.
+/// The lines of what came of an event or a datagram. The only error is that memory ran out.
 fn served_text(alloc: Global, answer: Result<Served, Refusal>) -> Result<String, AllocError>
     ensures { IfOk result (λ text. string_bytes text ≡ served_text answer) }
 {
     match answer {
         Ok(served) => lines_of(alloc, served),
         Err(refusal) => refusal_text(alloc, refusal),
+    }
+}
+
+/// What came of an event, as of anything that comes.
+fn served_of(answer: Result<Made, Refusal>) -> Result<Served, Refusal>
+    ensures { result ≡ served_of answer }
+{
+    match answer {
+        Ok(made) => Ok(Served::Made(made)),
+        Err(refusal) => Err(refusal),
     }
 }
 
@@ -146,65 +187,67 @@ pub fn hop_frame(alloc: Global, message: &[u8]) -> Result<Vec<u8>, AllocError>
     Ok(frame)
 }
 
-/// Serves a datagram that came, and prints what came of it. Where memory ran out for its lines it was served too.
-fn answer_datagram(
+/// Serves a datagram that came.
+fn serve_datagram(
     alloc: Global,
     session: &mut Session,
     link: u16,
     datagram: &[u8],
-) -> Result<String, AllocError>
-    ensures told { IfOk result (λ text. PrintsDatagram session.old link datagram.now (string_bytes text) session.new) }
-    ensures untold { OnErr result ((text : List ℕ) × PrintsDatagram session.old link datagram.now text session.new) }
+) -> Result<Served, Refusal>
+    ensures { ServesDatagram session.old link datagram.now result session.new }
 {
     let answer = session.router.serve_datagram(alloc, link, datagram);
     remember(&mut session.recent, &answer);
-    served_text(alloc, answer)
+    answer
 }
 
-/// Serves the message that came, in its frame. Where memory ran out for the frame the session is as it was.
-fn answer_arrival(
+/// Serves the message that came, in its frame. The only error is that memory ran out for the frame; then the session is as
+/// it was.
+fn serve_arrival(
     alloc: Global,
     session: &mut Session,
     arrival: &Arrival,
-) -> Result<String, AllocError>
-    ensures told { IfOk result (λ text. PrintsArrival session.old arrival.now.link arrival.now.bytes.items (string_bytes text) session.new) }
-    ensures untold { OnErr result (IsUntold (PrintsArrival session.old arrival.now.link arrival.now.bytes.items) session.old session.new) }
+) -> Result<Result<Served, Refusal>, AllocError>
+    ensures served { IfOk result (λ answer. ServesArrival session.old arrival.now.link arrival.now.bytes.items answer session.new) }
+    ensures left { OnErr result (session.new ≡ session.old) }
 {
     let frame = hop_frame(alloc, arrival.bytes.as_slice())?;
-    answer_datagram(alloc, session, arrival.link, frame.as_slice())
+    Ok(serve_datagram(alloc, session, arrival.link, frame.as_slice()))
 }
 
-/// Serves the frame that came. Where memory ran out for its lines it was served too.
-fn answer_frame(
-    alloc: Global,
-    session: &mut Session,
-    arrival: &Arrival,
-) -> Result<String, AllocError>
-    ensures told { IfOk result (λ text. PrintsDatagram session.old arrival.now.link arrival.now.bytes.items (string_bytes text) session.new) }
-    ensures untold { OnErr result ((text : List ℕ) × PrintsDatagram session.old arrival.now.link arrival.now.bytes.items text session.new) }
+/// Makes the step of an event.
+fn serve_event(alloc: Global, session: &mut Session, event: Event) -> Result<Served, Refusal>
+    ensures { ServesEvent session.old event result session.new }
 {
-    answer_datagram(alloc, session, arrival.link, arrival.bytes.as_slice())
+    let answer = served_of(session.router.serve_event(alloc, event));
+    remember(&mut session.recent, &answer);
+    answer
 }
 
-/// Makes the step of an event. Where memory ran out for its lines it was made too.
-fn answer_event(alloc: Global, session: &mut Session, event: Event) -> Result<String, AllocError>
-    ensures told { IfOk result (λ text. PrintsEvent session.old event (string_bytes text) session.new) }
-    ensures untold { OnErr result ((text : List ℕ) × PrintsEvent session.old event text session.new) }
+/// Serves the frame that came, and gives that as what came of a request.
+fn answer_frame(alloc: Global, session: &mut Session, arrival: &Arrival) -> Answered
+    ensures { IsServed result (λ answer. ServesDatagram session.old arrival.now.link arrival.now.bytes.items answer session.new) }
 {
-    let answer = session.router.serve_event(alloc, event);
-    session.recent.push(reply_of(&answer));
-    answer_text(alloc, &answer)
+    Answered::Served(serve_datagram(alloc, session, arrival.link, arrival.bytes.as_slice()))
 }
 
-/// Makes the step of a command. Where memory ran out for a copy of the command the session is as it was.
-fn answer_command(
+/// Makes the step of an event, and gives that as what came of a request.
+fn answer_event(alloc: Global, session: &mut Session, event: Event) -> Answered
+    ensures { IsServed result (λ answer. ServesEvent session.old event answer session.new) }
+{
+    Answered::Served(serve_event(alloc, session, event))
+}
+
+/// Makes the step of a command. The only error is that memory ran out for a copy of the command; then the session is as it
+/// was.
+fn serve_command(
     alloc: Global,
     session: &mut Session,
     command: &Command,
-) -> Result<String, AllocError>
-    ensures told { IfOk result (λ text. PrintsEvent session.old (events.Command command.now) (string_bytes text) session.new) }
-    ensures untold { OnErr result (IsUntold (PrintsEvent session.old (events.Command command.now)) session.old session.new) }
+) -> Result<Result<Served, Refusal>, AllocError>
+    ensures served { IfOk result (λ answer. ServesEvent session.old (events.Command command.now) answer session.new) }
+    ensures left { OnErr result (session.new ≡ session.old) }
 {
     let command = command.copied(alloc)?;
-    answer_event(alloc, session, Event::Command(command))
+    Ok(serve_event(alloc, session, Event::Command(command)))
 }

@@ -1,4 +1,5 @@
 mod Checked
+mod Drawn
 mod Living
 mod Sessions
 mod Printing

@@ -11,4 +11,5 @@ pub mod Configuring
 pub mod Decoding
 pub mod Playing
 pub mod Charting
+pub mod Drawing
 pub mod Commands

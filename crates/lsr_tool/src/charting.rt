@@ -23,7 +23,7 @@ use std::io::Write;
 const LAB_CHART: &str = "error: --chart isn't taken beside --lab; see lsr play --help\n";
 
 /// Writes the chart to the file of this name.
-fn write_chart<F: WritesFiles>(
+pub(crate) fn write_chart<F: WritesFiles>(
     files: &F,
     alloc: Global,
     chart: &Chart,
@@ -56,7 +56,11 @@ fn keep_chart<F: WritesFiles>(
 }
 
 /// Tells why the chart's file of this name isn't written, where it isn't. The error is the stream's.
-fn tell_kept<E: Write>(error: &mut E, name: &str, kept: Result<(), OutputFault>) -> io::Result<()>
+pub(crate) fn tell_kept<E: Write>(
+    error: &mut E,
+    name: &str,
+    kept: Result<(), OutputFault>,
+) -> io::Result<()>
     ensures { OnOk result (Appends (E.contents error.old) (E.contents error.new) (kept_text name.now kept)) }
 {
     match kept {

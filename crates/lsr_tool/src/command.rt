@@ -13,6 +13,7 @@ use crate::checking::run_check_of;
 use crate::configuring::run_config_of;
 use crate::console::{refuse_words, run_console_of};
 use crate::decoding::run_decode_on;
+use crate::drawing::{refuse_kept_chart, run_drawn_of};
 use crate::endings::FAILED;
 use crate::files::{FilesByName, SystemFiles};
 use crate::live::run_live_of;
@@ -74,8 +75,8 @@ fn tell_words<W: Write, E: Write>(fault: Error, output: &mut W, error: &mut E) -
     Ok(status)
 }
 
-/// Answers lines by a router: as they come, or once all have come, and then it may record the run. Gives the status, 2 where it is to record what
-/// comes as it comes. The error is that a stream could not be written, or that memory ran out.
+/// Answers lines by a router: as they come, or once all have come, and then it may record the run, or draw it. Gives the status, 2 where it is to
+/// do two of these. The error is that a stream could not be written, or that memory ran out.
 fn run_lines_of<
     F: FilesByName + WritesFiles,
     N: Wait + Clone + Drop,
@@ -90,23 +91,30 @@ fn run_lines_of<
     echo: bool,
     live: bool,
     journal: Option<&str>,
+    chart: Option<&str>,
     input: &mut R,
     output: &mut W,
     error: &mut E,
 ) -> io::Result<u8>
-    ensures { IfOk result (Does (F.opens files.now) (F.fails files.now) F.File.stream (F.holds files.now) (Step file.entry echo live journal.entry)
+    ensures { IfOk result (Does (F.opens files.now) (F.fails files.now) F.File.stream (F.holds files.now) (Step file.entry echo live journal.entry chart.entry)
         (R.stream input.old) (R.stream input.new) (W.contents output.old) (W.contents output.new) (E.contents error.old) (E.contents error.new)) }
 {
-    match (live, journal) {
-        (false, None) => run_step_of(files, alloc, file, echo, input, output, error),
-        (true, None) => run_live_of(files, alloc, file, echo, input, output, error),
-        (false, Some(name)) => run_recorded_of(
+    match (live, journal, chart) {
+        (false, None, None) => run_step_of(files, alloc, file, echo, input, output, error),
+        (true, None, None) => run_live_of(files, alloc, file, echo, input, output, error),
+        (false, Some(name), None) => run_recorded_of(
             files, rt, alloc, file, echo, name, input, output, error,
         ),
-        (true, Some(_)) => {
+        (false, None, Some(name)) => {
+            run_drawn_of(files, alloc, file, echo, name, input, output, error)
+        }
+        (true, Some(_), None) => {
             error.write_all(LIVE_JOURNAL.as_bytes())?;
             Ok(BAD_WORDS)
         }
+        (true, None, Some(_)) => refuse_kept_chart(error),
+        (true, Some(_), Some(_)) => refuse_kept_chart(error),
+        (false, Some(_), Some(_)) => refuse_kept_chart(error),
     }
 }
 
@@ -199,8 +207,9 @@ pub fn run_asked<
             echo,
             live,
             journal,
+            chart,
         } => run_lines_of(
-            files, rt, alloc, file, echo, live, journal, input, output, error,
+            files, rt, alloc, file, echo, live, journal, chart, input, output, error,
         ),
         Asked::Config(file) => run_config_of(files, alloc, file, output, error),
         Asked::Decode { word, fields } => {

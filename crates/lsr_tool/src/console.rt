@@ -28,8 +28,7 @@ use std::time::Clock;
 use std::{io, thread};
 
 /// What is told of a word that is no level.
-const BAD_LEVEL: &str =
-    "error: LEVEL is off, error, warn, info, debug or trace; see lsr serve --help\n";
+const BAD_LEVEL: &str = "error: LEVEL is info, warn or off; see lsr serve --help\n";
 /// What is told where a run with a console is to end after so many turns.
 const COUNTED_CONSOLE: &str = "error: --turns isn't taken beside --console; see lsr serve --help\n";
 /// What is told where a run without a console is to echo or to log.

@@ -108,13 +108,13 @@ pub(crate) fn read_texts<'a, C: ByteStream + Drop, R: ByteStream>(
 
 /// The session that begins, and the text of the input; or how the run ends before its first line. Both texts are
 /// read before the configuration is looked at.
-fn prepare<'a, C: ByteStream + Drop, R: ByteStream>(
+pub(crate) fn prepare<'a, C: ByteStream + Drop, R: ByteStream>(
     alloc: Global,
     config: Option<C>,
     input: &mut R,
 ) -> Result<(Session, String), RunEnding<'a>>
     ensures ready { IfOk result (λ ready. IsReady (option_map C.stream config) (R.stream input.old) ready.0 (string_bytes ready.1)) }
-    ensures fault { IfErr result (λ ending. (echo : Bool) → Steps echo (option_map C.stream config) (R.stream input.old) [] ending) }
+    ensures fault { IfErr result (NeverSteps (option_map C.stream config) (R.stream input.old)) }
 {
     let (config_text, text) = read_texts(alloc, config, input)?;
     let session = begin(alloc, config_text)?;

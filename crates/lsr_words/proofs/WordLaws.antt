@@ -72,7 +72,7 @@ word_is command name word other is needs said = ap (λ (o : Option Text). unwrap
 
 -- where its word wasn't given nothing was given that it could be asked for
 lacks : (command word : Text) (given : List Row) (what : Asked) → needed_by command ≡ Some word → first_of word given ≡ None → Asks command given what → ⊥
-lacks command word given (asked.Step file echo live journal) needs none (is, text, said, kept, recorded) = let t : needed_by (codes "step") ≡ Some word = ap needed_by (sym is) ∙ needs in cc
+lacks command word given (asked.Step file echo live journal chart) needs none (is, text, said, kept, recorded, drawn) = let t : needed_by (codes "step") ≡ Some word = ap needed_by (sym is) ∙ needs in cc
 lacks command word given (asked.Config file) needs none (is, text) = let t : needed_by (codes "config") ≡ Some word = ap needed_by (sym is) ∙ needs in cc
 lacks command word given (asked.Decode digits fields) needs none (is, text, said) =
     let t = sym none ∙ ap (λ w. first_of w given) (sym (word_is command _ word _ is needs refl)) ∙ text in cc

@@ -26,9 +26,17 @@ live_word = record (new_rule (codes "live")) { long = Some (codes "live"); actio
 abbrev pub journal_words : Rule
 journal_words = record (new_rule (codes "journal")) { long = Some (codes "journal"); value_names = 1 }
 
--- `step [--config FILE] [--echo] [--live] [--journal FILE]`
+-- `--chart FILE`
+abbrev pub chart_words : Rule
+chart_words = record (new_rule (codes "chart")) { long = Some (codes "chart"); value_names = 1 }
+
+-- `step [--config FILE] [--echo] [--live]`
+abbrev pub answered_words : App
+answered_words = with_rule (with_rule (with_rule (new_app (codes "step")) file_words) echo_word) live_word
+
+-- `step [--config FILE] [--echo] [--live] [--journal FILE] [--chart FILE]`
 abbrev pub step_words : App
-step_words = with_rule (with_rule (with_rule (with_rule (new_app (codes "step")) file_words) echo_word) live_word) journal_words
+step_words = with_rule (with_rule answered_words journal_words) chart_words
 
 -- `FILE`, which may be left out
 abbrev pub printed_word : Rule
@@ -86,10 +94,6 @@ played_word = record (new_rule (codes "FILE")) { required = true }
 abbrev pub lab_word : Rule
 lab_word = record (new_rule (codes "lab")) { long = Some (codes "lab"); action = Some SetTrue }
 
--- `--chart FILE`
-abbrev pub chart_words : Rule
-chart_words = record (new_rule (codes "chart")) { long = Some (codes "chart"); value_names = 1 }
-
 -- `play FILE [--lab] [--chart FILE]`
 abbrev pub play_words : App
 play_words = with_rule (with_rule (with_rule (new_app (codes "play")) played_word) lab_word) chart_words
@@ -129,9 +133,10 @@ is_given (Some word) = bytes_eq word (codes "true")
 
 -- what a command asks for, with the values that it was given
 abbrev pub Asks : Text → List Row → Asked → Type 0
-Asks command given (asked.Step file echo live journal) =
+Asks command given (asked.Step file echo live journal chart) =
     (command ≡ codes "step") × (option_map (λ f. f.now) file ≡ first_of (codes "config") given) × (echo ≡ is_given (first_of (codes "echo") given))
     × (live ≡ is_given (first_of (codes "live") given)) × (option_map (λ f. f.now) journal ≡ first_of (codes "journal") given)
+    × (option_map (λ f. f.now) chart ≡ first_of (codes "chart") given)
 Asks command given (asked.Config file) = (command ≡ codes "config") × (option_map (λ f. f.now) file ≡ first_of (codes "FILE") given)
 Asks command given (asked.Decode word fields) =
     (command ≡ codes "decode") × (first_of (codes "HEX") given ≡ Some word.now) × (fields ≡ is_given (first_of (codes "fields") given))

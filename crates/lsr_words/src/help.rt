@@ -4,7 +4,7 @@ ghost use Rattle.clap.specs.Built.{AddsSubcommand};
 ghost use Rattle.clap.specs.Words.{app_of, new_app, new_rule, rule_of};
 ghost use Rattle.clap.specs.declared.builder.action.ArgAction.TheVariants.{SetTrue};
 ghost use Rattle.clap.specs.declared.builder.command.Command.{Command, out-Command};
-ghost use Rattle.lsr_words.specs.Words.{chart_words, check_words, checked_words, config_words, console_word, counted_words, decode_words, digits_word, echo_word, explain_words, fields_word, file_words, journal_words, lab_word, live_word, log_words, lsr_words, play_words, played_word, printed_word, program_words, serve_words, served_word, show_journal_words, shown_word, step_words, topic_word, turns_words, with_commands};
+ghost use Rattle.lsr_words.specs.Words.{answered_words, chart_words, check_words, checked_words, config_words, console_word, counted_words, decode_words, digits_word, echo_word, explain_words, fields_word, file_words, journal_words, lab_word, live_word, log_words, lsr_words, play_words, played_word, printed_word, program_words, serve_words, served_word, show_journal_words, shown_word, step_words, topic_word, turns_words, with_commands};
 
 use clap::{Arg, ArgAction, Command};
 use std::alloc::{AllocError, Global};
@@ -47,11 +47,13 @@ The status is, of each command:
   2                   the words after `lsr` aren't taken, and nothing was done: too few, too
                       many or unknown ones, HEX that isn't hexadecimal digits, WHAT that asks
                       for nothing, N that isn't a number of turns, LEVEL that is none, or words
-                      that don't go together: --journal and --live, --chart and --lab, --turns and
-                      --console, --echo or --log of `serve` without --console
+                      that don't go together: --journal and --live, --chart and either of them,
+                      --chart and --lab of `play`, --turns and --console, --echo or --log of
+                      `serve` without --console
 Why it isn't 0 is said on standard error, and by `decode` of lines or a file in its answers too.
-The first line says what it is, and `lsr explain` knows its first word; lines after it that begin
-with two spaces say where it is and what to do.
+The first line says what it is, and `lsr explain` knows its first word, or of `config FAULT KEY`
+and `entry N: FAULT` the FAULT; lines after it that begin with two spaces say where it is and what
+to do.
 ";
 
 const STEP_ABOUT: &str = "\
@@ -124,6 +126,14 @@ most 16777216 bytes. `./lsr step` adds --live where standard input is a terminal
 With --journal the run is recorded in FILE: the configuration, and each event with its labels, its
 reply and what was sent. Keep FILE: `lsr check FILE` says later, anywhere, whether that is what
 such a router does, and `lsr show-journal FILE` prints it. It isn't taken beside --live.
+
+With --chart the run is drawn in FILE, once it has ended, as a sequence chart that a browser shows.
+The router is its first column, and each of its links one, by its number and its neighbour's
+address. What comes over a link is an arrow to the router, what is sent an arrow from it, each with
+its message and LSP as TUNNEL/LSP; thick ones are of an LSP that is repaired. Beside the router
+stands what it answered, unless that is `done`. Commands, moments and restarts stand above what came
+of them; moments of which nothing came, and `show`, aren't drawn. A bad line ends the chart. It has
+4096 rows at most, and isn't taken beside --journal or --live.
 
 What is printed for each of them but `show`:
   done              it was done
@@ -198,7 +208,7 @@ docs/PROGRAM.md explains. Nothing is printed of an LSP that isn't there.
 
 The router is the one that FILE says (docs/CONFIGURATION.md has the keys; begin with a copy
 of examples/middle.toml), or without it the built-in one: 10.0.0.2, link 1 to 10.0.0.1, link
-2 to 10.0.0.3, and 10.0.0.4 behind link 2. FILE is read whole before the first line.
+2 to 10.0.0.3, and 10.0.0.4 beyond link 2. FILE is read whole before the first line.
 
 The status is 0 where each line was answered, whatever the answers are; 1 with one of these on
 standard error, or with --live with some of them; 2 where the words of the command aren't taken:
@@ -211,7 +221,8 @@ standard error, or with --live with some of them; 2 where the words of the comma
   unreadable        FILE or the input can't be opened or read, isn't UTF-8, or has more than
                     16777216 bytes; the line after it says which of them it is, and why
   memory            there is no memory; what was printed before is done
-  unwritable        the output or the error stream can't be written
+  unwritable        the output or the error stream can't be written, or the file of --journal or
+                    --chart, and then the line after it says why
 
 Example: a tear of a path that isn't there prints `refused 10 NoMatch`.
   echo rx 1 1005b988ff000030001001070a000004000000010a000001000c03010a00000100000001\
@@ -383,9 +394,9 @@ port is the clock's: N times it waits 100 milliseconds, and feeds the moment 100
 So a run lasts N tenths of a second at least, unless a link has a frame waiting in each turn.
 
 With --journal the run is recorded in files named PREFIX.1, PREFIX.2 and so on: one for each 4096
-events, written while the run goes on, and one at its end. Keep them: `lsr check PREFIX.1 PREFIX.2
-..` says later, anywhere, whether that is what such a router does, and `lsr show-journal PREFIX.1`
-prints the first.
+events, written while the run goes on, and one at its end. Keep them: `lsr check $(ls -v PREFIX.*)`,
+which names them by their numbers, says later, anywhere, whether that is what such a router does,
+and `lsr show-journal PREFIX.1` prints the first.
 
 With --console the router runs until it is told to end, and answers the lines of its input: those
 of `lsr step` for operators (tunnel, change, cancel, drop, bypass, unbypass, route, unroute, up,
@@ -436,7 +447,8 @@ of a file say, and prints what each router answers and sends";
 const PLAY_HELP: &str = "\
 FILE is a text, read whole before its first line is taken. First come its routers and wires:
   router NAME FILE  there is a router, which FILE configures (docs/CONFIGURATION.md); NAME is any
-                    word that no router above has. All such files are read before all else
+                    word that no router above has. FILE is looked for in the folder in which `lsr`
+                    runs. All such files are read before all else
   wire NAME LINK NAME LINK
                     link LINK of the one router, 1 to 65535, is joined to that of the other
 and then moves, one in each line:
@@ -494,7 +506,7 @@ error; 2 where the words of the command aren't taken:
                     isn't UTF-8, or has more than 16777216 bytes; the line after it says which
   config FAULT KEY  the first fault of the routers' configurations, in the order of their lines
   bad line N        line N, counted from 1, has none of the forms above, declares a NAME twice,
-                    joins a NAME that isn't declared above, or declares behind a move. What the
+                    joins a NAME that isn't declared above, or declares after a move. What the
                     lines before it asked for is done. The line and the form of its first word
                     follow
   world Routers     there is no router, or there are more than 16
@@ -541,7 +553,7 @@ error; 2 where the words of the command aren't taken:
   unwritable        the output or the error stream can't be written
 
 Example: a night in three files.
-  lsr check night.1 night.2 night.3
+  lsr check $(ls -v night.*)
 ";
 
 const SHOW_JOURNAL_ABOUT: &str = "\
@@ -579,6 +591,9 @@ const PLAYED_FILE_HELP: &str =
 
 const LAB_HELP: &str = "\
 Takes remarks, `show NAME WHAT`, `run` and `seed N MOVES`, too";
+
+const STEP_CHART_HELP: &str = "\
+Draws the run in FILE, as a sequence chart (SVG); not beside --journal or --live";
 
 const CHART_HELP: &str = "\
 Draws the run in FILE, as a sequence chart (SVG); not beside --lab";
@@ -726,6 +741,14 @@ fn step_journal_option<'a>(alloc: Global) -> Arg<'a>
     option(alloc, JOURNAL, FILE, STEP_JOURNAL_HELP)
 }
 
+/// `--chart FILE` of `step`.
+fn step_chart_option<'a>(alloc: Global) -> Arg<'a>
+    ensures rule { rule_of result ≡ chart_words }
+    ensures local { result.global ≡ false }
+{
+    option(alloc, CHART, FILE, STEP_CHART_HELP)
+}
+
 /// `--journal PREFIX`.
 fn serve_journal_option<'a>(alloc: Global) -> Arg<'a>
     ensures rule { rule_of result ≡ journal_words }
@@ -814,7 +837,7 @@ fn lab_option<'a>(alloc: Global) -> Arg<'a>
     switch(alloc, LAB, LAB_HELP)
 }
 
-/// `--chart FILE`.
+/// `--chart FILE` of `play`.
 fn chart_option<'a>(alloc: Global) -> Arg<'a>
     ensures rule { rule_of result ≡ chart_words }
     ensures local { result.global ≡ false }
@@ -854,15 +877,23 @@ fn bare_command<'a>(alloc: Global, name: &'a str, about: &'a str, help: &'a str)
     Command::new(alloc, name).about(about).after_help(help)
 }
 
-/// `step [--config FILE] [--echo] [--live] [--journal FILE]`. The only error is that memory ran out.
-fn step_command<'a>(alloc: Global) -> Result<Command<'a>, AllocError>
-    ensures words { IfOk result (λ command. app_of command ≡ step_words) }
+/// `step [--config FILE] [--echo] [--live]`, and the files that a run is kept in are left out. The only error is that memory ran out.
+fn answered_command<'a>(alloc: Global) -> Result<Command<'a>, AllocError>
+    ensures words { IfOk result (λ command. app_of command ≡ answered_words) }
     ensures local { IfOk result (λ command. (out-Command command).has_globals ≡ false) }
 {
     let config = bare_command(alloc, STEP, STEP_ABOUT, STEP_HELP).arg(config_option(alloc))?;
     let echo = config.arg(echo_option(alloc))?;
-    let live = echo.arg(live_option(alloc))?;
-    live.arg(step_journal_option(alloc))
+    echo.arg(live_option(alloc))
+}
+
+/// `step [--config FILE] [--echo] [--live] [--journal FILE] [--chart FILE]`. The only error is that memory ran out.
+fn step_command<'a>(alloc: Global) -> Result<Command<'a>, AllocError>
+    ensures words { IfOk result (λ command. app_of command ≡ step_words) }
+    ensures local { IfOk result (λ command. (out-Command command).has_globals ≡ false) }
+{
+    let journal = answered_command(alloc)?.arg(step_journal_option(alloc))?;
+    journal.arg(step_chart_option(alloc))
 }
 
 /// `config [FILE]`. The only error is that memory ran out.
@@ -1007,7 +1038,7 @@ fn program_with_check<'a>(alloc: Global) -> Result<Command<'a>, AllocError>
     with_command(program_with_play(alloc)?, check_command(alloc))
 }
 
-/// The words that `lsr` takes: `--version`, `step [--config FILE] [--echo] [--live] [--journal FILE]`, `config [FILE]`, `decode HEX [--fields]`,
+/// The words that `lsr` takes: `--version`, `step [--config FILE] [--echo] [--live] [--journal FILE] [--chart FILE]`, `config [FILE]`, `decode HEX [--fields]`,
 /// `explain WHAT`, `serve FILE [--turns N] [--journal PREFIX] [--console] [--echo] [--log LEVEL]`, `play FILE [--lab] [--chart FILE]`, `check FILE..` and `show-journal FILE`. The only error is
 /// that memory ran out.
 pub(crate) fn command<'a>(alloc: Global) -> Result<Command<'a>, AllocError>

@@ -28,6 +28,8 @@ pub enum Asked<'a> {
         live: bool,
         /// The name of the file that the run is recorded in; without one it isn't recorded.
         journal: Option<&'a str>,
+        /// The name of the file that the run is drawn in; without one it isn't drawn.
+        chart: Option<&'a str>,
     },
     /// `config [FILE]`: the configuration of the file of this name is printed; without one the built-in router's.
     Config(Option<&'a str>),
@@ -93,6 +95,7 @@ fn step_asked<'a>(given: &ArgMatches<'a>) -> Asked<'a>
         echo: is_given(given.get_str(ECHO)),
         live: is_given(given.get_str(LIVE)),
         journal: given.get_str(JOURNAL),
+        chart: given.get_str(CHART),
     }
 }
 

@@ -40,6 +40,9 @@ const TUNNELS: [u16; 3] = [1, 3, 4];
 /// How many labelled frames come for each message, where frames are forwarded.
 const FRAMES_A_MESSAGE: usize = 15;
 
+/// Which share of the frames of one neighbour the neighbour of link 2 sends for its Resvs alone.
+const RESV_SHARE: u32 = 16;
+
 /// What the neighbours send.
 #[derive(Clone, Copy)]
 pub enum Traffic {
@@ -47,6 +50,46 @@ pub enum Traffic {
     Paths,
     /// Labelled frames, and for 15 of them a message: of link 2 the Resvs of the others' Paths, one after the other, else a Path.
     Frames,
+}
+
+/// What comes: of what kind, from how many neighbours, and how many frames of each.
+#[derive(Clone, Copy)]
+pub struct Load {
+    /// What they send.
+    pub traffic: Traffic,
+    /// How many neighbours send: those of the links from 1 on, one or all four.
+    pub neighbours: u16,
+    /// How many frames each of them sends.
+    pub count: u32,
+}
+
+impl Load {
+    /// How many frames the neighbour of a link sends. Where frames are forwarded that of link 2 sends its Resvs in any case.
+    pub fn count_over(&self, link: u16) -> u32 {
+        match (self.traffic, link) {
+            _ if link <= self.neighbours => self.count,
+            (Traffic::Frames, OUT_LINK) => self.count / RESV_SHARE,
+            _ => 0,
+        }
+    }
+
+    /// The neighbours that send, in words.
+    pub fn senders(&self) -> &'static str {
+        if self.neighbours == 1 {
+            "one neighbour"
+        } else {
+            "four neighbours"
+        }
+    }
+
+    /// How many frames they send in all.
+    pub fn total(&self) -> u64 {
+        let mut total = 0_u64;
+        for link in 1..=LINKS {
+            total = total.saturating_add(u64::from(self.count_over(link)));
+        }
+        total
+    }
 }
 
 /// Adds a message about a tunnel, and so many labelled frames after it.
@@ -85,24 +128,23 @@ fn frames_of(alloc: Global, traffic: Traffic, link: u16) -> Result<Vec<Vec<u8>>,
     Ok(frames)
 }
 
-/// The neighbour of a link, which sends so many frames. The fault is that its socket can't be had, or memory ran out.
+/// The neighbour of a link, which sends its part of the load. The fault is that its socket can't be had, or memory ran out.
 fn open_sender<'a, R: Net>(
     net: &R,
     alloc: Global,
     link: u16,
     sockets: LinkSockets,
-    traffic: Traffic,
+    load: &Load,
     taken: &'a AtomicU64,
-    count: u32,
 ) -> Result<Sender<'a>, Fault> {
-    let frames = frames_of(alloc, traffic, link)?;
+    let frames = frames_of(alloc, load.traffic, link)?;
     match UdpSocket::bind(net, sockets.send) {
         Ok(socket) => Ok(Sender {
             socket,
             to: sockets.listen,
             frames,
             taken,
-            count,
+            count: load.count_over(link),
         }),
         Err(_) => Err(Fault::Socket(link)),
     }
@@ -114,18 +156,17 @@ fn add_sender<'a>(senders: &mut Vec<Sender<'a>>, sender: Sender<'a>) -> Result<(
     Ok(())
 }
 
-/// The neighbours of the links, each of which sends so many frames, with how many of them were taken.
+/// The neighbours of the links, each of which sends its part of the load, with how many of its frames were taken.
 pub fn open_senders<'a, R: Net>(
     net: &R,
     alloc: Global,
     links: &Table<u16, LinkSockets>,
-    traffic: Traffic,
+    load: &Load,
     counts: &'a [AtomicU64],
-    count: u32,
 ) -> Result<Vec<Sender<'a>>, Fault> {
     let mut senders = Vec::new(alloc);
     for (row, taken) in links.as_slice().iter().zip(counts) {
-        let sender = open_sender(net, alloc, row.0, row.1, traffic, taken, count)?;
+        let sender = open_sender(net, alloc, row.0, row.1, load, taken)?;
         add_sender(&mut senders, sender)?;
     }
     Ok(senders)

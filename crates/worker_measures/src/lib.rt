@@ -2,8 +2,10 @@
 //! forward, and what becomes of frames while an LSP comes and goes. And a short run of them, whose counts are always the same.
 #![tactic(auto)]
 
+mod bare;
 mod four_links;
 mod load;
+mod neighbours;
 mod sending;
 mod short_run;
 mod withdrawals;

@@ -1,18 +1,17 @@
 //! How many datagrams a router takes over sockets, and how many frames it forwards.
 ghost use Rattle.std.specs.Prelude.{◌≡◌};
 
-use crate::four_links::{LINKS, Traffic, four_links, open_senders};
-use crate::sending::{CountedWire, Sender};
+use crate::bare::{run_bare, tell_bare};
+use crate::four_links::{LINKS, Load, Traffic, four_links, open_senders};
+use crate::neighbours::{Neighbours, counted, new_counts, send_all, sum_of, wires};
+use crate::sending::CountedWire;
 use lsr_config::Config;
-use lsr_serve::{
-    LinkSockets, LinkWire, ServeFault, UdpWire, Worker, link_workers, open_wires, run_worker,
-};
+use lsr_serve::{LinkSockets, LinkWire, UdpWire, Worker, link_workers, run_worker};
 use sorted_rows::Table;
 use std::alloc::{AllocError, Global};
 use std::marker::Brand;
 use std::net::Net;
 use std::sync::Wait;
-use std::sync::atomic::{AtomicU64, Ordering};
 use std::sync::ledger::Blank;
 use std::thread;
 use std::thread::Threads;
@@ -25,32 +24,6 @@ use worker_fixtures::{
 /// How many turns a worker makes beyond those in which it takes a frame: it waits 100 milliseconds in each for one that is late.
 const SPARE_TURNS: u32 = 600;
 
-/// The neighbours, each of which sends so many frames, with how many of them were taken.
-#[derive(Drop)]
-struct Neighbours<'a> {
-    senders: Vec<Sender<'a>>,
-    counts: &'a [AtomicU64],
-    count: u32,
-}
-
-/// The wires, each of which counts what it took, and takes no more than so many frames.
-fn counted<'a, W: Drop>(
-    alloc: Global,
-    links: Vec<LinkWire<W>>,
-    counts: &'a [AtomicU64],
-    count: u32,
-) -> Result<Vec<LinkWire<CountedWire<'a, W>>>, AllocError> {
-    let sent = u64::from(count);
-    links
-        .into_iter()
-        .zip(counts)
-        .map(|(LinkWire { number, wire }, taken)| LinkWire {
-            number,
-            wire: CountedWire { wire, taken, sent },
-        })
-        .collect(alloc)
-}
-
 /// The workers of the links, whose wires count what they took for these neighbours. The only error is out of memory.
 fn counted_workers<'a, L: CoreName, W: Wire + Drop>(
     alloc: Global,
@@ -59,17 +32,8 @@ fn counted_workers<'a, L: CoreName, W: Wire + Drop>(
     wires: Vec<LinkWire<W>>,
     neighbours: &Neighbours<'a>,
 ) -> Result<Vec<Worker<L, CountedWire<'a, W>>>, AllocError> {
-    let wires = counted(alloc, wires, neighbours.counts, neighbours.count)?;
+    let wires = counted(alloc, wires, neighbours.counts, neighbours.load)?;
     link_workers(alloc, ports, readers, wires)
-}
-
-/// Whether each neighbour sent all. The error is out of memory.
-fn send_all<R: Threads + Clock + Sync>(
-    rt: &R,
-    senders: Vec<Sender<'_>>,
-) -> Result<bool, AllocError> {
-    let sent = thread::map_vec(rt, senders, &|sender: Sender<'_>| sender.send_all(rt))?;
-    Ok(sent.iter().all(|is_sent| *is_sent))
 }
 
 /// What the threads of a run leave, how many datagrams they took, and how long that was.
@@ -95,15 +59,6 @@ fn put_together<L: CoreName, R: Wait + Drop>(
     }
 }
 
-/// The sum of counts.
-fn sum_of(counts: &[AtomicU64]) -> u64 {
-    let mut sum = 0_u64;
-    for count in counts {
-        sum = sum.saturating_add(count.load(Ordering::SeqCst));
-    }
-    sum
-}
-
 /// Runs the workers beside the neighbours: what they leave, and how long it took since this moment. The fault is that a neighbour gave
 /// up, or that memory ran out.
 fn run_since<
@@ -121,9 +76,9 @@ fn run_since<
     let Neighbours {
         senders,
         counts,
-        count,
+        load,
     } = neighbours;
-    let turns = count.saturating_add(SPARE_TURNS);
+    let turns = load.count.saturating_add(SPARE_TURNS);
     let shared = &core;
     let (works, is_sent) = thread::join(
         rt,
@@ -192,29 +147,6 @@ fn serve_named<
     }
 }
 
-/// The wires of the links. The fault is that their sockets can't be had, or that memory ran out.
-fn wires<'a, R: Net>(
-    net: &R,
-    alloc: Global,
-    links: &'a Table<u16, LinkSockets>,
-) -> Result<Vec<LinkWire<UdpWire<'a>>>, Fault> {
-    match open_wires(net, alloc, links) {
-        Ok(wires) => Ok(wires),
-        Err(ServeFault::Socket(link)) => Err(Fault::Socket(link)),
-        // (no segment is kept where wires are opened)
-        Err(ServeFault::Memory | ServeFault::Unkept(_)) => Err(Fault::Memory),
-    }
-}
-
-/// Counts of what each link took, all 0 at first.
-fn new_counts(alloc: Global) -> Result<Vec<AtomicU64>, AllocError> {
-    let mut counts = Vec::new(alloc);
-    for _ in 0..LINKS {
-        counts.push(AtomicU64::new(0))?;
-    }
-    Ok(counts)
-}
-
 /// Serves these neighbours over these sockets.
 fn serve_neighbours<R: Net + Threads + Wait + Clock + Clone + Send + Sync + Drop>(
     rt: &R,
@@ -233,38 +165,38 @@ fn serve_neighbours<R: Net + Threads + Wait + Clock + Clone + Send + Sync + Drop
     }
 }
 
-/// Serves neighbours that send this traffic, so many frames each, over these sockets.
+/// Serves neighbours that send this over these sockets.
 fn serve<R: Net + Threads + Wait + Clock + Clone + Send + Sync + Drop>(
     rt: &R,
     alloc: Global,
     links: &Table<u16, LinkSockets>,
-    traffic: Traffic,
-    count: u32,
+    load: Load,
 ) -> Result<Loaded, Fault> {
     let all = new_counts(alloc)?;
     let counts = all.as_slice();
-    match open_senders(rt, alloc, links, traffic, counts, count) {
-        Ok(senders) => {
-            let neighbours = Neighbours {
+    match open_senders(rt, alloc, links, &load, counts) {
+        Ok(senders) => serve_neighbours(
+            rt,
+            alloc,
+            links,
+            Neighbours {
                 senders,
                 counts,
-                count,
-            };
-            serve_neighbours(rt, alloc, links, neighbours)
-        }
+                load,
+            },
+        ),
         Err(fault) => Err(fault),
     }
 }
 
-/// Serves neighbours that send so many frames in all.
+/// Serves neighbours that send this.
 fn run<R: Net + Threads + Wait + Clock + Clone + Send + Sync + Drop>(
     rt: &R,
     alloc: Global,
-    traffic: Traffic,
-    count: u32,
+    load: Load,
 ) -> Result<Loaded, Fault> {
     match free_links(rt, alloc, LINKS) {
-        Ok(links) => serve(rt, alloc, &links, traffic, count / u32::from(LINKS)),
+        Ok(links) => serve(rt, alloc, &links, load),
         Err(fault) => Err(fault),
     }
 }
@@ -282,35 +214,40 @@ fn tell_run<R: Print>(rt: &R, left: &Left) -> Result<(), Fault> {
     Ok(())
 }
 
-/// Prints how many messages were taken of so many, and in which time.
-fn tell_datagrams<R: Print>(rt: &R, count: u32, loaded: &Loaded) -> Result<(), Fault> {
+/// Prints how many messages were taken of so many, and in which time. Gives how many that is a second.
+fn tell_datagrams<R: Print>(rt: &R, load: Load, loaded: &Loaded) -> Result<u64, Fault> {
     let taken = loaded.left.receipts.len();
     let rate = per_second(taken as u64, loaded.took);
     let millis = loaded.took.as_millis();
+    let count = load.total();
+    let senders = load.senders();
     println!(rt;
-        "datagrams: {taken} of {count} taken by 4 workers in {millis} ms: {rate} a second"
+        "datagrams of {senders}: {taken} of {count} taken in {millis} ms: {rate} a second"
     )?;
-    tell_run(rt, &loaded.left)
+    tell_run(rt, &loaded.left)?;
+    Ok(rate)
 }
 
-/// Prints how many frames were forwarded beside messages, and in which time.
-fn tell_forwarding<R: Print>(rt: &R, loaded: &Loaded) -> Result<(), Fault> {
+/// Prints how many labelled frames were forwarded beside messages, and in which time. Gives how many datagrams that is a second.
+fn tell_forwarding<R: Print>(rt: &R, load: Load, loaded: &Loaded) -> Result<u64, Fault> {
     let forwarded = loaded.left.forwarded;
     let messages = loaded.left.receipts.len();
     let rate = per_second(forwarded, loaded.took);
     let millis = loaded.took.as_millis();
+    let senders = load.senders();
     println!(rt;
-        "forwarding: {forwarded} frames by 4 workers in {millis} ms, beside {messages} messages: {rate} a second"
+        "frames of {senders}: {forwarded} forwarded in {millis} ms, beside {messages} messages: {rate} a second"
     )?;
-    tell_run(rt, &loaded.left)
+    tell_run(rt, &loaded.left)?;
+    Ok(per_second(loaded.taken, loaded.took))
 }
 
 /// Prints how many datagrams were taken of so many, and whether what the threads were told is one run.
 fn tell_counts<R: Print>(
     rt: &R,
     of: &str,
+    load: Load,
     taken: u64,
-    count: u32,
     left: &Left,
 ) -> Result<(), Fault> {
     let run = if left.is_one_run() {
@@ -318,48 +255,68 @@ fn tell_counts<R: Print>(
     } else {
         "not one run"
     };
-    println!(rt; "{of}: {taken} of {count} taken by 4 workers; {run}")?;
+    let count = load.total();
+    println!(rt; "{of}: {taken} of {count} taken by {LINKS} workers; {run}")?;
     Ok(())
 }
 
-/// Measures how many messages four workers take a second of so many in all, and prints what came. The fault says what to do.
+/// This traffic, so many frames in all, from so many neighbours.
+fn load_of(traffic: Traffic, neighbours: u16, total: u32) -> Load {
+    Load {
+        traffic,
+        neighbours,
+        count: total / u32::from(neighbours.max(1)),
+    }
+}
+
+/// Measures how many messages workers take a second of so many in all, one worker and then four, and what is taken without a router; and
+/// prints what came. The fault says what to do.
 pub fn measure_datagrams<R: Net + Threads + Wait + Clock + Print + Clone + Send + Sync + Drop>(
     rt: &R,
     alloc: Global,
     count: u32,
 ) -> Result<(), Fault> {
-    match run(rt, alloc, Traffic::Paths, count) {
-        Ok(loaded) => tell_datagrams(rt, count, &loaded),
-        Err(fault) => Err(fault),
+    for neighbours in [1, LINKS] {
+        let load = load_of(Traffic::Paths, neighbours, count);
+        let loaded = run(rt, alloc, load)?;
+        let rate = tell_datagrams(rt, load, &loaded)?;
+        let bare = run_bare(rt, alloc, load)?;
+        tell_bare(rt, bare, rate)?;
     }
+    Ok(())
 }
 
-/// Measures how many labelled frames four workers forward a second while messages come, of so many datagrams in all, and prints what
-/// came. The fault says what to do.
+/// Measures how many labelled frames workers forward a second while messages come, of so many datagrams in all, one worker and then four,
+/// and what is taken and sent on without a router; and prints what came. The fault says what to do.
 pub fn measure_forwarding<R: Net + Threads + Wait + Clock + Print + Clone + Send + Sync + Drop>(
     rt: &R,
     alloc: Global,
     count: u32,
 ) -> Result<(), Fault> {
-    match run(rt, alloc, Traffic::Frames, count) {
-        Ok(loaded) => tell_forwarding(rt, &loaded),
-        Err(fault) => Err(fault),
+    for neighbours in [1, LINKS] {
+        let load = load_of(Traffic::Frames, neighbours, count);
+        let loaded = run(rt, alloc, load)?;
+        let rate = tell_forwarding(rt, load, &loaded)?;
+        let bare = run_bare(rt, alloc, load)?;
+        tell_bare(rt, bare, rate)?;
     }
+    Ok(())
 }
 
-/// Prints how many messages four workers take of so many in all. The fault says what to do.
+/// Prints how many messages four workers take of so many in all, and how many are taken without a router. The fault says what to do.
 pub fn count_datagrams<R: Net + Threads + Wait + Clock + Print + Clone + Send + Sync + Drop>(
     rt: &R,
     alloc: Global,
     count: u32,
 ) -> Result<(), Fault> {
-    match run(rt, alloc, Traffic::Paths, count) {
-        Ok(loaded) => {
-            let taken = loaded.left.receipts.len() as u64;
-            tell_counts(rt, "datagrams", taken, count, &loaded.left)
-        }
-        Err(fault) => Err(fault),
-    }
+    let load = load_of(Traffic::Paths, LINKS, count);
+    let loaded = run(rt, alloc, load)?;
+    let taken = loaded.left.receipts.len() as u64;
+    tell_counts(rt, "datagrams", load, taken, &loaded.left)?;
+    let bare = run_bare(rt, alloc, load)?;
+    let taken = bare.taken;
+    println!(rt; "datagrams: {taken} of {count} taken without a router")?;
+    Ok(())
 }
 
 /// Prints how many labelled frames and messages four workers take of so many in all. The fault says what to do.
@@ -368,8 +325,7 @@ pub fn count_forwarding<R: Net + Threads + Wait + Clock + Print + Clone + Send +
     alloc: Global,
     count: u32,
 ) -> Result<(), Fault> {
-    match run(rt, alloc, Traffic::Frames, count) {
-        Ok(loaded) => tell_counts(rt, "forwarding", loaded.taken, count, &loaded.left),
-        Err(fault) => Err(fault),
-    }
+    let load = load_of(Traffic::Frames, LINKS, count);
+    let loaded = run(rt, alloc, load)?;
+    tell_counts(rt, "forwarding", load, loaded.taken, &loaded.left)
 }

@@ -47,21 +47,32 @@ reply_rows place replies.Done = []
 reply_rows place (replies.Error e) = rows.Note place (codes "error " ++ (decimal e.code ++ (codes " " ++ decimal e.value))) ∷ []
 reply_rows place (replies.Refused refusal) = rows.Note place (refusal_words refusal) ∷ []
 
+-- a payload that has arrived, beside the router of this place
+abbrev pub delivered_rows : ℕ → List Row
+delivered_rows place = rows.Note place (codes "payload delivered") ∷ []
+
 -- an answer beside the router of this place; nothing where all was done, or a labelled frame goes on
 abbrev pub answer_rows : ℕ → Answer → List Row
 answer_rows place (answers.Replied reply) = reply_rows place reply
 answer_rows place (answers.Refused refusal) = rows.Note place (refusal_words refusal) ∷ []
 answer_rows place answers.PassedOn = []
-answer_rows place (answers.Delivered payload) = rows.Note place (codes "payload delivered") ∷ []
+answer_rows place (answers.Delivered payload) = delivered_rows place
+
+-- what is said of a link that fails, or comes up again
+abbrev pub down_words : ℕ → List ℕ
+down_words link = codes "link " ++ (decimal link ++ codes " down")
+
+abbrev pub up_words : ℕ → List ℕ
+up_words link = codes "link " ++ (decimal link ++ codes " up")
 
 -- a link between routers that fails, or comes up again; beside its router where no wire is
 abbrev pub down_row : ℕ → ℕ → Option End → Row
-down_row place link (Some end) = rows.LinkDown (record { one = place; other = end.router; text = codes "link " ++ (decimal link ++ codes " down") })
-down_row place link None = rows.Note place (codes "link " ++ (decimal link ++ codes " down"))
+down_row place link (Some end) = rows.LinkDown (record { one = place; other = end.router; text = down_words link })
+down_row place link None = rows.Note place (down_words link)
 
 abbrev pub up_row : ℕ → ℕ → Option End → Row
-up_row place link (Some end) = rows.LinkUp (record { one = place; other = end.router; text = codes "link " ++ (decimal link ++ codes " up") })
-up_row place link None = rows.Note place (codes "link " ++ (decimal link ++ codes " up"))
+up_row place link (Some end) = rows.LinkUp (record { one = place; other = end.router; text = up_words link })
+up_row place link None = rows.Note place (up_words link)
 
 -- the link that a move takes down or brings up
 abbrev pub changed_rows : List Joint → Move → List Row

@@ -2,7 +2,7 @@
 ghost use Rattle.std.specs.Prelude.{◌≡◌, ◌∷◌, [], IfOk, OnOk};
 ghost use Rattle.sequence_charts.specs.Pictures.{grown};
 ghost use Rattle.sequence_charts.specs.declared.row.Row.TheVariants as rows;
-ghost use Rattle.world_charts.specs.Rows.{answer_rows, refusal_words, reply_rows};
+ghost use Rattle.world_charts.specs.Rows.{answer_rows, delivered_rows, refusal_words, reply_rows};
 
 use abstract_world::Answer;
 use lsr_facts::{Refusal, Reply};
@@ -37,8 +37,8 @@ pub fn push_refused(alloc: Global, chart: &mut Chart, refusal: Refusal) -> Resul
     chart.push(alloc, Row::Heading(text))
 }
 
-/// Draws a reply beside the router of this place; nothing where all was done.
-fn push_reply(
+/// Draws a reply beside the router of this place; nothing where all was done. The only error is that memory ran out.
+pub fn push_reply(
     alloc: Global,
     chart: &mut Chart,
     place: usize,
@@ -61,6 +61,21 @@ fn push_reply(
     }
 }
 
+/// Draws words beside the router of this place.
+fn push_note(alloc: Global, chart: &mut Chart, place: usize, words: &str) -> Result<(), AllocError>
+    ensures { OnOk result (chart.new ≡ grown chart.old (rows.Note place words.now ∷ [])) }
+{
+    let text = Text::copy_of(alloc, words)?;
+    chart.push(alloc, Row::Note { at: place, text })
+}
+
+/// Draws a payload that has arrived, beside the router of this place. The only error is that memory ran out.
+pub fn push_delivered(alloc: Global, chart: &mut Chart, place: usize) -> Result<(), AllocError>
+    ensures { OnOk result (chart.new ≡ grown chart.old (delivered_rows place)) }
+{
+    push_note(alloc, chart, place, "payload delivered")
+}
+
 /// Draws what the router of this place answered; nothing where all was done, or a labelled frame goes on. The only error is that
 /// memory ran out.
 pub fn push_answer(
@@ -75,9 +90,6 @@ pub fn push_answer(
         Answer::Replied(reply) => push_reply(alloc, chart, place, *reply),
         Answer::Refused(refusal) => push_reply(alloc, chart, place, Reply::Refused(*refusal)),
         Answer::PassedOn => Ok(()),
-        Answer::Delivered(_) => {
-            let text = Text::copy_of(alloc, "payload delivered")?;
-            chart.push(alloc, Row::Note { at: place, text })
-        }
+        Answer::Delivered(_) => push_delivered(alloc, chart, place),
     }
 }

@@ -2,7 +2,7 @@
 ghost use Rattle.std.specs.Prelude.{◌≡◌, IfOk, OnOk};
 ghost use Rattle.abstract_world.specs.Wires.{other_end};
 ghost use Rattle.sequence_charts.specs.Pictures.{grown};
-ghost use Rattle.world_charts.specs.Rows.{change_rows, changed_rows, down_row, up_row};
+ghost use Rattle.world_charts.specs.Rows.{change_rows, changed_rows, down_row, down_words, up_row, up_words};
 
 use crate::sending::other_end;
 use abstract_world::{Answer, End, Joint, Move};
@@ -10,11 +10,25 @@ use lsr_facts::Reply;
 use sequence_charts::{Chart, Row, Text, Wire};
 use std::alloc::{AllocError, Global};
 
+/// What is said of a link of this number that fails: `link N down`. The only error is that memory ran out.
+pub fn down_words(alloc: Global, link: u16) -> Result<Text, AllocError>
+    ensures { IfOk result (λ text. text ≡ down_words link) }
+{
+    Ok(Text::new(format!(in alloc; "link {link} down")?))
+}
+
+/// What is said of a link of this number that comes up: `link N up`. The only error is that memory ran out.
+pub fn up_words(alloc: Global, link: u16) -> Result<Text, AllocError>
+    ensures { IfOk result (λ text. text ≡ up_words link) }
+{
+    Ok(Text::new(format!(in alloc; "link {link} up")?))
+}
+
 /// The row of a link that fails.
 fn down_row(alloc: Global, place: usize, link: u16, end: Option<End>) -> Result<Row, AllocError>
     ensures { IfOk result (λ row. row ≡ down_row place link end) }
 {
-    let text = Text::new(format!(in alloc; "link {link} down")?);
+    let text = down_words(alloc, link)?;
     match end {
         Some(end) => Ok(Row::LinkDown(Wire {
             one: place,
@@ -29,7 +43,7 @@ fn down_row(alloc: Global, place: usize, link: u16, end: Option<End>) -> Result<
 fn up_row(alloc: Global, place: usize, link: u16, end: Option<End>) -> Result<Row, AllocError>
     ensures { IfOk result (λ row. row ≡ up_row place link end) }
 {
-    let text = Text::new(format!(in alloc; "link {link} up")?);
+    let text = up_words(alloc, link)?;
     match end {
         Some(end) => Ok(Row::LinkUp(Wire {
             one: place,

@@ -154,6 +154,24 @@ fn push_frame(text: &mut String, frame: &Frame) -> Result<(), AllocError>
     }
 }
 
+/// What is said of a message: its type, its LSPs, and of an error message the error. The only error is that memory ran out.
+pub fn content_words(alloc: Global, content: &Content) -> Result<Text, AllocError>
+    ensures { IfOk result (λ text. text ≡ content_words content.now) }
+{
+    let mut text = String::new(alloc);
+    push_content(&mut text, content)?;
+    Ok(Text::new(text))
+}
+
+/// What is said of a frame: its message, and its labels. The only error is that memory ran out.
+pub fn frame_words(alloc: Global, frame: &Frame) -> Result<Text, AllocError>
+    ensures { IfOk result (λ text. text ≡ frame_words frame.now) }
+{
+    let mut text = String::new(alloc);
+    push_frame(&mut text, frame)?;
+    Ok(Text::new(text))
+}
+
 /// The text of the frame of this number. The only error is that memory ran out.
 #[tactic(auto, unfolding(crate::specs::Rows::frame_text))]
 pub(crate) fn frame_text(alloc: Global, number: usize, frame: &Frame) -> Result<Text, AllocError>
@@ -167,7 +185,7 @@ pub(crate) fn frame_text(alloc: Global, number: usize, frame: &Frame) -> Result<
 
 /// Whether it is a PathErr that says that the LSP was repaired.
 #[tactic(auto, unfolding(crate::specs::Frames::is_notice))]
-fn is_notice(content: &Content) -> bool
+pub fn is_notice(content: &Content) -> bool
     ensures { result ≡ is_notice content.now }
 {
     match content {
@@ -193,7 +211,7 @@ fn is_message(payload: &Payload) -> bool
 
 /// Whether the frame is one of an LSP that is repaired, as far as the frame shows it.
 #[tactic(auto, unfolding(crate::specs::Frames::is_repair))]
-pub(crate) fn is_repair(frame: &Frame) -> bool
+pub fn is_repair(frame: &Frame) -> bool
     ensures { result ≡ is_repair frame.now }
 {
     match frame {

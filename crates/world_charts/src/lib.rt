@@ -7,6 +7,7 @@ mod changes;
 mod frames;
 mod sending;
 
-pub use answers::{push_answer, push_heading, push_refused};
-pub use changes::push_change;
+pub use answers::{push_answer, push_delivered, push_heading, push_refused, push_reply};
+pub use changes::{down_words, push_change, up_words};
+pub use frames::{content_words, frame_words, is_notice, is_repair};
 pub use sending::push_sent;

@@ -11,8 +11,8 @@ use std::io::Write;
 const FORMS: &str = "\
 router NAME FILE, before all moves, with a NAME that no router above has
 wire NAME LINK NAME LINK, before all moves, with NAMEs of routers above and each LINK 1 to 65535
-deliver I, with I 0 to 18446744073709551615
-repeat I, with I 0 to 18446744073709551615
+deliver I, with I 1 to 18446744073709551615
+repeat I, with I 1 to 18446744073709551615
 tick NAME N, with N 0 to 18446744073709551615
 up NAME LINK, with LINK 1 to 65535
 down NAME LINK, with LINK 1 to 65535
@@ -25,7 +25,7 @@ seed N MOVES, with --lab alone, both 0 to 18446744073709551615
 
 /// What is expected of a line with another first word.
 const OTHER: &str =
-    "router, wire, deliver, repeat, tick, up, down, restart or do first; with --lab also show, run or seed";
+    "router, wire, deliver, repeat, tick, up, down, restart or do first; with --lab also show, run or seed, remarks after # and empty lines";
 
 /// The form that the line should have, by its first word.
 pub fn expected_form(line: &str) -> &'static str

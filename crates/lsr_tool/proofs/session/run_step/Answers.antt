@@ -4,6 +4,7 @@ use Rattle.std.proofs.KnownBytes.{Appends-nil}
 use Rattle.std.specs.Option.{option_map}
 use Rattle.lsr_tool.specs.Sessions.{IsReady}
 use Rattle.lsr_tool.specs.declared.endings.RunEnding.TheVariants as endings
+use Rattle.lsr_tool.proofs.Sessions.{never_steps}
 use Rattle.lsr_tool.proofs.session.run_step.Goals as goal
 
 pub returns-in_ok-tell_ending-in-Ok : goal.returns-in_ok-tell_ending-in-Ok
@@ -21,4 +22,6 @@ returns-in_ok-tell_ending-in-Ok g c =
     )
 
 pub returns-in_ok-tell_ending-in-Err : goal.returns-in_ok-tell_ending-in-Err
-returns-in_ok-tell_ending-in-Err g c = (c.in-Err.ending, [], c.status_of-in-Err.ensures, c.in-Err.ensures.fault c.args.echo, Appends-nil _, c.in_ok-tell_ending-in-Err.ensures)
+returns-in_ok-tell_ending-in-Err g c =
+    let never = never_steps c.args.echo (option_map g.C.ByteStream.stream c.args.config) (g.R.ByteStream.stream c.args.input.now) c.in-Err.ending c.in-Err.ensures.fault in
+    (c.in-Err.ending, [], c.status_of-in-Err.ensures, never, Appends-nil _, c.in_ok-tell_ending-in-Err.ensures)
