@@ -216,8 +216,8 @@ impl<'a, L: CoreName, R: Wait + Drop> Site<'a, L, R> {
         );
         match answer {
             Ok(receipt) => {
-                tell_receipt(bench, &receipt)?;
-                Ok(left.receipts.push(receipt)?)
+                tell_receipt(bench, receipt.as_receipt())?;
+                Ok(left.receipts.push(receipt.into_receipt())?)
             }
             Err(_) => Ok(bench.tell("refused\n")?),
         }
@@ -238,7 +238,7 @@ impl<'a, L: CoreName, R: Wait + Drop> Site<'a, L, R> {
             bench.compare("rotate", before.is_still(self.known(alloc, port, reader)))?
         );
         match answer {
-            Ok(segment) => left.put_segment(bench, segment),
+            Ok(segment) => left.put_segment(bench, segment.into_segment()),
             Err(_) => Ok(bench.tell("no segment\n")?),
         }
     }

@@ -1,38 +1,27 @@
-//! A router under its lock, and the ports of those who feed it.
+//! A router under its lock, which many threads feed.
 
-ghost use Rattle.std.specs.Prelude.{◌≡◌, ◌+◌, ◌<◌, ◌≤◌, ℕ, All, IfErr, IfOk, OnErr, OnOk, length, map};
+ghost use Rattle.std.specs.Prelude.{◌≡◌, ◌+◌, ◌≤◌, ℕ, All, IfErr, IfOk, OnErr, OnOk, length, map};
 ghost use Rattle.abstract_router.specs.States.{State};
 ghost use Rattle.journal_bytes.specs.Events.{event_bytes};
 ghost use Rattle.lookup_plane.specs.Changes.{new_reader};
-ghost use Rattle.run_journal.specs.Journals.{IsAnswered, rotated, stretch_of};
 ghost use Rattle.run_journal.specs.Marks.{Follows, first_marks};
-ghost use Rattle.interface_workers.specs.Names.{IsKnown, IsReceiptOf, IsSegmentOf, opened};
+ghost use Rattle.interface_workers.specs.Names.{IsKnown, IsReceiptOf, IsSegmentOf};
 ghost use Rattle.interface_workers.specs.Refused.{MayBeRefused};
 
 use crate::asking::Question;
+use crate::booked::{Beginning, Booked, CoreReceipt, CoreSegment, Port, ports_of};
 use crate::keeping::{KeepSegments, KeptJournal, SegmentCount, TakenSegment};
 use crate::names::CoreName;
-use crate::readers::{CoreReader, named_readers};
+use crate::readers::CoreReader;
 use abstract_paths::Event;
 use lookup_plane::OpenFault;
 use lsr_config::Config;
 use lsr_facts::{Refusal, Router, State};
-use run_journal::{Locked, MAX_PORTS, Mark, Receipt, Segment};
+use run_journal::{MAX_PORTS, Segment};
 use sorted_rows::TryCopy;
 use std::alloc::{AllocError, Global};
-use std::sync::ledger::{Blank, Book, Ledger, Share};
-use std::sync::{Mutex, Wait};
-
-/// A router with its journal, and the book of its ledger: as many entries were made as the ports have in all. It is the router of its name's
-/// configuration, as it was opened.
-#[derive(Drop)]
-struct Booked<L: CoreName, R: Wait + Drop> {
-    locked: Locked<R>,
-    calls: Book<L>,
-    ghost counted: { locked.counts.number ≡ calls.total },
-    ghost router: { locked.router ≡ L.config.router },
-    ghost opening: { locked.opening ≡ (opened L.config).state },
-}
+use std::sync::ledger::Blank;
+use std::sync::{Mutex, MutexGuard, Wait};
 
 /// A router that many threads feed, each by a port of its own, and a `K` that keeps the segments of its journal. Its name is that of its
 /// ledger: no other core has it; and it knows the configuration, which is this router's. The router's lock is taken within the journal's,
@@ -55,15 +44,35 @@ impl<L: CoreName, R: Wait + Drop, K: KeepSegments + Drop> Drop for Core<L, R, K>
     }
 }
 
-/// Who feeds a core: the numbers of its last entry, how many segments it took, and its share of the core's ledger, in which it has as many
-/// entries as its mark says.
-#[derive(Drop)]
-pub struct Port<L: Ledger> {
-    mark: Mark,
-    taken: u64,
-    share: Share<L>,
-    ghost counted: { share.amount ≡ mark.place },
-    ghost backed: { 0 < share.parts },
+/// A core whose router is kept by a thread: nobody else uses it meanwhile.
+pub(crate) struct HeldCore<'a, L: CoreName, R: Wait + Drop> {
+    guard: MutexGuard<'a, Booked<L, R>>,
+}
+
+/// Written out, so that it is dropped by one call, whatever it holds.
+impl<L: CoreName, R: Wait + Drop> Drop for HeldCore<'_, L, R> {
+    fn drop(self) {
+        let HeldCore { guard: _guard } = self;
+    }
+}
+
+impl<L: CoreName, R: Wait + Drop> HeldCore<'_, L, R> {
+    /// Feeds an event of a port, as [`Core::feed`] does, without waiting for others.
+    pub(crate) fn feed(
+        &mut self,
+        alloc: Global,
+        port: &mut Port<L>,
+        event: &Event,
+    ) -> Result<CoreReceipt<L>, Refusal>
+        ensures follows { IfOk result (λ receipt. Follows port.old.mark receipt × (port.new.mark ≡ receipt.mark)) }
+        ensures event { IfOk result (λ receipt. receipt.event ≡ event_bytes event.now) }
+        ensures taken { port.new.taken ≡ port.old.taken }
+        ensures own { IfOk result (IsReceiptOf L.config) }
+        ensures refused { IfErr result (MayBeRefused event.now) }
+        ensures kept { OnErr result (port.new ≡ port.old) }
+    {
+        self.guard.apply(alloc, port, event)
+    }
 }
 
 /// A core with its ports, and readers of its label table.
@@ -88,76 +97,6 @@ pub struct Finished<K: KeepSegments + Drop> {
     pub kept: u64,
 }
 
-impl<L: Ledger> Port<L> {
-    /// The numbers of its last entry.
-    pub fn mark(&self) -> Mark
-        ensures { result ≡ self.now.mark }
-    {
-        self.mark
-    }
-}
-
-impl<L: CoreName, R: Wait + Drop> Booked<L, R> {
-    /// Applies an event of a port. What is refused changes neither.
-    fn apply(
-        &mut self,
-        alloc: Global,
-        port: &mut Port<L>,
-        event: &Event,
-    ) -> Result<Receipt, Refusal>
-        ensures answered { IsAnswered self.old.locked port.old.mark event.now result self.new.locked }
-        ensures follows { IfOk result (λ receipt. Follows port.old.mark receipt × (port.new.mark ≡ receipt.mark)) }
-        ensures counted { OnOk result (port.new.share.amount ≡ port.old.share.amount + 1) }
-        ensures taken { port.new.taken ≡ port.old.taken }
-        ensures own { IfOk result (IsReceiptOf L.config) }
-        ensures refused { IfErr result (MayBeRefused event.now) }
-        ensures kept { OnErr result (port.new ≡ port.old) }
-    {
-        self.locked.knew();
-        self.locked.soundness();
-        match self.locked.apply(alloc, port.mark, event) {
-            Ok(receipt) => {
-                self.calls.add(&mut port.share, 1);
-                port.mark = receipt.mark();
-                Ok(receipt)
-            }
-            Err(refusal) => Err(refusal),
-        }
-    }
-
-    /// Takes the entries away, as a segment that has to be given to who keeps them. The only error is out of memory, and then nothing
-    /// changed.
-    fn take(&mut self, alloc: Global) -> Result<TakenSegment, AllocError>
-        ensures segment { IfOk result (λ taken. taken.segment ≡ stretch_of self.old.locked) }
-        ensures rotated { OnOk result (self.new.locked ≡ rotated self.old.locked) }
-        ensures own { IfOk result (λ taken. IsSegmentOf L.config taken.segment) }
-        ensures kept { OnErr result (self.new.locked ≡ self.old.locked) }
-    {
-        self.locked.knew();
-        self.locked.soundness();
-        let segment = self.locked.rotate(alloc)?;
-        Ok(TakenSegment::new(segment))
-    }
-
-    /// The answer of the router as it stands.
-    fn ask<Q: Question>(&self, question: &Q) -> Q::Answer
-        ensures { (s : State) × IsKnown L.config s × Q.answered question.now (record { router = L.config.router; state = s }) result }
-    {
-        self.locked.knew();
-        self.locked.soundness();
-        question.ask(self.locked.machine())
-    }
-
-    /// What the router knows: a copy. The only error is out of memory.
-    fn export(&self, alloc: Global) -> Result<State, AllocError>
-        ensures { IfOk result (IsKnown L.config) }
-    {
-        self.locked.knew();
-        self.locked.soundness();
-        self.locked.export(alloc)
-    }
-}
-
 impl<L: CoreName, R: Wait + Drop, K: KeepSegments + Drop> Core<L, R, K> {
     /// Feeds an event of a port, and tells the port of its entry: the port's next place, a later entry than its last one, and
     /// the event that was fed, in an entry of the router of the configuration. Waits for others who use the core. It is refused as
@@ -168,7 +107,7 @@ impl<L: CoreName, R: Wait + Drop, K: KeepSegments + Drop> Core<L, R, K> {
         alloc: Global,
         port: &mut Port<L>,
         event: &Event,
-    ) -> Result<Receipt, Refusal>
+    ) -> Result<CoreReceipt<L>, Refusal>
         ensures follows { IfOk result (λ receipt. Follows port.old.mark receipt × (port.new.mark ≡ receipt.mark)) }
         ensures event { IfOk result (λ receipt. receipt.event ≡ event_bytes event.now) }
         ensures counted { OnOk result (port.new.share.amount ≡ port.old.share.amount + 1) }
@@ -181,8 +120,15 @@ impl<L: CoreName, R: Wait + Drop, K: KeepSegments + Drop> Core<L, R, K> {
         guard.apply(alloc, port, event)
     }
 
+    /// The core with its router kept, until that is let go. Waits for others who use the core.
+    pub(crate) fn hold<W: Wait>(&self, rt: &W) -> HeldCore<'_, L, R> {
+        HeldCore {
+            guard: self.lock.lock(rt),
+        }
+    }
+
     /// Takes the entries away, under the router's lock.
-    fn take<W: Wait>(&self, rt: &W, alloc: Global) -> Result<TakenSegment, AllocError>
+    fn take<W: Wait>(&self, rt: &W, alloc: Global) -> Result<TakenSegment<L>, AllocError>
         ensures { IfOk result (λ taken. IsSegmentOf L.config taken.segment) }
     {
         let mut guard = self.lock.lock(rt);
@@ -198,7 +144,7 @@ impl<L: CoreName, R: Wait + Drop, K: KeepSegments + Drop> Core<L, R, K> {
         rt: &W,
         alloc: Global,
         port: &mut Port<L>,
-    ) -> Result<Segment, AllocError>
+    ) -> Result<CoreSegment<L>, AllocError>
         ensures taken { OnOk result (port.new.taken ≡ port.old.taken + 1) }
         ensures mark { port.new.mark ≡ port.old.mark }
         ensures share { port.new.share ≡ port.old.share }
@@ -226,7 +172,7 @@ impl<L: CoreName, R: Wait + Drop, K: KeepSegments + Drop> Core<L, R, K> {
         } = self;
         let mut booked = lock.into_inner();
         let mut journal = journal.into_inner();
-        let last = journal.give(booked.take(alloc)?);
+        let last = journal.give(booked.take(alloc)?).into_segment();
         let (keeper, kept) = journal.into_keeper();
         Ok(Finished { last, keeper, kept })
     }
@@ -257,34 +203,6 @@ impl<L: CoreName, R: Wait + Drop, K: KeepSegments + Drop> Core<L, R, K> {
     }
 }
 
-/// The ports of the numbers 1 to `ports`, each with a part of what is left of the ledger. The only error is out of memory.
-fn ports_of<L: Ledger>(
-    alloc: Global,
-    rest: &mut Share<L>,
-    ports: u16,
-) -> Result<Vec<Port<L>>, AllocError>
-    requires parts { ports ≤ rest.old.parts }
-    requires amount { rest.old.amount ≡ 0 }
-    ensures { IfOk result (λ all. map (λ port. port.mark) all.items ≡ first_marks ports) }
-{
-    let mut all = Vec::with_capacity(alloc, ports as usize)?;
-    for index in 0..ports {
-        let mark = Mark {
-            port: index + 1,
-            place: 0,
-            entry: 0,
-            published: 0,
-        };
-        let share = rest.split_off(1, 0);
-        all.push(Port {
-            mark,
-            taken: 0,
-            share,
-        })?;
-    }
-    Ok(all)
-}
-
 /// Opens the router of a configuration, with ports of the numbers 1 to `ports`, at most [`MAX_PORTS`], so many readers of its label table,
 /// and who keeps its journal, and has no segment yet. The blank names the core, and has a part for each port; the name knows the
 /// configuration. The core keeps `rt`, to wait for readers. The fault is that there is too little memory, or no place for a reader.
@@ -308,14 +226,16 @@ pub fn open<L: CoreName, R: Wait + Drop, K: KeepSegments + Drop>(
     ensures readers { IfOk result (λ opened. length opened.readers.items ≡ readers) }
     ensures fresh { IfOk result (λ opened. (table : ℕ) × All (λ reader. reader ≡ new_reader table) opened.readers.items) }
 {
-    let (locked, readers) = Locked::new(alloc, rt, config, ports, readers)?;
-    let router = locked.router().try_copy(alloc)?;
-    let readers = named_readers(alloc, readers)?;
-    let (calls, mut rest) = blank.open::<L>();
+    let Beginning {
+        booked,
+        mut rest,
+        readers,
+    } = Booked::open(alloc, rt, blank, config, ports, readers)?;
+    let router = booked.router().try_copy(alloc)?;
     let ports = ports_of(alloc, &mut rest, ports)?;
     Ok(Opened {
         core: Core {
-            lock: Mutex::new(Booked { locked, calls }),
+            lock: Mutex::new(booked),
             journal: Mutex::new(KeptJournal::new(keeper)),
             router,
         },

@@ -3,8 +3,10 @@
 ghost use Rattle.std.specs.Prelude.{◌≡◌, ◌+◌, ℕ, true, OnErr, OnOk};
 ghost use Rattle.interface_workers.specs.Kept.{IsGiven};
 
+use crate::booked::CoreSegment;
 use run_journal::Segment;
 use std::marker::Model;
+use std::sync::ledger::Ledger;
 use thiserror::Error;
 
 /// A segment of the journal wasn't kept.
@@ -52,13 +54,13 @@ impl KeepSegments for SegmentCount {
 }
 
 /// A segment that was taken from a router's journal, before it is handed out. It can't be let go: [`KeptJournal::give`] alone takes it.
-pub(crate) struct TakenSegment {
-    segment: Segment,
+pub(crate) struct TakenSegment<L: Ledger> {
+    segment: CoreSegment<L>,
 }
 
-impl TakenSegment {
+impl<L: Ledger> TakenSegment<L> {
     /// This segment was taken.
-    pub(crate) fn new(segment: Segment) -> TakenSegment
+    pub(crate) fn new(segment: CoreSegment<L>) -> TakenSegment<L>
         ensures { result.segment ≡ segment }
     {
         TakenSegment { segment }
@@ -99,13 +101,13 @@ impl<K: KeepSegments> KeptJournal<K> {
     }
 
     /// Gives the next segment to who keeps them, by its number, where all before it are kept, and hands it out.
-    pub(crate) fn give(&mut self, taken: TakenSegment) -> Segment
+    pub(crate) fn give<L: Ledger>(&mut self, taken: TakenSegment<L>) -> CoreSegment<L>
         ensures given { IsGiven self.old self.new }
         ensures segment { result ≡ taken.segment }
     {
         let TakenSegment { segment } = taken;
         if self.are_all {
-            self.offer(&segment);
+            self.offer(segment.as_segment());
         }
         segment
     }

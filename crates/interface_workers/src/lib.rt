@@ -3,6 +3,7 @@
 #![tactic(auto)]
 
 mod asking;
+mod booked;
 mod cores;
 mod gate;
 mod handled;
@@ -14,7 +15,8 @@ mod wire;
 mod worker;
 
 pub use asking::Question;
-pub use cores::{Core, Finished, Opened, Port, open};
+pub use booked::{CoreReceipt, CoreSegment, Port};
+pub use cores::{Core, Finished, Opened, open};
 pub use gate::{Gate, OpenGate};
 pub use handled::{Handled, Tally};
 pub use journal_bytes::is_same_state;

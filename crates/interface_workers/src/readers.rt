@@ -5,7 +5,7 @@ ghost use Rattle.forwarding_table.specs.Forwarding.{forward_of};
 ghost use Rattle.lookup_plane.specs.Changes.{StartsWith, look, look_tunnel};
 ghost use Rattle.lookup_plane.specs.declared.closed.Closed.TheVariants.{Behind};
 
-use crate::cores::Port;
+use crate::booked::{CoreReceipt, Port};
 use forwarding_table::{Action, Forwarding};
 use label_stacks::Stack;
 use lookup_plane::{Closed, LookupReader, Lookups};
@@ -14,7 +14,7 @@ use std::marker::{Model, PhantomData};
 use std::sync::ledger::Ledger;
 
 /// A reader of a core's label table, in any thread, with the name of that core: only [`crate::open`] makes it, and it learns from
-/// the core's own ports alone. No call waits. Contracts see the published changes that it has seen, and how many it has learnt that
+/// the core's own ports and receipts alone. No call waits. Contracts see the published changes that it has seen, and how many it has learnt that
 /// there are.
 #[derive(Drop)]
 pub struct CoreReader<L: Ledger> {
@@ -46,6 +46,13 @@ impl<L: Ledger> CoreReader<L> {
         ensures { self.new ≡ record self.old { at_least = max self.old.at_least port.now.mark.published } }
     {
         self.reader.learn(port.mark().published);
+    }
+
+    /// From now on answers are by at least as many changes as this receipt says, which any port of the core was given.
+    pub fn learn_of(&mut self, receipt: &CoreReceipt<L>)
+        ensures { self.new ≡ record self.old { at_least = max self.old.at_least receipt.now.mark.published } }
+    {
+        self.reader.learn(receipt.as_receipt().mark().published);
     }
 
     /// What is done with a label, or `None` where nothing is.

@@ -23,6 +23,11 @@ pub trait Wire {
         ensures length { IfOk result (λ came. IfSome came (λ n. n ≤ length buffer.new)) }
         ensures history { history self.new ≡ after (history self.old) (arrival_of result buffer.new ∷ []) [] };
 
+    /// Whether the next frame is there already, so that [`Wire::receive`] gives it without waiting. Who can't tell says no.
+    fn has_more(&self) -> bool {
+        false
+    }
+
     /// Carries a frame over the link of this number. A fault is answered only where the count of failures rose; the frame is
     /// lost then.
     fn send(&mut self, link: u16, bytes: &[u8]) -> Result<(), WireFault>

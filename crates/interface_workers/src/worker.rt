@@ -10,7 +10,8 @@ ghost use Rattle.interface_workers.specs.Wires.Arrival.{Came};
 ghost use Rattle.link_frames.specs.Frames.{kind_of};
 ghost use Rattle.lookup_plane.specs.Changes.{StartsWith};
 
-use crate::cores::{Core, Port};
+use crate::booked::{CoreReceipt, Port};
+use crate::cores::{Core, HeldCore};
 use crate::gate::Gate;
 use crate::handled::{Handled, Tally};
 use crate::keeping::KeepSegments;
@@ -128,8 +129,20 @@ impl<'a, L: CoreName, R: Wait + Drop, K: KeepSegments + Drop, T: Wait, G: Gate> 
     T,
     G,
 > {
+    /// Keeps the router where the wire has more that is fed without waiting: so what came together is fed under one taking of the lock.
+    fn hold_for_more<W: Wire>(&self, held: &mut Option<HeldCore<'a, L, R>>, wire: &W) {
+        if held.is_none() && wire.has_more() && !self.gate.may_hold() {
+            *held = Some(self.core.hold(self.rt));
+        }
+    }
+
     /// Feeds an event once, between the two words of the gate.
-    fn feed_once(&self, port: &mut Port<L>, event: &Event) -> Result<Receipt, Refusal>
+    fn feed_once(
+        &self,
+        held: &mut Option<HeldCore<'a, L, R>>,
+        port: &mut Port<L>,
+        event: &Event,
+    ) -> Result<CoreReceipt<L>, Refusal>
         ensures fed { IsFed port.old.mark event.now result port.new.mark }
         ensures taken { port.new.taken ≡ port.old.taken }
         ensures own { IfOk result (IsReceiptOf L.config) }
@@ -137,19 +150,23 @@ impl<'a, L: CoreName, R: Wait + Drop, K: KeepSegments + Drop, T: Wait, G: Gate> 
         let mark = port.mark();
         let call = mark.place.saturating_add(1);
         self.gate.enter(mark.port, call);
-        let answer = self.core.feed(self.rt, self.alloc, port, event);
+        let answer = match held {
+            Some(held) => held.feed(self.alloc, port, event),
+            None => self.core.feed(self.rt, self.alloc, port, event),
+        };
         self.gate.leave(mark.port, call);
         answer
     }
 
     /// Feeds an event. Where the journal is full its entries are taken and put to the segments, and the event is fed once
-    /// more.
+    /// more. The journal's lock is taken before the router's, so a router that is kept is let go first.
     fn feed_rotating(
         &self,
+        held: &mut Option<HeldCore<'a, L, R>>,
         port: &mut Port<L>,
         segments: &mut Vec<Segment>,
         event: &Event,
-    ) -> Result<Receipt, Refusal>
+    ) -> Result<CoreReceipt<L>, Refusal>
         requires { length segments.old.items < vec_capacity segments.old }
         ensures fed { IsFed port.old.mark event.now result port.new.mark }
         ensures segments { length segments.new.items ≤ length segments.old.items + 1 }
@@ -158,10 +175,11 @@ impl<'a, L: CoreName, R: Wait + Drop, K: KeepSegments + Drop, T: Wait, G: Gate> 
         ensures own { IfOk result (IsReceiptOf L.config) }
         ensures stays { All (IsSegmentOf L.config) segments.old.items → All (IsSegmentOf L.config) segments.new.items }
     {
-        match self.feed_once(port, event) {
+        match self.feed_once(held, port, event) {
             Err(Refusal::JournalFull) => {
-                segments.push_reserved(self.core.rotate(self.rt, self.alloc, port)?);
-                self.feed_once(port, event)
+                *held = None;
+                segments.push_reserved(self.core.rotate(self.rt, self.alloc, port)?.into_segment());
+                self.feed_once(held, port, event)
             }
             answer => answer,
         }
@@ -171,6 +189,7 @@ impl<'a, L: CoreName, R: Wait + Drop, K: KeepSegments + Drop, T: Wait, G: Gate> 
     /// Nothing is counted yet.
     fn serve_event<W: Wire>(
         &self,
+        held: &mut Option<HeldCore<'a, L, R>>,
         port: &mut Port<L>,
         wire: &mut W,
         work: &mut Work,
@@ -183,10 +202,11 @@ impl<'a, L: CoreName, R: Wait + Drop, K: KeepSegments + Drop, T: Wait, G: Gate> 
         ensures served { HasSent (IsEventServed event.now result work.old.receipts.items work.new.receipts.items) (W.history wire.old) (W.history wire.new) }
         ensures tally { (work.new.tally ≡ work.old.tally) × (work.new.turns ≡ work.old.turns) }
     {
-        match self.feed_rotating(port, &mut work.segments, event) {
+        self.hold_for_more(held, wire);
+        match self.feed_rotating(held, port, &mut work.segments, event) {
             Ok(receipt) => {
                 send_all(wire, receipt.outputs().as_slice());
-                work.receipts.push_reserved(receipt);
+                work.receipts.push_reserved(receipt.into_receipt());
                 Handled::Fed
             }
             Err(refusal) => Handled::of_refusal(refusal),
@@ -232,6 +252,7 @@ impl<'a, L: CoreName, R: Wait + Drop, K: KeepSegments + Drop, T: Wait, G: Gate> 
     /// Serves what was taken, if anything was. Nothing is counted yet.
     fn serve_taken<W: Wire>(
         &self,
+        held: &mut Option<HeldCore<'a, L, R>>,
         port: &mut Port<L>,
         reader: &mut CoreReader<L>,
         wire: &mut W,
@@ -251,13 +272,14 @@ impl<'a, L: CoreName, R: Wait + Drop, K: KeepSegments + Drop, T: Wait, G: Gate> 
             Taken::Nothing => Handled::Nothing,
             Taken::WireFailed => Handled::WireFailed,
             Taken::NotShown => Handled::NotShown,
-            Taken::Came(answer) => self.serve_answer(port, reader, wire, work, answer),
+            Taken::Came(answer) => self.serve_answer(held, port, reader, wire, work, answer),
         }
     }
 
     /// Serves a datagram: a message is fed, and the reader learns of its receipt; a labelled frame is passed on. Nothing is counted yet.
     fn serve_answer<W: Wire>(
         &self,
+        held: &mut Option<HeldCore<'a, L, R>>,
         port: &mut Port<L>,
         reader: &mut CoreReader<L>,
         wire: &mut W,
@@ -275,19 +297,23 @@ impl<'a, L: CoreName, R: Wait + Drop, K: KeepSegments + Drop, T: Wait, G: Gate> 
     {
         match answer {
             Ok(Datagram::Event(event)) => {
-                let handled = self.serve_event(port, wire, work, event);
+                let handled = self.serve_event(held, port, wire, work, event);
                 reader.learn(port);
                 handled
             }
-            Ok(Datagram::Passed(passed)) => pass_on(self.alloc, wire, passed),
+            Ok(Datagram::Passed(passed)) => {
+                *held = None;
+                pass_on(self.alloc, wire, passed)
+            }
             Err(refusal) => Handled::of_refusal(*refusal),
         }
     }
 
     /// A turn: asks the wire for a frame once, as one that came over the link, serves it, and counts what became of it. The reader comes
-    /// back: it has seen and learnt no less.
+    /// back: it has seen and learnt no less. A router that is kept for what came together is let go with the last of it.
     fn turn<W: Wire>(
         &self,
+        held: &mut Option<HeldCore<'a, L, R>>,
         port: &mut Port<L>,
         reader: CoreReader<L>,
         link: u16,
@@ -307,7 +333,10 @@ impl<'a, L: CoreName, R: Wait + Drop, K: KeepSegments + Drop, T: Wait, G: Gate> 
     {
         let (taken, mut reader) = self.receive(reader, link, wire, buffer);
         let failures = wire.failures();
-        let handled = self.serve_taken(port, &mut reader, wire, work, &taken);
+        let handled = self.serve_taken(held, port, &mut reader, wire, work, &taken);
+        if !wire.has_more() {
+            *held = None;
+        }
         work.tally.lose(wire.failures() - failures);
         work.tally.count(handled);
         work.turns += 1;
@@ -345,7 +374,7 @@ pub fn serve_event<L: CoreName, R: Wait + Drop, K: KeepSegments + Drop, T: Wait,
         gate,
     };
     let failures = wire.failures();
-    let handled = station.serve_event(port, wire, work, event);
+    let handled = station.serve_event(&mut None, port, wire, work, event);
     work.tally.lose(wire.failures() - failures);
     work.tally.count(handled);
     handled
@@ -401,11 +430,12 @@ pub fn serve_link<L: CoreName, R: Wait + Drop, K: KeepSegments + Drop, T: Wait, 
         Err(error) => return (reader, Err(error)),
     };
     let mut reader = reader;
+    let mut held = None;
     for _turn in 0..turns {
         if is_spent(wire) {
             return (reader, Ok(work));
         }
-        reader = station.turn(port, reader, link, wire, &mut work, &mut buffer);
+        reader = station.turn(&mut held, port, reader, link, wire, &mut work, &mut buffer);
     }
     (reader, Ok(work))
 }

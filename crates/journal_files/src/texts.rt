@@ -32,10 +32,10 @@ pub(crate) fn read_config(alloc: Global, text: &str) -> Result<Config, ReadFault
 }
 
 /// Whether the record of a bypass has the key of a capacity.
-fn names_capacity(record: &Value) -> bool
-    ensures { result ≡ names_capacity (view record.now) }
+fn names_capacity(table: &Value) -> bool
+    ensures { result ≡ names_capacity (view table.now) }
 {
-    record.get(Key::Capacity.name()).is_some()
+    table.get(Key::Capacity.name()).is_some()
 }
 
 /// Whether one of the records has the key of a capacity.

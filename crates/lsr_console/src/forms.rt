@@ -2,7 +2,7 @@
 ghost use Rattle.std.specs.Prelude.{◌≡◌, IfOk, string_bytes};
 ghost use Rattle.lsr_console.specs.Told.{bad_line_text, elsewhere_text};
 
-use lsr_lines::form_among;
+use lsr_lines::{form_among, unseen_end};
 use std::alloc::{AllocError, Global};
 
 /// What `help` prints: the lines of a console, one in each line, by the form that a line has to have, and what it does.
@@ -40,7 +40,8 @@ pub(crate) fn bad_line_text(alloc: Global, number: usize, line: &str) -> Result<
     ensures { IfOk result (λ text. string_bytes text ≡ bad_line_text number line.now) }
 {
     let form = form_among(HELP, OTHER, line);
-    format!(in alloc; "bad line {number}\n  {line}\n  expected {form}\n")
+    let end = unseen_end(line);
+    format!(in alloc; "bad line {number}\n  {line}\n  expected {form}\n{end}")
 }
 
 /// What is told of a line of this number that asks for what comes from elsewhere. The only error is that memory ran out.

@@ -1,7 +1,6 @@
 -- What a journal records of a run records it for whoever checks it.
 use Rattle.std.proofs.Common.{◌≡◌, ◌∷◌, ℕ, List, [], map, subst}
 use Rattle.abstract_router.specs.States.{State}
-use Rattle.journal_bytes.specs.declared.entry.Entry.{Entry}
 use Rattle.journal_files.specs.Recordings.{SpellsFile}
 use Rattle.journal_files.specs.declared.recordings.Recording.{Recording}
 use Rattle.lsr_config.specs.Configs.{Setup}

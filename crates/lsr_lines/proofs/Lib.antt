@@ -1,3 +1,4 @@
+mod Ends
 mod FormLaws
 mod LineLaws
 mod Living

@@ -1,9 +1,9 @@
 -- Which form a line should have that asks for nothing.
-use Rattle.std.specs.Prelude.{ℕ, List, [], ◌∷◌, ◌++◌, Bool, false, bytes_eq, codes, if◌then◌else◌}
+use Rattle.std.specs.Prelude.{ℕ, List, [], ◌∷◌, ◌++◌, Bool, false, bytes_eq, codes, if◌then◌else◌, nat_eq}
 use Rattle.std.specs.Fmt.{decimal}
 use Rattle.lsr_lines.specs.Commands.{words_of}
 use Rattle.line_streams.specs.Cuts.{lines_of}
-use Rattle.lsr_lines.specs.declared.forms.TheConstants.{FORMS, OTHER}
+use Rattle.lsr_lines.specs.declared.forms.TheConstants.{BLANK, CARRIAGE_RETURN, FORMS, OTHER}
 
 -- whether a word is the first of these
 abbrev pub is_first : List ℕ → List (List ℕ) → Bool
@@ -32,10 +32,20 @@ form_among forms other line = form_for forms other (words_of line)
 abbrev pub expected_form : List ℕ → List ℕ
 expected_form line = form_among FORMS.now OTHER.now line
 
--- a line that asks for nothing, and what was expected
+-- what is told of a line that ends with this byte: something of a blank and of a carriage return, which aren't seen
+abbrev pub end_told : ℕ → List ℕ
+end_told byte = if nat_eq byte 13 then CARRIAGE_RETURN.now else if nat_eq byte 32 then BLANK.now else []
+
+-- what is told of a line's last byte
+unfoldable pub unseen_end : List ℕ → List ℕ
+unseen_end [] = []
+unseen_end (byte ∷ []) = end_told byte
+unseen_end (byte ∷ next ∷ rest) = unseen_end (next ∷ rest)
+
+-- a line that asks for nothing, what was expected, and an end of it that isn't seen
 abbrev pub bad_form_text : ℕ → List ℕ → List ℕ → List ℕ
 bad_form_text number line form =
-    codes "bad line " ++ (decimal number ++ (codes "\n  " ++ (line ++ (codes "\n  expected " ++ (form ++ codes "\n")))))
+    codes "bad line " ++ (decimal number ++ (codes "\n  " ++ (line ++ (codes "\n  expected " ++ (form ++ (codes "\n" ++ unseen_end line))))))
 
 -- the same where the line is one of an operator's
 abbrev pub bad_line_text : ℕ → List ℕ → List ℕ

@@ -1,7 +1,7 @@
 //! Which form a line should have that asks for nothing.
 ghost use Rattle.std.specs.Prelude.{◌≡◌, OnOk};
 ghost use Rattle.std.specs.Io.KnownBytes.{Appends};
-ghost use Rattle.lsr_lines.specs.Forms.{bad_form_text, bad_line_text, expected_form, form_among, form_in, is_form_of};
+ghost use Rattle.lsr_lines.specs.Forms.{bad_form_text, bad_line_text, end_told, expected_form, form_among, form_in, is_form_of, unseen_end};
 ghost use Rattle.line_streams.specs.Cuts.{lines_of};
 
 use crate::words::next_word;
@@ -32,6 +32,12 @@ show paths, resvs, table, labels, links, tunnels, bypasses, recent or summary, o
 /// What is expected of a line with another first word.
 const OTHER: &str =
     "rx, frame, tick, up, down, restart, start, tunnel, change, cancel, drop, bypass, unbypass, route, unroute or show first";
+
+/// What is told of a line that ends with a carriage return, as lines of some systems do.
+const CARRIAGE_RETURN: &str =
+    "  the line ends with a carriage return, which isn't seen: take it away\n";
+/// What is told of a line that ends with a blank.
+const BLANK: &str = "  the line ends with a blank, which isn't seen: take it away\n";
 
 /// Whether this is the form of lines that begin so.
 fn is_form_of(form: &str, word: &str) -> bool
@@ -75,7 +81,30 @@ pub fn expected_form(line: &str) -> &'static str
     form_among(FORMS, OTHER, line)
 }
 
-/// Tells which line is bad, and the form that was expected. The error is the stream's.
+/// What is told of a line that ends with this byte.
+fn end_told(byte: u8) -> &'static str
+    ensures { result.now ≡ end_told byte }
+{
+    if byte == b'\r' {
+        CARRIAGE_RETURN
+    } else if byte == b' ' {
+        BLANK
+    } else {
+        ""
+    }
+}
+
+/// What is told of the end of a line that can't be seen: a blank or a carriage return. Nothing where it has another end.
+pub fn unseen_end(line: &str) -> &'static str
+    ensures { result.now ≡ unseen_end line.now }
+{
+    match line.as_bytes().split_last() {
+        Some((last, _)) => end_told(*last),
+        None => "",
+    }
+}
+
+/// Tells which line is bad, the form that was expected, and an end of it that can't be seen. The error is the stream's.
 pub fn tell_bad_form<E: Write>(
     error: &mut E,
     number: usize,
@@ -84,7 +113,11 @@ pub fn tell_bad_form<E: Write>(
 ) -> io::Result<()>
     ensures { OnOk result (Appends (E.contents error.old) (E.contents error.new) (bad_form_text number line.now form.now)) }
 {
-    write!(error, "bad line {number}\n  {line}\n  expected {form}\n")
+    let end = unseen_end(line);
+    write!(
+        error,
+        "bad line {number}\n  {line}\n  expected {form}\n{end}"
+    )
 }
 
 /// Tells which line is bad, and what was expected. The error is the stream's.

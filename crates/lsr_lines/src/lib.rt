@@ -14,7 +14,7 @@ mod words;
 
 pub use abstract_paths::Command;
 pub use commands::{has_return, read_command};
-pub use forms::{expected_form, form_among, tell_bad_form, tell_bad_line};
+pub use forms::{expected_form, form_among, tell_bad_form, tell_bad_line, unseen_end};
 pub use lines::{Arrival, Request, are_hex_digits, read_request};
 pub use live::{LiveEnding, serve_lines};
 pub use lsps::{LspName, SenderName, SessionName};

@@ -85,7 +85,7 @@ fn run_rounds<
             return Ok((so_far, report));
         }
         let segment = desk.core.rotate(desk.rt, desk.alloc, &mut seats.clock)?;
-        add_segment(&mut report, segment)?;
+        add_segment(&mut report, segment.into_segment())?;
         operator.after_round(report.ports.as_slice());
         so_far.add(config, report)?;
         workers = back;

@@ -1,6 +1,7 @@
 //! A router over sockets.
 #![tactic(auto)]
 
+mod read_ahead;
 mod round_flag;
 mod run;
 mod serving;

@@ -1,7 +1,8 @@
 //! Wires over UDP sockets of this machine.
-ghost use Rattle.std.specs.Prelude.{◌≡◌, ◌+◌, ◌-◌, ◌^◌, ◌<◌, ◌↔◌, map, take, IfOk, IsTrue, OnOk};
+ghost use Rattle.std.specs.Prelude.{◌≡◌, ◌+◌, ◌-◌, ◌^◌, ◌<◌, ◌≤◌, ◌↔◌, length, map, take, IfOk, IfSome, IsTrue, OnOk};
 ghost use Rattle.lsr_serve.specs.Local.{AreLinkLocal, AreLocal, IsLocal};
 
+use crate::read_ahead::{MOST_AHEAD, ReadAhead};
 use crate::round_flag::RoundFlag;
 use interface_workers::{Wire, WireFault};
 use lsr_config::LinkSockets;
@@ -52,14 +53,19 @@ pub struct UdpWire<'a> {
     /// When it waits for nothing any more, if it may be told so.
     round: Option<&'a RoundFlag>,
     failures: u64,
+    /// What came together with the last frame, where frames are read ahead.
+    ahead: Option<ReadAhead>,
+    /// Whether the socket waits for a frame.
+    waits: bool,
 }
 
 impl<'a> UdpWire<'a> {
-    /// A wire on which frames come at the address. The error is the system's.
+    /// A wire on which frames come at the address, and which reads them ahead into this room, if there is any. The error is the system's.
     fn bind<R: Net>(
         net: &R,
         address: SocketAddr,
         links: &'a Table<u16, LinkSockets>,
+        ahead: Option<ReadAhead>,
     ) -> io::Result<UdpWire<'a>> {
         let socket = UdpSocket::bind(net, address)?;
         socket.set_read_timeout(Some(Duration::from_millis(RECEIVE_MS)))?;
@@ -68,6 +74,8 @@ impl<'a> UdpWire<'a> {
             links,
             round: None,
             failures: 0,
+            ahead,
+            waits: true,
         })
     }
 
@@ -78,12 +86,16 @@ impl<'a> UdpWire<'a> {
             links,
             round: _,
             failures,
+            ahead,
+            waits,
         } = self;
         UdpWire {
             socket,
             links,
             round: Some(round),
             failures,
+            ahead,
+            waits,
         }
     }
 
@@ -92,6 +104,49 @@ impl<'a> UdpWire<'a> {
         match self.round {
             Some(round) => round.is_over(),
             None => false,
+        }
+    }
+
+    /// Whether the socket waits from now on, or doesn't.
+    fn wait(&mut self, waits: bool) -> io::Result<()>
+        ensures { self.new.failures ≡ self.old.failures }
+    {
+        if self.waits != waits {
+            self.socket.set_nonblocking(!waits)?;
+            self.waits = waits;
+        }
+        Ok(())
+    }
+
+    /// Reads what has come already, as far as there is room. The error is the system's; what was read before it stays.
+    fn read_ahead(&mut self) -> io::Result<()>
+        ensures { self.new.failures ≡ self.old.failures }
+    {
+        self.wait(false)?;
+        let Some(ahead) = &mut self.ahead else {
+            return Ok(());
+        };
+        for _ in 0..MOST_AHEAD {
+            let Some(space) = ahead.space() else {
+                return Ok(());
+            };
+            match self.socket.recv_from(space) {
+                Ok((len, _)) => ahead.put(len),
+                Err(fault) if is_silence(fault.kind()) => return Ok(()),
+                Err(fault) => return Err(fault),
+            }
+        }
+        Ok(())
+    }
+
+    /// The next frame of those that were read ahead.
+    fn take_ahead(&mut self, buffer: &mut [u8]) -> Option<usize>
+        ensures length { IfSome result (λ n. n ≤ length buffer.new) }
+        ensures failures { self.new.failures ≡ self.old.failures }
+    {
+        match &mut self.ahead {
+            Some(ahead) => ahead.take(buffer),
+            None => None,
         }
     }
 
@@ -120,10 +175,27 @@ impl<'a> Wire for UdpWire<'a> {
         if self.is_over() {
             return Ok(None);
         }
+        if self.ahead.is_some() && !self.has_more() && self.read_ahead().is_err() {
+            return Err(self.fail());
+        }
+        if let Some(len) = self.take_ahead(buffer) {
+            return Ok(Some(len));
+        }
+        if self.wait(true).is_err() {
+            return Err(self.fail());
+        }
         match self.socket.recv_from(buffer) {
             Ok((len, _)) => Ok(Some(len)),
             Err(fault) if is_silence(fault.kind()) => Ok(None),
             Err(_) => Err(self.fail()),
+        }
+    }
+
+    /// Whether a frame was read ahead that isn't asked for yet. While its round is over there is none.
+    fn has_more(&self) -> bool {
+        match &self.ahead {
+            Some(ahead) => !ahead.is_empty() && !self.is_over(),
+            None => false,
         }
     }
 
@@ -133,6 +205,9 @@ impl<'a> Wire for UdpWire<'a> {
         let Some(sockets) = self.links.get(&link) else {
             return Err(self.fail());
         };
+        if self.wait(true).is_err() {
+            return Err(self.fail());
+        }
         match self.socket.send_to(bytes, sockets.send) {
             Ok(len) if len == bytes.len() => Ok(()),
             _ => Err(self.fail()),
@@ -161,9 +236,10 @@ fn is_local(address: SocketAddr, like: SocketAddr) -> bool
     address.ip().is_loopback() && address.is_ipv4() == like.is_ipv4()
 }
 
-/// The wire of a link. The fault is that its sockets can't be had.
+/// The wire of a link. The fault is that its sockets can't be had, or that there is no memory.
 fn open_wire<'a, R: Net>(
     net: &R,
+    alloc: Global,
     links: &'a Table<u16, LinkSockets>,
     like: SocketAddr,
     number: u16,
@@ -175,7 +251,10 @@ fn open_wire<'a, R: Net>(
     if !is_local(sockets.listen, like) || !is_local(sockets.send, like) {
         return Err(ServeFault::Socket(number));
     }
-    match UdpWire::bind(net, sockets.listen, links) {
+    let Ok(ahead) = ReadAhead::new(alloc) else {
+        return Err(ServeFault::Memory);
+    };
+    match UdpWire::bind(net, sockets.listen, links, Some(ahead)) {
         Ok(wire) => Ok(LinkWire { number, wire }),
         Err(_) => Err(ServeFault::Socket(number)),
     }
@@ -186,7 +265,7 @@ pub fn open_clock_wire<'a, R: Net>(
     net: &R,
     links: &'a Table<u16, LinkSockets>,
 ) -> Result<UdpWire<'a>, ServeFault> {
-    match UdpWire::bind(net, any_address(links), links) {
+    match UdpWire::bind(net, any_address(links), links, None) {
         Ok(wire) => Ok(wire),
         Err(_) => Err(ServeFault::Socket(CLOCK)),
     }
@@ -206,7 +285,7 @@ pub fn open_wires<'a, R: Net>(
     let rows = links.as_slice();
     let mut wires = Vec::new(alloc);
     for row in rows {
-        let wire = open_wire(net, links, like, row.0, row.1)?;
+        let wire = open_wire(net, alloc, links, like, row.0, row.1)?;
         let Ok(()) = wires.push(wire) else {
             return Err(ServeFault::Memory);
         };

@@ -1,5 +1,5 @@
 -- What is served of an event and of a datagram, and what is answered, be there memory for its text or not.
-use Rattle.std.proofs.Common.{◌≡◌, ◌++◌, ◌∷◌, [], ℕ, List, Result, Ok, Err, inr, refl, string_bytes}
+use Rattle.std.proofs.Common.{◌≡◌, ℕ, List, Result, Ok, Err, inr, refl}
 use Rattle.std.specs.Prelude.{IfOk, OnErr}
 use Rattle.abstract_paths.specs.declared.events.Event.{Event}
 use Rattle.abstract_paths.specs.declared.events.Made.{Made}

@@ -15,7 +15,7 @@ use Rattle.sequence_charts.specs.declared.sizes.TheConstants.{MAX_ROWS}
 use Rattle.world_lines.specs.Named.{files_of}
 use Rattle.lsr_tool.specs.Endings.{ending_text}
 use Rattle.lsr_tool.specs.Playing.{AreSaid, AreTexts, IsFileText, IsTextless, Stops}
-use Rattle.lsr_tool.specs.Recording.{kept_text}
+use Rattle.lsr_tool.specs.Written.{kept_text}
 use Rattle.lsr_tool.specs.declared.endings.RunEnding.TheVariants as endings
 use Rattle.lsr_tool.specs.declared.endings.Source.TheVariants as sources
 use Rattle.lsr_tool.specs.declared.written.OutputFault.{OutputFault}

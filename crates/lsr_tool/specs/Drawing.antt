@@ -13,7 +13,7 @@ use Rattle.sequence_charts.specs.Pictures.{Picture}
 use Rattle.sequence_charts.specs.Svg.{svg_text}
 use Rattle.session_charts.specs.Charted.{ChartedState, Draws, begun}
 use Rattle.lsr_tool.specs.Endings.{ending_text}
-use Rattle.lsr_tool.specs.Recording.{kept_text}
+use Rattle.lsr_tool.specs.Written.{kept_text}
 use Rattle.lsr_tool.specs.Sessions.{IsReady, NeverSteps}
 use Rattle.lsr_tool.specs.declared.endings.RunEnding.{RunEnding}
 use Rattle.lsr_tool.specs.declared.endings.RunEnding.TheVariants as endings

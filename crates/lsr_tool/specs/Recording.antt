@@ -1,5 +1,5 @@
 -- What `step --journal` prints, tells and writes, and its status, on the router that it is given.
-use Rattle.std.specs.Prelude.{◌≡◌, ◌⊎◌, ℕ, List, [], ◌++◌, codes, Option, Some, None, Result, Ok, Err, Bool, OnOk}
+use Rattle.std.specs.Prelude.{◌≡◌, ◌⊎◌, ℕ, List, [], ◌++◌, codes, Option, Some, None, Result, Ok, Bool, OnOk}
 use Rattle.std.specs.Io.KnownBytes.{Appends}
 use Rattle.line_streams.specs.Cuts.{lines_of}
 use Rattle.line_streams.specs.Texts.{IsTextOf, Stream}
@@ -16,7 +16,7 @@ use Rattle.lsr_journal.specs.Recorded.{RecordedState, Records, begun, is_over}
 use Rattle.lsr_journal.specs.Segments.{SpellsSegment}
 use Rattle.lsr_tool.specs.Endings.{ending_text}
 use Rattle.lsr_tool.specs.Sessions.{IsConfigText, NeverSteps}
-use Rattle.lsr_tool.specs.Written.{output_fault_text}
+use Rattle.lsr_tool.specs.Written.{kept_text}
 use Rattle.lsr_tool.specs.declared.endings.RunEnding.{RunEnding}
 use Rattle.lsr_tool.specs.declared.endings.RunEnding.TheVariants as endings
 use Rattle.lsr_tool.specs.declared.endings.Source.TheVariants as sources
@@ -33,11 +33,6 @@ stop_text (stops.Lines lines.Done) = []
 stop_text (stops.Lines (lines.BadLine number line)) = bad_form_text number line.now (recorded_form line.now)
 stop_text (stops.Lines lines.Memory) = codes "memory\n"
 stop_text stops.Session = []
-
--- why the file of this name isn't written, where it isn't
-abbrev pub kept_text : List ℕ → Result (Unit {0}) OutputFault → List ℕ
-kept_text name (Ok done) = []
-kept_text name (Err fault) = output_fault_text name fault
 
 -- the status: 0 where every line was served and the file is written
 abbrev pub recorded_status : RunStop → Result (Unit {0}) OutputFault → ℕ

@@ -1,5 +1,5 @@
 -- Why a file isn't written, and what is told of it.
-use Rattle.std.specs.Prelude.{ℕ, List, ◌++◌, codes}
+use Rattle.std.specs.Prelude.{ℕ, List, [], ◌++◌, codes, Result, Ok, Err}
 use Rattle.std.specs.declared.io.ErrorKind.{ErrorKind}
 use Rattle.std.specs.declared.io.ErrorKind.TheVariants as kinds
 use Rattle.lsr_tool.specs.declared.written.OutputFault.{OutputFault}
@@ -21,3 +21,8 @@ output_fault_text name faults.Forbidden =
 output_fault_text name faults.Broken =
     codes "unwritable\n  " ++ (name ++ codes " can't be written: look at the room on its disk, and whether a folder has its name, and run it again\n")
 output_fault_text name faults.Memory = codes "memory\n"
+
+-- why the file of this name isn't written, where it isn't
+abbrev pub kept_text : List ℕ → Result (Unit {0}) OutputFault → List ℕ
+kept_text name (Ok done) = []
+kept_text name (Err fault) = output_fault_text name fault

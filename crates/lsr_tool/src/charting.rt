@@ -4,13 +4,12 @@ ghost use Rattle.std.specs.Io.KnownBytes.{Appends};
 ghost use Rattle.line_streams.specs.Cuts.{lines_of};
 ghost use Rattle.sequence_charts.specs.Svg.{svg_text};
 ghost use Rattle.lsr_tool.specs.Charting.{DrawsFile, DrawsLines, DrawsText, IsKept, charted_status, lab_chart_text};
-ghost use Rattle.lsr_tool.specs.Recording.{kept_text};
 
 use crate::endings::{DONE, FAILED};
 use crate::files::FilesByName;
 use crate::playing::{configs_of, read_file, tell_stop};
 use crate::serving::BAD_WORDS;
-use crate::written::{OutputFault, WritesFiles, tell_output_fault};
+use crate::written::{OutputFault, WritesFiles, tell_kept};
 use line_streams::tell_input_fault;
 use lsr_config::Config;
 use lsr_play::{PlayEnding, Played, play_charted, tell_play_ending};
@@ -52,20 +51,6 @@ fn keep_chart<F: WritesFiles>(
         PlayEnding::BadLine(_, _) => write_chart(files, alloc, chart, name),
         PlayEnding::Fault(_) => Ok(()),
         PlayEnding::Memory => Ok(()),
-    }
-}
-
-/// Tells why the chart's file of this name isn't written, where it isn't. The error is the stream's.
-pub(crate) fn tell_kept<E: Write>(
-    error: &mut E,
-    name: &str,
-    kept: Result<(), OutputFault>,
-) -> io::Result<()>
-    ensures { OnOk result (Appends (E.contents error.old) (E.contents error.new) (kept_text name.now kept)) }
-{
-    match kept {
-        Ok(()) => Ok(()),
-        Err(fault) => tell_output_fault(error, name, fault),
     }
 }
 

@@ -7,12 +7,12 @@ ghost use Rattle.session_charts.specs.Charted.{begun};
 ghost use Rattle.lsr_tool.specs.Drawing.{IsDrawnIn, RunsDrawn, RunsDrawnOn, drawn_status, kept_chart_text, title_of};
 ghost use Rattle.lsr_tool.specs.Sessions.{IsReady, NeverSteps};
 
-use crate::charting::{tell_kept, write_chart};
+use crate::charting::write_chart;
 use crate::endings::{DONE, FAILED, RunEnding, Source, tell_ending};
 use crate::files::FilesByName;
 use crate::serving::BAD_WORDS;
 use crate::session::prepare;
-use crate::written::{OutputFault, WritesFiles};
+use crate::written::{OutputFault, WritesFiles, tell_kept};
 use line_streams::ByteStream;
 use lsr_lines::{Ending, RunStop, run_lines};
 use sequence_charts::Chart;

@@ -7,13 +7,13 @@ ghost use Rattle.lsr_config.specs.Configs.{Setup};
 ghost use Rattle.lsr_config.specs.Reading.{IsRead};
 ghost use Rattle.lsr_journal.specs.Recorded.{begun};
 ghost use Rattle.run_journal.specs.Journals.{stretch_of};
-ghost use Rattle.lsr_tool.specs.Recording.{HoldsJournal, IsRecordable, RunsRecorded, RunsRecordedOn, kept_text, recorded_form, recorded_status, stop_text};
+ghost use Rattle.lsr_tool.specs.Recording.{HoldsJournal, IsRecordable, RunsRecorded, RunsRecordedOn, recorded_form, recorded_status, stop_text};
 ghost use Rattle.lsr_tool.specs.Sessions.{CannotBegin, IsConfigText, NeverSteps, said_by};
 
 use crate::endings::{DONE, FAILED, RunEnding, Source, status_of, tell_ending};
 use crate::files::FilesByName;
 use crate::session::{configured, read_texts, said};
-use crate::written::{OutputFault, WritesFiles, tell_output_fault};
+use crate::written::{OutputFault, WritesFiles, tell_kept};
 use line_streams::ByteStream;
 use lsr_journal::RecordedSession;
 use lsr_lines::{Ending, RunStop, expected_form, form_among, run_lines, tell_bad_form};
@@ -45,16 +45,6 @@ fn tell_stop<E: Write>(error: &mut E, stop: RunStop) -> io::Result<()>
         }
         RunStop::Lines(Ending::Memory) => write!(error, "{OUT_OF_MEMORY}\n"),
         RunStop::Session => Ok(()),
-    }
-}
-
-/// Tells why the journal's file of this name isn't written, where it isn't. The error is the stream's.
-fn tell_kept<E: Write>(error: &mut E, name: &str, kept: Result<(), OutputFault>) -> io::Result<()>
-    ensures { OnOk result (Appends (E.contents error.old) (E.contents error.new) (kept_text name.now kept)) }
-{
-    match kept {
-        Ok(()) => Ok(()),
-        Err(fault) => tell_output_fault(error, name, fault),
     }
 }
 

@@ -1,7 +1,7 @@
 //! Files that are written whole.
 ghost use Rattle.std.specs.Prelude.{◌≡◌, ℕ, List, OnOk};
 ghost use Rattle.std.specs.Io.KnownBytes.{Appends};
-ghost use Rattle.lsr_tool.specs.Written.{output_fault, output_fault_text};
+ghost use Rattle.lsr_tool.specs.Written.{kept_text, output_fault, output_fault_text};
 
 use crate::files::SystemFiles;
 use lsr_text::OUT_OF_MEMORY;
@@ -120,5 +120,19 @@ pub(crate) fn tell_output_fault<E: Write>(
             "unwritable\n  {name} can't be written: look at the room on its disk, and whether a folder has its name, and run it again\n"
         ),
         OutputFault::Memory => write!(error, "{OUT_OF_MEMORY}\n"),
+    }
+}
+
+/// Tells why the file of this name isn't written, where it isn't. The error is the stream's.
+pub(crate) fn tell_kept<E: Write>(
+    error: &mut E,
+    name: &str,
+    kept: Result<(), OutputFault>,
+) -> io::Result<()>
+    ensures { OnOk result (Appends (E.contents error.old) (E.contents error.new) (kept_text name.now kept)) }
+{
+    match kept {
+        Ok(()) => Ok(()),
+        Err(fault) => tell_output_fault(error, name, fault),
     }
 }

@@ -32,7 +32,10 @@ fn with_segment<L: CoreName, R: Wait + Drop>(
     receipt: Receipt,
 ) -> Result<FedOnce, Fault> {
     match core.rotate(rt, alloc, port) {
-        Ok(segment) => Ok(FedOnce { segment, receipt }),
+        Ok(segment) => Ok(FedOnce {
+            segment: segment.into_segment(),
+            receipt,
+        }),
         Err(_) => Err(Fault::Memory),
     }
 }
@@ -46,7 +49,7 @@ fn feed_one<L: CoreName, R: Wait + Drop>(
     moment: u64,
 ) -> Result<FedOnce, Fault> {
     match core.feed(rt, alloc, port, &Event::Tick(moment)) {
-        Ok(receipt) => with_segment(rt, alloc, core, port, receipt),
+        Ok(receipt) => with_segment(rt, alloc, core, port, receipt.into_receipt()),
         Err(_) => Err(Fault::NotTaken),
     }
 }

@@ -13,7 +13,7 @@ pub fn count_entries<L: CoreName, R: Wait + Drop>(
     port: &mut Port<L>,
 ) -> Result<usize, AllocError> {
     match core.rotate(rt, alloc, port) {
-        Ok(segment) => Ok(segment.entries().len()),
+        Ok(segment) => Ok(segment.as_segment().entries().len()),
         Err(error) => Err(error),
     }
 }

@@ -92,6 +92,11 @@ impl<'a, W: Wire> Wire for CountedWire<'a, W> {
         came
     }
 
+    /// Whether the wire has more, of which not all is taken.
+    fn has_more(&self) -> bool {
+        self.taken.load(Ordering::SeqCst) < self.sent && self.wire.has_more()
+    }
+
     fn send(&mut self, link: u16, bytes: &[u8]) -> Result<(), WireFault> {
         self.wire.send(link, bytes)
     }

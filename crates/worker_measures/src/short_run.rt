@@ -9,8 +9,8 @@ use std::thread::Threads;
 use std::time::Clock;
 use worker_fixtures::Fault;
 
-/// How many messages neighbours send in all.
-const MESSAGES: u32 = 400;
+/// How many messages neighbours send in all: more than a journal holds, so that it is full while what came together is fed.
+const MESSAGES: u32 = 6_000;
 /// How many datagrams they send in all, most of which are forwarded.
 const DATAGRAMS: u32 = 1_600;
 /// How often an LSP comes and goes.

@@ -1,7 +1,16 @@
--- The round goes on from those before it.
-use Rattle.std.proofs.Common.{◌≡◌, ◌+◌, ap, arith, length}
+-- The round goes on from those before it, and what it left is of the configuration's router.
+use Rattle.std.proofs.Common.{◌≡◌, ◌+◌, ap, arith, length, subst, sym}
+use Rattle.lsr_config.specs.Configs.{Setup}
+use Rattle.interface_workers.specs.Names.{IsSegmentOf}
+use Rattle.lsr_serve.specs.Reports.{IsReportOf}
 use Rattle.lsr_rounds.proofs.GoingOn.{moved}
 use Rattle.lsr_rounds.proofs.rounds.run_rounds.Goals as goal
+
+pub add-requires : goal.add-requires
+add-requires g c =
+    subst (λ (s : Setup). IsReportOf s c.add_segment.new.served) (sym c.requires)
+    (c.in_ok-add_segment.ensures.own g.L.CoreName.config c.in_ok-made.ensures.own
+    (subst (IsSegmentOf g.L.CoreName.config) (sym c.into_segment.ensures) c.in_ok-segment.ensures.own))
 
 pub loop-preserved : goal.loop-preserved
 loop-preserved g c =

@@ -1,5 +1,6 @@
 -- A receipt that is kept follows on the one before, and its frames are sent.
-use Rattle.std.proofs.Common.{◌∙◌}
+use Rattle.std.proofs.Common.{◌++◌, ◌∷◌, [], ap, ◌∙◌}
+use Rattle.run_journal.specs.declared.receipt.Receipt.{Receipt}
 use Rattle.interface_workers.proofs.Chaining.{receipt_more}
 use Rattle.interface_workers.proofs.Naming.{work_more}
 use Rattle.interface_workers.proofs.TakenKinds.{event_refused}
@@ -7,17 +8,17 @@ use Rattle.interface_workers.proofs.worker.Station.serve_event.Goals as goal
 
 pub returns-in-Ok-clause-goes_on : goal.returns-in-Ok-clause-goes_on
 returns-in-Ok-clause-goes_on g c =
-    receipt_more _ _ _ _ c.in-Ok.receipt c.push_reserved.ensures.items c.in-Ok.ensures.fed.0 c.in-Ok.ensures.fed.2
+    receipt_more _ _ _ _ c.in-Ok.receipt (c.push_reserved.ensures.items ∙ ap (λ (r : Receipt). c.args.work.now.receipts.items ++ r ∷ []) c.into_receipt.ensures) c.in-Ok.ensures.fed.0 c.in-Ok.ensures.fed.2
     c.in-Ok.ensures.segments c.push_reserved.ensures.capacity c.in-Ok.ensures.room
 
 pub returns-in-Ok-clause-own : goal.returns-in-Ok-clause-own
-returns-in-Ok-clause-own g c = work_more g.L.CoreName.config _ _ c.in-Ok.receipt c.push_reserved.ensures.items c.in-Ok.ensures.own c.in-Ok.ensures.stays
+returns-in-Ok-clause-own g c = work_more g.L.CoreName.config _ _ c.in-Ok.receipt (c.push_reserved.ensures.items ∙ ap (λ (r : Receipt). c.args.work.now.receipts.items ++ r ∷ []) c.into_receipt.ensures) c.in-Ok.ensures.own c.in-Ok.ensures.stays
 
 pub returns-in-Ok-clause-served : goal.returns-in-Ok-clause-served
 returns-in-Ok-clause-served g c = record {
   frames = c.as_slice.result.now;
   sendings = c.send_all.ensures.0;
-  is = (c.in-Ok.receipt, c.push_reserved.ensures.items, c.in-Ok.ensures.fed.1, c.as_slice.ensures ∙ c.outputs.ensures);
+  is = (c.in-Ok.receipt, c.push_reserved.ensures.items ∙ ap (λ (r : Receipt). c.args.work.now.receipts.items ++ r ∷ []) c.into_receipt.ensures, c.in-Ok.ensures.fed.1, c.as_slice.ensures ∙ c.outputs.ensures);
   sent = c.send_all.ensures.1;
 }
 

@@ -1,7 +1,7 @@
 -- What is answered is answered under the lock: a receipt is of the name's own router.
 use Rattle.interface_workers.proofs.Naming.{applied_own, known_now}
 use Rattle.interface_workers.proofs.Refusing.{refused_so}
-use Rattle.interface_workers.proofs.cores.Booked.apply.Goals as goal
+use Rattle.interface_workers.proofs.booked.Booked.apply.Goals as goal
 
 pub returns-in-Ok-clause-own : goal.returns-in-Ok-clause-own
 returns-in-Ok-clause-own g c =

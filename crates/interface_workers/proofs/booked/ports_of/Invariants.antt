@@ -1,6 +1,6 @@
 use Rattle.std.proofs.Common.{◌≡◌, ◌+◌, ◌≤◌, map}
 use Rattle.run_journal.specs.Marks.{first_marks}
-use Rattle.interface_workers.proofs.cores.ports_of.Given as goal
+use Rattle.interface_workers.proofs.booked.ports_of.Given as goal
 
 -- so many ports are made, and each took a part
 abbrev pub invariant-loop-index : goal.invariant-loop-index

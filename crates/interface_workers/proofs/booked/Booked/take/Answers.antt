@@ -2,7 +2,7 @@
 use Rattle.std.proofs.Common.{subst, sym, ◌∙◌}
 use Rattle.interface_workers.specs.Names.{IsSegmentOf}
 use Rattle.interface_workers.proofs.Naming.{stretch_own}
-use Rattle.interface_workers.proofs.cores.Booked.take.Goals as goal
+use Rattle.interface_workers.proofs.booked.Booked.take.Goals as goal
 
 pub returns-clause-own : goal.returns-clause-own
 returns-clause-own g c =

@@ -1,6 +1,6 @@
 -- What the router knows is what the name's own router knew once.
 use Rattle.interface_workers.proofs.Naming.{copy_known, known_now}
-use Rattle.interface_workers.proofs.cores.Booked.export.Goals as goal
+use Rattle.interface_workers.proofs.booked.Booked.export.Goals as goal
 
 pub returns : goal.returns
 returns g c =
