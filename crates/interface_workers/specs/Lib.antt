@@ -1,5 +1,6 @@
 pub mod Below
 pub mod Chains
+pub mod Early
 pub mod Kept
 pub mod Names
 pub mod Refused

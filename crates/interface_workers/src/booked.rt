@@ -1,6 +1,6 @@
 //! What stands under a core's lock, its ports, and what they are handed with the core's name.
 
-ghost use Rattle.std.specs.Prelude.{◌≡◌, ◌+◌, ◌<◌, ◌≤◌, ℕ, All, IfErr, IfOk, OnErr, OnOk, length, map};
+ghost use Rattle.std.specs.Prelude.{◌≡◌, ◌+◌, ◌<◌, ◌≤◌, All, IfErr, IfOk, OnErr, OnOk, length, map};
 ghost use Rattle.abstract_router.specs.States.{State};
 ghost use Rattle.lookup_plane.specs.Changes.{new_reader};
 ghost use Rattle.run_journal.specs.Journals.{IsAnswered, rotated, stretch_of};

@@ -5,6 +5,7 @@
 mod asking;
 mod booked;
 mod cores;
+mod early;
 mod gate;
 mod handled;
 mod keeping;

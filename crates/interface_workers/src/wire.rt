@@ -23,9 +23,10 @@ pub trait Wire {
         ensures length { IfOk result (λ came. IfSome came (λ n. n ≤ length buffer.new)) }
         ensures history { history self.new ≡ after (history self.old) (arrival_of result buffer.new ∷ []) [] };
 
-    /// Whether the next frame is there already, so that [`Wire::receive`] gives it without waiting. Who can't tell says no.
-    fn has_more(&self) -> bool {
-        false
+    /// The frame that is there already after `index` others: [`Wire::receive`] gives them in their order, without waiting. Who can't tell says
+    /// none.
+    fn ahead(&self, _index: usize) -> Option<&[u8]> {
+        None
     }
 
     /// Carries a frame over the link of this number. A fault is answered only where the count of failures rose; the frame is

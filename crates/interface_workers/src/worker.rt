@@ -12,12 +12,13 @@ ghost use Rattle.lookup_plane.specs.Changes.{StartsWith};
 
 use crate::booked::{CoreReceipt, Port};
 use crate::cores::{Core, HeldCore};
+use crate::early::EarlyReads;
 use crate::gate::Gate;
 use crate::handled::{Handled, Tally};
 use crate::keeping::KeepSegments;
 use crate::names::CoreName;
 use crate::readers::CoreReader;
-use crate::reading::read_by;
+use crate::reading::read_next;
 use crate::wire::Wire;
 use abstract_paths::Event;
 use journal_bytes::WrittenFrame;
@@ -129,9 +130,27 @@ impl<'a, L: CoreName, R: Wait + Drop, K: KeepSegments + Drop, T: Wait, G: Gate> 
     T,
     G,
 > {
+    /// Whether the router isn't kept, and would be for what the wire has more.
+    fn may_keep<W: Wire>(&self, held: &Option<HeldCore<'a, L, R>>, wire: &W) -> bool {
+        held.is_none() && wire.ahead(0).is_some() && !self.gate.may_hold()
+    }
+
+    /// Reads what came together over the link before the router is kept for it, so that nobody waits meanwhile.
+    fn read_early<W: Wire>(
+        &self,
+        held: &Option<HeldCore<'a, L, R>>,
+        early: &mut EarlyReads<L>,
+        link: u16,
+        wire: &W,
+    ) {
+        if self.may_keep(held, wire) {
+            early.fill(self.alloc, self.core.router(), link, wire);
+        }
+    }
+
     /// Keeps the router where the wire has more that is fed without waiting: so what came together is fed under one taking of the lock.
     fn hold_for_more<W: Wire>(&self, held: &mut Option<HeldCore<'a, L, R>>, wire: &W) {
-        if held.is_none() && wire.has_more() && !self.gate.may_hold() {
+        if self.may_keep(held, wire) {
             *held = Some(self.core.hold(self.rt));
         }
     }
@@ -217,6 +236,7 @@ impl<'a, L: CoreName, R: Wait + Drop, K: KeepSegments + Drop, T: Wait, G: Gate> 
     /// back: it has seen no less, and nothing more but for a labelled frame.
     fn receive<W: Wire>(
         &self,
+        early: &mut EarlyReads<L>,
         reader: CoreReader<L>,
         link: u16,
         wire: &mut W,
@@ -229,20 +249,27 @@ impl<'a, L: CoreName, R: Wait + Drop, K: KeepSegments + Drop, T: Wait, G: Gate> 
         ensures learnt { result.1.at_least ≡ reader.at_least }
     {
         match wire.receive(buffer) {
-            Ok(Some(len)) => self.read(reader, link, &buffer[..len]),
+            Ok(Some(len)) => self.read(early, reader, link, &buffer[..len]),
             Ok(None) => (Taken::Nothing, reader),
             Err(_) => (Taken::WireFailed, reader),
         }
     }
 
     /// What a frame is that came over the link. The reader comes back: it has seen no less, and nothing more but for a labelled frame.
-    fn read(&self, reader: CoreReader<L>, link: u16, bytes: &[u8]) -> (Taken, CoreReader<L>)
+    fn read(
+        &self,
+        early: &mut EarlyReads<L>,
+        reader: CoreReader<L>,
+        link: u16,
+        bytes: &[u8],
+    ) -> (Taken, CoreReader<L>)
         ensures took { IsTaken self.now.core.now.router result.1.seen link (Came bytes.now) result.0 }
         ensures unlabelled { kind_of bytes.now ≢ 2 → result.1 ≡ reader }
         ensures later { StartsWith result.1.seen reader.seen }
         ensures learnt { result.1.at_least ≡ reader.at_least }
     {
-        let (answer, reader) = read_by(self.alloc, self.core.router(), reader, link, bytes);
+        let router = self.core.router();
+        let (answer, reader) = read_next(self.alloc, router, early, reader, link, bytes);
         match answer {
             Some(answer) => (Taken::Came(answer), reader),
             None => (Taken::NotShown, reader),
@@ -314,6 +341,7 @@ impl<'a, L: CoreName, R: Wait + Drop, K: KeepSegments + Drop, T: Wait, G: Gate> 
     fn turn<W: Wire>(
         &self,
         held: &mut Option<HeldCore<'a, L, R>>,
+        early: &mut EarlyReads<L>,
         port: &mut Port<L>,
         reader: CoreReader<L>,
         link: u16,
@@ -331,10 +359,11 @@ impl<'a, L: CoreName, R: Wait + Drop, K: KeepSegments + Drop, T: Wait, G: Gate> 
         ensures handed_out { AreHandedOut port.old.taken work.old.segments.items port.new.taken work.new.segments.items }
         ensures own { StaysWorkOf L.config work.old work.new }
     {
-        let (taken, mut reader) = self.receive(reader, link, wire, buffer);
+        let (taken, mut reader) = self.receive(early, reader, link, wire, buffer);
+        self.read_early(held, early, link, wire);
         let failures = wire.failures();
         let handled = self.serve_taken(held, port, &mut reader, wire, work, &taken);
-        if !wire.has_more() {
+        if wire.ahead(0).is_none() {
             *held = None;
         }
         work.tally.lose(wire.failures() - failures);
@@ -431,11 +460,21 @@ pub fn serve_link<L: CoreName, R: Wait + Drop, K: KeepSegments + Drop, T: Wait, 
     };
     let mut reader = reader;
     let mut held = None;
+    let mut early = EarlyReads::new(alloc);
     for _turn in 0..turns {
         if is_spent(wire) {
             return (reader, Ok(work));
         }
-        reader = station.turn(&mut held, port, reader, link, wire, &mut work, &mut buffer);
+        reader = station.turn(
+            &mut held,
+            &mut early,
+            port,
+            reader,
+            link,
+            wire,
+            &mut work,
+            &mut buffer,
+        );
     }
     (reader, Ok(work))
 }

@@ -1,5 +1,4 @@
 //! Inputs and outputs that fail or are too long, which no file can be.
-ghost use Rattle.std.specs.Prelude.{◌≡◌, ◌≤◌};
 
 use lsr_lines::{Answers, Ending, LiveEnding, Request, serve_lines, step_lines};
 use lsr_tool::{end, run_live, run_step, tell_unread_words};

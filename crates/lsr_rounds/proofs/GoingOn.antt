@@ -1,5 +1,5 @@
 -- A run so far goes on with a round that was judged.
-use Rattle.std.proofs.Common.{◌≡◌, ◌+◌, ◌++◌, ◌∷◌, ℕ, All, List, [], Option, Some, None, length, subst, sym}
+use Rattle.std.proofs.Common.{◌≡◌, ◌+◌, ℕ, All, List, Option, Some, None, length, subst, sym}
 use Rattle.std.proofs.lemmas.List.Elements.{All-weaker}
 use Rattle.lsr_config.specs.Configs.{Setup}
 use Rattle.interface_workers.specs.Below.journal.Journals.{IsSegment, Stretch}

@@ -1,5 +1,5 @@
 -- What is known of a run whose rounds were reconciled one after the other.
-use Rattle.std.specs.Prelude.{◌≡◌, ℕ, List, Option, Some, None}
+use Rattle.std.specs.Prelude.{◌≡◌, ℕ, Option, Some, None}
 use Rattle.lsr_config.specs.Configs.{Setup}
 use Rattle.interface_workers.specs.Below.journal.Journals.{Stretch}
 use Rattle.lsr_serve.specs.declared.run.RunReport.{RunReport}

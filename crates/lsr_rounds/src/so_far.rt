@@ -1,5 +1,5 @@
 //! What is known of a run whose rounds are given up one after the other.
-ghost use Rattle.std.specs.Prelude.{◌≡◌, ◌+◌, ℕ, IfErr, IfSome, OnOk, length};
+ghost use Rattle.std.specs.Prelude.{◌≡◌, ◌+◌, ℕ, IfSome, OnOk, length};
 ghost use Rattle.lsr_config.specs.Configs.{Setup};
 ghost use Rattle.lsr_serve.specs.Reports.{IsReportOf};
 ghost use Rattle.lsr_rounds.specs.Ended.{IsJudged, IsSoFar};

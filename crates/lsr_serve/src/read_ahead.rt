@@ -5,7 +5,7 @@ ghost use Rattle.std.specs.Prelude.{◌≤◌, IfSome, length};
 use std::alloc::{AllocError, Global};
 
 /// How many datagrams are read ahead at most.
-pub(crate) const MOST_AHEAD: usize = 16;
+pub(crate) const MOST_AHEAD: usize = 128;
 /// How many bytes of datagrams are kept: there is room for the longest one after so many bytes of others.
 const ROOM: usize = 131_072;
 /// The most bytes of a datagram.
@@ -33,7 +33,7 @@ impl ReadAhead {
     }
 
     /// Whether all were taken.
-    pub(crate) fn is_empty(&self) -> bool {
+    fn is_empty(&self) -> bool {
         self.taken >= self.ends.len()
     }
 
@@ -64,27 +64,29 @@ impl ReadAhead {
         let _ = self.ends.push(end);
     }
 
+    /// The one that comes after so many others, of those that aren't taken.
+    pub(crate) fn get(&self, index: usize) -> Option<&[u8]> {
+        let ends = self.ends.as_slice();
+        let at = self.taken.saturating_add(index);
+        if at >= ends.len() {
+            return None;
+        }
+        let from = if at == 0 { 0 } else { ends[at - 1] };
+        let end = ends[at];
+        if from > end || end > self.room.len() {
+            return Some(&[]);
+        }
+        Some(&self.room.as_slice()[from..end])
+    }
+
     /// The next one, put at the front of the buffer, as far as that goes: how many bytes it has.
     pub(crate) fn take(&mut self, buffer: &mut [u8]) -> Option<usize>
         ensures { IfSome result (λ n. n ≤ length buffer.new) }
     {
-        let ends = self.ends.as_slice();
-        if self.taken >= ends.len() {
-            return None;
-        }
-        let from = if self.taken == 0 {
-            0
-        } else {
-            ends[self.taken - 1]
-        };
-        let end = ends[self.taken];
-        self.taken = self.taken.saturating_add(1);
-        if from > end || end > self.room.len() {
-            return Some(0);
-        }
-        let bytes = &self.room.as_slice()[from..end];
+        let bytes = self.get(0)?;
         let len = bytes.len().min(buffer.len());
         buffer[..len].copy_from_slice(&bytes[..len]);
+        self.taken = self.taken.saturating_add(1);
         Some(len)
     }
 }

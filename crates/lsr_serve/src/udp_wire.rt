@@ -7,7 +7,7 @@ use crate::round_flag::RoundFlag;
 use interface_workers::{Wire, WireFault};
 use lsr_config::LinkSockets;
 use sorted_rows::Table;
-use std::alloc::{AllocError, Global};
+use std::alloc::Global;
 use std::io;
 use std::io::ErrorKind;
 use std::net::{IpAddr, Ipv4Addr, Ipv6Addr, Net, SocketAddr, UdpSocket};
@@ -54,7 +54,7 @@ pub struct UdpWire<'a> {
     round: Option<&'a RoundFlag>,
     failures: u64,
     /// What came together with the last frame, where frames are read ahead.
-    ahead: Option<ReadAhead>,
+    came: Option<ReadAhead>,
     /// Whether the socket waits for a frame.
     waits: bool,
 }
@@ -74,7 +74,7 @@ impl<'a> UdpWire<'a> {
             links,
             round: None,
             failures: 0,
-            ahead,
+            came: ahead,
             waits: true,
         })
     }
@@ -86,7 +86,7 @@ impl<'a> UdpWire<'a> {
             links,
             round: _,
             failures,
-            ahead,
+            came,
             waits,
         } = self;
         UdpWire {
@@ -94,7 +94,7 @@ impl<'a> UdpWire<'a> {
             links,
             round: Some(round),
             failures,
-            ahead,
+            came,
             waits,
         }
     }
@@ -123,15 +123,15 @@ impl<'a> UdpWire<'a> {
         ensures { self.new.failures ≡ self.old.failures }
     {
         self.wait(false)?;
-        let Some(ahead) = &mut self.ahead else {
+        let Some(came) = &mut self.came else {
             return Ok(());
         };
         for _ in 0..MOST_AHEAD {
-            let Some(space) = ahead.space() else {
+            let Some(space) = came.space() else {
                 return Ok(());
             };
             match self.socket.recv_from(space) {
-                Ok((len, _)) => ahead.put(len),
+                Ok((len, _)) => came.put(len),
                 Err(fault) if is_silence(fault.kind()) => return Ok(()),
                 Err(fault) => return Err(fault),
             }
@@ -144,8 +144,8 @@ impl<'a> UdpWire<'a> {
         ensures length { IfSome result (λ n. n ≤ length buffer.new) }
         ensures failures { self.new.failures ≡ self.old.failures }
     {
-        match &mut self.ahead {
-            Some(ahead) => ahead.take(buffer),
+        match &mut self.came {
+            Some(came) => came.take(buffer),
             None => None,
         }
     }
@@ -175,7 +175,7 @@ impl<'a> Wire for UdpWire<'a> {
         if self.is_over() {
             return Ok(None);
         }
-        if self.ahead.is_some() && !self.has_more() && self.read_ahead().is_err() {
+        if self.came.is_some() && self.ahead(0).is_none() && self.read_ahead().is_err() {
             return Err(self.fail());
         }
         if let Some(len) = self.take_ahead(buffer) {
@@ -191,11 +191,14 @@ impl<'a> Wire for UdpWire<'a> {
         }
     }
 
-    /// Whether a frame was read ahead that isn't asked for yet. While its round is over there is none.
-    fn has_more(&self) -> bool {
-        match &self.ahead {
-            Some(ahead) => !ahead.is_empty() && !self.is_over(),
-            None => false,
+    /// A frame that was read ahead and isn't asked for yet. While its round is over there is none.
+    fn ahead(&self, index: usize) -> Option<&[u8]> {
+        if self.is_over() {
+            return None;
+        }
+        match &self.came {
+            Some(came) => came.get(index),
+            None => None,
         }
     }
 

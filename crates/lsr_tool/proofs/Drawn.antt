@@ -1,10 +1,7 @@
 -- Runs that are drawn.
-use Rattle.std.proofs.Common.{◌≡◌, Bool, false, ℕ, List, Option, Some, Result, Bor, inr, refl, subst, sym}
-use Rattle.std.specs.Option.{option_map}
-use Rattle.std.specs.Io.KnownBytes.{Appends}
+use Rattle.std.proofs.Common.{◌≡◌, Bool, false, ℕ, List, Option, Result, subst}
 use Rattle.line_streams.specs.Cuts.{lines_of}
 use Rattle.line_streams.specs.Texts.{Stream}
-use Rattle.line_streams.specs.declared.input.InputFault.{InputFault}
 use Rattle.lsr_lines.specs.Runs.{Stops}
 use Rattle.lsr_lines.specs.declared.run.RunStop.{RunStop}
 use Rattle.lsr_lines.specs.declared.run.RunStop.TheVariants as stops

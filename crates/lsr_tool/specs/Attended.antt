@@ -1,6 +1,6 @@
 -- What `lsr serve` on a file with a console says.
 use Rattle.std.specs.Io.KnownBytes.{Appends}
-use Rattle.std.specs.Prelude.{◌≡◌, ◌+◌, ℕ, List, Option, length}
+use Rattle.std.specs.Prelude.{◌+◌, ℕ, List, Option, length}
 use Rattle.line_streams.specs.Texts.{Stream}
 use Rattle.lsr_config.specs.Configs.{Setup}
 use Rattle.lsr_config.specs.declared.sockets.LinkSockets.{LinkSockets}

@@ -1,10 +1,8 @@
 -- What `lsr play` prints and tells, and its status.
 use Rattle.std.specs.Prelude.{◌≡◌, ◌⊎◌, ℕ, List, [], ◌∷◌, ◌++◌, Option, Ok, codes, length}
 use Rattle.std.specs.Io.KnownBytes.{Appends}
-use Rattle.config_text.specs.declared.place.Place.{Place}
 use Rattle.lsr_config.specs.Configs.{Setup}
 use Rattle.lsr_config.specs.Reading.{IsRead}
-use Rattle.lsr_config.specs.declared.fault.ConfigFault.{ConfigFault}
 use Rattle.line_streams.specs.Cuts.{lines_of}
 use Rattle.line_streams.specs.Texts.{IsTextOf, IsUnread, Stream}
 use Rattle.line_streams.specs.declared.input.InputFault.{InputFault}

@@ -1,5 +1,5 @@
 //! `lsr play --chart`: a run that is drawn in a file, too.
-ghost use Rattle.std.specs.Prelude.{◌≡◌, ℕ, List, IfOk, OnOk};
+ghost use Rattle.std.specs.Prelude.{◌≡◌, IfOk, OnOk};
 ghost use Rattle.std.specs.Io.KnownBytes.{Appends};
 ghost use Rattle.line_streams.specs.Cuts.{lines_of};
 ghost use Rattle.sequence_charts.specs.Svg.{svg_text};

@@ -1,10 +1,10 @@
 //! `lsr serve --console`: a router that runs until its operator ends it.
-ghost use Rattle.std.specs.Prelude.{◌≡◌, ◌+◌, ◌<◌, ℕ, List, Option, IfErr, IfOk, OnOk, length, string_bytes};
+ghost use Rattle.std.specs.Prelude.{◌≡◌, ◌+◌, ◌<◌, ℕ, Option, IfOk, length};
 ghost use Rattle.lsr_config.specs.Configs.{Setup};
 ghost use Rattle.lsr_tool.specs.Attended.{AttendsFile, AttendsRun, AttendsText, EndsSoFar, IsAttended};
 
 use crate::attending::{Attendant, Teller};
-use crate::endings::{DONE, FAILED, RunEnding, Source, status_of, tell_ending};
+use crate::endings::{DONE, FAILED, status_of, tell_ending};
 use crate::files::FilesByName;
 use crate::keeping::{SegmentFiles, SegmentKeeper, SegmentWriter};
 use crate::serving::{BAD_WORDS, configured, read_served, tell_written};

@@ -1,16 +1,15 @@
 //! `lsr step --journal`: as `lsr step`, and the journal of the run is written to a file.
-ghost use Rattle.std.specs.Prelude.{◌≡◌, ◌++◌, ℕ, List, Ok, IfOk, IfErr, OnErr, OnOk, string_bytes};
+ghost use Rattle.std.specs.Prelude.{◌≡◌, Ok, IfOk, IfErr, OnOk, string_bytes};
 ghost use Rattle.std.specs.Option.{option_map};
 ghost use Rattle.std.specs.Io.KnownBytes.{Appends};
-ghost use Rattle.line_streams.specs.Texts.{IsTextOf};
 ghost use Rattle.lsr_config.specs.Configs.{Setup};
 ghost use Rattle.lsr_config.specs.Reading.{IsRead};
 ghost use Rattle.lsr_journal.specs.Recorded.{begun};
 ghost use Rattle.run_journal.specs.Journals.{stretch_of};
 ghost use Rattle.lsr_tool.specs.Recording.{HoldsJournal, IsRecordable, RunsRecorded, RunsRecordedOn, recorded_form, recorded_status, stop_text};
-ghost use Rattle.lsr_tool.specs.Sessions.{CannotBegin, IsConfigText, NeverSteps, said_by};
+ghost use Rattle.lsr_tool.specs.Sessions.{CannotBegin, NeverSteps, said_by};
 
-use crate::endings::{DONE, FAILED, RunEnding, Source, status_of, tell_ending};
+use crate::endings::{DONE, FAILED, RunEnding, Source, tell_ending};
 use crate::files::FilesByName;
 use crate::session::{configured, read_texts, said};
 use crate::written::{OutputFault, WritesFiles, tell_kept};
@@ -18,7 +17,7 @@ use line_streams::ByteStream;
 use lsr_journal::RecordedSession;
 use lsr_lines::{Ending, RunStop, expected_form, form_among, run_lines, tell_bad_form};
 use lsr_text::OUT_OF_MEMORY;
-use std::alloc::{AllocError, Global};
+use std::alloc::Global;
 use std::io;
 use std::io::Write;
 use std::sync::Wait;

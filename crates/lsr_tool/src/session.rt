@@ -1,5 +1,5 @@
 //! `lsr step` on the router of a configuration, or on the built-in one.
-ghost use Rattle.std.specs.Prelude.{◌≡◌, Bool, List, ℕ, [], Ok, Err, IfOk, IfErr, string_bytes};
+ghost use Rattle.std.specs.Prelude.{◌≡◌, List, ℕ, Ok, Err, IfOk, IfErr, string_bytes};
 ghost use Rattle.std.specs.Option.{option_map};
 ghost use Rattle.std.specs.Io.KnownBytes.{Appends};
 ghost use Rattle.lsr_config.specs.Configs.{Setup};

@@ -1,5 +1,4 @@
 //! The two ends of one link over sockets of this machine.
-ghost use Rattle.std.specs.Prelude.{◌≡◌};
 
 use lsr_serve::{LinkSockets, ServeFault, UdpWire, open_wires};
 use sorted_rows::Table;

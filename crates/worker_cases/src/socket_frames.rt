@@ -1,5 +1,5 @@
 //! Frames over sockets of this machine.
-ghost use Rattle.std.specs.Prelude.{◌≡◌, ◌<◌, ◌-◌, ◌^◌};
+ghost use Rattle.std.specs.Prelude.{◌<◌, ◌-◌};
 
 use crate::link_ends::{Ends, FAR, NEAR, free_ends, one_link, open_last};
 use lsr_serve::{LinkSockets, ServeFault, open_wires};

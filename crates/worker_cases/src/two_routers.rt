@@ -1,5 +1,5 @@
 //! Two routers over sockets of this machine: a tunnel that begins at the one and ends at the other comes up.
-ghost use Rattle.std.specs.Prelude.{◌≡◌, ◌<◌, ◌^◌, ◌-◌, IfOk, length};
+ghost use Rattle.std.specs.Prelude.{◌≡◌, ◌<◌, ◌-◌, IfOk, length};
 
 use crate::link_ends::{Ends, FAR, NEAR, free_ends, open_last};
 use crate::small_runs::served_by;

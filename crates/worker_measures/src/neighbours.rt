@@ -1,5 +1,4 @@
 //! Neighbours that send, and the wires on which it is counted what was taken of each.
-ghost use Rattle.std.specs.Prelude.{◌≡◌};
 
 use crate::four_links::{LINKS, Load};
 use crate::sending::{CountedWire, Sender};

@@ -1,5 +1,4 @@
 //! A neighbour that sends frames, and the wire that takes them.
-ghost use Rattle.std.specs.Prelude.{◌≡◌};
 
 use std::net::{SocketAddr, UdpSocket};
 use std::sync::atomic::{AtomicU64, Ordering};
@@ -92,9 +91,12 @@ impl<'a, W: Wire> Wire for CountedWire<'a, W> {
         came
     }
 
-    /// Whether the wire has more, of which not all is taken.
-    fn has_more(&self) -> bool {
-        self.taken.load(Ordering::SeqCst) < self.sent && self.wire.has_more()
+    /// A frame that the wire has more, where not all that were sent are taken.
+    fn ahead(&self, index: usize) -> Option<&[u8]> {
+        if self.taken.load(Ordering::SeqCst) >= self.sent {
+            return None;
+        }
+        self.wire.ahead(index)
     }
 
     fn send(&mut self, link: u16, bytes: &[u8]) -> Result<(), WireFault> {

@@ -1,5 +1,5 @@
 -- A text that lacks an address, and not for want of memory.
-use Rattle.std.proofs.Common.{inl, refl, sym, ◌∙◌}
+use Rattle.std.proofs.Common.{inl, sym, ◌∙◌}
 use Rattle.std.proofs.lemmas.Bool.{false≢true}
 use Rattle.lsr_tool.proofs.configuring.read_addresses.Goals as goal
 
