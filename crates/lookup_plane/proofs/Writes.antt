@@ -75,7 +75,7 @@ slot_at-emptied first number true slots from within =
     slot_at-within first number (replicate (length slots) None) from ∙ get_or-replicate (length slots) (number - first) None None within
 slot_at-emptied first number false slots from within = refl
 
-get_or-nothing : (count place : ℕ) → get_or {A = Option Action} (replicate count None) place None ≡ None
+pub get_or-nothing : (count place : ℕ) → get_or {A = Option Action} (replicate count None) place None ≡ None
 get_or-nothing count place =
     elim (leb count place) as (λ t. leb count place ≡ t → get_or {A = Option Action} (replicate count None) place None ≡ None) [
       | true ↦ λ past. get_or_past (replicate count None) place None (rw (length-replicate {A = Option Action} count None) (leb-true count place past))

@@ -12,7 +12,7 @@ use Rattle.lookup_plane.specs.declared.slots.Slots.{Slots}
 
 -- what slots hold
 abbrev pub content : Slots → PublishedTable
-content x = record { first_label = x.first_label; labels = x.labels.items; tunnels = x.tunnels.items; count = x.count }
+content x = record { first_label = x.first_label; labels = x.labels.items; tunnels = x.tunnels; count = x.count }
 
 -- The content shows what these changes make of an empty table, and how many they are. The actions of labels write labels.
 pub record Shows (s : PublishedTable) (changes : List TableChange) : Type 0 where

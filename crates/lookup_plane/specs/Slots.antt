@@ -1,5 +1,5 @@
 -- Slots of actions, one for each number of a range.
-use Rattle.std.specs.Prelude.{ℕ, ◌+◌, ◌-◌, ◌%◌, ◌^◌, Bool, nat_le, if◌then◌else◌, List, [], ◌∷◌, Option, None, length, replicate, slice_index_or, slice_set}
+use Rattle.std.specs.Prelude.{ℕ, ◌+◌, ◌-◌, ◌%◌, ◌^◌, Bool, nat_le, if◌then◌else◌, List, [], ◌∷◌, ◌++◌, Option, None, length, replicate, slice_index_or, slice_set}
 use Rattle.forwarding_table.specs.declared.action.Action.{Action}
 use Rattle.lookup_plane.specs.declared.change.TableChange.{TableChange}
 use Rattle.lookup_plane.specs.declared.slots.PublishedTable.{PublishedTable}
@@ -20,6 +20,10 @@ written first (row ∷ rows) slots = with_slot first row (written first rows slo
 -- slots with nothing in them, where they are cleared
 abbrev pub emptied : Bool → List (Option Action) → List (Option Action)
 emptied cleared slots = if cleared then replicate (length slots) None else slots
+
+-- so many slots: those that are there, and empty ones from there on
+abbrev pub padded : ℕ → List (Option Action) → List (Option Action)
+padded count slots = slots ++ replicate (count - length slots) None
 
 -- what slots hold when a table is opened: of labels from this one on, this many
 abbrev pub opening : ℕ → ℕ → PublishedTable

@@ -10,6 +10,7 @@ mod plane;
 mod reader;
 mod rule;
 mod slots;
+mod tunnel_slots;
 
 pub use change::TableChange;
 pub use closed::Closed;

@@ -5,12 +5,10 @@ ghost use Rattle.lookup_plane.specs.Published.{content};
 ghost use Rattle.lookup_plane.specs.Slots.{absorbed, emptied, opening, slot_at, with_slot, written};
 
 use crate::change::TableChange;
+use crate::tunnel_slots::TunnelSlots;
 use forwarding_table::Action;
 use left_right::Absorb;
 use std::alloc::{AllocError, Global};
-
-/// The numbers that tunnels have: each is a `u16`.
-const TUNNEL_NUMBERS: usize = 65_536;
 
 /// A published table: what is done with each label of a range and with the traffic of each tunnel.
 #[derive(Debug, Drop)]
@@ -20,7 +18,7 @@ pub struct Slots {
     /// What is done with the labels of the range, from that one on.
     pub labels: Vec<Option<Action>>,
     /// What is done with the traffic of tunnels, from number 0 on.
-    pub tunnels: Vec<Option<Action>>,
+    pub tunnels: TunnelSlots,
     /// How many changes it has taken in.
     pub count: u64,
 }
@@ -86,12 +84,12 @@ fn write_labels(slots: &mut [Option<Action>], first: u32, rows: &[(u32, Option<A
 }
 
 /// Writes rows of tunnels, from the last one on.
-fn write_tunnels(slots: &mut [Option<Action>], rows: &[(u16, Option<Action>)])
+fn write_tunnels(slots: &mut TunnelSlots, rows: &[(u16, Option<Action>)])
     ensures { slots.new ≡ written 0 rows.now slots.old }
 {
     let mut rest = rows;
     while let Some((row, before)) = rest.split_last() {
-        set_slot(slots, 0, u32::from(row.0), row.1);
+        slots.set(row.0, row.1);
         rest = before;
     }
 }
@@ -113,7 +111,7 @@ impl Slots {
         Ok(Slots {
             first_label,
             labels: no_actions(alloc, labels)?,
-            tunnels: no_actions(alloc, TUNNEL_NUMBERS)?,
+            tunnels: TunnelSlots::new(alloc)?,
             count: 0,
         })
     }
@@ -127,9 +125,9 @@ impl Slots {
 
     /// What is done with the traffic of a tunnel.
     pub(crate) fn look_tunnel(&self, number: u16) -> Option<Action>
-        ensures { result ≡ slot_at 0 self.now.tunnels.items number }
+        ensures { result ≡ slot_at 0 self.now.tunnels number }
     {
-        slot_at(self.tunnels.as_slice(), 0, u32::from(number))
+        self.tunnels.look(number)
     }
 }
 
@@ -144,13 +142,13 @@ impl Absorb<TableChange> for Slots {
 
     fn absorb_first(&mut self, operation: &TableChange, _other: &Slots) -> Result<(), AllocError> {
         empty(self.labels.as_mut_slice(), operation.cleared);
-        empty(self.tunnels.as_mut_slice(), operation.cleared);
+        self.tunnels.empty(operation.cleared);
         write_labels(
             self.labels.as_mut_slice(),
             self.first_label,
             operation.labels.as_slice(),
         );
-        write_tunnels(self.tunnels.as_mut_slice(), operation.tunnels.as_slice());
+        write_tunnels(&mut self.tunnels, operation.tunnels.as_slice());
         self.count = self.count.wrapping_add(1);
         Ok(())
     }
