@@ -1,3 +1,4 @@
 pub mod Entries
 pub mod Journals
 pub mod Marks
+pub mod Spelled

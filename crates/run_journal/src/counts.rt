@@ -1,11 +1,12 @@
 //! The numbers of a journal.
 
-ghost use Rattle.std.specs.Prelude.{◌≡◌, ◌<◌, ◌≤◌, ◌-◌, ◌^◌, All, IfOk, length};
+ghost use Rattle.std.specs.Prelude.{◌≡◌, ◌<◌, ◌≤◌, ◌-◌, ◌^◌, All, IfOk, IfSome, length};
 ghost use Rattle.run_journal.specs.Marks.{Counts, IsWithin, counted, first_counts, first_marks, is_known, mark_after, receipt_of};
 
 use crate::entry::CountedEntry;
 use crate::mark::Mark;
 use crate::receipt::Receipt;
+use journal_bytes::Bytes;
 use sorted_rows::TryCopy;
 use std::alloc::{AllocError, Global};
 use std::marker::Model;
@@ -102,8 +103,14 @@ impl JournalCounts {
         }
     }
 
-    /// What an entry's port is told of it. The only error is out of memory.
-    pub(crate) fn receipt(&self, alloc: Global, entry: &CountedEntry) -> Result<Receipt, AllocError>
+    /// What an entry's port is told of it, by the event's bytes where these are there already. The only error is out of memory.
+    pub(crate) fn receipt(
+        &self,
+        alloc: Global,
+        entry: &CountedEntry,
+        bytes: Option<Bytes>,
+    ) -> Result<Receipt, AllocError>
+        requires bytes { IfSome bytes (λ bytes. bytes ≡ entry.now.entry.event) }
         requires port { entry.now.entry.port - 1 < length self.now.marks }
         requires low { self.now.number < 2 ^ 62 }
         requires published { self.now.published ≤ self.now.number }
@@ -112,7 +119,10 @@ impl JournalCounts {
     {
         Ok(Receipt {
             mark: self.mark_after(entry),
-            event: entry.entry.event.clone()?,
+            event: match bytes {
+                Some(bytes) => bytes,
+                None => entry.entry.event.clone()?,
+            },
             reply: entry.entry.reply,
             outputs: entry.entry.outputs.try_copy(alloc)?,
         })

@@ -8,6 +8,7 @@ mod locked;
 mod mark;
 mod receipt;
 mod segment;
+mod spelled;
 
 pub use counts::JournalCounts;
 pub use entry::CountedEntry;
@@ -17,6 +18,7 @@ pub use mark::Mark;
 pub use receipt::Receipt;
 pub use router_core::{Datagram, Passed};
 pub use segment::Segment;
+pub use spelled::SpelledEvent;
 
 /// The most ports of a router.
 pub const MAX_PORTS: u16 = 64;

@@ -1,6 +1,6 @@
 //! A router with its journal, as it stands under a lock.
 
-ghost use Rattle.std.specs.Prelude.{◌≡◌, ◌<◌, ◌≤◌, ◌-◌, ◌+◌, ◌^◌, ◌++◌, ◌∷◌, [], All, IfErr, IfOk, List, MatchResult, None, OnErr, OnOk, false, length};
+ghost use Rattle.std.specs.Prelude.{◌≡◌, ◌<◌, ◌≤◌, ◌-◌, ◌+◌, ◌^◌, ◌++◌, ◌∷◌, [], All, IfErr, IfOk, IfSome, List, MatchResult, None, OnErr, OnOk, false, length};
 ghost use Rattle.router_core.specs.States.{opened};
 ghost use Rattle.router_core.specs.Readies.{IsReady};
 ghost use Rattle.lookup_plane.specs.Changes.{IsChangeOf, StartsWith, new_reader, opening_changes};
@@ -8,15 +8,17 @@ ghost use Rattle.lookup_plane.specs.declared.change.TableChange.{TableChange};
 ghost use Rattle.run_journal.specs.Entries.{Knew};
 ghost use Rattle.run_journal.specs.Journals.{IsAnnounced, IsAnswered, IsChangeFor, IsEntered, IsEntryFor, IsKept, IsMarked, IsOpening, IsRefused, IsSegment, IsTableOnce, LeadToTable, early_refusal, opened_journal, rotated, router_in, stretch_of};
 ghost use Rattle.run_journal.specs.Marks.{Follows, first_counts};
+ghost use Rattle.run_journal.specs.Spelled.{IsSpelled, IsWritten};
 
 use crate::counts::JournalCounts;
 use crate::entry::CountedEntry;
 use crate::mark::Mark;
 use crate::receipt::Receipt;
 use crate::segment::Segment;
+use crate::spelled::SpelledEvent;
 use crate::{MAX_ENTRIES, MAX_NUMBER, MAX_PORTS};
 use abstract_paths::Event;
-use journal_bytes::{Entry, Listed, written_event, written_frames};
+use journal_bytes::{Bytes, Entry, Listed, written_event, written_frames};
 use lookup_plane::{LookupReader, OpenFault, Plane, TableChange};
 use lsr_config::Config;
 use lsr_facts::{Refusal, Router, State};
@@ -67,19 +69,32 @@ impl<R: Wait + Drop> Model for Locked<R> {
         IsKept (journal_of l.machine l.opening l.base l.from l.entries.items l.counts l.plane) × (4096 ≤ vec_capacity l.entries) × IsPlaneOf l.machine.router l.plane };
 }
 
-/// The entry of a step that is made ready. The only error is out of memory.
+/// The event as the journal holds it: as it was written before, or written now. The only error is out of memory.
+fn bytes_of(alloc: Global, event: &Event, written: Option<Bytes>) -> Result<Bytes, AllocError>
+    requires { IfSome written (IsWritten event.now) }
+    ensures { IfOk result (IsWritten event.now) }
+{
+    match written {
+        Some(bytes) => Ok(bytes),
+        None => written_event(alloc, event),
+    }
+}
+
+/// The entry of a step that is made ready, with the event as it was written before, if it was. The only error is out of memory.
 fn entry_of(
     alloc: Global,
     port: u16,
     event: &Event,
+    written: Option<Bytes>,
     ready: &Ready,
 ) -> Result<CountedEntry, AllocError>
+    requires { IfSome written (IsWritten event.now) }
     ensures { IfOk result (IsEntryFor port event.now ready.now) }
 {
     Ok(CountedEntry {
         entry: Entry {
             port,
-            event: written_event(alloc, event)?,
+            event: bytes_of(alloc, event, written)?,
             chosen: Listed::from_vec(Vec::from_slice(alloc, ready.chosen())?),
             reply: ready.reply(),
             outputs: written_frames(alloc, ready.outputs())?,
@@ -246,13 +261,16 @@ impl<R: Wait + Drop> Locked<R> {
         Ok(())
     }
 
-    /// The step of an event of a port, made ready, and the entry of it; or why the event is refused. Nothing changes yet.
+    /// The step of an event of a port, made ready, and the entry of it, with the event as it was written before, if it was; or why the
+    /// event is refused. Nothing changes yet.
     fn prepare(
         &self,
         alloc: Global,
         mark: Mark,
         event: &Event,
+        written: Option<Bytes>,
     ) -> Result<(Ready, CountedEntry), Refusal>
+        requires { IfSome written (IsWritten event.now) }
         ensures taken { OnOk result (early_refusal self.now mark event.now ≡ None) }
         ensures ready { IfOk result (λ made. IsReady (router_in self.now) event.now made.0) }
         ensures entry { IfOk result (λ made. IsEntryFor mark.port event.now made.0 made.1) }
@@ -262,7 +280,7 @@ impl<R: Wait + Drop> Locked<R> {
             return Err(refusal);
         }
         let ready = self.machine.ready(alloc, event)?;
-        let entry = entry_of(alloc, mark.port, event, &ready)?;
+        let entry = entry_of(alloc, mark.port, event, written, &ready)?;
         Ok((ready, entry))
     }
 
@@ -276,9 +294,26 @@ impl<R: Wait + Drop> Locked<R> {
         ensures answered { IsAnswered self.old mark event.now result self.new }
         ensures follows { IfOk result (Follows mark) }
     {
+        self.apply_spelled(alloc, mark, event, None)
+    }
+
+    /// Applies an event of a port as [`Locked::apply`] does, which may have been written as the journal holds it before: so less is done
+    /// while others wait for the router.
+    pub fn apply_spelled(
+        &mut self,
+        alloc: Global,
+        mark: Mark,
+        event: &Event,
+        spelled: Option<SpelledEvent>,
+    ) -> Result<Receipt, Refusal>
+        requires { IfSome spelled (IsSpelled event.now) }
+        ensures answered { IsAnswered self.old mark event.now result self.new }
+        ensures follows { IfOk result (Follows mark) }
+    {
         self.soundness();
-        let (ready, entry) = self.prepare(alloc, mark, event)?;
-        let receipt = self.counts.receipt(alloc, &entry)?;
+        let (written, told) = SpelledEvent::parts(spelled);
+        let (ready, entry) = self.prepare(alloc, mark, event, written)?;
+        let receipt = self.counts.receipt(alloc, &entry, told)?;
         self.record(alloc, event, ready, entry)?;
         Ok(receipt)
     }
@@ -288,7 +323,7 @@ impl<R: Wait + Drop> Locked<R> {
     pub fn enter(&mut self, alloc: Global, mark: Mark, event: &Event) -> Result<Mark, Refusal>
         ensures { IsMarked self.old mark event.now result self.new }
     {
-        let (ready, entry) = self.prepare(alloc, mark, event)?;
+        let (ready, entry) = self.prepare(alloc, mark, event, None)?;
         let after = self.counts.mark_after(&entry);
         self.record(alloc, event, ready, entry)?;
         Ok(after)

@@ -11,11 +11,11 @@ pub returns : goal.returns
 returns c = record {
   port_is = refl;
   entry = record {
-    event = c.in_ok-written_event.ensures.bytes ∙ ap event_bytes (sym (made-event c.args.event.now c.args.ready.now));
+    event = c.in_ok-bytes_of.ensures.bytes ∙ ap event_bytes (sym (made-event c.args.event.now c.args.ready.now));
     chosen = c.from_vec.ensures ∙ c.in_ok-from_slice.ensures.items ∙ c.chosen.ensures c.args.event.now;
     replied = c.reply.ensures c.args.event.now;
     sent = c.in_ok-written_frames.ensures ∙ ap (map written_frame) (c.outputs.ensures c.args.event.now);
   };
-  again = c.in_ok-written_event.ensures.again;
+  again = c.in_ok-bytes_of.ensures.again;
   told = λ s is. c.changes_table.ensures s c.args.event.now is;
 }

@@ -7,7 +7,7 @@ use Rattle.run_journal.specs.Marks.{Follows, receipt_of}
 use Rattle.run_journal.proofs.Answering.{is_taken}
 use Rattle.run_journal.proofs.Making.{made-event}
 use Rattle.run_journal.proofs.Following.{known_follows, known_port}
-use Rattle.run_journal.proofs.locked.Locked.apply.Goals as goal
+use Rattle.run_journal.proofs.locked.Locked.apply_spelled.Goals as goal
 
 pub receipt-requires-clause-low : goal.receipt-requires-clause-low
 receipt-requires-clause-low g c =
