@@ -4,5 +4,6 @@ pub mod Naming
 pub mod Passing
 pub mod Refusing
 pub mod Sendings
+pub mod Slicing
 pub mod TakenKinds
 pub mod Turning

@@ -3,6 +3,7 @@ pub mod Chains
 pub mod Early
 pub mod Kept
 pub mod Names
+pub mod Next
 pub mod Refused
 pub mod Tallies
 pub mod Turns

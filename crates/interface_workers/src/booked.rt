@@ -1,10 +1,11 @@
 //! What stands under a core's lock, its ports, and what they are handed with the core's name.
 
-ghost use Rattle.std.specs.Prelude.{◌≡◌, ◌+◌, ◌<◌, ◌≤◌, All, IfErr, IfOk, OnErr, OnOk, length, map};
+ghost use Rattle.std.specs.Prelude.{◌≡◌, ◌+◌, ◌<◌, ◌≤◌, All, IfErr, IfOk, IfSome, OnErr, OnOk, length, map};
 ghost use Rattle.abstract_router.specs.States.{State};
 ghost use Rattle.lookup_plane.specs.Changes.{new_reader};
 ghost use Rattle.run_journal.specs.Journals.{IsAnswered, rotated, stretch_of};
 ghost use Rattle.run_journal.specs.Marks.{Follows, first_marks};
+ghost use Rattle.run_journal.specs.Spelled.{IsSpelled};
 ghost use Rattle.interface_workers.specs.Names.{IsKnown, IsReceiptOf, IsSegmentOf, opened};
 ghost use Rattle.interface_workers.specs.Refused.{MayBeRefused};
 
@@ -17,7 +18,7 @@ use journal_bytes::Frames;
 use lookup_plane::OpenFault;
 use lsr_config::Config;
 use lsr_facts::{Refusal, Router, State};
-use run_journal::{Locked, MAX_PORTS, Mark, Receipt, Segment};
+use run_journal::{Locked, MAX_PORTS, Mark, Receipt, Segment, SpelledEvent};
 use std::alloc::{AllocError, Global};
 use std::marker::{Model, PhantomData};
 use std::sync::Wait;
@@ -201,13 +202,15 @@ impl<L: CoreName, R: Wait + Drop> Booked<L, R> {
         self.locked.router()
     }
 
-    /// Applies an event of a port. What is refused changes neither.
+    /// Applies an event of a port, which may have been written as the journal holds it before. What is refused changes neither.
     pub(crate) fn apply(
         &mut self,
         alloc: Global,
         port: &mut Port<L>,
         event: &Event,
+        spelled: Option<SpelledEvent>,
     ) -> Result<CoreReceipt<L>, Refusal>
+        requires { IfSome spelled (IsSpelled event.now) }
         ensures answered { IsAnswered self.old.locked port.old.mark event.now result self.new.locked }
         ensures follows { IfOk result (λ receipt. Follows port.old.mark receipt × (port.new.mark ≡ receipt.mark)) }
         ensures counted { OnOk result (port.new.share.amount ≡ port.old.share.amount + 1) }
@@ -218,7 +221,7 @@ impl<L: CoreName, R: Wait + Drop> Booked<L, R> {
     {
         self.locked.knew();
         self.locked.soundness();
-        match self.locked.apply(alloc, port.mark, event) {
+        match self.locked.apply_spelled(alloc, port.mark, event, spelled) {
             Ok(receipt) => {
                 self.calls.add(&mut port.share, 1);
                 port.mark = receipt.mark();

@@ -1,10 +1,11 @@
 //! A router under its lock, which many threads feed.
 
-ghost use Rattle.std.specs.Prelude.{◌≡◌, ◌+◌, ◌≤◌, ℕ, All, IfErr, IfOk, OnErr, OnOk, length, map};
+ghost use Rattle.std.specs.Prelude.{◌≡◌, ◌+◌, ◌≤◌, ℕ, All, IfErr, IfOk, IfSome, OnErr, OnOk, length, map};
 ghost use Rattle.abstract_router.specs.States.{State};
 ghost use Rattle.journal_bytes.specs.Events.{event_bytes};
 ghost use Rattle.lookup_plane.specs.Changes.{new_reader};
 ghost use Rattle.run_journal.specs.Marks.{Follows, first_marks};
+ghost use Rattle.run_journal.specs.Spelled.{IsSpelled};
 ghost use Rattle.interface_workers.specs.Names.{IsKnown, IsReceiptOf, IsSegmentOf};
 ghost use Rattle.interface_workers.specs.Refused.{MayBeRefused};
 
@@ -17,7 +18,7 @@ use abstract_paths::Event;
 use lookup_plane::OpenFault;
 use lsr_config::Config;
 use lsr_facts::{Refusal, Router, State};
-use run_journal::{MAX_PORTS, Segment};
+use run_journal::{MAX_PORTS, Segment, SpelledEvent};
 use sorted_rows::TryCopy;
 use std::alloc::{AllocError, Global};
 use std::sync::ledger::Blank;
@@ -63,7 +64,9 @@ impl<L: CoreName, R: Wait + Drop> HeldCore<'_, L, R> {
         alloc: Global,
         port: &mut Port<L>,
         event: &Event,
+        spelled: Option<SpelledEvent>,
     ) -> Result<CoreReceipt<L>, Refusal>
+        requires { IfSome spelled (IsSpelled event.now) }
         ensures follows { IfOk result (λ receipt. Follows port.old.mark receipt × (port.new.mark ≡ receipt.mark)) }
         ensures event { IfOk result (λ receipt. receipt.event ≡ event_bytes event.now) }
         ensures taken { port.new.taken ≡ port.old.taken }
@@ -71,7 +74,7 @@ impl<L: CoreName, R: Wait + Drop> HeldCore<'_, L, R> {
         ensures refused { IfErr result (MayBeRefused event.now) }
         ensures kept { OnErr result (port.new ≡ port.old) }
     {
-        self.guard.apply(alloc, port, event)
+        self.guard.apply(alloc, port, event, spelled)
     }
 }
 
@@ -116,8 +119,29 @@ impl<L: CoreName, R: Wait + Drop, K: KeepSegments + Drop> Core<L, R, K> {
         ensures refused { IfErr result (MayBeRefused event.now) }
         ensures kept { OnErr result (port.new ≡ port.old) }
     {
+        self.feed_spelled(rt, alloc, port, event, None)
+    }
+
+    /// Feeds an event of a port, as [`Core::feed`] does, which may have been written as the journal holds it before.
+    pub(crate) fn feed_spelled<W: Wait>(
+        &self,
+        rt: &W,
+        alloc: Global,
+        port: &mut Port<L>,
+        event: &Event,
+        spelled: Option<SpelledEvent>,
+    ) -> Result<CoreReceipt<L>, Refusal>
+        requires { IfSome spelled (IsSpelled event.now) }
+        ensures follows { IfOk result (λ receipt. Follows port.old.mark receipt × (port.new.mark ≡ receipt.mark)) }
+        ensures event { IfOk result (λ receipt. receipt.event ≡ event_bytes event.now) }
+        ensures counted { OnOk result (port.new.share.amount ≡ port.old.share.amount + 1) }
+        ensures taken { port.new.taken ≡ port.old.taken }
+        ensures own { IfOk result (IsReceiptOf L.config) }
+        ensures refused { IfErr result (MayBeRefused event.now) }
+        ensures kept { OnErr result (port.new ≡ port.old) }
+    {
         let mut guard = self.lock.lock(rt);
-        guard.apply(alloc, port, event)
+        guard.apply(alloc, port, event, spelled)
     }
 
     /// The core with its router kept, until that is let go. Waits for others who use the core.

@@ -1,13 +1,15 @@
-//! Datagrams that are read before their turn, while nobody waits for the router.
+//! Events that are read, and written as a journal holds them, before their turn, while nobody waits for the router.
 
-ghost use Rattle.std.specs.Prelude.{◌≡◌, IfNone, IfSome};
+ghost use Rattle.std.specs.Prelude.{◌≡◌, IfSome, Ok};
+ghost use Rattle.datagrams.specs.declared.datagram.Datagram.TheVariants as datagrams;
 ghost use Rattle.interface_workers.specs.Early.{IsAlways};
-ghost use Rattle.link_frames.specs.Frames.{kind_of};
 
 use crate::names::CoreName;
 use crate::wire::Wire;
+use abstract_paths::Event;
 use datagrams::{Datagram, read_unlabelled};
-use lsr_facts::{Refusal, Router};
+use lsr_facts::Router;
+use run_journal::SpelledEvent;
 use std::alloc::Global;
 use std::collections::VecDeque;
 use std::marker::{Model, PhantomData};
@@ -15,24 +17,45 @@ use std::marker::{Model, PhantomData};
 /// The most datagrams that are read before their turn.
 const MOST_EARLY: usize = 128;
 
-/// A datagram that was read before its turn, as one that came over the link to the router of this name.
+/// An event that was read before its turn, and how a journal holds it. Contracts see the event.
+#[derive(Drop)]
+pub(crate) struct EarlyEvent {
+    /// The event.
+    pub(crate) event: Event,
+    /// The event as a journal holds it.
+    pub(crate) spelled: SpelledEvent,
+}
+
+impl Model for EarlyEvent {
+    ghost use Rattle.abstract_paths.specs.declared.events.Event.{Event};
+    ghost use Rattle.run_journal.specs.Spelled.{IsSpelled};
+
+    ghost Value = { Event };
+
+    ghost view = { λ e. e.event };
+
+    ghost invariant = { λ e. IsSpelled e.event e.spelled };
+}
+
+/// A datagram that was read before its turn, as one that came over the link to the router of this name, and says an event.
 #[derive(Drop)]
 struct EarlyRead<L: CoreName> {
     link: u16,
     bytes: Vec<u8>,
-    answer: Result<Datagram, Refusal>,
+    event: EarlyEvent,
     name: PhantomData<L>,
 }
 
 impl<L: CoreName> Model for EarlyRead<L> {
-    ghost use Rattle.std.specs.Prelude.{ℕ, List};
+    ghost use Rattle.std.specs.Prelude.{ℕ, List, Ok};
+    ghost use Rattle.datagrams.specs.declared.datagram.Datagram.TheVariants as datagrams;
     ghost use Rattle.interface_workers.specs.Early.{IsAlways};
 
     ghost Value = { ℕ × List ℕ };
 
     ghost view = { λ e. (e.link, e.bytes.items) };
 
-    ghost invariant = { λ e. IsAlways L.config.router e.link e.bytes.items e.answer };
+    ghost invariant = { λ e. IsAlways L.config.router e.link e.bytes.items (Ok (datagrams.Event e.event)) };
 }
 
 impl<L: CoreName> EarlyRead<L> {
@@ -40,43 +63,46 @@ impl<L: CoreName> EarlyRead<L> {
     fn of(alloc: Global, router: &Router, link: u16, bytes: &[u8]) -> Option<EarlyRead<L>>
         requires { router.now ≡ L.config.router }
     {
-        let answer = read_unlabelled(alloc, router, link, bytes)?;
-        if !matches!(answer, Ok(Datagram::Event(_))) {
+        let Some(Ok(Datagram::Event(event))) = read_unlabelled(alloc, router, link, bytes) else {
             return None;
-        }
-        match Vec::from_slice(alloc, bytes) {
-            Ok(bytes) => Some(EarlyRead {
-                link,
-                bytes,
-                answer,
-                name: PhantomData,
-            }),
-            Err(_) => None,
-        }
+        };
+        let Ok(spelled) = SpelledEvent::of(alloc, &event) else {
+            return None;
+        };
+        let Ok(bytes) = Vec::from_slice(alloc, bytes) else {
+            return None;
+        };
+        Some(EarlyRead {
+            link,
+            bytes,
+            event: EarlyEvent { event, spelled },
+            name: PhantomData,
+        })
     }
 
-    /// What it is, where it came over this link and has these bytes.
-    fn into_answer(self, link: u16, bytes: &[u8]) -> Option<Result<Datagram, Refusal>>
-        ensures { IfSome result (IsAlways L.config.router link bytes.now) }
+    /// The event, where the datagram came over this link and has these bytes.
+    fn into_event(self, link: u16, bytes: &[u8]) -> Option<EarlyEvent>
+        ensures { IfSome result (λ event. IsAlways L.config.router link bytes.now (Ok (datagrams.Event event))) }
     {
         let EarlyRead {
             link: own_link,
             bytes: own_bytes,
-            answer,
+            event,
             name: _,
         } = self;
         if own_link == link && own_bytes.as_slice() == bytes {
-            Some(answer)
+            Some(event)
         } else {
             None
         }
     }
 }
 
-/// What the next datagrams of a wire are, in their order, as far as they were read before their turn.
+/// What the next datagrams of a wire say, in their order, as far as they were read before their turn.
 #[derive(Drop)]
 pub(crate) struct EarlyReads<L: CoreName> {
     reads: VecDeque<Option<EarlyRead<L>>>,
+    served: Vec<Event>,
 }
 
 impl<L: CoreName> EarlyReads<L> {
@@ -84,7 +110,13 @@ impl<L: CoreName> EarlyReads<L> {
     pub(crate) fn new(alloc: Global) -> EarlyReads<L> {
         EarlyReads {
             reads: VecDeque::new(alloc),
+            served: Vec::new(alloc),
         }
+    }
+
+    /// Keeps an event that was served until the next ones are read, so that its memory isn't given back while others wait for the router.
+    pub(crate) fn retire(&mut self, event: Event) {
+        let _full = self.served.push(event);
     }
 
     /// Reads what the wire has for the next turns, as it came over the link: [`MOST_EARLY`] datagrams at most, and none while some are left.
@@ -94,6 +126,7 @@ impl<L: CoreName> EarlyReads<L> {
         if !self.reads.is_empty() {
             return;
         }
+        self.served.clear();
         for index in 0..MOST_EARLY {
             let Some(bytes) = wire.ahead(index) else {
                 return;
@@ -105,31 +138,14 @@ impl<L: CoreName> EarlyReads<L> {
         }
     }
 
-    /// What the next datagram is, where it was read before and is the one that was expected: with these bytes, over this link.
-    fn take(&mut self, link: u16, bytes: &[u8]) -> Option<Result<Datagram, Refusal>>
-        ensures { IfSome result (IsAlways L.config.router link bytes.now) }
+    /// The event that the next datagram says, where that was read before and is the one that was expected: with these bytes, over this
+    /// link.
+    pub(crate) fn take(&mut self, link: u16, bytes: &[u8]) -> Option<EarlyEvent>
+        ensures { IfSome result (λ event. IsAlways L.config.router link bytes.now (Ok (datagrams.Event event))) }
     {
         match self.reads.pop_front() {
-            Some(Some(read)) => read.into_answer(link, bytes),
+            Some(Some(read)) => read.into_event(link, bytes),
             _ => None,
-        }
-    }
-
-    /// What the next datagram is, as [`read_unlabelled`] says: read before, if it was, and else now.
-    pub(crate) fn read(
-        &mut self,
-        alloc: Global,
-        router: &Router,
-        link: u16,
-        bytes: &[u8],
-    ) -> Option<Result<Datagram, Refusal>>
-        requires { router.now ≡ L.config.router }
-        ensures answer { IfSome result (IsAlways router.now link bytes.now) }
-        ensures labelled { IfNone result (kind_of bytes.now ≡ 2) }
-    {
-        match self.take(link, bytes) {
-            Some(answer) => Some(answer),
-            None => read_unlabelled(alloc, router, link, bytes),
         }
     }
 }

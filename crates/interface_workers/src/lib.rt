@@ -10,6 +10,7 @@ mod gate;
 mod handled;
 mod keeping;
 mod names;
+mod next;
 mod readers;
 mod reading;
 mod wire;

@@ -1,16 +1,23 @@
 //! What a datagram is, by what readers of the label table see.
 
-ghost use Rattle.std.specs.Prelude.{◌≡◌, ◌≢◌, IfNone, IfSome};
+ghost use Rattle.std.specs.Prelude.{◌≡◌, ◌≢◌, ◌≤◌, IfNone, IfSome, drop, length};
 ghost use Rattle.forwarding_table.specs.Forwarding.{forward_of};
 ghost use Rattle.datagrams.specs.Datagrams.{IsDatagram};
 ghost use Rattle.link_frames.specs.Frames.{kind_of};
 ghost use Rattle.lookup_plane.specs.Changes.{StartsWith, look};
+ghost use Rattle.interface_workers.specs.Next.{StandsFor};
+ghost use Rattle.interface_workers.specs.Turns.{IsTaken};
+ghost use Rattle.interface_workers.specs.Wires.Arrival.{Came};
+ghost use Rattle.interface_workers.specs.declared.worker.Taken.{Taken};
 
 use crate::early::EarlyReads;
 use crate::names::CoreName;
+use crate::next::Next;
 use crate::readers::CoreReader;
+use crate::worker::Taken;
 use datagrams::{Datagram, Forwards, read_datagram, read_unlabelled};
 use forwarding_table::Forwarding;
+use frame_rewriting::{ROOM, rewrite};
 use label_stacks::Stack;
 use lookup_plane::Lookups;
 use lsr_facts::{Refusal, Router};
@@ -78,24 +85,64 @@ pub fn read_by<L: Ledger>(
     }
 }
 
-/// What a datagram is, as [`read_by`] says, of the router of the reader's name: as it was read before its turn, if it was.
-pub(crate) fn read_next<L: CoreName>(
+/// What a turn serves of a labelled frame, which stands in the buffer after room for more labels: where it goes on, it is rewritten there,
+/// and takes no memory.
+fn next_labelled<'a, L: Ledger>(
+    alloc: Global,
+    router: &Router,
+    reader: CoreReader<L>,
+    link: u16,
+    buffer: &'a mut [u8],
+) -> (Next<'a>, CoreReader<L>)
+    requires room { ROOM ≤ length buffer.old }
+    requires labelled { kind_of (drop ROOM buffer.old) ≡ 2 }
+    ensures took { (taken : Taken) × StandsFor result.0 taken × IsTaken router.now result.1.seen link (Came (drop ROOM buffer.old)) taken }
+    ensures later { StartsWith result.1.seen reader.seen }
+    ensures learnt { result.1.at_least ≡ reader.at_least }
+{
+    let lookups = match reader.enter() {
+        Ok(lookups) => lookups,
+        Err(reader) => return (Next::Taken(Taken::NotShown), reader),
+    };
+    let seen = Seen { lookups: &lookups };
+    let next = match rewrite(&seen, buffer) {
+        Some(sent) => Next::Rewritten {
+            link: sent.link,
+            bytes: &buffer[sent.start..],
+        },
+        None => Next::Taken(Taken::Came(read_datagram(
+            alloc,
+            router,
+            &seen,
+            link,
+            &buffer[ROOM..],
+        ))),
+    };
+    (next, CoreReader::leave(lookups))
+}
+
+/// What a turn serves of a datagram that came over a link, to the router of the reader's name, and stands in the buffer after room for more
+/// labels: as it was read before its turn, if it was.
+pub(crate) fn read_next<'a, L: CoreName>(
     alloc: Global,
     router: &Router,
     early: &mut EarlyReads<L>,
     reader: CoreReader<L>,
     link: u16,
-    bytes: &[u8],
-) -> (Option<Result<Datagram, Refusal>>, CoreReader<L>)
-    requires { router.now ≡ L.config.router }
-    ensures answer { IfSome result.0 (IsDatagram router.now (forward_of (look result.1.seen)) link bytes.now) }
-    ensures labelled { IfNone result.0 (kind_of bytes.now ≡ 2) }
-    ensures unlabelled { kind_of bytes.now ≢ 2 → result.1 ≡ reader }
+    buffer: &'a mut [u8],
+) -> (Next<'a>, CoreReader<L>)
+    requires router { router.now ≡ L.config.router }
+    requires room { ROOM ≤ length buffer.old }
+    ensures took { (taken : Taken) × StandsFor result.0 taken × IsTaken router.now result.1.seen link (Came (drop ROOM buffer.old)) taken }
+    ensures unlabelled { kind_of (drop ROOM buffer.old) ≢ 2 → result.1 ≡ reader }
     ensures later { StartsWith result.1.seen reader.seen }
     ensures learnt { result.1.at_least ≡ reader.at_least }
 {
-    match early.read(alloc, router, link, bytes) {
-        Some(answer) => (Some(answer), reader),
-        None => read_labelled(alloc, router, reader, link, bytes),
+    if let Some(event) = early.take(link, &buffer[ROOM..]) {
+        return (Next::Early(event), reader);
+    }
+    match read_unlabelled(alloc, router, link, &buffer[ROOM..]) {
+        Some(answer) => (Next::Taken(Taken::Came(answer)), reader),
+        None => next_labelled(alloc, router, reader, link, buffer),
     }
 }

@@ -1,35 +1,40 @@
 //! A worker: it takes frames from a link's wire, feeds the core what they say, and sends what the core answers.
 
-ghost use Rattle.std.specs.Prelude.{◌≡◌, ◌≢◌, ◌+◌, ◌-◌, ◌^◌, ◌<◌, ◌≤◌, ◌⊎◌, ◌∷◌, ℕ, All, false, true, [], IfOk, List, OnErr, length, vec_capacity};
+ghost use Rattle.std.specs.Prelude.{◌≡◌, ◌+◌, ◌-◌, ◌^◌, ◌<◌, ◌≤◌, ◌⊎◌, ◌∷◌, ℕ, All, false, true, [], IfOk, IfSome, List, OnErr, length, vec_capacity};
 ghost use Rattle.interface_workers.specs.Chains.{AddsUp, AreHandedOut, HasRoom, IsChain, IsFed, IsWorkOf, StaysWorkOf, WorkGoesOn};
 ghost use Rattle.interface_workers.specs.Names.{IsReceiptOf, IsSegmentOf};
 ghost use Rattle.interface_workers.specs.Tallies.{counted, with_lost};
 ghost use Rattle.interface_workers.specs.Turns.{AreAmongFailures, HasSent, IsEventServed, IsNoWork, IsPassedOn, IsRunOf, IsServed, IsTaken, IsTallyOf, IsTurn, IsUnlabelled};
 ghost use Rattle.interface_workers.specs.Wires.{AreSent, Arrival, Sending, after};
-ghost use Rattle.interface_workers.specs.Wires.Arrival.{Came};
-ghost use Rattle.link_frames.specs.Frames.{kind_of};
+ghost use Rattle.interface_workers.specs.Next.{StandsFor};
+ghost use Rattle.link_frames.specs.Frames.{frame_bytes};
+ghost use Rattle.link_frames.specs.declared.frame.Frame.{Frame};
+ghost use Rattle.datagrams.specs.declared.datagram.Passed.TheVariants as passes;
 ghost use Rattle.lookup_plane.specs.Changes.{StartsWith};
+ghost use Rattle.run_journal.specs.Spelled.{IsSpelled};
 
 use crate::booked::{CoreReceipt, Port};
 use crate::cores::{Core, HeldCore};
-use crate::early::EarlyReads;
+use crate::early::{EarlyEvent, EarlyReads};
 use crate::gate::Gate;
 use crate::handled::{Handled, Tally};
 use crate::keeping::KeepSegments;
 use crate::names::CoreName;
+use crate::next::Next;
 use crate::readers::CoreReader;
 use crate::reading::read_next;
 use crate::wire::Wire;
 use abstract_paths::Event;
+use frame_rewriting::ROOM;
 use journal_bytes::WrittenFrame;
 use lsr_facts::Refusal;
 use rsvp_messages::frame_bytes;
-use run_journal::{Datagram, Passed, Receipt, Segment};
+use run_journal::{Datagram, Passed, Receipt, Segment, SpelledEvent};
 use std::alloc::{AllocError, Global};
 use std::sync::Wait;
 
 /// The most bytes of a datagram.
-const BUFFER_LEN: usize = 65_536;
+const MAX_DATAGRAM_LEN: usize = 65_536;
 
 /// What a worker did: the receipts of its entries, the segments that it took where the journal was full, how many of the datagrams that
 /// it took became what, and how many turns it made.
@@ -81,6 +86,20 @@ fn send_all<W: Wire>(wire: &mut W, frames: &[WrittenFrame])
     }
 }
 
+/// Carries a frame that is passed on by its labels, over the link of this number.
+fn send_on<W: Wire>(wire: &mut W, link: u16, bytes: &[u8]) -> Handled
+    ensures { (frame : Frame) → bytes.now ≡ frame_bytes frame
+        → HasSent (IsPassedOn (passes.Sent link frame) result) (W.history wire.old) (W.history wire.new) }
+{
+    if is_spent(wire) {
+        return Handled::NotCarried;
+    }
+    match wire.send(link, bytes) {
+        Ok(()) => Handled::Forwarded,
+        Err(_) => Handled::NotCarried,
+    }
+}
+
 /// Carries a frame that is passed on by its labels, where there is memory for its bytes. A payload that has arrived goes no further.
 fn pass_on<W: Wire>(alloc: Global, wire: &mut W, passed: &Passed) -> Handled
     ensures { HasSent (IsPassedOn passed.now result) (W.history wire.old) (W.history wire.new) }
@@ -88,21 +107,14 @@ fn pass_on<W: Wire>(alloc: Global, wire: &mut W, passed: &Passed) -> Handled
     let Passed::Sent { link, frame } = passed else {
         return Handled::Delivered;
     };
-    let Ok(bytes) = frame_bytes(alloc, frame) else {
-        return Handled::Refused(Refusal::NoMemory);
-    };
-    if is_spent(wire) {
-        return Handled::NotCarried;
-    }
-    match wire.send(*link, bytes.as_slice()) {
-        Ok(()) => Handled::Forwarded,
-        Err(_) => Handled::NotCarried,
+    match frame_bytes(alloc, frame) {
+        Ok(bytes) => send_on(wire, *link, bytes.as_slice()),
+        Err(_) => Handled::Refused(Refusal::NoMemory),
     }
 }
 
 /// What a turn took from its wire.
-#[derive(Drop)]
-enum Taken {
+pub(crate) enum Taken {
     /// Nothing came in the wire's time.
     Nothing,
     /// The wire failed, and gave nothing.
@@ -111,6 +123,16 @@ enum Taken {
     NotShown,
     /// A datagram came: what it is, or why it is refused.
     Came(Result<Datagram, Refusal>),
+}
+
+/// Written out, so that it is dropped by one call, whatever it holds.
+impl Drop for Taken {
+    fn drop(self) {
+        match self {
+            Taken::Nothing | Taken::WireFailed | Taken::NotShown => {}
+            Taken::Came(_answer) => {}
+        }
+    }
 }
 
 /// Where a worker stands: the core that it feeds, the gate between them, and what it waits and takes memory by.
@@ -161,7 +183,9 @@ impl<'a, L: CoreName, R: Wait + Drop, K: KeepSegments + Drop, T: Wait, G: Gate> 
         held: &mut Option<HeldCore<'a, L, R>>,
         port: &mut Port<L>,
         event: &Event,
+        spelled: Option<SpelledEvent>,
     ) -> Result<CoreReceipt<L>, Refusal>
+        requires { IfSome spelled (IsSpelled event.now) }
         ensures fed { IsFed port.old.mark event.now result port.new.mark }
         ensures taken { port.new.taken ≡ port.old.taken }
         ensures own { IfOk result (IsReceiptOf L.config) }
@@ -170,8 +194,10 @@ impl<'a, L: CoreName, R: Wait + Drop, K: KeepSegments + Drop, T: Wait, G: Gate> 
         let call = mark.place.saturating_add(1);
         self.gate.enter(mark.port, call);
         let answer = match held {
-            Some(held) => held.feed(self.alloc, port, event),
-            None => self.core.feed(self.rt, self.alloc, port, event),
+            Some(held) => held.feed(self.alloc, port, event, spelled),
+            None => self
+                .core
+                .feed_spelled(self.rt, self.alloc, port, event, spelled),
         };
         self.gate.leave(mark.port, call);
         answer
@@ -185,8 +211,10 @@ impl<'a, L: CoreName, R: Wait + Drop, K: KeepSegments + Drop, T: Wait, G: Gate> 
         port: &mut Port<L>,
         segments: &mut Vec<Segment>,
         event: &Event,
+        spelled: Option<SpelledEvent>,
     ) -> Result<CoreReceipt<L>, Refusal>
-        requires { length segments.old.items < vec_capacity segments.old }
+        requires room { length segments.old.items < vec_capacity segments.old }
+        requires spelled { IfSome spelled (IsSpelled event.now) }
         ensures fed { IsFed port.old.mark event.now result port.new.mark }
         ensures segments { length segments.new.items ≤ length segments.old.items + 1 }
         ensures room { vec_capacity segments.new ≡ vec_capacity segments.old }
@@ -194,11 +222,11 @@ impl<'a, L: CoreName, R: Wait + Drop, K: KeepSegments + Drop, T: Wait, G: Gate> 
         ensures own { IfOk result (IsReceiptOf L.config) }
         ensures stays { All (IsSegmentOf L.config) segments.old.items → All (IsSegmentOf L.config) segments.new.items }
     {
-        match self.feed_once(held, port, event) {
+        match self.feed_once(held, port, event, spelled) {
             Err(Refusal::JournalFull) => {
                 *held = None;
                 segments.push_reserved(self.core.rotate(self.rt, self.alloc, port)?.into_segment());
-                self.feed_once(held, port, event)
+                self.feed_once(held, port, event, None)
             }
             answer => answer,
         }
@@ -213,8 +241,10 @@ impl<'a, L: CoreName, R: Wait + Drop, K: KeepSegments + Drop, T: Wait, G: Gate> 
         wire: &mut W,
         work: &mut Work,
         event: &Event,
+        spelled: Option<SpelledEvent>,
     ) -> Handled
-        requires { HasRoom work.old }
+        requires room { HasRoom work.old }
+        requires spelled { IfSome spelled (IsSpelled event.now) }
         ensures goes_on { WorkGoesOn work.old port.old.mark work.new port.new.mark }
         ensures handed_out { AreHandedOut port.old.taken work.old.segments.items port.new.taken work.new.segments.items }
         ensures own { StaysWorkOf L.config work.old work.new }
@@ -222,7 +252,7 @@ impl<'a, L: CoreName, R: Wait + Drop, K: KeepSegments + Drop, T: Wait, G: Gate> 
         ensures tally { (work.new.tally ≡ work.old.tally) × (work.new.turns ≡ work.old.turns) }
     {
         self.hold_for_more(held, wire);
-        match self.feed_rotating(held, port, &mut work.segments, event) {
+        match self.feed_rotating(held, port, &mut work.segments, event, spelled) {
             Ok(receipt) => {
                 send_all(wire, receipt.outputs().as_slice());
                 work.receipts.push_reserved(receipt.into_receipt());
@@ -232,48 +262,64 @@ impl<'a, L: CoreName, R: Wait + Drop, K: KeepSegments + Drop, T: Wait, G: Gate> 
         }
     }
 
-    /// Asks the wire for a frame once: what came, as over the link. The label table is asked for labelled frames alone. The reader comes
-    /// back: it has seen no less, and nothing more but for a labelled frame.
-    fn receive<W: Wire>(
+    /// Asks the wire for a frame once: what the turn is to serve, as it came over the link. The label table is asked for labelled frames
+    /// alone. The reader comes back: it has seen no less, and nothing more but for a labelled frame.
+    fn receive<'b, W: Wire>(
         &self,
         early: &mut EarlyReads<L>,
         reader: CoreReader<L>,
         link: u16,
         wire: &mut W,
-        buffer: &mut [u8],
-    ) -> (Taken, CoreReader<L>)
-        requires { (W.history wire.old).failed < 2 ^ 64 - 1 }
-        ensures took { (arrival : Arrival) × IsTaken self.now.core.now.router result.1.seen link arrival result.0
+        buffer: &'b mut [u8],
+    ) -> (Next<'b>, CoreReader<L>)
+        requires failed { (W.history wire.old).failed < 2 ^ 64 - 1 }
+        requires room { ROOM ≤ length buffer.old }
+        ensures took { (arrival : Arrival) × (taken : Taken) × StandsFor result.0 taken × IsTaken self.now.core.now.router result.1.seen link arrival taken
             × (W.history wire.new ≡ after (W.history wire.old) (arrival ∷ []) []) × (IsUnlabelled arrival → result.1 ≡ reader) }
         ensures later { StartsWith result.1.seen reader.seen }
         ensures learnt { result.1.at_least ≡ reader.at_least }
     {
-        match wire.receive(buffer) {
-            Ok(Some(len)) => self.read(early, reader, link, &buffer[..len]),
-            Ok(None) => (Taken::Nothing, reader),
-            Err(_) => (Taken::WireFailed, reader),
+        match wire.receive(&mut buffer[ROOM..]) {
+            Ok(Some(len)) => {
+                let router = self.core.router();
+                read_next(
+                    self.alloc,
+                    router,
+                    early,
+                    reader,
+                    link,
+                    &mut buffer[..ROOM + len],
+                )
+            }
+            Ok(None) => (Next::Taken(Taken::Nothing), reader),
+            Err(_) => (Next::Taken(Taken::WireFailed), reader),
         }
     }
 
-    /// What a frame is that came over the link. The reader comes back: it has seen no less, and nothing more but for a labelled frame.
-    fn read(
+    /// Feeds an event that came, and the reader learns of its receipt. Nothing is counted yet.
+    fn serve_arrived<W: Wire>(
         &self,
-        early: &mut EarlyReads<L>,
-        reader: CoreReader<L>,
-        link: u16,
-        bytes: &[u8],
-    ) -> (Taken, CoreReader<L>)
-        ensures took { IsTaken self.now.core.now.router result.1.seen link (Came bytes.now) result.0 }
-        ensures unlabelled { kind_of bytes.now ≢ 2 → result.1 ≡ reader }
-        ensures later { StartsWith result.1.seen reader.seen }
-        ensures learnt { result.1.at_least ≡ reader.at_least }
+        held: &mut Option<HeldCore<'a, L, R>>,
+        port: &mut Port<L>,
+        reader: &mut CoreReader<L>,
+        wire: &mut W,
+        work: &mut Work,
+        event: &Event,
+        spelled: Option<SpelledEvent>,
+    ) -> Handled
+        requires room { HasRoom work.old }
+        requires spelled { IfSome spelled (IsSpelled event.now) }
+        ensures goes_on { WorkGoesOn work.old port.old.mark work.new port.new.mark }
+        ensures handed_out { AreHandedOut port.old.taken work.old.segments.items port.new.taken work.new.segments.items }
+        ensures own { StaysWorkOf L.config work.old work.new }
+        ensures served { HasSent (IsEventServed event.now result work.old.receipts.items work.new.receipts.items) (W.history wire.old) (W.history wire.new) }
+        ensures tally { (work.new.tally ≡ work.old.tally) × (work.new.turns ≡ work.old.turns) }
+        ensures seen { reader.new.seen ≡ reader.old.seen }
+        ensures learnt { reader.old.at_least ≤ reader.new.at_least }
     {
-        let router = self.core.router();
-        let (answer, reader) = read_next(self.alloc, router, early, reader, link, bytes);
-        match answer {
-            Some(answer) => (Taken::Came(answer), reader),
-            None => (Taken::NotShown, reader),
-        }
+        let handled = self.serve_event(held, port, wire, work, event, spelled);
+        reader.learn(port);
+        handled
     }
 
     /// Serves what was taken, if anything was. Nothing is counted yet.
@@ -324,15 +370,49 @@ impl<'a, L: CoreName, R: Wait + Drop, K: KeepSegments + Drop, T: Wait, G: Gate> 
     {
         match answer {
             Ok(Datagram::Event(event)) => {
-                let handled = self.serve_event(held, port, wire, work, event);
-                reader.learn(port);
-                handled
+                self.serve_arrived(held, port, reader, wire, work, event, None)
             }
             Ok(Datagram::Passed(passed)) => {
                 *held = None;
                 pass_on(self.alloc, wire, passed)
             }
             Err(refusal) => Handled::of_refusal(*refusal),
+        }
+    }
+
+    /// Serves what a turn is to serve. Nothing is counted yet.
+    fn serve_next<W: Wire>(
+        &self,
+        held: &mut Option<HeldCore<'a, L, R>>,
+        early: &mut EarlyReads<L>,
+        port: &mut Port<L>,
+        reader: &mut CoreReader<L>,
+        wire: &mut W,
+        work: &mut Work,
+        next: Next<'_>,
+    ) -> Handled
+        requires { HasRoom work.old }
+        ensures goes_on { WorkGoesOn work.old port.old.mark work.new port.new.mark }
+        ensures handed_out { AreHandedOut port.old.taken work.old.segments.items port.new.taken work.new.segments.items }
+        ensures own { StaysWorkOf L.config work.old work.new }
+        ensures served { (taken : Taken) → StandsFor next.entry taken
+            → HasSent (IsServed taken result work.old.receipts.items work.new.receipts.items) (W.history wire.old) (W.history wire.new) }
+        ensures tally { (work.new.tally ≡ work.old.tally) × (work.new.turns ≡ work.old.turns) }
+        ensures seen { reader.new.seen ≡ reader.old.seen }
+        ensures learnt { reader.old.at_least ≤ reader.new.at_least }
+    {
+        match next {
+            Next::Taken(taken) => self.serve_taken(held, port, reader, wire, work, &taken),
+            Next::Early(EarlyEvent { event, spelled }) => {
+                let spelled = Some(spelled);
+                let handled = self.serve_arrived(held, port, reader, wire, work, &event, spelled);
+                early.retire(event);
+                handled
+            }
+            Next::Rewritten { link, bytes } => {
+                *held = None;
+                send_on(wire, link, bytes)
+            }
         }
     }
 
@@ -352,6 +432,8 @@ impl<'a, L: CoreName, R: Wait + Drop, K: KeepSegments + Drop, T: Wait, G: Gate> 
         requires room { HasRoom work.old }
         requires turns { work.old.turns < 2 ^ 32 - 1 }
         requires failed { (W.history wire.old).failed < 2 ^ 64 - 1 }
+        requires buffer { ROOM ≤ length buffer.old }
+        ensures buffer { length buffer.new ≡ length buffer.old }
         ensures turn { IsTurn self.now.core.now.router link
             (record { work = work.old; mark = port.old.mark; seen = reader.seen; history = W.history wire.old })
             (record { work = work.new; mark = port.new.mark; seen = result.seen; history = W.history wire.new }) }
@@ -359,10 +441,10 @@ impl<'a, L: CoreName, R: Wait + Drop, K: KeepSegments + Drop, T: Wait, G: Gate> 
         ensures handed_out { AreHandedOut port.old.taken work.old.segments.items port.new.taken work.new.segments.items }
         ensures own { StaysWorkOf L.config work.old work.new }
     {
-        let (taken, mut reader) = self.receive(early, reader, link, wire, buffer);
+        let (next, mut reader) = self.receive(early, reader, link, wire, buffer);
         self.read_early(held, early, link, wire);
         let failures = wire.failures();
-        let handled = self.serve_taken(held, port, &mut reader, wire, work, &taken);
+        let handled = self.serve_next(held, early, port, &mut reader, wire, work, next);
         if wire.ahead(0).is_none() {
             *held = None;
         }
@@ -403,19 +485,23 @@ pub fn serve_event<L: CoreName, R: Wait + Drop, K: KeepSegments + Drop, T: Wait,
         gate,
     };
     let failures = wire.failures();
-    let handled = station.serve_event(&mut None, port, wire, work, event);
+    let handled = station.serve_event(&mut None, port, wire, work, event, None);
     work.tally.lose(wire.failures() - failures);
     work.tally.count(handled);
     handled
 }
 
-/// The room for the work of so many turns, and for a datagram. The only error is out of memory.
+/// The room for the work of so many turns, and for a datagram with more labels than it comes with. The only error is out of memory.
 fn make_room(alloc: Global, turns: u32) -> Result<(Work, Vec<u8>), AllocError>
     ensures none { IfOk result (λ room. IsNoWork room.0) }
     ensures receipts { IfOk result (λ room. turns ≤ vec_capacity room.0.receipts) }
     ensures segments { IfOk result (λ room. turns ≤ vec_capacity room.0.segments) }
+    ensures buffer { IfOk result (λ room. ROOM ≤ length room.1.items) }
 {
-    Ok((Work::new(alloc, turns)?, vec![in alloc; 0_u8; BUFFER_LEN]?))
+    Ok((
+        Work::new(alloc, turns)?,
+        vec![in alloc; 0_u8; ROOM + MAX_DATAGRAM_LEN]?,
+    ))
 }
 
 /// A worker's run: so many turns, each of which asks the wire for a frame once and serves it, as one that came over the link. Labelled

@@ -1,5 +1,5 @@
 -- Turns that were made, and one more.
-use Rattle.std.proofs.Common.{ap, arith, inl, length}
+use Rattle.std.proofs.Common.{◌++◌, ap, arith, drop, inl, length, length-append, length-take}
 use Rattle.interface_workers.proofs.Naming.{none_own}
 use Rattle.interface_workers.proofs.Turning.{among_failures, few_of, run_more, run_none, run_turned, run_whole, turn_room}
 use Rattle.interface_workers.proofs.worker.serve_link.Goals as goal
@@ -12,6 +12,7 @@ loop-turn-init g c = record {
   learnt = omega arith;
   handed_out = omega (arith, ap length c.in-Ok.ensures.none.segments);
   own = none_own g.L.CoreName.config c.in-Ok.room.0 c.in-Ok.ensures.none;
+  buffer = c.in-Ok.ensures.buffer;
 }
 
 pub turn-reader-requires-clause-room : goal.turn-reader-requires-clause-room
@@ -20,6 +21,9 @@ turn-reader-requires-clause-room g c =
 
 pub turn-reader-requires-clause-turns : goal.turn-reader-requires-clause-turns
 turn-reader-requires-clause-turns g c = let had = run_turned _ _ _ _ _ _ _ c.loop-turn.invariant.run in omega (arith, had.made)
+
+pub turn-reader-requires-clause-buffer : goal.turn-reader-requires-clause-buffer
+turn-reader-requires-clause-buffer g c = omega (arith, c.loop-turn.invariant.buffer, ap length c.deref_mut.ensures.value)
 
 pub loop-turn-preserved : goal.loop-turn-preserved
 loop-turn-preserved g c =
@@ -32,6 +36,10 @@ loop-turn-preserved g c =
       learnt = omega (arith, c.turn-reader.ensures.learnt, before.learnt);
       handed_out = omega (arith, c.turn-reader.ensures.handed_out, before.handed_out);
       own = c.turn-reader.ensures.own before.own;
+      buffer =
+          let came = c.turn-reader.new.buffer in
+          let rest = drop (length came) c.loop-turn.buffer.items in
+          omega (arith, before.buffer, c.turn-reader.ensures.buffer, c.deref_mut.ensures.len, ap length c.deref_mut.ensures.value, length-take c.loop-turn.buffer.len (came ++ rest), length-append came rest);
     }
 
 pub returns-then-is_spent-clause-chain : goal.returns-then-is_spent-clause-chain

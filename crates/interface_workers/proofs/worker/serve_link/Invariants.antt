@@ -1,5 +1,5 @@
 -- So many turns were made, there is room for the rest, the reader has learnt no less, and no segment is missing; the work is that of the
--- name's own router.
+-- name's own router; and the buffer has room before a frame.
 use Rattle.std.proofs.Common.{◌≡◌, ◌+◌, ◌≤◌, length, vec_capacity}
 use Rattle.interface_workers.specs.Chains.{IsWorkOf}
 use Rattle.interface_workers.specs.Turns.{IsRunOf}
@@ -14,4 +14,5 @@ invariant-loop-turn g l = record {
   learnt : l.initial.reader.at_least ≤ l.reader.at_least;
   handed_out : l.port.taken ≡ l.initial.port.taken + length l.work.segments.items;
   own : IsWorkOf g.L.CoreName.config l.work;
+  buffer : 32 ≤ length l.buffer.items;
 }

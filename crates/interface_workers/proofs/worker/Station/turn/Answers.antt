@@ -10,27 +10,27 @@ use Rattle.interface_workers.proofs.worker.Station.turn.Goals as goal
 
 pub returns-clause-turn : goal.returns-clause-turn
 returns-clause-turn g c =
-    let took = c.receive-taken.ensures.took in
-    let served = c.serve_taken-handled.ensures.served in
-    let on = c.serve_taken-handled.ensures.goes_on in
+    let took = c.receive-next.ensures.took in
+    let served = c.serve_next-handled.ensures.served took.1 took.2 in
+    let on = c.serve_next-handled.ensures.goes_on in
     record {
       arrival = took.0;
-      taken = c.receive-taken.result.0;
-      handled = c.serve_taken-handled.result;
+      taken = took.1;
+      handled = c.serve_next-handled.result;
       frames = served.frames;
       sendings = served.sendings;
-      took = subst (λ (s : List TableChange). IsTaken c.args.self.now.core.now.router s c.args.link took.0 c.receive-taken.result.0) (sym c.serve_taken-handled.ensures.seen) took.1;
+      took = subst (λ (s : List TableChange). IsTaken c.args.self.now.core.now.router s c.args.link took.0 took.1) (sym c.serve_next-handled.ensures.seen) took.3;
       served = served.is;
       given = served.sent.given;
-      history = served.sent.history ∙ ap (λ (x : WireHistory). after x [] served.sendings) took.2 ∙ after_twice (g.W.Wire.history c.args.wire.now) (took.0 ∷ []) [] [] served.sendings;
-      tally = tally_is c.args.work.now.tally c.serve_taken-handled.new.work.tally c.lose.new.self c.count.new.self c.serve_taken-handled.result _ (lost_in served.sendings)
-          c.serve_taken-handled.ensures.tally.0 c.lose.ensures c.count.ensures
+      history = served.sent.history ∙ ap (λ (x : WireHistory). after x [] served.sendings) took.4 ∙ after_twice (g.W.Wire.history c.args.wire.now) (took.0 ∷ []) [] [] served.sendings;
+      tally = tally_is c.args.work.now.tally c.serve_next-handled.new.work.tally c.lose.new.self c.count.new.self c.serve_next-handled.result _ (lost_in served.sendings)
+          c.serve_next-handled.ensures.tally.0 c.lose.ensures c.count.ensures
           (lost_is c.failures-failures.result c.failures.result _ _ served.sendings c.failures-failures.ensures c.failures.ensures served.sent.history);
-      turns = ap (λ (n : ℕ). n + 1) c.serve_taken-handled.ensures.tally.1;
+      turns = ap (λ (n : ℕ). n + 1) c.serve_next-handled.ensures.tally.1;
       goes_on = record { chain = on.chain; receipts = on.receipts; segments = on.segments; receipts_room = on.receipts_room; segments_room = on.segments_room };
-      seen = subst (λ (s : List TableChange). StartsWith s c.args.reader.seen) (sym c.serve_taken-handled.ensures.seen) c.receive-taken.ensures.later;
-      unlabelled = λ plain. c.serve_taken-handled.ensures.seen ∙ ap (λ (r : Reader). r.seen) (took.3 plain);
+      seen = subst (λ (s : List TableChange). StartsWith s c.args.reader.seen) (sym c.serve_next-handled.ensures.seen) c.receive-next.ensures.later;
+      unlabelled = λ plain. c.serve_next-handled.ensures.seen ∙ ap (λ (r : Reader). r.seen) (took.5 plain);
     }
 
 pub returns-clause-own : goal.returns-clause-own
-returns-clause-own g c = λ is. let served = c.serve_taken-handled.ensures.own is in record { receipts = served.receipts; segments = served.segments }
+returns-clause-own g c = λ is. let served = c.serve_next-handled.ensures.own is in record { receipts = served.receipts; segments = served.segments }

@@ -1,0 +1,20 @@
+//! What a turn serves.
+
+use crate::early::EarlyEvent;
+use crate::worker::Taken;
+
+/// What a turn serves.
+#[derive(Drop)]
+pub(crate) enum Next<'a> {
+    /// What was taken from the wire.
+    Taken(Taken),
+    /// An event that was read before the turn.
+    Early(EarlyEvent),
+    /// A labelled frame that goes on, as it leaves.
+    Rewritten {
+        /// The number of the link that it leaves by.
+        link: u16,
+        /// Its bytes.
+        bytes: &'a [u8],
+    },
+}
