@@ -61,6 +61,8 @@ pub struct Load {
     pub neighbours: u16,
     /// How many frames each of them sends.
     pub count: u32,
+    /// Whether a worker is shown what came together; else it takes each frame by itself.
+    pub is_shown_more: bool,
 }
 
 impl Load {
@@ -79,6 +81,15 @@ impl Load {
             "one neighbour"
         } else {
             "four neighbours"
+        }
+    }
+
+    /// How workers take what they send, in words.
+    pub fn manner(&self) -> &'static str {
+        if self.is_shown_more {
+            "together"
+        } else {
+            "one by one"
         }
     }
 

@@ -221,8 +221,9 @@ fn tell_datagrams<R: Print>(rt: &R, load: Load, loaded: &Loaded) -> Result<u64, 
     let millis = loaded.took.as_millis();
     let count = load.total();
     let senders = load.senders();
+    let manner = load.manner();
     println!(rt;
-        "datagrams of {senders}: {taken} of {count} taken in {millis} ms: {rate} a second"
+        "datagrams of {senders}, {manner}: {taken} of {count} taken in {millis} ms: {rate} a second"
     )?;
     tell_run(rt, &loaded.left)?;
     Ok(rate)
@@ -260,17 +261,18 @@ fn tell_counts<R: Print>(
     Ok(())
 }
 
-/// This traffic, so many frames in all, from so many neighbours.
+/// This traffic, so many frames in all, from so many neighbours; a worker is shown what came together.
 fn load_of(traffic: Traffic, neighbours: u16, total: u32) -> Load {
     Load {
         traffic,
         neighbours,
         count: total / u32::from(neighbours.max(1)),
+        is_shown_more: true,
     }
 }
 
-/// Measures how many messages workers take a second of so many in all, one worker and then four, and what is taken without a router; and
-/// prints what came. The fault says what to do.
+/// Measures how many messages workers take a second of so many in all, one worker and then four: one message by one, then what came
+/// together, and then what is taken without a router; and prints what came. The fault says what to do.
 pub fn measure_datagrams<R: Net + Threads + Wait + Clock + Print + Clone + Send + Sync + Drop>(
     rt: &R,
     alloc: Global,
@@ -278,8 +280,12 @@ pub fn measure_datagrams<R: Net + Threads + Wait + Clock + Print + Clone + Send 
 ) -> Result<(), Fault> {
     for neighbours in [1, LINKS] {
         let load = load_of(Traffic::Paths, neighbours, count);
-        let loaded = run(rt, alloc, load)?;
-        let rate = tell_datagrams(rt, load, &loaded)?;
+        let single = Load {
+            is_shown_more: false,
+            ..load
+        };
+        tell_datagrams(rt, single, &run(rt, alloc, single)?)?;
+        let rate = tell_datagrams(rt, load, &run(rt, alloc, load)?)?;
         let bare = run_bare(rt, alloc, load)?;
         tell_bare(rt, bare, rate)?;
     }

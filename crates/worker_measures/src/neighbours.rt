@@ -36,6 +36,7 @@ pub(crate) fn counted<'a, W: Drop>(
                 wire,
                 taken,
                 sent: u64::from(load.count_over(number)),
+                is_shown_more: load.is_shown_more,
             },
         })
         .collect(alloc)

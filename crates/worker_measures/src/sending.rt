@@ -72,6 +72,8 @@ pub struct CountedWire<'a, W> {
     pub taken: &'a AtomicU64,
     /// How many were sent in all.
     pub sent: u64,
+    /// Whether it shows what came together.
+    pub is_shown_more: bool,
 }
 
 impl<'a, W: Wire> Wire for CountedWire<'a, W> {
@@ -91,9 +93,9 @@ impl<'a, W: Wire> Wire for CountedWire<'a, W> {
         came
     }
 
-    /// A frame that the wire has more, where not all that were sent are taken.
+    /// A frame that the wire has more, where that is shown, and not all that were sent are taken.
     fn ahead(&self, index: usize) -> Option<&[u8]> {
-        if self.taken.load(Ordering::SeqCst) >= self.sent {
+        if !self.is_shown_more || self.taken.load(Ordering::SeqCst) >= self.sent {
             return None;
         }
         self.wire.ahead(index)
