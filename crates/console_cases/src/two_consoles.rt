@@ -3,9 +3,9 @@
 use crate::transcript::{Act, Side, answers_at, read_transcript};
 use crate::typist::{Turns, Typist};
 use lsr_config::Config;
+use lsr_console::rounds::serve::{LinkSockets, RoundFlag, ServeFault};
+use lsr_console::rounds::{OpenLinks, RunEnd, RunFault, open_links, serve_links_until};
 use lsr_console::{Console, ConsoleEnding, open_lines};
-use lsr_rounds::{OpenLinks, RunEnd, RunFault, open_links, serve_links_until};
-use lsr_serve::{LinkSockets, RoundFlag, ServeFault};
 use sorted_rows::Table;
 use std::alloc::{AllocError, Global};
 use std::net::Net;

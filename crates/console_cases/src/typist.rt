@@ -2,12 +2,14 @@
 
 use crate::transcript::{Act, Side};
 use crossbeam_channel::Sender;
-use interface_workers::{CoreName, Gate, KeepSegments, Machine, Port, Question, Wire, Work};
+use lsr_console::rounds::serve::workers::{
+    CoreName, Gate, KeepSegments, Machine, Port, Question, Wire, Work,
+};
+use lsr_console::rounds::serve::{PortCount, RoundFlag};
+use lsr_console::rounds::{Desk, Operator};
+use lsr_console::session::show;
 use lsr_console::{Console, ConsoleEnding, Heard};
 use lsr_lines::{Request, read_request};
-use lsr_rounds::{Desk, Operator};
-use lsr_serve::{PortCount, RoundFlag};
-use lsr_session::show;
 use std::alloc::Global;
 use std::io::Write;
 use std::sync::Wait;
@@ -56,7 +58,7 @@ struct ShowsText<'a> {
 
 impl Question for ShowsText<'_> {
     ghost use Rattle.std.specs.Prelude.{IsTrue};
-    ghost use Rattle.lsr_session.specs.Requests.{Shows};
+    ghost use Rattle.lsr_console.specs.Below.session.Requests.{Shows};
 
     type Answer = bool;
 

@@ -6,3 +6,4 @@ pub mod OptionLaws
 pub mod PairLaws
 pub mod Spelling
 pub mod TextLaws
+pub mod Wholes

@@ -15,6 +15,7 @@ mod octets;
 mod options;
 mod pairs;
 mod texts;
+mod whole;
 
 pub use addresses::Address;
 pub use cases::{Both, Cases, Choice, OneOf, Only};
@@ -29,3 +30,4 @@ pub use octets::{Counted, Exactly, Octets, put_counted};
 pub use options::Optional;
 pub use pairs::Pair;
 pub use texts::TextOf;
+pub use whole::read_whole;

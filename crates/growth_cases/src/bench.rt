@@ -2,6 +2,7 @@
 
 use crate::again::{Starved, again};
 use std::alloc::{AllocError, Global};
+use std::fmt::Write as _;
 use std::io::{self, Write};
 use std::{fs, mem};
 
@@ -20,6 +21,7 @@ pub struct Bench<'a> {
     /// What takes memory.
     pub alloc: Global,
     told: String,
+    is_short: bool,
     is_marked: bool,
     /// Whether something was changed by a call that found no memory.
     pub differs: bool,
@@ -32,6 +34,7 @@ impl<'a> Bench<'a> {
             rt,
             alloc: rt.alloc(),
             told: String::new(rt.alloc()),
+            is_short: false,
             is_marked,
             differs: false,
         }
@@ -52,30 +55,61 @@ impl<'a> Bench<'a> {
         }
     }
 
-    /// Tells a text.
-    pub fn tell(&mut self, text: &str) -> Result<(), AllocError> {
-        again!(self.told.push_str(text))
+    /// Tells a text. Where there is no memory for it, twice, [`Bench::close`] says so.
+    pub fn tell(&mut self, text: &str) {
+        if again!(self.told.push_str(text)).is_err() {
+            self.is_short = true;
+        }
+    }
+
+    /// Tells a text that was made, if there was memory for it.
+    pub fn tell_made(&mut self, text: Result<String, AllocError>) {
+        match text {
+            Ok(text) => self.tell(text.as_str()),
+            Err(_) => self.is_short = true,
+        }
+    }
+
+    /// Tells the name of what comes.
+    pub fn tell_name(&mut self, name: &str) {
+        self.tell("== ");
+        self.tell(name);
+        self.tell("\n");
+    }
+
+    /// Tells a text with a number in place of each `#`.
+    pub fn tell_filled(&mut self, template: &str, numbers: &[u64]) {
+        let mut left = numbers.iter();
+        for (place, text) in template.split('#').enumerate() {
+            if place > 0
+                && let Some(number) = left.next()
+                && again!(write!(self.told, "{number}")).is_err()
+            {
+                self.is_short = true;
+            }
+            self.tell(text);
+        }
     }
 
     /// Tells it where something that a refused call had to leave as it was isn't so, or can't be seen.
-    pub fn compare(
-        &mut self,
-        what: &str,
-        is_same: Result<bool, AllocError>,
-    ) -> Result<(), AllocError> {
+    pub fn compare(&mut self, what: &str, is_same: Result<bool, AllocError>) {
         if matches!(is_same, Ok(true)) {
-            return Ok(());
+            return;
         }
         self.differs = true;
-        self.tell("changed without memory: ")?;
-        self.tell(what)?;
-        self.tell("\n")
+        self.tell("changed without memory: ");
+        self.tell(what);
+        self.tell("\n");
     }
 
-    /// Writes what was told.
+    /// Writes what was told. It fails, too, where there was no memory for what was told.
     pub fn close(&mut self) -> io::Result<()> {
         let told = mem::replace(&mut self.told, String::new(self.alloc));
-        self.rt.stdout().write_all(told.as_bytes())
+        self.rt.stdout().write_all(told.as_bytes())?;
+        if self.is_short {
+            return Err(io::Error::from(io::ErrorKind::OutOfMemory));
+        }
+        Ok(())
     }
 
     /// Marks that calls take no memory from here on: whoever looks at the error stream may take all of it away.

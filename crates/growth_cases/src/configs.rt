@@ -41,40 +41,44 @@ fn read_text(alloc: Global, read: Result<Config, ConfigFault>) -> Result<String,
 }
 
 /// Reads a configuration, and tells what it is.
-fn tell_read(bench: &mut Bench<'_>, text: &str) -> io::Result<()> {
-    let told = again!(read_text(bench.alloc, Config::read(bench.alloc, text)))?;
-    Ok(bench.tell(told.as_str())?)
+fn tell_read(bench: &mut Bench<'_>, text: &str) {
+    let told = again!(read_text(bench.alloc, Config::read(bench.alloc, text)));
+    bench.tell_made(told);
 }
 
 /// Reads the built-in configuration, and tells what it is.
-fn tell_built_in(bench: &mut Bench<'_>) -> io::Result<()> {
-    let told = again!(read_text(bench.alloc, Config::two_links(bench.alloc)))?;
-    Ok(bench.tell(told.as_str())?)
+fn tell_built_in(bench: &mut Bench<'_>) {
+    let told = again!(read_text(bench.alloc, Config::two_links(bench.alloc)));
+    bench.tell_made(told);
 }
 
 /// Reads the good configuration with a change in it, and tells what it is.
 fn tell_changed(bench: &mut Bench<'_>, good: &str, old: &str, new: &str) -> io::Result<()> {
     let Some((front, behind)) = good.split_once(old) else {
-        return Ok(bench.tell("nothing to change\n")?);
+        bench.tell("nothing to change\n");
+        return Ok(());
     };
     let text = again!(format!(in bench.alloc; "{front}{new}{behind}"))?;
-    tell_read(bench, text.as_str())
+    tell_read(bench, text.as_str());
+    Ok(())
 }
 
 /// Reads the configuration of a file, and tells what it is.
 fn tell_file(bench: &mut Bench<'_>, name: &str) -> io::Result<()> {
     match bench.read_of(name, "toml")? {
         Some(text) => tell_read(bench, text.as_str()),
-        None => Ok(bench.tell("no such configuration\n")?),
+        None => bench.tell("no such configuration\n"),
     }
+    Ok(())
 }
 
 /// Reads the configurations.
 pub fn run(bench: &mut Bench<'_>) -> io::Result<()> {
-    bench.tell("== configurations\n")?;
-    tell_built_in(bench)?;
+    bench.tell("== configurations\n");
+    tell_built_in(bench);
     let Some(good) = bench.read_of(GOOD, "toml")? else {
-        return Ok(bench.tell("no good configuration\n")?);
+        bench.tell("no good configuration\n");
+        return Ok(());
     };
     let texts = bench.read(TEXTS)?;
     for line in texts.lines() {

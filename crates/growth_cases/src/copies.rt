@@ -64,12 +64,12 @@ fn rows_text(alloc: Global) -> Result<String, AllocError> {
 
 /// Makes the copies, and tells what they have.
 pub fn run(bench: &mut Bench<'_>) -> io::Result<()> {
-    bench.tell("== copies\n")?;
-    let table = again!(table_text(bench.alloc))?;
-    bench.tell(table.as_str())?;
-    let wheel = again!(wheel_text(bench.alloc))?;
-    bench.tell(wheel.as_str())?;
-    let rows = again!(rows_text(bench.alloc))?;
-    bench.tell(rows.as_str())?;
+    bench.tell("== copies\n");
+    let table = again!(table_text(bench.alloc));
+    bench.tell_made(table);
+    let wheel = again!(wheel_text(bench.alloc));
+    bench.tell_made(wheel);
+    let rows = again!(rows_text(bench.alloc));
+    bench.tell_made(rows);
     bench.close()
 }

@@ -6,8 +6,8 @@ use field_bytes::ReadFault;
 use journal_bytes::is_same_state;
 use journal_files::{Recording, read_segment};
 use lsr_check::{Recorded, RunsByName, Unread, run_check};
+use lsr_journal::journal::Segment;
 use lsr_journal::write_segment;
-use run_journal::Segment;
 use std::alloc::{AllocError, Global};
 use std::io;
 
@@ -77,7 +77,7 @@ fn write(bench: &mut Bench<'_>, text: &str, segment: &Segment) -> io::Result<Vec
     let mut file = again!(Vec::from_slice(bench.alloc, FRONT))?;
     let answer = again!(
         write_segment(text, segment, &mut file),
-        bench.compare("write_segment", Ok(file.as_slice() == FRONT))?
+        bench.compare("write_segment", Ok(file.as_slice() == FRONT))
     );
     answer?;
     Ok(file)
@@ -110,10 +110,10 @@ fn read_text(alloc: Global, file: &[u8], segment: &Segment) -> Result<String, Re
 }
 
 /// Reads a file, and tells what it is.
-fn tell_file(bench: &mut Bench<'_>, file: &[u8], segment: &Segment) -> io::Result<()> {
+fn tell_file(bench: &mut Bench<'_>, file: &[u8], segment: &Segment) {
     match again!(read_text(bench.alloc, file, segment)) {
-        Ok(text) => Ok(bench.tell(text.as_str())?),
-        Err(_) => Ok(bench.tell("no file\n")?),
+        Ok(text) => bench.tell(text.as_str()),
+        Err(_) => bench.tell("no file\n"),
     }
 }
 
@@ -145,7 +145,7 @@ fn tell_check(bench: &mut Bench<'_>, files: &[Vec<u8>]) -> io::Result<()> {
     let all = PLACES.get(..files.len()).unwrap_or(PLACES);
     for names in [all, TURNED] {
         let said = again!(check(bench.alloc, files, names))?;
-        bench.tell(str::from_utf8(said.as_slice()).unwrap_or("no text\n"))?;
+        bench.tell(str::from_utf8(said.as_slice()).unwrap_or("no text\n"));
     }
     Ok(())
 }
@@ -155,7 +155,7 @@ pub fn tell_files(bench: &mut Bench<'_>, text: &str, segments: &[Segment]) -> io
     let mut files = again!(Vec::with_capacity(bench.alloc, segments.len()))?;
     for segment in segments {
         let file = write(bench, text, segment)?;
-        tell_file(bench, without_front(file.as_slice()), segment)?;
+        tell_file(bench, without_front(file.as_slice()), segment);
         files.push(file)?;
     }
     tell_check(bench, files.as_slice())

@@ -2,7 +2,7 @@
 //! files.
 
 ghost use Rattle.std.specs.Option.{IfSome};
-ghost use Rattle.router_core.specs.Readies.{IsReady};
+ghost use Rattle.lsr_session.specs.Below.machine.Readies.{IsReady};
 
 use crate::again::{Starved, again};
 use crate::bench::Bench;
@@ -14,10 +14,10 @@ use journal_bytes::{are_same_items, is_same_state, written_frames};
 use label_stacks::stack_of;
 use lookup_plane::{Closed, LookupReader, OpenFault};
 use lsr_config::Config;
+use lsr_journal::journal::{Locked, Mark, Receipt};
 use lsr_lines::{Request, read_request};
 use lsr_session::hop_frame;
-use router_core::{Datagram, Event, Machine, Ready};
-use run_journal::{Locked, Mark, Receipt};
+use lsr_session::machine::{Datagram, Event, Machine, Ready};
 use std::alloc::{AllocError, Global};
 use std::io;
 use std::sync::Wait;
@@ -171,10 +171,10 @@ impl<R: Wait + Drop> Pair<R> {
         let mark = if is_first { self.first } else { self.second };
         let answer = again!(
             self.locked.apply(alloc, mark, event),
-            bench.compare("apply", self.is_still(alloc, looked))?
+            bench.compare("apply", self.is_still(alloc, looked))
         );
         let Ok(receipt) = answer else {
-            bench.tell("refused\n")?;
+            bench.tell("refused\n");
             return Ok(None);
         };
         if is_first {
@@ -194,19 +194,20 @@ impl<R: Wait + Drop> Pair<R> {
     ) -> io::Result<()> {
         let alloc = bench.alloc;
         let Some(ready) = ready_for(&self.twin, alloc, event) else {
-            return Ok(bench.tell("refused\n")?);
+            bench.tell("refused\n");
+            return Ok(());
         };
         let frames = again!(written_frames(alloc, ready.outputs()))?;
         if ready.reply() != receipt.reply()
             || !are_same_items(frames.as_slice(), receipt.outputs().as_slice())
         {
-            bench.tell("another answer\n")?;
+            bench.tell("another answer\n");
         }
         bench.begin_without();
         self.twin.make(alloc, ready);
         bench.end_without();
         if !self.is_same(alloc)? {
-            bench.tell("another router\n")?;
+            bench.tell("another router\n");
         }
         Ok(())
     }
@@ -217,12 +218,13 @@ impl<R: Wait + Drop> Pair<R> {
         let looked = self.look_without(bench);
         let answer = again!(
             self.locked.rotate(alloc),
-            bench.compare("rotate", self.is_still(alloc, looked))?
+            bench.compare("rotate", self.is_still(alloc, looked))
         );
         match answer {
-            Ok(segment) => left.put_segment(bench, segment),
-            Err(_) => Ok(bench.tell("no segment\n")?),
+            Ok(segment) => left.put_segment(bench, segment)?,
+            Err(_) => bench.tell("no segment\n"),
         }
+        Ok(())
     }
 }
 
@@ -250,7 +252,7 @@ fn feed<R: Wait + Drop>(
             continue;
         };
         if let Some(receipt) = pair.apply(bench, is_first, &event)? {
-            tell_receipt(bench, &receipt)?;
+            tell_receipt(bench, &receipt);
             pair.follow(bench, &event, &receipt)?;
             if receipt.mark().entry % SEGMENT_ENTRIES == 0 {
                 pair.rotate(bench, left)?;
@@ -273,17 +275,17 @@ fn feed_router<R: Wait + Clone + Drop>(
     let mut left = Left::new(bench.alloc)?;
     match open_pair(rt, bench.alloc, text) {
         Some(mut pair) => feed(bench, &mut pair, &mut left, lines)?,
-        None => bench.tell("no router\n")?,
+        None => bench.tell("no router\n"),
     }
-    left.tell_run(bench)?;
+    left.tell_run(bench);
     tell_files(bench, text, left.segments.as_slice())
 }
 
 /// Runs the case of this name.
 fn run_case<R: Wait + Clone + Drop>(rt: &R, bench: &mut Bench<'_>, name: &str) -> io::Result<()> {
-    bench.tell("== journal ")?;
-    bench.tell(name)?;
-    bench.tell("\n")?;
+    bench.tell("== journal ");
+    bench.tell(name);
+    bench.tell("\n");
     let text = bench.read_of(name, "toml")?;
     let lines = bench.read_of(name, "step")?;
     if let (Some(text), Some(lines)) = (text, lines) {

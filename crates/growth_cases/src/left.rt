@@ -2,7 +2,7 @@
 
 use crate::again::{Starved, again};
 use crate::bench::Bench;
-use run_journal::{Mark, Receipt, Segment};
+use lsr_journal::journal::{Receipt, Segment};
 use run_reconciler::reconcile;
 use std::alloc::{AllocError, Global};
 use std::io;
@@ -28,29 +28,29 @@ fn room(alloc: Global) -> Result<Left, AllocError> {
 }
 
 /// Tells what a port is told of its entry.
-pub fn tell_receipt(bench: &mut Bench<'_>, receipt: &Receipt) -> io::Result<()> {
-    let Mark {
-        port,
-        place,
-        entry,
-        published,
-    } = receipt.mark();
-    let sent = receipt.outputs().as_slice().len();
-    let text = again!(format!(in bench.alloc;
-        "port {port}: place {place} entry {entry} published {published}, {sent} frames\n"
-    ))?;
-    Ok(bench.tell(text.as_str())?)
+pub fn tell_receipt(bench: &mut Bench<'_>, receipt: &Receipt) {
+    let mark = receipt.mark();
+    let sent = receipt.outputs().as_slice().len() as u64;
+    bench.tell_filled(
+        "port #: place # entry # published #, # frames\n",
+        &[
+            u64::from(mark.port),
+            mark.place,
+            mark.entry,
+            mark.published,
+            sent,
+        ],
+    );
 }
 
 /// Tells how many entries a stretch of the journal has, and those before it.
-fn tell_segment(bench: &mut Bench<'_>, segment: &Segment) -> io::Result<()> {
-    let entries = segment.entries().len();
-    let number = segment.from().number();
-    let published = segment.from().published();
-    let text = again!(format!(in bench.alloc;
-        "segment: {entries} entries after {number}, {published} published\n"
-    ))?;
-    Ok(bench.tell(text.as_str())?)
+fn tell_segment(bench: &mut Bench<'_>, segment: &Segment) {
+    let entries = segment.entries().len() as u64;
+    let from = segment.from();
+    bench.tell_filled(
+        "segment: # entries after #, # published\n",
+        &[entries, from.number(), from.published()],
+    );
 }
 
 impl Left {
@@ -61,12 +61,12 @@ impl Left {
 
     /// Tells of a segment, and keeps it.
     pub fn put_segment(&mut self, bench: &mut Bench<'_>, segment: Segment) -> io::Result<()> {
-        tell_segment(bench, &segment)?;
+        tell_segment(bench, &segment);
         Ok(self.segments.push(segment)?)
     }
 
     /// Tells whether all are those of one run.
-    pub fn tell_run(&self, bench: &mut Bench<'_>) -> Result<(), AllocError> {
+    pub fn tell_run(&self, bench: &mut Bench<'_>) {
         bench.begin_without();
         let answer = reconcile(self.segments.as_slice(), self.receipts.as_slice());
         bench.end_without();

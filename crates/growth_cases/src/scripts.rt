@@ -94,7 +94,7 @@ impl<'a> Script<'a> {
         for line in text.lines() {
             match again!(read_line(bench.alloc, line))? {
                 Some(said) => script.take(bench, said)?,
-                None => bench.tell("no such line\n")?,
+                None => bench.tell("no such line\n"),
             }
         }
         Ok(script)

@@ -4,7 +4,7 @@ use crate::again::{Starved, again};
 use forwarding_table::Action;
 use journal_bytes::is_same_state;
 use lsr_facts::{State, WORST_PRIORITY};
-use router_core::Machine;
+use lsr_session::machine::Machine;
 use sorted_rows::Table;
 use std::alloc::{AllocError, Global};
 

@@ -1,7 +1,7 @@
 //! Routers that serve datagrams, events and commands, line after line.
 
 ghost use Rattle.std.specs.Prelude.{IfOk};
-ghost use Rattle.router_core.specs.Readies.{IsReady};
+ghost use Rattle.lsr_session.specs.Below.machine.Readies.{IsReady};
 
 use crate::again::{Starved, again};
 use crate::bench::{Bench, is_asked_for};
@@ -9,9 +9,9 @@ use crate::seen::Seen;
 use lsr_config::{BUILT_IN, Config, ConfigFault};
 use lsr_facts::Refusal;
 use lsr_lines::{Arrival, Request, read_request};
+use lsr_session::machine::{Event, Machine, Made, Ready, Served};
 use lsr_session::{hop_frame, passed_text, show};
 use lsr_text::answer_text;
-use router_core::{Event, Machine, Made, Ready, Served};
 use sorted_rows::TryCopy;
 use std::alloc::{AllocError, Global};
 use std::io;
@@ -26,8 +26,9 @@ fn tell_answer(bench: &mut Bench<'_>, answer: &Result<Made, Refusal>) -> io::Res
         Ok(made) => Ok(again!(made.try_copy(alloc))?),
         Err(refusal) => Err(*refusal),
     };
-    let text = again!(answer_text(alloc, &answer))?;
-    Ok(bench.tell(text.as_str())?)
+    let text = again!(answer_text(alloc, &answer));
+    bench.tell_made(text);
+    Ok(())
 }
 
 /// Tells the lines of what was served.
@@ -35,8 +36,9 @@ fn tell_served(bench: &mut Bench<'_>, answer: Result<Served, Refusal>) -> io::Re
     match answer {
         Ok(Served::Made(made)) => tell_answer(bench, &Ok(made)),
         Ok(Served::Passed(passed)) => {
-            let text = again!(passed_text(bench.alloc, &passed))?;
-            Ok(bench.tell(text.as_str())?)
+            let text = again!(passed_text(bench.alloc, &passed));
+            bench.tell_made(text);
+            Ok(())
         }
         Err(refusal) => tell_answer(bench, &Err(refusal)),
     }
@@ -53,7 +55,7 @@ fn serve_datagram(
     let seen = Seen::of(alloc, router)?;
     let answer = again!(
         router.serve_datagram(alloc, link, bytes),
-        bench.compare("serve_datagram", seen.is_still(alloc, router))?
+        bench.compare("serve_datagram", seen.is_still(alloc, router))
     );
     tell_served(bench, answer)
 }
@@ -66,7 +68,7 @@ fn ready_again(bench: &mut Bench<'_>, router: &Machine, event: &Event) -> Result
     let seen = Seen::of(alloc, router)?;
     again!(
         router.ready(alloc, event),
-        bench.compare("ready", seen.is_still(alloc, router))?
+        bench.compare("ready", seen.is_still(alloc, router))
     )
 }
 
@@ -119,8 +121,9 @@ fn serve(bench: &mut Bench<'_>, router: &mut Machine, request: Request) -> io::R
             serve_datagram(bench, router, arrival.link, arrival.bytes.as_slice())
         }
         Err(request) => {
-            let text = again!(show(bench.alloc, router, &request))?;
-            Ok(bench.tell(text.as_str())?)
+            let text = again!(show(bench.alloc, router, &request));
+            bench.tell_made(text);
+            Ok(())
         }
     }
 }
@@ -137,9 +140,10 @@ pub fn open(alloc: Global, text: &str) -> Result<Option<Machine>, AllocError> {
 /// Does what the line asks for, if it is one.
 fn serve_line(bench: &mut Bench<'_>, router: &mut Machine, line: &str) -> io::Result<()> {
     match again!(read_request(bench.alloc, line))? {
-        Some(request) => serve(bench, router, request),
-        None => Ok(bench.tell("no such line\n")?),
+        Some(request) => serve(bench, router, request)?,
+        None => bench.tell("no such line\n"),
     }
+    Ok(())
 }
 
 /// Does what the lines ask for.
@@ -153,16 +157,15 @@ fn serve_lines(bench: &mut Bench<'_>, router: &mut Machine, lines: &str) -> io::
 /// Does what the lines ask for, on the router of a configuration.
 fn serve_router(bench: &mut Bench<'_>, config: &str, lines: &str) -> io::Result<()> {
     match again!(open(bench.alloc, config))? {
-        Some(mut router) => serve_lines(bench, &mut router, lines),
-        None => Ok(bench.tell("no router\n")?),
+        Some(mut router) => serve_lines(bench, &mut router, lines)?,
+        None => bench.tell("no router\n"),
     }
+    Ok(())
 }
 
 /// Runs the case of this name.
 fn run_case(bench: &mut Bench<'_>, name: &str) -> io::Result<()> {
-    bench.tell("== ")?;
-    bench.tell(name)?;
-    bench.tell("\n")?;
+    bench.tell_name(name);
     let config = bench.read_of(name, "toml")?;
     let config = match &config {
         Some(text) => text.as_str(),
@@ -171,7 +174,7 @@ fn run_case(bench: &mut Bench<'_>, name: &str) -> io::Result<()> {
     let lines = bench.read_of(name, "step")?;
     match &lines {
         Some(lines) => serve_router(bench, config, lines.as_str())?,
-        None => bench.tell("no such case\n")?,
+        None => bench.tell("no such case\n"),
     }
     bench.close()
 }

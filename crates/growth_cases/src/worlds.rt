@@ -82,12 +82,11 @@ fn told_text(alloc: Global, world: &World, told: &Told) -> Result<String, AllocE
 }
 
 /// Tells what came of moves.
-fn tell_report(bench: &mut Bench<'_>, world: &World, report: &Report) -> io::Result<()> {
+fn tell_report(bench: &mut Bench<'_>, world: &World, report: &Report) {
     for told in &report.moves {
-        let text = again!(told_text(bench.alloc, world, told))?;
-        bench.tell(text.as_str())?;
+        let text = again!(told_text(bench.alloc, world, told));
+        bench.tell_made(text);
     }
-    Ok(())
 }
 
 /// Makes a move, and tells what came of it. What was seen of the world before comes back.
@@ -96,11 +95,11 @@ fn make(bench: &mut Bench<'_>, world: &mut World, one: &Move) -> io::Result<Seen
     let seen = Seen::of(alloc, world)?;
     let answer = again!(
         world.run(alloc, slice::from_ref(one)),
-        bench.compare("World::run", seen.is_still(alloc, world))?
+        bench.compare("World::run", seen.is_still(alloc, world))
     );
     match answer {
-        Ok(report) => tell_report(bench, world, &report)?,
-        Err(_) => bench.tell("no such move\n")?,
+        Ok(report) => tell_report(bench, world, &report),
+        Err(_) => bench.tell("no such move\n"),
     }
     Ok(seen)
 }
@@ -139,7 +138,7 @@ fn make_at_once(
     let answer = match world.run(alloc, moves) {
         Err(refusal) if refusal.is_starved() => {
             let made = count_made(alloc, world, seen)?;
-            bench.compare("World::run at once", Ok(made.is_some()))?;
+            bench.compare("World::run at once", Ok(made.is_some()));
             let left = moves.get(made.unwrap_or(0)..).unwrap_or(&[]);
             world.run(alloc, left)
         }
@@ -149,10 +148,12 @@ fn make_at_once(
         Some(last) => last.is_still(alloc, world)?,
         None => false,
     };
-    if answer.is_ok() && is_same {
-        return Ok(bench.tell("at once: the same\n")?);
-    }
-    Ok(bench.tell("at once: another world\n")?)
+    bench.tell(if answer.is_ok() && is_same {
+        "at once: the same\n"
+    } else {
+        "at once: another world\n"
+    });
+    Ok(())
 }
 
 /// Opens two worlds of the file, and makes the moves in both.
@@ -161,7 +162,8 @@ fn run_script(bench: &mut Bench<'_>, text: &str) -> io::Result<()> {
     let one = again!(script.open(bench.alloc));
     let other = again!(script.open(bench.alloc));
     let (Ok(mut one), Ok(mut other)) = (one, other) else {
-        return Ok(bench.tell("no world\n")?);
+        bench.tell("no world\n");
+        return Ok(());
     };
     let moves = script.moves.as_slice();
     let seen = make_each(bench, &mut one, moves)?;
@@ -170,12 +172,10 @@ fn run_script(bench: &mut Bench<'_>, text: &str) -> io::Result<()> {
 
 /// Runs the world of this name.
 fn run_world(bench: &mut Bench<'_>, name: &str) -> io::Result<()> {
-    bench.tell("== ")?;
-    bench.tell(name)?;
-    bench.tell("\n")?;
+    bench.tell_name(name);
     match bench.read_of(name, "moves")? {
         Some(text) => run_script(bench, text.as_str())?,
-        None => bench.tell("no such world\n")?,
+        None => bench.tell("no such world\n"),
     }
     bench.close()
 }

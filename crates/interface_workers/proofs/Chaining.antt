@@ -1,8 +1,8 @@
 -- Receipts of one port, and one more.
 use Rattle.std.proofs.Common.{◌≡◌, ◌+◌, ◌≤◌, ◌++◌, ◌∷◌, List, [], ap, arith, length, length-append, refl, subst, sym, vec_capacity}
-use Rattle.run_journal.specs.Marks.{Follows}
-use Rattle.run_journal.specs.declared.mark.Mark.{Mark}
-use Rattle.run_journal.specs.declared.receipt.Receipt.{Receipt}
+use Rattle.shared_core.specs.Below.journal.Marks.{Follows}
+use Rattle.shared_core.specs.Below.journal.declared.mark.Mark.{Mark}
+use Rattle.shared_core.specs.Below.journal.declared.receipt.Receipt.{Receipt}
 use Rattle.interface_workers.specs.Chains.{IsChain, WorkGoesOn}
 use Rattle.interface_workers.specs.declared.worker.Work.{Work}
 

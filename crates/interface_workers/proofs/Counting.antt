@@ -1,9 +1,9 @@
 -- What a turn counts.
 use Rattle.std.proofs.Common.{◌≡◌, ◌-◌, ◌≤◌, ℕ, List, [], ap, arith, ◌∙◌}
-use Rattle.interface_workers.specs.Tallies.{counted, with_lost}
+use Rattle.worker_tallies.specs.Tallies.{counted, with_lost}
 use Rattle.interface_workers.specs.Wires.{Sending, WireHistory, after, lost_in}
-use Rattle.interface_workers.specs.declared.handled.Handled.{Handled}
-use Rattle.interface_workers.specs.declared.handled.Tally.{Tally}
+use Rattle.worker_tallies.specs.declared.handled.Handled.{Handled}
+use Rattle.worker_tallies.specs.declared.handled.Tally.{Tally}
 
 -- as many frames are lost as the count of failures rose
 pub lost_is : (failures later : ℕ) (h now : WireHistory) (sendings : List Sending) → failures ≡ h.failed → later ≡ now.failed → now ≡ after h [] sendings → later - failures ≡ lost_in sendings

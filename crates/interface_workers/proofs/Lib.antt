@@ -2,7 +2,6 @@ pub mod Chaining
 pub mod Counting
 pub mod Naming
 pub mod Passing
-pub mod Refusing
 pub mod Sendings
 pub mod Slicing
 pub mod TakenKinds

@@ -1,60 +1,13 @@
--- What is under a core's lock is of the router of its name.
-use Rattle.std.proofs.Common.{◌≡◌, ◌++◌, ◌∷◌, All, List, [], ℕ, Result, Ok, Err, subst, sym, ◌∙◌}
+-- A worker's receipts and segments are those of the router of its core's name.
+use Rattle.std.proofs.Common.{◌≡◌, ◌++◌, ◌∷◌, All, List, [], subst, sym}
 use Rattle.std.proofs.lemmas.List.Elements.{All-nil, All-push}
-use Rattle.std.specs.Prelude.{IfOk}
 use Rattle.lsr_config.specs.Configs.{Setup}
-use Rattle.lsr_facts.specs.declared.router.Router.{Router}
-use Rattle.abstract_paths.specs.declared.events.Event.{Event}
-use Rattle.abstract_router.specs.Soundness.{IsSound}
-use Rattle.abstract_router.specs.States.{State}
-use Rattle.run_journal.specs.Entries.{Knew, Recorded}
-use Rattle.run_journal.specs.Journals.{IsApplied, IsKept, Journal, Stretch, stretch_of}
-use Rattle.run_journal.specs.declared.receipt.Receipt.{Receipt}
-use Rattle.run_journal.proofs.Keeping.{kept_segment}
+use Rattle.shared_core.specs.Below.journal.Journals.{Stretch}
+use Rattle.shared_core.specs.Below.journal.declared.receipt.Receipt.{Receipt}
+use Rattle.shared_core.specs.Names.{IsReceiptOf, IsSegmentOf}
 use Rattle.interface_workers.specs.Chains.{IsWorkOf, StaysWorkOf}
-use Rattle.interface_workers.specs.Names.{IsKnown, IsReceiptOf, IsSegmentOf, opened}
 use Rattle.interface_workers.specs.Turns.{IsNoWork}
 use Rattle.interface_workers.specs.declared.worker.Work.{Work}
-
--- what a router knew that was opened so, by the configuration
-knew_of : (c : Setup) (r : Router) (first s : State) → r ≡ c.router → first ≡ (opened c).state → Knew r first s → Knew c.router (opened c).state s
-knew_of c r first s router opening knew = subst (λ (t : State). Knew c.router t s) opening (subst (λ (x : Router). Knew x first s) router knew)
-
--- what is known now
-pub known_now : (c : Setup) (j : Journal) → j.router ≡ c.router → j.opening ≡ (opened c).state → Knew j.router j.opening j.state → IsKept j → IsKnown c j.state
-known_now c j router opening knew is = record {
-  knew = knew_of c j.router j.opening j.state router opening knew;
-  sound = subst (λ (r : Router). IsSound r j.state) router is.sound;
-}
-
--- and a copy of it
-pub copy_known : {E : Type 0} (c : Setup) (s : State) (result : Result State E) → IfOk result (λ state. state ≡ s) → IsKnown c s → IfOk result (IsKnown c)
-copy_known c s (Ok state) is known = subst (IsKnown c) (sym is) known
-copy_known c s (Err e) is known = tt
-
--- the stretch since the base
-pub stretch_own : (c : Setup) (j : Journal) → j.router ≡ c.router → j.opening ≡ (opened c).state → Knew j.router j.opening j.base → IsKept j → IsSegmentOf c (stretch_of j)
-stretch_own c j router opening knew is = record {
-  segment = kept_segment j is;
-  router = router;
-  begun = λ none. is.begun none ∙ opening;
-  base = record {
-    knew = knew_of c j.router j.opening j.base router opening knew;
-    sound = subst (λ (r : Router). IsSound r j.base) router is.sound_base;
-  };
-}
-
--- the receipt of an event that is applied
-pub applied_own : (c : Setup) (old : Journal) (port : ℕ) (event : Event) (receipt : Receipt) (new : Journal) → old.router ≡ c.router → IsKnown c old.state → IsApplied old port event receipt new → IsReceiptOf c receipt
-applied_own c old port event receipt new router known is = record {
-  counts = old.counts;
-  entry = is.entry;
-  before = old.state;
-  after = new.state;
-  known = known;
-  recorded = subst (λ (r : Router). Recorded r old.state is.entry new.state) router is.entered.recorded;
-  told = is.receipt_is;
-}
 
 -- one segment more
 pub segments_more : (c : Setup) (before after : List Stretch) (one : Stretch) → after ≡ before ++ one ∷ [] → IsSegmentOf c one → All (IsSegmentOf c) before → All (IsSegmentOf c) after

@@ -5,7 +5,7 @@ use Rattle.link_frames.specs.declared.frame.Frame.{Frame}
 use Rattle.datagrams.specs.declared.datagram.Passed.TheVariants as passes
 use Rattle.interface_workers.specs.Turns.{HasSent, IsPassedOn}
 use Rattle.interface_workers.specs.Wires.{WireHistory, after, lost_in, sending_of}
-use Rattle.interface_workers.specs.declared.handled.Handled.TheVariants as handles
+use Rattle.worker_tallies.specs.declared.handled.Handled.TheVariants as handles
 use Rattle.interface_workers.proofs.Sendings.{framed, sent_not, sent_one}
 
 -- the wire has failed as often as can be counted

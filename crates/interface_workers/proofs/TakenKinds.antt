@@ -10,14 +10,14 @@ use Rattle.datagrams.specs.declared.datagram.Datagram.TheVariants as datagrams
 use Rattle.datagrams.specs.declared.datagram.Passed.{Passed}
 use Rattle.datagrams.specs.declared.datagram.Passed.TheVariants as passes
 use Rattle.journal_bytes.specs.declared.entry.WrittenFrame.{WrittenFrame}
-use Rattle.run_journal.specs.declared.receipt.Receipt.{Receipt}
-use Rattle.interface_workers.specs.Refused.{MayBeRefused}
-use Rattle.interface_workers.specs.Tallies.{faults_as, handled_for, receipts_as, taken_as}
+use Rattle.shared_core.specs.Below.journal.declared.receipt.Receipt.{Receipt}
+use Rattle.shared_core.specs.Refused.{MayBeRefused}
+use Rattle.worker_tallies.specs.Tallies.{faults_as, handled_for, receipts_as, taken_as}
 use Rattle.interface_workers.specs.Turns.{HasSent, IsEventServed, IsPassedOn, IsServed, IsTaken}
 use Rattle.interface_workers.specs.Wires.{Arrival, Sending, WireHistory, datagram_of, fault_of}
 use Rattle.interface_workers.specs.Wires.Arrival.{Came, Fault, Silence}
-use Rattle.interface_workers.specs.declared.handled.Handled.{Handled}
-use Rattle.interface_workers.specs.declared.handled.Handled.TheVariants as handles
+use Rattle.worker_tallies.specs.declared.handled.Handled.{Handled}
+use Rattle.worker_tallies.specs.declared.handled.Handled.TheVariants as handles
 use Rattle.interface_workers.specs.declared.worker.Taken.{Taken}
 use Rattle.interface_workers.specs.declared.worker.Taken.TheVariants as takes
 use Rattle.interface_workers.proofs.Sendings.{none_sent}

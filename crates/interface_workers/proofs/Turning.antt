@@ -3,16 +3,16 @@ use Rattle.std.proofs.Common.{◌≡◌, ◌+◌, ◌-◌, ◌^◌, ◌≤◌, �
 use Rattle.std.proofs.lemmas.List.Sums.{sum_by-append}
 use Rattle.lsr_facts.specs.declared.router.Router.{Router}
 use Rattle.lookup_plane.specs.declared.change.TableChange.{TableChange}
-use Rattle.run_journal.specs.declared.mark.Mark.{Mark}
+use Rattle.shared_core.specs.Below.journal.declared.mark.Mark.{Mark}
 use Rattle.interface_workers.specs.Chains.{AddsUp, HasRoom, IsChain}
-use Rattle.run_journal.specs.declared.receipt.Receipt.{Receipt}
-use Rattle.interface_workers.specs.Tallies.{IsSum, counted, faults_as, receipts_as, taken_as, with_lost}
+use Rattle.shared_core.specs.Below.journal.declared.receipt.Receipt.{Receipt}
+use Rattle.worker_tallies.specs.Tallies.{IsSum, counted, faults_as, receipts_as, taken_as, with_lost}
 use Rattle.interface_workers.specs.Turns.{AreAmongFailures, AreTurns, IsNoWork, IsRunOf, IsTallyOf, IsTurn, Standing}
 use Rattle.interface_workers.specs.Turns.AreTurns.{at_first, one_more}
 use Rattle.interface_workers.specs.Wires.{Arrival, Sending, WireHistory, after, datagram_of, fault_of, faults_in, loss_of, lost_in}
-use Rattle.interface_workers.specs.declared.handled.Handled.{Handled}
-use Rattle.interface_workers.specs.declared.handled.Handled.TheVariants.{Nothing, WireFailed, Fed, Dropped, Refused, Forwarded, Delivered, NotShown, NotCarried}
-use Rattle.interface_workers.specs.declared.handled.Tally.{Tally}
+use Rattle.worker_tallies.specs.declared.handled.Handled.{Handled}
+use Rattle.worker_tallies.specs.declared.handled.Handled.TheVariants.{Nothing, WireFailed, Fed, Dropped, Refused, Forwarded, Delivered, NotShown, NotCarried}
+use Rattle.worker_tallies.specs.declared.handled.Tally.{Tally}
 use Rattle.lookup_plane.specs.Changes.{StartsWith}
 use Rattle.lookup_plane.specs.ChangesLaws.{starts_same}
 use Rattle.interface_workers.proofs.TakenKinds.{arrival_kind, served_kind}

@@ -4,15 +4,15 @@ use Rattle.lsr_config.specs.Configs.{Setup}
 use Rattle.lsr_facts.specs.declared.refusal.Refusal.{Refusal}
 use Rattle.abstract_paths.specs.declared.events.Event.{Event}
 use Rattle.journal_bytes.specs.Events.{event_bytes}
-use Rattle.run_journal.specs.Journals.{Stretch}
-use Rattle.run_journal.specs.Marks.{Follows}
-use Rattle.run_journal.specs.declared.mark.Mark.{Mark}
-use Rattle.run_journal.specs.declared.receipt.Receipt.{Receipt}
-use Rattle.interface_workers.specs.Names.{IsReceiptOf, IsSegmentOf}
-use Rattle.interface_workers.specs.Refused.{MayBeRefused}
-use Rattle.interface_workers.specs.Tallies.{IsSum}
-use Rattle.interface_workers.specs.declared.handled.Handled.{Handled}
-use Rattle.interface_workers.specs.declared.handled.Handled.TheVariants.{Fed}
+use Rattle.shared_core.specs.Below.journal.Journals.{Stretch}
+use Rattle.shared_core.specs.Below.journal.Marks.{Follows}
+use Rattle.shared_core.specs.Below.journal.declared.mark.Mark.{Mark}
+use Rattle.shared_core.specs.Below.journal.declared.receipt.Receipt.{Receipt}
+use Rattle.shared_core.specs.Names.{IsReceiptOf, IsSegmentOf}
+use Rattle.shared_core.specs.Refused.{MayBeRefused}
+use Rattle.worker_tallies.specs.Tallies.{IsSum}
+use Rattle.worker_tallies.specs.declared.handled.Handled.{Handled}
+use Rattle.worker_tallies.specs.declared.handled.Handled.TheVariants.{Fed}
 use Rattle.interface_workers.specs.declared.worker.Work.{Work}
 
 -- The receipts follow on the first mark, each on the one before, and the last mark is that of the last of them.

@@ -1,10 +1,6 @@
 pub mod Below
 pub mod Chains
 pub mod Early
-pub mod Kept
-pub mod Names
 pub mod Next
-pub mod Refused
-pub mod Tallies
 pub mod Turns
 pub mod Wires

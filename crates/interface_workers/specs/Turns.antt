@@ -13,16 +13,16 @@ use Rattle.datagrams.specs.declared.datagram.Passed.{Passed}
 use Rattle.datagrams.specs.declared.datagram.Passed.TheVariants as passes
 use Rattle.journal_bytes.specs.Events.{event_bytes}
 use Rattle.journal_bytes.specs.declared.entry.WrittenFrame.{WrittenFrame}
-use Rattle.run_journal.specs.declared.mark.Mark.{Mark}
-use Rattle.run_journal.specs.declared.receipt.Receipt.{Receipt}
+use Rattle.shared_core.specs.Below.journal.declared.mark.Mark.{Mark}
+use Rattle.shared_core.specs.Below.journal.declared.receipt.Receipt.{Receipt}
 use Rattle.interface_workers.specs.Chains.{WorkGoesOn}
-use Rattle.interface_workers.specs.Refused.{MayBeRefused}
-use Rattle.interface_workers.specs.Tallies.{counted, handled_for, no_tally, with_lost}
+use Rattle.shared_core.specs.Refused.{MayBeRefused}
+use Rattle.worker_tallies.specs.Tallies.{counted, handled_for, no_tally, with_lost}
 use Rattle.interface_workers.specs.Wires.{AreGiven, AreSent, Arrival, Sending, WireHistory, after, datagrams_in, faults_in, lost_in}
 use Rattle.interface_workers.specs.Wires.Arrival.{Came, Fault, Silence}
-use Rattle.interface_workers.specs.declared.handled.Handled.{Handled}
-use Rattle.interface_workers.specs.declared.handled.Handled.TheVariants as handles
-use Rattle.interface_workers.specs.declared.handled.Tally.{Tally}
+use Rattle.worker_tallies.specs.declared.handled.Handled.{Handled}
+use Rattle.worker_tallies.specs.declared.handled.Handled.TheVariants as handles
+use Rattle.worker_tallies.specs.declared.handled.Tally.{Tally}
 use Rattle.interface_workers.specs.declared.worker.Taken.{Taken}
 use Rattle.interface_workers.specs.declared.worker.Taken.TheVariants as takes
 use Rattle.interface_workers.specs.declared.worker.Work.{Work}

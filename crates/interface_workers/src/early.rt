@@ -4,18 +4,17 @@ ghost use Rattle.std.specs.Prelude.{◌≡◌, IfSome, Ok};
 ghost use Rattle.datagrams.specs.declared.datagram.Datagram.TheVariants as datagrams;
 ghost use Rattle.interface_workers.specs.Early.{IsAlways};
 
-use crate::names::CoreName;
 use crate::wire::Wire;
 use abstract_paths::Event;
 use datagrams::{Datagram, read_unlabelled};
 use lsr_facts::Router;
-use run_journal::SpelledEvent;
+use shared_core::{CoreName, SpelledEvent};
 use std::alloc::Global;
 use std::collections::VecDeque;
 use std::marker::{Model, PhantomData};
 
 /// The most datagrams that are read before their turn.
-const MOST_EARLY: usize = 128;
+const MOST_EARLY: usize = 32;
 
 /// An event that was read before its turn, and how a journal holds it. Contracts see the event.
 #[derive(Drop)]
@@ -28,7 +27,7 @@ pub(crate) struct EarlyEvent {
 
 impl Model for EarlyEvent {
     ghost use Rattle.abstract_paths.specs.declared.events.Event.{Event};
-    ghost use Rattle.run_journal.specs.Spelled.{IsSpelled};
+    ghost use Rattle.shared_core.specs.Below.journal.Spelled.{IsSpelled};
 
     ghost Value = { Event };
 

@@ -1,4 +1,4 @@
-//! What a turn serves.
+//! What came, as a turn serves it: read in the turn, read before it, or rewritten where it came.
 
 use crate::early::EarlyEvent;
 use crate::worker::Taken;
@@ -17,4 +17,15 @@ pub(crate) enum Next<'a> {
         /// Its bytes.
         bytes: &'a [u8],
     },
+}
+
+impl<'a> Next<'a> {
+    /// Whether it is an event, which is fed.
+    pub(crate) fn is_event(&self) -> bool {
+        match self {
+            Next::Taken(taken) => taken.is_event(),
+            Next::Early(_) => true,
+            Next::Rewritten { .. } => false,
+        }
+    }
 }

@@ -11,9 +11,7 @@ ghost use Rattle.interface_workers.specs.Wires.Arrival.{Came};
 ghost use Rattle.interface_workers.specs.declared.worker.Taken.{Taken};
 
 use crate::early::EarlyReads;
-use crate::names::CoreName;
 use crate::next::Next;
-use crate::readers::CoreReader;
 use crate::worker::Taken;
 use datagrams::{Datagram, Forwards, read_datagram, read_unlabelled};
 use forwarding_table::Forwarding;
@@ -21,6 +19,7 @@ use frame_rewriting::{ROOM, rewrite};
 use label_stacks::Stack;
 use lookup_plane::Lookups;
 use lsr_facts::{Refusal, Router};
+use shared_core::{CoreName, CoreReader};
 use std::alloc::Global;
 use std::sync::ledger::Ledger;
 

@@ -2,8 +2,8 @@
 
 ghost use Rattle.std.specs.Prelude.{◌≡◌, ◌+◌, ◌-◌, ◌^◌, ◌<◌, ◌≤◌, ◌⊎◌, ◌∷◌, ℕ, All, false, true, [], IfOk, IfSome, List, OnErr, length, vec_capacity};
 ghost use Rattle.interface_workers.specs.Chains.{AddsUp, AreHandedOut, HasRoom, IsChain, IsFed, IsWorkOf, StaysWorkOf, WorkGoesOn};
-ghost use Rattle.interface_workers.specs.Names.{IsReceiptOf, IsSegmentOf};
-ghost use Rattle.interface_workers.specs.Tallies.{counted, with_lost};
+ghost use Rattle.shared_core.specs.Names.{IsReceiptOf, IsSegmentOf};
+ghost use Rattle.worker_tallies.specs.Tallies.{counted, with_lost};
 ghost use Rattle.interface_workers.specs.Turns.{AreAmongFailures, HasSent, IsEventServed, IsNoWork, IsPassedOn, IsRunOf, IsServed, IsTaken, IsTallyOf, IsTurn, IsUnlabelled};
 ghost use Rattle.interface_workers.specs.Wires.{AreSent, Arrival, Sending, after};
 ghost use Rattle.interface_workers.specs.Next.{StandsFor};
@@ -11,17 +11,11 @@ ghost use Rattle.link_frames.specs.Frames.{frame_bytes};
 ghost use Rattle.link_frames.specs.declared.frame.Frame.{Frame};
 ghost use Rattle.datagrams.specs.declared.datagram.Passed.TheVariants as passes;
 ghost use Rattle.lookup_plane.specs.Changes.{StartsWith};
-ghost use Rattle.run_journal.specs.Spelled.{IsSpelled};
+ghost use Rattle.shared_core.specs.Below.journal.Spelled.{IsSpelled};
 
-use crate::booked::{CoreReceipt, Port};
-use crate::cores::{Core, HeldCore};
 use crate::early::{EarlyEvent, EarlyReads};
 use crate::gate::Gate;
-use crate::handled::{Handled, Tally};
-use crate::keeping::KeepSegments;
-use crate::names::CoreName;
 use crate::next::Next;
-use crate::readers::CoreReader;
 use crate::reading::read_next;
 use crate::wire::Wire;
 use abstract_paths::Event;
@@ -29,9 +23,13 @@ use frame_rewriting::ROOM;
 use journal_bytes::WrittenFrame;
 use lsr_facts::Refusal;
 use rsvp_messages::frame_bytes;
-use run_journal::{Datagram, Passed, Receipt, Segment, SpelledEvent};
+use shared_core::{
+    Core, CoreName, CoreReader, CoreReceipt, Datagram, HeldCore, KeepSegments, Passed, Port,
+    Receipt, Segment, SpelledEvent,
+};
 use std::alloc::{AllocError, Global};
 use std::sync::Wait;
+use worker_tallies::{Handled, Tally};
 
 /// The most bytes of a datagram.
 const MAX_DATAGRAM_LEN: usize = 65_536;
@@ -135,6 +133,24 @@ impl Drop for Taken {
     }
 }
 
+impl Taken {
+    /// Whether it is an event, which is fed.
+    pub(crate) fn is_event(&self) -> bool {
+        match self {
+            Taken::Came(answer) => is_fed(answer),
+            Taken::Nothing | Taken::WireFailed | Taken::NotShown => false,
+        }
+    }
+}
+
+/// Whether a datagram says an event.
+fn is_fed(answer: &Result<Datagram, Refusal>) -> bool {
+    match answer {
+        Ok(Datagram::Event(_)) => true,
+        Ok(Datagram::Passed(_)) | Err(_) => false,
+    }
+}
+
 /// Where a worker stands: the core that it feeds, the gate between them, and what it waits and takes memory by.
 #[derive(Drop)]
 struct Station<'a, L: CoreName, R: Wait + Drop, K: KeepSegments + Drop, T: Wait, G: Gate> {
@@ -157,15 +173,21 @@ impl<'a, L: CoreName, R: Wait + Drop, K: KeepSegments + Drop, T: Wait, G: Gate> 
         held.is_none() && wire.ahead(0).is_some() && !self.gate.may_hold()
     }
 
-    /// Reads what came together over the link before the router is kept for it, so that nobody waits meanwhile.
+    /// Keeps the router for an event and for what came together with it, where nobody else uses it just now. Else what came is read before
+    /// the router is waited for, so that nobody waits while it is read.
     fn read_early<W: Wire>(
         &self,
-        held: &Option<HeldCore<'a, L, R>>,
+        held: &mut Option<HeldCore<'a, L, R>>,
         early: &mut EarlyReads<L>,
         link: u16,
         wire: &W,
+        next: &Next<'_>,
     ) {
-        if self.may_keep(held, wire) {
+        if !next.is_event() || !self.may_keep(held, wire) {
+            return;
+        }
+        *held = self.core.try_hold();
+        if held.is_none() {
             early.fill(self.alloc, self.core.router(), link, wire);
         }
     }
@@ -442,7 +464,7 @@ impl<'a, L: CoreName, R: Wait + Drop, K: KeepSegments + Drop, T: Wait, G: Gate> 
         ensures own { StaysWorkOf L.config work.old work.new }
     {
         let (next, mut reader) = self.receive(early, reader, link, wire, buffer);
-        self.read_early(held, early, link, wire);
+        self.read_early(held, early, link, wire, &next);
         let failures = wire.failures();
         let handled = self.serve_next(held, early, port, &mut reader, wire, work, next);
         if wire.ahead(0).is_none() {

@@ -6,7 +6,7 @@ use Rattle.field_bytes.specs.NumberLaws.{heads_and_rests}
 use Rattle.field_bytes.specs.Spelling.{Answers, IsOne}
 use Rattle.field_bytes.specs.declared.fault.ReadFault.{ReadFault}
 use Rattle.field_bytes.specs.declared.fault.ReadFault.TheVariants as faults
-use Rattle.journal_files.specs.Wholes.{ReadsWhole}
+use Rattle.field_bytes.specs.Wholes.{ReadsWhole}
 use Rattle.journal_files.specs.FirstFormat.{FitsFirst, HaveCodes, StandsSo, begins_so, first_text, is_add_bypass, no_capacity, not_there, others_stay, whole_again}
 
 -- ---- the first format

@@ -11,4 +11,3 @@ pub mod PendingLaws
 pub mod Recorded
 pub mod Standing
 pub mod Untold
-pub mod Wholes

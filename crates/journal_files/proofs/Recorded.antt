@@ -16,7 +16,7 @@ use Rattle.journal_files.specs.Fitting.{BaseFits, FormatFits}
 use Rattle.journal_files.specs.Recordings.{IsRecorded, IsRecording, IsToldBase, ReadsBody, ReadsFile, SpellsBody, SpellsFile, file_bytes, format_number, stored}
 use Rattle.journal_files.specs.Formats.{Stored, format_bytes}
 use Rattle.journal_files.specs.Texts.{Allows, Answers, ReadsConfig, ReadsText, SaysConfig}
-use Rattle.journal_files.specs.Wholes.{ReadsWhole}
+use Rattle.field_bytes.specs.Wholes.{ReadsWhole}
 use Rattle.journal_files.specs.declared.formats.FileFormat.{FileFormat}
 use Rattle.journal_files.specs.declared.formats.FileFormat.TheVariants as formats
 use Rattle.journal_files.specs.declared.recordings.Recording.{Recording}

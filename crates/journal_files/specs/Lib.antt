@@ -9,4 +9,3 @@ pub mod Replies
 pub mod Rows
 pub mod States
 pub mod Texts
-pub mod Wholes

@@ -6,12 +6,11 @@ ghost use Rattle.journal_files.specs.Entries.{entry_parts, frame_parts, outcome_
 ghost use Rattle.journal_files.specs.Fitting.{OutcomeFits};
 
 use crate::replies::ReplyField;
-use crate::whole::read_whole;
 use event_fields::EventField;
 use fact_fields::KeyField;
 use field_bytes::{
     Counted, Field, Items, Many, Octets, Pair, Put, ReadFault, Short, TextOf, Word, put_counted,
-    put_list,
+    put_list, read_whole,
 };
 use journal_bytes::{Entry, Listed, WrittenFrame};
 use lsr_facts::{Key, Reply};

@@ -2,11 +2,10 @@
 
 ghost use Rattle.std.specs.Prelude.{◌≡◌, ◌++◌};
 ghost use Rattle.journal_files.specs.FirstFormat.{is_add_bypass, no_capacity};
-ghost use Rattle.journal_files.specs.Wholes.{ReadsWhole};
+ghost use Rattle.field_bytes.specs.Wholes.{ReadsWhole};
 
 use crate::entries::EventText;
-use crate::whole::read_whole;
-use field_bytes::{Field, Octets, ReadFault};
+use field_bytes::{Field, Octets, ReadFault, read_whole};
 use std::alloc::Global;
 use std::marker::PhantomData;
 

@@ -13,7 +13,6 @@ mod replies;
 mod states;
 mod tables;
 mod texts;
-mod whole;
 mod writing;
 
 pub use entries::{EntryField, EventText, FrameField, LabelField, PutEvent};

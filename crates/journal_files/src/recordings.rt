@@ -5,13 +5,12 @@ ghost use Rattle.journal_files.specs.Texts.{ReadsText};
 ghost use Rattle.journal_files.specs.Fitting.{FormatFits};
 ghost use Rattle.journal_files.specs.Formats.{format_bytes};
 ghost use Rattle.journal_files.specs.Recordings.{IsFormat, IsRecorded, IsToldBase, ReadsBody, ReadsFile};
-ghost use Rattle.journal_files.specs.Wholes.{ReadsWhole};
+ghost use Rattle.field_bytes.specs.Wholes.{ReadsWhole};
 
 use crate::formats::{FileFormat, FirstBody, SecondBody, Stored, ThirdBody};
 use crate::pending::told_state;
 use crate::texts::read_config;
-use crate::whole::read_whole;
-use field_bytes::{Items, Octets, ReadFault};
+use field_bytes::{Items, Octets, ReadFault, read_whole};
 use journal_bytes::Entry;
 use lsr_config::Config;
 use lsr_facts::State;

@@ -130,19 +130,33 @@ fn read_or_empty<R: Files + AllocGlobal>(rt: &R, name: &str) -> io::Result<Vec<u
     }
 }
 
+/// The name of the file NAME.END.
+fn file_name(alloc: Global, name: &str, end: &str) -> Result<String, AllocError> {
+    format!(in alloc; "{name}.{end}")
+}
+
+/// The bytes of the file NAME.END, no bytes where it isn't there.
+fn read_part<R: Files + AllocGlobal>(rt: &R, name: &str, end: &str) -> io::Result<Vec<u8>> {
+    read_or_empty(rt, file_name(rt.alloc(), name, end)?.as_str())
+}
+
+/// The text of the file NAME.END.
+fn read_text<R: Files + AllocGlobal>(rt: &R, name: &str, end: &str) -> io::Result<String> {
+    fs::read_to_string(rt, file_name(rt.alloc(), name, end)?.as_str())
+}
+
 /// Whether the run printed and told what the files of this name say.
 fn agrees<R: Files + AllocGlobal>(rt: &R, name: &str, ran: &Ran) -> io::Result<bool> {
-    let alloc = rt.alloc();
-    let output = read_or_empty(rt, format!(in alloc; "{name}.out")?.as_str())?;
-    let error = read_or_empty(rt, format!(in alloc; "{name}.err")?.as_str())?;
+    let output = read_part(rt, name, "out")?;
+    let error = read_part(rt, name, "err")?;
     Ok(is_as_wanted(ran, output.as_slice(), error.as_slice()))
 }
 
 /// Whether the run over lines agrees.
 fn run_agrees<R: Files + AllocGlobal>(rt: &R, name: &str) -> io::Result<bool> {
     let alloc = rt.alloc();
-    let config = read_or_none(rt, format!(in alloc; "{name}.toml")?.as_str())?;
-    let input = fs::read(rt, format!(in alloc; "{name}.step")?.as_str())?;
+    let config = read_or_none(rt, file_name(alloc, name, "toml")?.as_str())?;
+    let input = fs::read(rt, file_name(alloc, name, "step")?.as_str())?;
     let ran = match &config {
         Some(config) => run(alloc, Some(config.as_slice()), input.as_slice())?,
         None => run(alloc, NO_CONFIG, input.as_slice())?,
@@ -153,7 +167,7 @@ fn run_agrees<R: Files + AllocGlobal>(rt: &R, name: &str) -> io::Result<bool> {
 /// Whether the message is decoded as its files say.
 fn message_agrees<R: Files + AllocGlobal>(rt: &R, name: &str) -> io::Result<bool> {
     let alloc = rt.alloc();
-    let text = fs::read_to_string(rt, format!(in alloc; "{name}.hex")?)?;
+    let text = read_text(rt, name, "hex")?;
     let mut output = Vec::new(alloc);
     let mut error = Vec::new(alloc);
     let status = run_decode(alloc, false, text.trim(), &mut output, &mut error)?;
@@ -201,8 +215,8 @@ fn counts_agree(counts: &str, printed: &str) -> bool {
 /// Whether the run over many LSPs agrees.
 fn many_agree<R: Files + AllocGlobal>(rt: &R, name: &str) -> io::Result<bool> {
     let alloc = rt.alloc();
-    let many = fs::read_to_string(rt, format!(in alloc; "{name}.many")?)?;
-    let counts = fs::read_to_string(rt, format!(in alloc; "{name}.counts")?)?;
+    let many = read_text(rt, name, "many")?;
+    let counts = read_text(rt, name, "counts")?;
     let mut lines = String::new(alloc);
     for line in many.lines() {
         push_lines(&mut lines, line)?;

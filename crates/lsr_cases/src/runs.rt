@@ -1,5 +1,5 @@
 //! The program run on words and an input.
-use crate::{Ran, is_all_as_wanted, read_or_empty, word};
+use crate::{Ran, is_all_as_wanted, read_part, read_text, word};
 use lsr_tool::run;
 use std::io::{ErrorKind, Read, Write};
 use std::net::Net;
@@ -74,12 +74,11 @@ fn run_agrees<R: Files + Net + Threads + Wait + Clock + Clone + Send + Sync + Dr
     rt: &R,
     name: &str,
 ) -> io::Result<bool> {
-    let alloc = rt.alloc();
-    let text = fs::read_to_string(rt, format!(in alloc; "{name}.words")?)?;
+    let text = read_text(rt, name, "words")?;
     let (status, words) = text.split_once('\n').unwrap_or((text.as_str(), ""));
-    let input = read_or_empty(rt, format!(in alloc; "{name}.in")?.as_str())?;
-    let output = read_or_empty(rt, format!(in alloc; "{name}.out")?.as_str())?;
-    let error = read_or_empty(rt, format!(in alloc; "{name}.err")?.as_str())?;
+    let input = read_part(rt, name, "in")?;
+    let output = read_part(rt, name, "out")?;
+    let error = read_part(rt, name, "err")?;
     let ran = run_lines(rt, words, &mut input.as_slice())?;
     let status = status.parse::<u8>().unwrap_or(u8::MAX);
     Ok(is_all_as_wanted(&ran, status, output.as_slice(), error.as_slice()))

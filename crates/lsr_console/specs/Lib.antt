@@ -1,3 +1,4 @@
+pub mod Below
 pub mod Heard
 pub mod Said
 pub mod Told

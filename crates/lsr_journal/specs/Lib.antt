@@ -1,3 +1,4 @@
+pub mod Below
 pub mod Entries
 pub mod Recorded
 pub mod Segments

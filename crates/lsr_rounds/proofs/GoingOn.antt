@@ -2,11 +2,11 @@
 use Rattle.std.proofs.Common.{◌≡◌, ◌+◌, ℕ, All, List, Option, Some, None, length, subst, sym}
 use Rattle.std.proofs.lemmas.List.Elements.{All-weaker}
 use Rattle.lsr_config.specs.Configs.{Setup}
-use Rattle.interface_workers.specs.Below.journal.Journals.{IsSegment, Stretch}
-use Rattle.interface_workers.specs.Names.{IsSegmentOf}
+use Rattle.lsr_serve.specs.Below.workers.Below.journal.Journals.{IsSegment, Stretch}
+use Rattle.lsr_serve.specs.Below.workers.Below.core.Names.{IsSegmentOf}
 use Rattle.lsr_serve.specs.declared.run.RunReport.{RunReport}
-use Rattle.run_reconciler.specs.Rounds.{IsLastOf, IsRunSoFar}
-use Rattle.run_reconciler.proofs.Rounds.{count_is, first_round, next_round}
+use Rattle.lsr_serve.specs.Below.reconciler.Rounds.{IsLastOf, IsRunSoFar}
+use Rattle.lsr_serve.proofs.Below.rounds.{count_is, first_round, next_round}
 use Rattle.lsr_rounds.specs.Ended.{GoesOnFrom, IsSoFar, IsSoFarBy}
 use Rattle.lsr_rounds.specs.declared.so_far.RunSoFar.{RunSoFar}
 

@@ -1,9 +1,9 @@
 -- What an operator does by a port of a router.
 use Rattle.std.specs.Prelude.{◌+◌, ◌≤◌, ℕ}
 use Rattle.lsr_config.specs.Configs.{Setup}
-use Rattle.interface_workers.specs.Chains.{AddsUp, AreHandedOut, StaysWorkOf, WorkGoesOn}
-use Rattle.interface_workers.specs.Below.journal.declared.mark.Mark.{Mark}
-use Rattle.interface_workers.specs.declared.worker.Work.{Work}
+use Rattle.lsr_serve.specs.Below.workers.Chains.{AddsUp, AreHandedOut, StaysWorkOf, WorkGoesOn}
+use Rattle.lsr_serve.specs.Below.workers.Below.journal.declared.mark.Mark.{Mark}
+use Rattle.lsr_serve.specs.Below.workers.declared.worker.Work.{Work}
 
 -- Work by a port with this mark, to which so many segments were handed out, went on by at most one event: one receipt and one segment more
 -- at most, all of the router of this configuration, and one datagram more at most in a tally that adds up.

@@ -1,10 +1,10 @@
 -- What is known of a run whose rounds were reconciled one after the other.
 use Rattle.std.specs.Prelude.{◌≡◌, ℕ, Option, Some, None}
 use Rattle.lsr_config.specs.Configs.{Setup}
-use Rattle.interface_workers.specs.Below.journal.Journals.{Stretch}
+use Rattle.lsr_serve.specs.Below.workers.Below.journal.Journals.{Stretch}
 use Rattle.lsr_serve.specs.declared.run.RunReport.{RunReport}
-use Rattle.run_reconciler.specs.Judged.{ServesRun}
-use Rattle.run_reconciler.specs.Rounds.{IsNextRound, IsRunSoFar}
+use Rattle.lsr_serve.specs.Below.reconciler.Judged.{ServesRun}
+use Rattle.lsr_serve.specs.Below.reconciler.Rounds.{IsNextRound, IsRunSoFar}
 use Rattle.lsr_rounds.specs.declared.so_far.RunSoFar.{RunSoFar}
 
 -- with this last stretch and so many entries, rounds are one reconciled run of the router of this configuration; without one there was no

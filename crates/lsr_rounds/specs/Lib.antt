@@ -1,3 +1,4 @@
+pub mod Below
 pub mod Attending
 pub mod Ended
 pub mod Rounds

@@ -1,8 +1,8 @@
 -- What a round leaves.
 use Rattle.std.specs.Prelude.{◌≡◌, ◌+◌, ◌≤◌, length, vec_capacity}
 use Rattle.lsr_config.specs.Configs.{Setup}
-use Rattle.interface_workers.specs.Chains.{AddsUp, IsWorkOf, StaysWorkOf}
-use Rattle.interface_workers.specs.declared.worker.Work.{Work}
+use Rattle.lsr_serve.specs.Below.workers.Chains.{AddsUp, IsWorkOf, StaysWorkOf}
+use Rattle.lsr_serve.specs.Below.workers.declared.worker.Work.{Work}
 use Rattle.lsr_rounds.specs.declared.round.SeatWork.{SeatWork}
 
 -- Work has grown by at most one event, in the same room; its tally adds up, and it is still of the router of this configuration.

@@ -1,8 +1,8 @@
 //! Why a run of rounds ends.
 
-use interface_workers::OpenFault;
 use lsr_serve::ServeFault;
-use run_reconciler::Mismatch;
+use lsr_serve::reconciler::Mismatch;
+use lsr_serve::workers::OpenFault;
 use std::alloc::AllocError;
 
 /// Why a run of rounds ends before it is told to.

@@ -1,10 +1,10 @@
 //! Who sits at a router that is served.
 
 ghost use Rattle.lsr_rounds.specs.Attending.{IsAttended};
-ghost use Rattle.interface_workers.specs.Chains.{HasRoom};
+ghost use Rattle.lsr_serve.specs.Below.workers.Chains.{HasRoom};
 
-use interface_workers::{Core, CoreName, Gate, KeepSegments, Port, Wire, Work};
 use lsr_serve::PortCount;
+use lsr_serve::workers::{Core, CoreName, Gate, KeepSegments, Port, Wire, Work};
 use std::alloc::Global;
 use std::sync::Wait;
 use std::time::Clock;

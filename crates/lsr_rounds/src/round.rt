@@ -1,6 +1,6 @@
 //! A round of a run: the links' threads serve, and the thread that began the run feeds the clock's moments and attends to the operator.
 ghost use Rattle.std.specs.Prelude.{◌≡◌, ◌+◌, All, IfOk, length};
-ghost use Rattle.interface_workers.specs.Chains.{HasRoom, IsWorkOf};
+ghost use Rattle.lsr_serve.specs.Below.workers.Chains.{HasRoom, IsWorkOf};
 ghost use Rattle.lsr_serve.specs.Reports.{IsReportOf};
 ghost use Rattle.lsr_rounds.specs.Attending.{IsAttended};
 ghost use Rattle.lsr_rounds.specs.Rounds.{AreSeatsOf, IsGrown};
@@ -8,7 +8,7 @@ ghost use Rattle.lsr_rounds.specs.Rounds.{AreSeatsOf, IsGrown};
 use crate::operator::{Desk, Operator};
 use crate::pace::Pace;
 use abstract_paths::Event;
-use interface_workers::{CoreName, Gate, KeepSegments, Port, Wire, Work, serve_event};
+use lsr_serve::workers::{CoreName, Gate, KeepSegments, Port, Wire, Work, serve_event};
 use lsr_serve::{RoundFlag, RunReport, Turned, Worker, add_turned, add_work, run_worker};
 use std::alloc::AllocError;
 use std::sync::Wait;

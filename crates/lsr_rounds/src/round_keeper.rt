@@ -1,8 +1,8 @@
 //! Who keeps a journal, and ends a round with each segment.
 ghost use Rattle.std.specs.Prelude.{◌≡◌};
 
-use interface_workers::{KeepSegments, NotKept, Segment};
 use lsr_serve::RoundFlag;
+use lsr_serve::workers::{KeepSegments, NotKept, Segment};
 
 /// Gives each segment to who keeps the journal, and ends the round: so a round has few segments, and what it left is given up soon.
 #[derive(Drop)]

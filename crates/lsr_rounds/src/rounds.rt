@@ -8,8 +8,8 @@ use crate::operator::{Desk, Operator};
 use crate::pace::Pace;
 use crate::round::{Round, Seats, run_round};
 use crate::so_far::RunSoFar;
-use interface_workers::{CoreName, Gate, KeepSegments, Opened, Wire, open};
 use lsr_config::Config;
+use lsr_serve::workers::{CoreName, Gate, KeepSegments, Opened, Wire, open};
 use lsr_serve::{
     LinkWire, RoundFlag, RunReport, Worker, add_finished, add_segment, copy_config, link_workers,
 };

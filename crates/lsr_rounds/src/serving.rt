@@ -9,8 +9,8 @@ use crate::operator::Operator;
 use crate::round_keeper::RoundKeeper;
 use crate::rounds::{RunEnd, serve_rounds};
 use crate::so_far::RunSoFar;
-use interface_workers::{KeepSegments, OpenGate};
 use lsr_config::Config;
+use lsr_serve::workers::{KeepSegments, OpenGate};
 use lsr_serve::{
     LinkSockets, LinkWire, RoundFlag, ServeFault, UdpWire, open_clock_wire, open_wires,
 };

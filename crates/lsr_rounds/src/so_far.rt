@@ -5,10 +5,10 @@ ghost use Rattle.lsr_serve.specs.Reports.{IsReportOf};
 ghost use Rattle.lsr_rounds.specs.Ended.{IsJudged, IsSoFar};
 
 use crate::fault::RunFault;
-use interface_workers::{Segment, Tally};
 use lsr_config::Config;
+use lsr_serve::reconciler::{Mismatch, judge, judge_round};
+use lsr_serve::workers::{Segment, Tally};
 use lsr_serve::{PortCount, RunReport};
-use run_reconciler::{Mismatch, judge, judge_round};
 use std::alloc::{AllocError, Global};
 
 /// A run so far: its last segment, how many entries its rounds had in all, and how much each port did. Everything else of a round is given

@@ -1,3 +1,4 @@
+pub mod Below
 mod Counting
 mod Digits
 mod Locality

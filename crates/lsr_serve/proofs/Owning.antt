@@ -6,7 +6,7 @@ use Rattle.std.specs.Prelude.{IfOk, IsPermutation}
 use Rattle.lsr_config.specs.Configs.{Setup}
 use Rattle.interface_workers.specs.Below.journal.Journals.{Stretch}
 use Rattle.interface_workers.specs.Chains.{IsWorkOf}
-use Rattle.interface_workers.specs.Names.{IsReceiptOf, IsSegmentOf}
+use Rattle.interface_workers.specs.Below.core.Names.{IsReceiptOf, IsSegmentOf}
 use Rattle.interface_workers.specs.declared.worker.Work.{Work}
 use Rattle.lsr_serve.specs.Reports.{IsReportOf}
 use Rattle.lsr_serve.specs.declared.run.RunReport.{RunReport}

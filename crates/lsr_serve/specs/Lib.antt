@@ -1,3 +1,4 @@
+pub mod Below
 pub mod Local
 pub mod Reports
 pub mod Sockets

@@ -1,7 +1,7 @@
 -- What the threads of a run leave.
 use Rattle.std.specs.Prelude.{◌≡◌, ◌++◌, ◌∷◌, [], All, length, sum_by}
 use Rattle.lsr_config.specs.Configs.{Setup}
-use Rattle.interface_workers.specs.Names.{IsReceiptOf, IsSegmentOf}
+use Rattle.interface_workers.specs.Below.core.Names.{IsReceiptOf, IsSegmentOf}
 use Rattle.interface_workers.specs.declared.worker.Work.{Work}
 use Rattle.lsr_serve.specs.declared.run.PortCount.{PortCount}
 use Rattle.lsr_serve.specs.declared.run.RunReport.{RunReport}

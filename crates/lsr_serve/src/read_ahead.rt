@@ -5,7 +5,7 @@ ghost use Rattle.std.specs.Prelude.{◌≤◌, IfSome, length};
 use std::alloc::{AllocError, Global};
 
 /// How many datagrams are read ahead at most.
-pub(crate) const MOST_AHEAD: usize = 128;
+pub(crate) const MOST_AHEAD: usize = 32;
 /// How many bytes of datagrams are kept: there is room for the longest one after so many bytes of others.
 const ROOM: usize = 131_072;
 /// The most bytes of a datagram.

@@ -2,7 +2,7 @@
 ghost use Rattle.std.specs.Prelude.{◌≡◌, ◌+◌, ◌<◌, ◌≤◌, All, IfNone, IfOk, IsPermutation, OnOk, length};
 ghost use Rattle.lsr_config.specs.Configs.{Setup};
 ghost use Rattle.interface_workers.specs.Chains.{IsWorkOf};
-ghost use Rattle.interface_workers.specs.Names.{IsSegmentOf};
+ghost use Rattle.interface_workers.specs.Below.core.Names.{IsSegmentOf};
 ghost use Rattle.lsr_serve.specs.Reports.{IsCounted, IsPutTo, IsReportOf};
 
 use crate::udp_wire::LinkWire;

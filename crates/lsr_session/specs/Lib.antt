@@ -1,2 +1,3 @@
+pub mod Below
 pub mod Requests
 pub use Rattle.router_core.specs.States

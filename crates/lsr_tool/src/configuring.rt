@@ -15,7 +15,7 @@ use crate::session::{misconfigured, read_config_text, said};
 use config_text::config_text;
 use line_streams::ByteStream;
 use lsr_config::{Config, ConfigFault, LinkSockets};
-use lsr_serve::read_sockets;
+use lsr_console::rounds::serve::read_sockets;
 use std::alloc::{AllocError, Global};
 use std::io;
 use std::io::Write;

@@ -7,9 +7,8 @@ ghost use Rattle.lsr_journal.specs.Segments.{SpellsSegment};
 ghost use Rattle.lsr_tool.specs.Serving.{segment_name};
 
 use crate::written::{OutputFault, WritesFiles};
-use lsr_journal::write_segment;
-use lsr_serve::{BesideClock, KeepSegments, NotKept};
-use run_journal::Segment;
+use lsr_console::rounds::serve::{BesideClock, KeepSegments, NotKept};
+use lsr_journal::{Segment, write_segment};
 use std::alloc::{AllocError, Global};
 use std::mem;
 use std::sync::{Mutex, Wait};

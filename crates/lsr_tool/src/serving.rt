@@ -13,7 +13,9 @@ use crate::written::{OutputFault, WritesFiles, tell_output_fault};
 use config_text::link_without;
 use line_streams::read_text;
 use lsr_config::Config;
-use lsr_serve::{BesideClock, ClockAlone, LinkSockets, read_sockets, read_turns, serve_links};
+use lsr_console::rounds::serve::{
+    BesideClock, ClockAlone, LinkSockets, read_sockets, read_turns, serve_links,
+};
 use sorted_rows::Table;
 use std::alloc::Global;
 use std::io;

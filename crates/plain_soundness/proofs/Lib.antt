@@ -1,6 +1,5 @@
 mod Labelling
 mod Pairs
-mod Reserving
 mod Sharing
 mod Telling
 mod Tunnelling

@@ -4,12 +4,7 @@ use Rattle.std.specs.List.{AllByRecursion}
 use Rattle.std.proofs.Common.{get_or, ap, sym, subst, ◌∙◌, add-one, drop-cons}
 use Rattle.sorted_rows.specs.Rows.{keys_of}
 
--- what is told of rows, where they are those of a list of which something else says the same
-pub told : {A : Type 0} (P : A → Type 0) (b : Bool) (rows all : List A) (X : Type 0) → rows ≡ all → ((b ≡ true) ↔ AllByRecursion P rows) → (AllByRecursion P all ↔ X) → (b ≡ true) ↔ X
-told P b rows all X is answer means =
-    (λ passes. means.0 (subst (AllByRecursion P) is (answer.0 passes)), λ x. answer.1 (subst (AllByRecursion P) (sym is) (means.1 x)))
-
--- and what is told of rows two by two
+-- what is told of rows two by two, where they are those of a list
 pub told_of_pairs : {A : Type 0} (P : A → A → Type 0) (b : Bool) (rows all : List A) (X : Type 0) → rows ≡ all → ((b ≡ true) ↔ AllByRecursion (λ row. AllByRecursion (P row) rows) rows) → (AllByRecursion (λ row. AllByRecursion (P row) all) all ↔ X) → (b ≡ true) ↔ X
 told_of_pairs {A} P b rows all X is answer means =
     let each : List A → Type 0 = λ list. AllByRecursion (λ row. AllByRecursion (P row) list) list in

@@ -1,6 +1,5 @@
 pub mod Apart
 pub mod Clauses
 pub mod Labelled
-pub mod Limits
 pub mod Styles
 pub mod Surroundings

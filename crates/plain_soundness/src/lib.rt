@@ -4,7 +4,6 @@
 
 mod apart;
 mod assignments;
-mod bandwidth;
 mod checks;
 mod clause;
 mod keys;

@@ -9,7 +9,6 @@ ghost use Rattle.state_views.specs.KnownLsps.{AreLsps};
 ghost use Rattle.plain_soundness.specs.Clauses.{AreLspsSound, AreMomentsSound, AreSharesSound, IsBroken};
 
 use crate::assignments::are_assigned;
-use crate::bandwidth::are_within;
 use crate::checks::{Check, holds_of_all};
 use crate::clause::Clause;
 use crate::labels::{are_labelled, are_resting};
@@ -18,6 +17,7 @@ use crate::sent::{are_sent, are_sent_upstream};
 use crate::standing::is_standing;
 use facility_backup::{repair_stands, stands};
 use lsr_facts::{Key, Repair, ResvFact, Router, State};
+use plain_bandwidth::are_within;
 use plain_views::Known;
 use std::alloc::{AllocError, Global};
 

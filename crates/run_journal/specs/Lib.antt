@@ -1,3 +1,4 @@
+pub mod Below
 pub mod Entries
 pub mod Journals
 pub mod Marks

@@ -16,7 +16,7 @@ pub use journal_bytes::{Entry, Frames};
 pub use locked::Locked;
 pub use mark::Mark;
 pub use receipt::Receipt;
-pub use router_core::{Datagram, Passed};
+pub use router_core::{Datagram, Machine, Passed};
 pub use segment::Segment;
 pub use spelled::SpelledEvent;
 

@@ -1,3 +1,4 @@
+pub mod Below
 pub mod Commands
 pub mod Rows
 pub mod Charted

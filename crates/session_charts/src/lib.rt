@@ -9,4 +9,5 @@ mod commands;
 pub mod laws;
 mod session;
 
+pub use lsr_session as sessions;
 pub use session::ChartedSession;

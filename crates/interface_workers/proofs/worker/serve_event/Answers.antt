@@ -1,6 +1,6 @@
 -- One event more is counted.
 use Rattle.std.proofs.Common.{◌+◌, ◌-◌, ℕ, ap, refl, ◌∙◌}
-use Rattle.interface_workers.specs.declared.handled.Tally.{Tally}
+use Rattle.worker_tallies.specs.declared.handled.Tally.{Tally}
 use Rattle.interface_workers.proofs.Counting.{tally_is}
 use Rattle.interface_workers.proofs.TakenKinds.{event_kind}
 use Rattle.interface_workers.proofs.Turning.{counted_datagrams}

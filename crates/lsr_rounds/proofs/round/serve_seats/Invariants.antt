@@ -1,6 +1,6 @@
 -- Each port has room for one event more in each turn, and no more was counted than there were turns; the work is that of the name's own router.
 use Rattle.std.proofs.Common.{◌≤◌, length, vec_capacity}
-use Rattle.interface_workers.specs.Chains.{AddsUp, IsWorkOf}
+use Rattle.lsr_serve.specs.Below.workers.Chains.{AddsUp, IsWorkOf}
 use Rattle.lsr_rounds.proofs.round.serve_seats.Given as goal
 
 abbrev pub invariant-loop-turn : goal.invariant-loop-turn

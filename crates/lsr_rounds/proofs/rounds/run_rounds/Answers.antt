@@ -1,7 +1,7 @@
 -- The round goes on from those before it, and what it left is of the configuration's router.
 use Rattle.std.proofs.Common.{◌≡◌, ◌+◌, ap, arith, length, subst, sym}
 use Rattle.lsr_config.specs.Configs.{Setup}
-use Rattle.interface_workers.specs.Names.{IsSegmentOf}
+use Rattle.lsr_serve.specs.Below.workers.Below.core.Names.{IsSegmentOf}
 use Rattle.lsr_serve.specs.Reports.{IsReportOf}
 use Rattle.lsr_rounds.proofs.GoingOn.{moved}
 use Rattle.lsr_rounds.proofs.rounds.run_rounds.Goals as goal

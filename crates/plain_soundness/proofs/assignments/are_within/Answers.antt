@@ -2,7 +2,7 @@ use Rattle.std.proofs.Common.{◌≤◌, ℕ}
 use Rattle.lsr_facts.specs.declared.bypass.Bypass.{Bypass}
 use Rattle.bypass_shares.specs.Shares.{assigned_of}
 use Rattle.plain_soundness.proofs.Sharing.{within}
-use Rattle.plain_soundness.proofs.Telling.{told}
+use Rattle.plain_bandwidth.proofs.Telling.{told}
 use Rattle.plain_soundness.proofs.assignments.are_within.Goals as goal
 
 pub returns : goal.returns

@@ -1,6 +1,6 @@
 -- There is room for one event more in each turn, and no more was counted than there were turns.
 use Rattle.std.proofs.Common.{◌≤◌, length, vec_capacity}
-use Rattle.interface_workers.specs.Chains.{AddsUp}
+use Rattle.lsr_serve.specs.Below.workers.Chains.{AddsUp}
 use Rattle.worker_cases.proofs.failing_wire.feed_moments.Given as goal
 
 abbrev pub invariant-loop-turn : goal.invariant-loop-turn

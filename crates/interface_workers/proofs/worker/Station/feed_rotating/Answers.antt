@@ -1,6 +1,6 @@
 -- One segment more, of the name's own router.
 use Rattle.std.proofs.Common.{subst, sym}
-use Rattle.interface_workers.specs.Names.{IsSegmentOf}
+use Rattle.shared_core.specs.Names.{IsSegmentOf}
 use Rattle.interface_workers.proofs.Naming.{segments_more}
 use Rattle.interface_workers.proofs.worker.Station.feed_rotating.Goals as goal
 

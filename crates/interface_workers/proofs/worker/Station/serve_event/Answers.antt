@@ -1,6 +1,6 @@
 -- A receipt that is kept follows on the one before, and its frames are sent.
 use Rattle.std.proofs.Common.{◌++◌, ◌∷◌, [], ap, ◌∙◌}
-use Rattle.run_journal.specs.declared.receipt.Receipt.{Receipt}
+use Rattle.shared_core.specs.Below.journal.declared.receipt.Receipt.{Receipt}
 use Rattle.interface_workers.proofs.Chaining.{receipt_more}
 use Rattle.interface_workers.proofs.Naming.{work_more}
 use Rattle.interface_workers.proofs.TakenKinds.{event_refused}

@@ -1,10 +1,10 @@
 -- What is served stands for what was taken.
 use Rattle.std.proofs.Common.{◌≡◌, List, refl, subst, sym}
-use Rattle.run_journal.specs.declared.receipt.Receipt.{Receipt}
+use Rattle.shared_core.specs.Below.journal.declared.receipt.Receipt.{Receipt}
 use Rattle.interface_workers.specs.Next.{StandsFor}
 use Rattle.interface_workers.specs.Turns.{HasSent, IsServed}
 use Rattle.interface_workers.specs.Wires.{WireHistory}
-use Rattle.interface_workers.specs.declared.handled.Handled.{Handled}
+use Rattle.worker_tallies.specs.declared.handled.Handled.{Handled}
 use Rattle.interface_workers.specs.declared.next.Next.{Next}
 use Rattle.interface_workers.specs.declared.worker.Taken.{Taken}
 use Rattle.interface_workers.proofs.worker.Station.serve_next.Goals as goal

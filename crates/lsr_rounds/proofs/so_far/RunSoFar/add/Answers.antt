@@ -1,6 +1,6 @@
 -- The run goes on with the round, whose last stretch says how many entries there are.
 use Rattle.std.proofs.Common.{◌≡◌, ◌++◌, ◌∷◌, [], length, rules, subst, sym}
-use Rattle.run_reconciler.specs.Rounds.{IsRunSoFar}
+use Rattle.lsr_serve.specs.Below.reconciler.Rounds.{IsRunSoFar}
 use Rattle.lsr_rounds.proofs.GoingOn.{goes_on}
 use Rattle.lsr_rounds.proofs.so_far.RunSoFar.add.Goals as goal
 

@@ -2,7 +2,7 @@ use Rattle.std.proofs.Common.{◌≡◌, false, is_eq}
 use Rattle.lsr_facts.specs.Orders.{key_cmp}
 use Rattle.plain_soundness.specs.Apart.{IsNoStackOf}
 use Rattle.plain_soundness.proofs.Pairs.{no_stack}
-use Rattle.plain_soundness.proofs.Telling.{told}
+use Rattle.plain_bandwidth.proofs.Telling.{told}
 use Rattle.plain_soundness.proofs.apart.PairCheckCheckTuple2KeyPathFact.holds.Goals as goal
 
 pub returns : goal.returns

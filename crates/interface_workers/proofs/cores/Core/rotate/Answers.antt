@@ -1,7 +1,0 @@
--- The segment is handed out as it was taken.
-use Rattle.std.proofs.Common.{subst, sym}
-use Rattle.interface_workers.specs.Names.{IsSegmentOf}
-use Rattle.interface_workers.proofs.cores.Core.rotate.Goals as goal
-
-pub returns-clause-own : goal.returns-clause-own
-returns-clause-own g c = subst (IsSegmentOf g.L.CoreName.config) (sym c.give.ensures.segment) c.in_ok-taken.ensures

@@ -1,0 +1,2 @@
+mod Reserving
+pub mod Telling

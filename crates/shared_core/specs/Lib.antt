@@ -1,0 +1,4 @@
+pub mod Below
+pub mod Kept
+pub mod Names
+pub mod Refused
