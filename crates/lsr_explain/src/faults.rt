@@ -135,8 +135,10 @@ clock
   What to do: see that the system lets the program read its clock, and run it again.
   See: docs/PROGRAM.md (`lsr serve`: a router over sockets)
 unwritable
-  The output or the error stream can't be written: its reader has gone, or a disk is
-  full. It ended the run.
-  What to do: look at where the output goes, and run the whole again.
+  The output or the error stream can't be written: its reader has gone, or a disk is full; then it
+  ended the run. Or a file of --journal or --chart can't, and a line after it says which and why:
+  its folder isn't there, permissions or the disk don't allow it, its name is that of a folder, a
+  device, a pipe or a link, or PREFIX.1 of `lsr serve` is there already.
+  What to do: look at where the output goes, or give the file another name, and run the whole again.
   See: docs/DECISIONS.md (The program)
 ";

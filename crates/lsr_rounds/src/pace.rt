@@ -11,6 +11,8 @@ pub struct Pace {
     started: Instant,
     /// The moment that comes next, in milliseconds since the start.
     next: u64,
+    /// Whether the clock couldn't be read.
+    failed: bool,
 }
 
 impl Pace {
@@ -19,6 +21,7 @@ impl Pace {
         Ok(Pace {
             started: Instant::now(clock)?,
             next: TICK_MS,
+            failed: false,
         })
     }
 
@@ -29,15 +32,24 @@ impl Pace {
         self.next
     }
 
-    /// How long the next moment is away, in milliseconds: 0 where it has come, or where the clock can't be read.
-    pub fn wait_ms<C: Clock>(&self, clock: &C) -> u64 {
+    /// How long the next moment is away, in milliseconds: 0 where it has come. Where the clock can't be read it is as long as between two
+    /// moments, and [`Pace::has_failed`] from then on.
+    pub fn wait_ms<C: Clock>(&mut self, clock: &C) -> u64 {
         let Ok(gone) = self.started.elapsed(clock) else {
-            return 0;
+            self.failed = true;
+            return TICK_MS;
         };
         match u64::try_from(gone.as_millis()) {
             Ok(gone_ms) => self.next.saturating_sub(gone_ms),
             Err(_) => 0,
         }
+    }
+
+    /// Whether the clock couldn't be read: then no moment comes any more.
+    pub fn has_failed(&self) -> bool
+        ensures { result ≡ self.now.failed }
+    {
+        self.failed
     }
 
     /// The next moment comes: which it is, in milliseconds since the start.

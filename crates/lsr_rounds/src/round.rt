@@ -45,7 +45,7 @@ pub(crate) struct Round<L: CoreName, W> {
 const ROUND_MS: u64 = 60_000;
 
 /// Feeds the clock's moments as they come, and attends to the operator between them, until the round is over, or the operator's run, or
-/// so many turns were made. The only error is out of memory.
+/// so many turns were made, or the clock can't be read. The only error is out of memory.
 fn serve_seats<
     L: CoreName,
     R: Wait + Drop,
@@ -68,7 +68,7 @@ fn serve_seats<
     let mut asked = Work::new(desk.alloc, turns)?;
     let end = pace.next().saturating_add(ROUND_MS);
     for _turn in 0..turns {
-        if pace.next() >= end || round.is_over() || operator.is_done() {
+        if pace.next() >= end || pace.has_failed() || round.is_over() || operator.is_done() {
             return Ok(SeatWork {
                 clock,
                 operator: asked,

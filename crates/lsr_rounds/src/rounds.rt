@@ -1,6 +1,7 @@
 //! A run in rounds: threads serve, what they left is reconciled and given up, and the next round goes on.
 ghost use Rattle.std.specs.Prelude.{◌≡◌, ◌+◌, ◌<◌, ◌≤◌, IfOk, length};
 ghost use Rattle.lsr_rounds.specs.Ended.{IsSoFar};
+ghost use Rattle.lsr_serve.specs.Below.workers.Below.core.Names.{IsSegmentOf};
 ghost use Rattle.lsr_serve.specs.Reports.{IsReportOf};
 
 use crate::fault::RunFault;
@@ -9,7 +10,7 @@ use crate::pace::Pace;
 use crate::round::{Round, Seats, run_round};
 use crate::so_far::RunSoFar;
 use lsr_config::Config;
-use lsr_serve::workers::{CoreName, Gate, KeepSegments, Opened, Wire, open};
+use lsr_serve::workers::{Core, CoreName, Finished, Gate, KeepSegments, Opened, Wire, open};
 use lsr_serve::{
     LinkWire, RoundFlag, RunReport, Worker, add_finished, add_segment, copy_config, link_workers,
 };
@@ -84,13 +85,56 @@ fn run_rounds<
         if operator.is_done() {
             return Ok((so_far, report));
         }
+        if pace.has_failed() {
+            return Err(RunFault::Clock);
+        }
         let segment = desk.core.rotate(desk.rt, desk.alloc, &mut seats.clock)?;
         add_segment(&mut report, segment.into_segment())?;
-        operator.after_round(report.ports.as_slice());
-        so_far.add(config, report)?;
+        let ports = so_far.add(config, report)?;
+        operator.after_round(ports.as_slice());
         workers = back;
     }
     unreachable!()
+}
+
+/// The rounds of a core that was opened, until the operator is done: what is known of them, what the last one left, and the core's end. The
+/// keeper is given the entries since the last segment also where a round ends with a fault.
+fn run_core<
+    L: CoreName + Send + Sync,
+    R: Threads + Wait + Clock + Send + Sync + Drop,
+    K: KeepSegments + Send + Drop,
+    W: Wire + Send + Drop,
+    G: Gate + Sync,
+    O: Operator,
+>(
+    rt: &R,
+    alloc: Global,
+    core: Core<L, R, K>,
+    config: &Config,
+    gate: &G,
+    seats: Seats<L, W>,
+    workers: Vec<Worker<L, W>>,
+    round: &RoundFlag,
+    operator: &mut O,
+) -> Result<(RunSoFar, RunReport, Finished<K>), RunFault>
+    requires { config.now ≡ L.config }
+    ensures so_far { IfOk result (λ left. IsSoFar L.config (length workers.items + 2) left.0) }
+    ensures ports { IfOk result (λ left. length left.1.ports.items ≡ length workers.items + 2) }
+    ensures own { IfOk result (λ left. IsReportOf L.config left.1) }
+    ensures given { IfOk result (λ left. K.given left.2.keeper ≡ left.2.kept) }
+    ensures last { IfOk result (λ left. IsSegmentOf L.config left.2.last) }
+{
+    let mut seats = seats;
+    let desk = Desk {
+        rt,
+        alloc,
+        core: &core,
+        gate,
+    };
+    let ran = run_rounds(&desk, config, &mut seats, workers, round, operator);
+    let finished = core.finish(alloc);
+    let (so_far, report) = ran?;
+    Ok((so_far, report, finished?))
 }
 
 /// The run of a router of this name.
@@ -139,21 +183,18 @@ fn serve_named<
         return Err(RunFault::from(AllocError));
     };
     let workers = link_workers(alloc, ports, readers, links)?;
-    let mut seats = Seats {
+    let seats = Seats {
         clock: clock_port,
         operator: operator_port,
         wire,
     };
-    let desk = Desk {
-        rt,
-        alloc,
-        core: &core,
-        gate,
-    };
-    let (mut so_far, mut report) = run_rounds(&desk, config, &mut seats, workers, round, operator)?;
-    let keeper = add_finished(&mut report, core.finish(alloc)?)?;
+    let (mut so_far, mut report, finished) = run_core(
+        rt, alloc, core, config, gate, seats, workers, round, operator,
+    )?;
+    let keeper = add_finished(&mut report, finished)?;
     let kept = report.kept;
-    so_far.add(config, report)?;
+    let ports = so_far.add(config, report)?;
+    operator.after_round(ports.as_slice());
     Ok((RunEnd { run: so_far, kept }, keeper))
 }
 

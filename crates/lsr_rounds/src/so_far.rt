@@ -10,6 +10,7 @@ use lsr_serve::reconciler::{Mismatch, judge, judge_round};
 use lsr_serve::workers::{Segment, Tally};
 use lsr_serve::{PortCount, RunReport};
 use std::alloc::{AllocError, Global};
+use std::mem;
 
 /// A run so far: its last segment, how many entries its rounds had in all, and how much each port did. Everything else of a round is given
 /// up when it is reconciled.
@@ -85,21 +86,41 @@ impl RunSoFar {
         }
     }
 
-    /// Whether a round goes on from this, as one run of the router of the configuration.
+    /// A mismatch of a round, by its place in the run: among all receipts of its port, or all segments.
+    fn in_run(&self, of_round: Mismatch) -> Mismatch {
+        let Mismatch { port, place } = of_round;
+        let before = match usize::from(port).checked_sub(1) {
+            Some(index) => match self.ports.get(index) {
+                Some(count) => count.receipts as u64,
+                None => 0,
+            },
+            None => self.segments,
+        };
+        Mismatch {
+            port,
+            place: before.saturating_add(place),
+        }
+    }
+
+    /// Whether a round goes on from this, as one run of the router of the configuration; else where in the run it doesn't.
     fn judge(&self, config: &Config, round: &RunReport) -> Result<(), Mismatch>
         ensures { OnOk result (IsJudged config.now (length round.now.ports.items) self.now round.now) }
     {
         let segments = round.segments.as_slice();
         let receipts = round.receipts.as_slice();
-        match &self.last {
+        let judged = match &self.last {
             None => judge(config, round.ports.len(), segments, receipts),
             Some(last) => judge_round(last, round.ports.len(), segments, receipts),
+        };
+        match judged {
+            Ok(()) => Ok(()),
+            Err(mismatch) => Err(self.in_run(mismatch)),
         }
     }
 
-    /// Reconciles one more round, and gives up all of it but its last segment. The fault is that it doesn't go on from this as one run of
-    /// the router of the configuration, or that memory ran out.
-    pub fn add(&mut self, config: &Config, round: RunReport) -> Result<(), RunFault>
+    /// Reconciles one more round, and gives up all of it but its last segment: how much each port did in it. The fault is that it doesn't go
+    /// on from this as one run of the router of the configuration, told by its place in the run, or that memory ran out.
+    pub fn add(&mut self, config: &Config, round: RunReport) -> Result<Vec<PortCount>, RunFault>
         requires { IsReportOf config.now round }
         ensures { IsSoFar config.now (length round.ports.items) self.old → OnOk result (IsSoFar config.now (length round.ports.items) self.new) }
     {
@@ -116,6 +137,7 @@ impl RunSoFar {
         self.segments = self.segments.saturating_add(segments);
         self.entries = entries;
         self.last = Some(last);
-        Ok(())
+        let none = Vec::new(*round.ports.allocator());
+        Ok(mem::replace(&mut round.ports, none))
     }
 }

@@ -28,7 +28,7 @@ pub const TICK_MS: u64 = 100;
 pub struct PortCount {
     /// How many receipts it has.
     pub receipts: usize,
-    /// How many of the datagrams that it took became what; of the clock's port, of its moments.
+    /// How many of the datagrams that it took became what; of the clock's port, of its moments, and of an operator's, of its events.
     pub tally: Tally,
 }
 

@@ -25,13 +25,13 @@ const CLOCK: u16 = 0;
 #[derive(Clone, Copy, Debug, PartialEq, Eq, Error)]
 pub enum ServeFault {
     /// The sockets of the link of this number can't be had, or, of number 0, the one from which the clock's port sends.
-    #[error("link {0}: socket\n  its sockets can't be had: another program has an address of it, or one isn't a loopback address")]
+    #[error("link {0}: socket\n  its sockets can't be had: another program has an address of it, one isn't a loopback address, or one isn't of the first link's family (IPv4 or IPv6); look at its listen and send in the file")]
     Socket(u16),
     /// There is no memory.
     #[error("memory")]
     Memory,
-    /// The segment of the journal of this number wasn't kept.
-    #[error("segment {0}: not kept")]
+    /// The segment of the journal of this number wasn't kept, for want of memory.
+    #[error("segment {0}: not kept\n  there was no memory for it: the files of the journal end with the one before it")]
     Unkept(u64),
 }
 
@@ -160,9 +160,12 @@ impl<'a> UdpWire<'a> {
     }
 }
 
-/// Whether a receive that ends so has waited for its time, and nothing came.
+/// Whether a receive that ends so gave nothing, and the wire is as it was: it has waited for its time, or the process was stopped and goes on.
 fn is_silence(kind: ErrorKind) -> bool {
-    kind == ErrorKind::WouldBlock || kind == ErrorKind::TimedOut
+    matches!(
+        kind,
+        ErrorKind::WouldBlock | ErrorKind::TimedOut | ErrorKind::Interrupted
+    )
 }
 
 impl<'a> Wire for UdpWire<'a> {

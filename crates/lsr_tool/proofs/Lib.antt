@@ -1,7 +1,1 @@
-mod Checked
-mod Drawn
-mod Living
-mod Sessions
 mod Printing
-mod Recorded
-mod Worlds

@@ -4,8 +4,8 @@ use Rattle.std.specs.Option.{option_map}
 use Rattle.line_streams.specs.Texts.{Stream}
 use Rattle.line_streams.specs.declared.input.InputFault.{InputFault}
 use Rattle.lsr_tool.specs.Configuring.{PrintsOnFile}
-use Rattle.lsr_tool.specs.declared.endings.Source.TheVariants as sources
-use Rattle.lsr_tool.specs.declared.endings.RunEnding.TheVariants as endings
+use Rattle.lsr_runs.specs.declared.endings.Source.TheVariants as sources
+use Rattle.lsr_runs.specs.declared.endings.RunEnding.TheVariants as endings
 
 -- a file that isn't opened
 pub unprinted : {F : Type 0} (opens : List ℕ → F → Type 0) (fails : List ℕ → InputFault → Type 0) (stream : F → Stream) (file : Option (Bor (List ℕ))) (name : Bor (List ℕ)) (fault : InputFault)

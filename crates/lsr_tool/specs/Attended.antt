@@ -9,7 +9,7 @@ use Rattle.lsr_console.specs.Below.rounds.declared.so_far.RunSoFar.{RunSoFar}
 use Rattle.lsr_console.specs.Below.serve.Told.{reconciled_text}
 use Rattle.lsr_tool.specs.declared.console.Attended.{Attended}
 use Rattle.lsr_tool.specs.declared.console.Attended.TheVariants.{Ended, Failed}
-use Rattle.lsr_tool.specs.Playing.{IsFileText}
+use Rattle.lsr_runs.specs.Playing.{IsFileText}
 use Rattle.lsr_tool.specs.Serving.{SaysRun}
 
 -- a run that ended as it was told to is one run of the router of this configuration, round after round

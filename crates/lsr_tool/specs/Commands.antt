@@ -14,19 +14,19 @@ use Rattle.lsr_words.specs.Words.{AsksFor, lsr_words}
 use Rattle.lsr_words.specs.declared.words.Asked.{Asked}
 use Rattle.lsr_words.specs.declared.words.Asked.TheVariants as asked
 use Rattle.lsr_tool.specs.Attended.{AttendsFile}
-use Rattle.lsr_tool.specs.Charting.{DrawsFile, lab_chart_text}
-use Rattle.lsr_tool.specs.Checking.{ChecksFiles}
+use Rattle.lsr_runs.specs.Charting.{DrawsFile, lab_chart_text}
+use Rattle.lsr_runs.specs.Checking.{ChecksFiles}
 use Rattle.lsr_tool.specs.Configuring.{Configures}
-use Rattle.lsr_tool.specs.Decoding.{DecodesAny}
-use Rattle.lsr_tool.specs.Drawing.{RunsDrawn, kept_chart_text}
-use Rattle.lsr_tool.specs.Endings.{ending_text, live_journal_text, status_of}
-use Rattle.lsr_tool.specs.Live.{RunsLive}
-use Rattle.lsr_tool.specs.Playing.{PlaysFile}
-use Rattle.lsr_tool.specs.Recording.{RunsRecorded}
+use Rattle.lsr_runs.specs.Decoding.{DecodesAny}
+use Rattle.lsr_runs.specs.Drawing.{RunsDrawn, kept_chart_text}
+use Rattle.lsr_runs.specs.Endings.{ending_text, live_journal_text, status_of}
+use Rattle.lsr_runs.specs.Live.{RunsLive}
+use Rattle.lsr_runs.specs.Playing.{PlaysFile}
+use Rattle.lsr_runs.specs.Recording.{RunsRecorded}
 use Rattle.lsr_tool.specs.Serving.{ServesFile}
-use Rattle.lsr_tool.specs.Sessions.{StepsOnFile, name_of}
-use Rattle.lsr_tool.specs.Showing.{ShowsFile}
-use Rattle.lsr_tool.specs.declared.endings.RunEnding.{RunEnding}
+use Rattle.lsr_runs.specs.Sessions.{StepsOnFile, name_of}
+use Rattle.lsr_runs.specs.Showing.{ShowsFile}
+use Rattle.lsr_runs.specs.declared.endings.RunEnding.{RunEnding}
 
 -- the words don't go together: nothing is read or printed, and the status is 2
 abbrev pub AreStrange : Stream → Stream → Option (List ℕ) → Option (List ℕ) → ℕ → Type 0

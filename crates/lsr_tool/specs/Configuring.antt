@@ -11,11 +11,11 @@ use Rattle.line_streams.specs.declared.input.InputFault.{InputFault}
 use Rattle.lsr_lines.specs.declared.step.Ending.TheVariants as lines
 use Rattle.lsr_console.specs.Below.serve.Sockets.{GivesSockets, LacksSockets}
 use Rattle.lsr_config.specs.declared.sockets.LinkSockets.{LinkSockets}
-use Rattle.lsr_tool.specs.Endings.{ending_text, status_of}
-use Rattle.lsr_tool.specs.Sessions.{IsConfigText, IsMisconfigured, IsUnreadConfig, name_of}
-use Rattle.lsr_tool.specs.declared.endings.Source.TheVariants as sources
-use Rattle.lsr_tool.specs.declared.endings.RunEnding.{RunEnding}
-use Rattle.lsr_tool.specs.declared.endings.RunEnding.TheVariants as endings
+use Rattle.lsr_runs.specs.Endings.{ending_text, status_of}
+use Rattle.lsr_runs.specs.Sessions.{IsConfigText, IsMisconfigured, IsUnreadConfig, name_of}
+use Rattle.lsr_runs.specs.declared.endings.Source.TheVariants as sources
+use Rattle.lsr_runs.specs.declared.endings.RunEnding.{RunEnding}
+use Rattle.lsr_runs.specs.declared.endings.RunEnding.TheVariants as endings
 
 -- The text gives its links these socket addresses, in the order of their numbers. There are none where it doesn't give each
 -- link both, for this fault.

@@ -1,15 +1,4 @@
 pub mod Attended
-pub mod Checking
-pub mod Endings
-pub mod Recording
-pub mod Serving
-pub mod Sessions
-pub mod Showing
-pub mod Written
-pub mod Live
-pub mod Configuring
-pub mod Decoding
-pub mod Playing
-pub mod Charting
-pub mod Drawing
 pub mod Commands
+pub mod Configuring
+pub mod Serving

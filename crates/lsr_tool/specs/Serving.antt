@@ -8,7 +8,7 @@ use Rattle.lsr_config.specs.declared.sockets.LinkSockets.{LinkSockets}
 use Rattle.lsr_console.specs.Below.serve.Sockets.{GivesSockets}
 use Rattle.lsr_console.specs.Below.serve.Told.{Serves}
 use Rattle.lsr_console.specs.Below.serve.Turns.{AsksForTurns}
-use Rattle.lsr_tool.specs.Playing.{IsFileText}
+use Rattle.lsr_runs.specs.Playing.{IsFileText}
 
 -- The text says this configuration, and gives its links these sockets.
 pub record SaysRun (text : List ℕ) (config : Setup) (links : List (ℕ × LinkSockets)) : Type 0 where

@@ -38,6 +38,13 @@ impl<E: Write + Drop> Teller<E> {
         }
     }
 
+    /// Tells that the router runs, and how its operator goes on.
+    pub(crate) fn tell_start(&self, router: &Router) {
+        if self.level.allows(Level::Info) {
+            info!(self.log; "router {} runs: write help to see which lines it takes, and quit to end it", router.id);
+        }
+    }
+
     /// Tells what changed between the last look and this one. For want of memory nothing is told of it.
     fn tell_changes(&self, alloc: Global, router: &Router, state: &State) {
         let Some(before) = &self.before else {
@@ -67,7 +74,8 @@ impl<E: Write + Drop> Teller<E> {
         }
     }
 
-    /// Tells of each port how many datagrams were dropped or refused in a round, if any were.
+    /// Tells of each port how many datagrams were dropped or refused in a round, how many frames were lost, and how often its wire failed, if any
+    /// were, or it did.
     fn tell_refused(&self, ports: &[PortCount]) {
         if !self.level.allows(Level::Warn) {
             return;
@@ -76,7 +84,7 @@ impl<E: Write + Drop> Teller<E> {
             let port = before.saturating_add(1);
             let tally = count.tally;
             if tally.dropped > 0 || tally.refused > 0 {
-                warn!(self.log; "port {port}: {} of {} datagrams dropped for their faults, {} refused",
+                warn!(self.log; "port {port}: {} of {} datagrams dropped, {} refused",
                     tally.dropped, tally.datagrams, tally.refused);
             }
             if tally.lost > 0 || tally.faults > 0 {

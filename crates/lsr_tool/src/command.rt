@@ -6,26 +6,19 @@ ghost use Rattle.std.specs.declared.io.ErrorKind.TheVariants.{OutOfMemory};
 ghost use Rattle.clap.specs.Words.{kind_of};
 ghost use Rattle.lsr_words.specs.declared.words.Asked.TheVariants.{Play, Serve, Step};
 ghost use Rattle.lsr_tool.specs.Commands.{Does, Runs, words_status};
-ghost use Rattle.lsr_tool.specs.Endings.{memory_text, unread_words_text, unwritable_text};
+ghost use Rattle.lsr_runs.specs.Endings.{memory_text, unread_words_text, unwritable_text};
 
-use crate::charting::{refuse_lab_chart, run_chart_of};
-use crate::checking::run_check_of;
 use crate::configuring::run_config_of;
 use crate::console::{refuse_words, run_console_of};
-use crate::decoding::run_decode_on;
-use crate::drawing::{refuse_kept_chart, run_drawn_of};
-use crate::endings::FAILED;
-use crate::files::{FilesByName, SystemFiles};
-use crate::live::run_live_of;
-use crate::playing::{run_lab_of, run_play_of};
-use crate::recording::run_recorded_of;
-use crate::serving::{BAD_WORDS, run_serve_of};
-use crate::session::run_step_of;
-use crate::showing::run_show_journal_of;
-use crate::written::WritesFiles;
+use crate::serving::run_serve_of;
 use clap::error::{Error, ErrorKind};
 use line_streams::ByteStream;
 use lsr_explain::run_explain;
+use lsr_runs::{
+    BAD_WORDS, FAILED, FilesByName, SystemFiles, WritesFiles, refuse_kept_chart, refuse_lab_chart,
+    run_chart_of, run_check_of, run_decode_on, run_drawn_of, run_lab_of, run_live_of, run_play_of,
+    run_recorded_of, run_show_journal_of, run_step_of,
+};
 use lsr_text::OUT_OF_MEMORY;
 use lsr_words::{Asked, read_words};
 use std::alloc::Global;

@@ -4,18 +4,19 @@ ghost use Rattle.std.specs.Prelude.{◌≡◌, ◌↔◌, ℕ, List, [], Option,
 ghost use Rattle.std.specs.Io.KnownBytes.{Appends};
 ghost use Rattle.line_streams.specs.Texts.{Stream};
 ghost use Rattle.lsr_config.specs.declared.fault.ConfigFault.TheVariants.{Memory};
-ghost use Rattle.lsr_tool.specs.declared.endings.RunEnding.{RunEnding};
+ghost use Rattle.lsr_runs.specs.declared.endings.RunEnding.{RunEnding};
 ghost use Rattle.lsr_tool.specs.Configuring.{Configures, GivesAddresses, Prints, PrintsConfig, done};
-ghost use Rattle.lsr_tool.specs.Endings.{ending_text, status_of};
-ghost use Rattle.lsr_tool.specs.Sessions.{IsConfigText};
+ghost use Rattle.lsr_runs.specs.Endings.{ending_text, status_of};
+ghost use Rattle.lsr_runs.specs.Sessions.{IsConfigText};
 
-use crate::endings::{DONE, RunEnding, Source, status_of, tell_ending};
-use crate::files::FilesByName;
-use crate::session::{misconfigured, read_config_text, said};
 use config_text::config_text;
 use line_streams::ByteStream;
 use lsr_config::{Config, ConfigFault, LinkSockets};
 use lsr_console::rounds::serve::read_sockets;
+use lsr_runs::{
+    DONE, FilesByName, RunEnding, Source, misconfigured, read_config_text, said, status_of,
+    tell_ending,
+};
 use std::alloc::{AllocError, Global};
 use std::io;
 use std::io::Write;

@@ -4,11 +4,8 @@ ghost use Rattle.lsr_config.specs.Configs.{Setup};
 ghost use Rattle.lsr_tool.specs.Attended.{AttendsFile, AttendsRun, AttendsText, EndsSoFar, IsAttended};
 
 use crate::attending::{Attendant, Teller};
-use crate::endings::{DONE, FAILED, status_of, tell_ending};
-use crate::files::FilesByName;
 use crate::keeping::{SegmentFiles, SegmentKeeper, SegmentWriter};
-use crate::serving::{BAD_WORDS, configured, read_served, tell_written};
-use crate::written::WritesFiles;
+use crate::serving::{configured, may_keep, read_served, tell_written};
 use crossbeam_channel::Receiver;
 use line_streams::{ByteStream, tell_input_fault};
 use log::LevelFilter;
@@ -22,6 +19,7 @@ use lsr_console::rounds::{
     OpenLinks, RunEnd, RunFault, open_links, serve_links_until, tell_reconciled,
 };
 use lsr_console::{Console, ConsoleEnding, Heard, listen, open_lines};
+use lsr_runs::{BAD_WORDS, DONE, FAILED, FilesByName, WritesFiles, status_of, tell_ending};
 use sorted_rows::Table;
 use std::alloc::Global;
 use std::io::Write;
@@ -65,10 +63,10 @@ enum Attended {
 fn level_of(word: Option<&str>) -> Option<LevelFilter> {
     match word {
         None => Some(LevelFilter::Info),
-        Some(word) => match word.parse::<LevelFilter>() {
-            Ok(level) => Some(level),
-            Err(_) => None,
-        },
+        Some("info") => Some(LevelFilter::Info),
+        Some("warn") => Some(LevelFilter::Warn),
+        Some("off") => Some(LevelFilter::Off),
+        Some(_) => None,
     }
 }
 
@@ -139,7 +137,7 @@ fn end_console<E: Write>(ending: Option<ConsoleEnding>, error: &mut E, status: u
 }
 
 /// The run of a router whose sockets are open, until its operator ends it; after each moment what is beside it is done, and what the run left
-/// is told. What keeps its journal is given to it. Gives the status. The error is that a stream could not be written, or that memory ran out.
+/// is told. What keeps its journal is given to it. Gives how it ended. The error is that a stream could not be written, or that memory ran out.
 fn attend_beside<
     N: Threads + Wait + Clock + Clone + Send + Sync + Drop,
     B: BesideClock,
@@ -167,20 +165,22 @@ fn attend_beside<
         beside,
         teller: Teller::new(&mut *error, asked.level),
     };
+    attendant.teller.tell_start(&config.router);
     let ended = serve_links_until(rt, alloc, config, opened, keeper, &mut attendant);
     let ending = attendant.into_ending();
-    let status = end_console(ending, error, DONE)?;
+    let status = end_console(ending, error, DONE);
     match ended {
-        Ok(ended) => Ok(Attended::Ended(ended, status)),
+        Ok(ended) => Ok(Attended::Ended(ended, status?)),
         Err(fault) => {
             tell_fault(fault, output, error)?;
+            status?;
             Ok(Attended::Failed)
         }
     }
 }
 
 /// The run of a router whose sockets are open, until its operator ends it; what it left is told, and its journal written, where a prefix of its
-/// files' names is given. Gives the status. The error is that a stream could not be written, or that memory ran out.
+/// files' names is given. Gives how it ended. The error is that a stream could not be written, or that memory ran out.
 fn attend_run<
     F: WritesFiles,
     N: Threads + Wait + Clock + Clone + Send + Sync + Drop,
@@ -222,14 +222,16 @@ fn attend_run<
         lines,
         output,
         error,
-    )?;
-    match attended {
+    );
+    // Also where a stream couldn't be written: what is left of the journal is.
+    let written = writer.finish();
+    match attended? {
         Attended::Ended(ended, status) => {
-            let status = tell_written(error, prefix, writer.finish(), status)?;
+            let status = tell_written(error, written, status)?;
             Ok(Attended::Ended(ended, status))
         }
         Attended::Failed => {
-            tell_written(error, prefix, writer.finish(), FAILED)?;
+            tell_written(error, written, FAILED)?;
             Ok(Attended::Failed)
         }
     }
@@ -301,6 +303,9 @@ fn attend_text<
 ) -> io::Result<u8>
     ensures { IfOk result (λ status. status ≡ 0 → AttendsText text.now (W.contents output.new)) }
 {
+    if !may_keep(files, alloc, asked.journal, error)? {
+        return Ok(FAILED);
+    }
     match configured(alloc, text) {
         Ok((config, links)) => attend_links(
             files, rt, alloc, &config, &links, text, asked, input, output, error,

@@ -3,12 +3,12 @@
 ghost use Rattle.std.specs.Prelude.{◌≡◌, IfOk, Ok, string_bytes};
 ghost use Rattle.lsr_config.specs.Configs.{Setup};
 ghost use Rattle.lsr_config.specs.Reading.{IsRead};
-ghost use Rattle.lsr_journal.specs.Segments.{SpellsSegment};
+ghost use Rattle.lsr_runs.specs.Below.journals.Segments.{SpellsSegment};
 ghost use Rattle.lsr_tool.specs.Serving.{segment_name};
 
-use crate::written::{OutputFault, WritesFiles};
 use lsr_console::rounds::serve::{BesideClock, KeepSegments, NotKept};
-use lsr_journal::{Segment, write_segment};
+use lsr_runs::journals::{Segment, write_segment};
+use lsr_runs::{OutputFault, WritesFiles};
 use std::alloc::{AllocError, Global};
 use std::mem;
 use std::sync::{Mutex, Wait};
@@ -101,6 +101,43 @@ pub(crate) fn segment_name(alloc: Global, prefix: &str, number: usize) -> Result
     format!(in alloc; "{prefix}.{number}")
 }
 
+/// The number of the first file.
+const FIRST: usize = 1;
+
+/// A file of the journal that isn't written.
+#[derive(Drop)]
+pub(crate) struct Unwritten {
+    /// Its name; empty where there is no memory for it.
+    pub(crate) name: String,
+    /// Why it isn't.
+    pub(crate) fault: OutputFault,
+}
+
+impl Unwritten {
+    /// There is no memory for its name.
+    fn unnamed(alloc: Global) -> Unwritten {
+        Unwritten {
+            name: String::new(alloc),
+            fault: OutputFault::Memory,
+        }
+    }
+}
+
+/// Whether the journal's files can be begun: nothing has the first one's name, and its folder takes a file.
+pub(crate) fn may_begin<F: WritesFiles>(
+    files: &F,
+    alloc: Global,
+    prefix: &str,
+) -> Result<(), Unwritten> {
+    let Ok(name) = segment_name(alloc, prefix, FIRST) else {
+        return Err(Unwritten::unnamed(alloc));
+    };
+    match files.may_begin(alloc, name.as_str()) {
+        Ok(()) => Ok(()),
+        Err(fault) => Err(Unwritten { name, fault }),
+    }
+}
+
 /// Writes the files of segments while the run goes on, by their numbers from 1 on, each whole, on the thread that began the run.
 #[derive(Drop)]
 pub(crate) struct SegmentWriter<'a, F, R: Wait> {
@@ -112,8 +149,8 @@ pub(crate) struct SegmentWriter<'a, F, R: Wait> {
     kept: &'a SegmentFiles,
     /// How many are written.
     written: usize,
-    /// Why the next one isn't, if it couldn't be: none is written after it.
-    fault: Option<OutputFault>,
+    /// The next one, if it couldn't be written: none is written after it.
+    unwritten: Option<Unwritten>,
 }
 
 impl<'a, F: WritesFiles, R: Wait> SegmentWriter<'a, F, R> {
@@ -132,43 +169,51 @@ impl<'a, F: WritesFiles, R: Wait> SegmentWriter<'a, F, R> {
             prefix,
             kept,
             written: 0,
-            fault: None,
+            unwritten: None,
         }
     }
 
     /// Writes the next file.
-    fn write_next(&mut self, bytes: &[u8]) -> Result<(), OutputFault> {
-        let number = self.written.saturating_add(1);
-        let name = segment_name(self.alloc, self.prefix, number)?;
-        self.files.write(self.alloc, name.as_str(), bytes)?;
-        self.written = number;
-        Ok(())
+    fn write_next(&mut self, bytes: &[u8]) -> Result<(), Unwritten> {
+        let number = self.written.saturating_add(FIRST);
+        let Ok(name) = segment_name(self.alloc, self.prefix, number) else {
+            return Err(Unwritten::unnamed(self.alloc));
+        };
+        match self.files.write(self.alloc, name.as_str(), bytes) {
+            Ok(()) => {
+                self.written = number;
+                Ok(())
+            }
+            Err(fault) => Err(Unwritten { name, fault }),
+        }
     }
 
-    /// Writes the files that were kept since. They are taken at once, so that the router waits for no disk.
-    fn write_kept(&mut self) -> Result<(), OutputFault> {
-        let taken = take_files(self.rt, self.alloc, self.kept);
-        for bytes in taken {
+    /// Writes these files, one after the other.
+    fn write_all(&mut self, files: Vec<Vec<u8>>) -> Result<(), Unwritten> {
+        for bytes in files {
             self.write_next(bytes.as_slice())?;
         }
         Ok(())
     }
 
-    /// Writes what is left when the run is over. The fault is that of the first file that isn't written.
-    pub(crate) fn finish(mut self) -> Result<(), OutputFault> {
+    /// Writes what is left when the run is over. The fault is the first file that isn't written.
+    pub(crate) fn finish(mut self) -> Result<(), Unwritten> {
         self.after_moment();
-        match self.fault {
+        match self.unwritten {
             None => Ok(()),
-            Some(fault) => Err(fault),
+            Some(unwritten) => Err(unwritten),
         }
     }
 }
 
 impl<F: WritesFiles, R: Wait> BesideClock for SegmentWriter<'_, F, R> {
+    /// Writes the files that were kept since. They are taken at once, so that the router waits for no disk; and also where one isn't written
+    /// any more, so that they don't take more and more memory.
     fn after_moment(&mut self) {
-        if self.fault.is_none() {
-            if let Err(fault) = self.write_kept() {
-                self.fault = Some(fault);
+        let taken = take_files(self.rt, self.alloc, self.kept);
+        if self.unwritten.is_none() {
+            if let Err(unwritten) = self.write_all(taken) {
+                self.unwritten = Some(unwritten);
             }
         }
     }

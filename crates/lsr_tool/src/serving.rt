@@ -1,20 +1,20 @@
 //! `lsr serve` on the router of a configuration.
 ghost use Rattle.std.specs.Option.{option_map};
 ghost use Rattle.std.specs.Prelude.{◌≡◌, ◌<◌, length, IfOk, IfErr, IsOk, string_bytes};
-ghost use Rattle.lsr_tool.specs.Endings.{status_of};
-ghost use Rattle.lsr_tool.specs.Playing.{IsFileText};
+ghost use Rattle.lsr_runs.specs.Endings.{status_of};
+ghost use Rattle.lsr_runs.specs.Playing.{IsFileText};
 ghost use Rattle.lsr_tool.specs.Serving.{SaysRun, ServesFile, ServesText};
 
-use crate::endings::{FAILED, RunEnding, Source, status_of, tell_ending};
-use crate::files::FilesByName;
-use crate::keeping::{SegmentFiles, SegmentKeeper, SegmentWriter};
-use crate::session::misconfigured;
-use crate::written::{OutputFault, WritesFiles, tell_output_fault};
+use crate::keeping::{SegmentFiles, SegmentKeeper, SegmentWriter, Unwritten, may_begin};
 use config_text::link_without;
 use line_streams::read_text;
 use lsr_config::Config;
 use lsr_console::rounds::serve::{
     BesideClock, ClockAlone, LinkSockets, read_sockets, read_turns, serve_links,
+};
+use lsr_runs::{
+    BAD_WORDS, FAILED, FilesByName, RunEnding, Source, WritesFiles, misconfigured, status_of,
+    tell_ending, tell_output_fault,
 };
 use sorted_rows::Table;
 use std::alloc::Global;
@@ -25,8 +25,6 @@ use std::sync::{Mutex, Wait};
 use std::thread::Threads;
 use std::time::Clock;
 
-/// The status of words that ask for nothing that there is.
-pub(crate) const BAD_WORDS: u8 = 2;
 /// What is told of a word that is no number of turns.
 const BAD_TURNS: &str = "error: N is a number from 1 to 1000000; see lsr serve --help\n";
 
@@ -109,17 +107,35 @@ fn serve_text<
 /// stream's.
 pub(crate) fn tell_written<E: Write>(
     error: &mut E,
-    prefix: &str,
-    written: Result<(), OutputFault>,
+    written: Result<(), Unwritten>,
     status: u8,
 ) -> io::Result<u8>
     ensures { IfOk result (λ after. after ≡ 0 → (status ≡ 0) × IsOk written) }
 {
     match written {
         Ok(()) => Ok(status),
-        Err(fault) => {
-            tell_output_fault(error, prefix, fault)?;
+        Err(unwritten) => {
+            tell_output_fault(error, unwritten.name.as_str(), unwritten.fault)?;
             Ok(FAILED)
+        }
+    }
+}
+
+/// Whether the files of a journal can be begun, where a prefix of their names is given; tells why not. The error is the stream's.
+pub(crate) fn may_keep<F: WritesFiles, E: Write>(
+    files: &F,
+    alloc: Global,
+    journal: Option<&str>,
+    error: &mut E,
+) -> io::Result<bool> {
+    let Some(prefix) = journal else {
+        return Ok(true);
+    };
+    match may_begin(files, alloc, prefix) {
+        Ok(()) => Ok(true),
+        Err(unwritten) => {
+            tell_output_fault(error, unwritten.name.as_str(), unwritten.fault)?;
+            Ok(false)
         }
     }
 }
@@ -143,6 +159,9 @@ fn serve_kept<
 ) -> io::Result<u8>
     ensures { IfOk result (λ status. status ≡ 0 → ServesText text.now (W.contents output.old) (W.contents output.new) status) }
 {
+    if !may_keep(files, alloc, journal, error)? {
+        return Ok(FAILED);
+    }
     let Some(prefix) = journal else {
         let beside = &mut ClockAlone;
         return serve_text(rt, alloc, file, text, turns, None, beside, output, error);
@@ -160,8 +179,10 @@ fn serve_kept<
         &mut writer,
         output,
         error,
-    )?;
-    tell_written(error, prefix, writer.finish(), status)
+    );
+    // Also where a stream couldn't be written: what is left of the journal is.
+    let written = writer.finish();
+    tell_written(error, written, status?)
 }
 
 /// `lsr serve FILE [--turns N] [--journal PREFIX]`: the links of the router of the file of this name are served by `rt`, so many turns

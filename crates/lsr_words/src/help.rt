@@ -53,7 +53,8 @@ The status is, of each command:
 Why it isn't 0 is said on standard error, and by `decode` of lines or a file in its answers too.
 The first line says what it is, and `lsr explain` knows its first word, or of `config FAULT KEY`
 and `entry N: FAULT` the FAULT; lines after it that begin with two spaces say where it is and what
-to do.
+to do. A line that begins with `error:` is about the words themselves, and one that begins with
+`byte N:` says at which byte a journal's file breaks: explain has neither.
 ";
 
 const STEP_ABOUT: &str = "\
@@ -111,9 +112,9 @@ line. Each line is one of these:
   show summary      asks how much there is of everything, and how much there may be
   show path KEY     asks for all that is known of the path of one LSP, whose KEY `show paths` has
   show resv KEY     asks for all that is known of its reservation, or of the repaired one
-Words are parted by one space, and nothing else stands in a line: no sign, no blank before or
-after them, no carriage return. Numbers are decimal; zeros may stand before them. An empty line is
-a bad line.
+Words are separated by exactly one space, and nothing else stands in a line: no sign, no blank
+before or after them, no carriage return. Numbers are decimal; zeros may stand before them. An empty
+line is a bad line.
 
 With --echo each line is printed before its answers, and empty lines and lines that begin with #
 are passed over: they are counted and do nothing.
@@ -152,6 +153,7 @@ What to do next:
   refused 1 to 9           the message can't be read: `lsr decode HEX` tells the same of `rx`,
                            and of `frame` with what stands after its first byte, 01
   refused 10 NoMatch       `show paths` and `show resvs` have what a message can speak of
+  refused 11 NoMerge       no path here joins a path that came over a bypass: `show paths` has them
   refused 12 LinkDown      `up LINK` first
   refused 13 HopLimit      the frame's TTL or limit ran out: look for a loop
   refused 14 NoLabel       `show table` has the labels that frames may come under
@@ -162,6 +164,7 @@ What to do next:
   refused 30 BadMoment     a moment above 4611686018427387904 (2^62)
   refused 31 BadCapacity   more than the tunnel carries: `show bypasses` has the capacities
   refused 40 NoMemory      there was no memory, and nothing changed: try again
+  refused 41 JournalFull   the file of --journal has 4096 entries, and is written: go on without it
   refused 42 IsCold        the router was restarted: `start` it first
 `lsr explain N`, `lsr explain NAME` and `lsr explain CODE/VALUE` say more of each; CODE/VALUE
 is one word, as 24/5 for `error 24 5`.
@@ -416,8 +419,8 @@ On standard error, in lines of a log, three for each port, and one for the route
                            how many events it fed
   port P: N datagrams: A dropped, B passed, C fed, D refused
                            how many datagrams came, or moments of the clock, and what became of
-                           them: dropped for their faults, passed on or delivered by their labels,
-                           fed as events, and refused with one of 40 to 43
+                           them: dropped for a fault or for want of a way, passed on or delivered
+                           by their labels, fed as events, and refused with one of 40 to 43
   port P: I frames lost, J faults of the wire
                            how many frames nothing carried, and how often the socket failed
   router: A paths, B reservations, C repairs
@@ -431,7 +434,8 @@ command aren't taken, or N isn't 1 to 1000000:
                     `config Missing listen` and `config Missing send` come after all others
   unreadable        FILE can't be opened or read, isn't UTF-8, or has more than 16777216 bytes
   memory            there is no memory
-  unwritable        the output or the error stream can't be written, or a file of the journal
+  unwritable        the output or the error stream can't be written, or a file of the journal. Where
+                    PREFIX.1 is there already, or has no folder, nothing was started
 
 Example: in two terminals, two routers that set up an LSP from the first to the second.
   lsr serve examples/serve-tail.toml --turns 100
@@ -462,8 +466,8 @@ and then moves, one in each line:
   do NAME COMMAND   the router is commanded: `tunnel ..`, `change ..`, `cancel N`, `drop N`, `bypass
                     ..`, `unbypass N`, `route PREFIX LINK` or `unroute PREFIX`, as lsr step --help
                     says
-Words are parted by one space, and nothing else stands in a line: no carriage return, no blank
-before or after them. An empty line is a bad line.
+Words are separated by exactly one space, and nothing else stands in a line: no carriage return, no
+blank before or after them. An empty line is a bad line.
 
 What is printed for a move is what `lsr step` prints, with the name of the router that it happens
 at in front; and before each frame that this router sends stands the frame's number:

@@ -19,6 +19,6 @@ loop-preserved g c =
     let ports : length round.ports.items ≡ length c.args.workers.items + 2 = omega (arith, ap (λ all. length all.items) c.add_segment.ensures.ports, c.in_ok-made.ensures.ports, workers) in (
       tt,
       tt,
-      moved g.L.CoreName.config c.args.config.now (length c.args.workers.items + 2) (length round.ports.items) c.loop.so_far c.add.new.self c.requires ports c.in_ok-add.ensures c.loop.invariant.2,
+      moved g.L.CoreName.config c.args.config.now (length c.args.workers.items + 2) (length round.ports.items) c.loop.so_far c.add.new.self c.requires ports c.in_ok-ports.ensures c.loop.invariant.2,
       omega (arith, c.in_ok-made.ensures.workers, workers),
     )

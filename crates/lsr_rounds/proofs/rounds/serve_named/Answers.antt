@@ -11,4 +11,4 @@ returns-clause-run g c =
     let ports : length round.ports.items ≡ length c.args.links.items + 2 = omega (arith, ap (λ all. length all.items) c.add_finished.ensures.ports, c.in_ok-so_far.ensures.ports, workers) in
     let so_far : IsSoFar g.L.CoreName.config (length c.args.links.items + 2) c.in_ok-so_far.so_far =
     told_ports g.L.CoreName.config (length c.in_ok-workers.workers.items) (length c.args.links.items) c.in_ok-so_far.so_far workers c.in_ok-so_far.ensures.so_far in
-    moved g.L.CoreName.config c.args.config.now (length c.args.links.items + 2) (length round.ports.items) c.in_ok-so_far.so_far c.add.new.self c.requires.config ports c.in_ok-add.ensures so_far
+    moved g.L.CoreName.config c.args.config.now (length c.args.links.items + 2) (length round.ports.items) c.in_ok-so_far.so_far c.add.new.self c.requires.config ports c.in_ok-ports.ensures so_far

@@ -3,10 +3,10 @@ use Rattle.std.proofs.Common.{ℕ, List, [], Bor, Option, sym, subst}
 use Rattle.std.proofs.KnownBytes.{Appends-nil}
 use Rattle.std.specs.Option.{option_map}
 use Rattle.std.specs.Io.KnownBytes.{Appends}
-use Rattle.lsr_tool.specs.Endings.{ending_text}
-use Rattle.lsr_tool.specs.Sessions.{name_of}
-use Rattle.lsr_tool.specs.declared.endings.RunEnding.TheVariants as endings
-use Rattle.lsr_tool.specs.declared.endings.Source.TheVariants as sources
+use Rattle.lsr_runs.specs.Endings.{ending_text}
+use Rattle.lsr_runs.specs.Sessions.{name_of}
+use Rattle.lsr_runs.specs.declared.endings.RunEnding.TheVariants as endings
+use Rattle.lsr_runs.specs.declared.endings.Source.TheVariants as sources
 use Rattle.lsr_tool.proofs.Printing.{unprinted}
 use Rattle.lsr_tool.proofs.configuring.run_config_of.Goals as goal
 

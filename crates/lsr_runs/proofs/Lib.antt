@@ -1,0 +1,6 @@
+mod Checked
+mod Drawn
+mod Living
+mod Sessions
+mod Recorded
+mod Worlds

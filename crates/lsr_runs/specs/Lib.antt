@@ -1,0 +1,12 @@
+pub mod Below
+pub mod Charting
+pub mod Checking
+pub mod Decoding
+pub mod Drawing
+pub mod Endings
+pub mod Live
+pub mod Playing
+pub mod Recording
+pub mod Sessions
+pub mod Showing
+pub mod Written
