@@ -1,9 +1,9 @@
 -- An operator that fed nothing, and one that fed an event.
 use Rattle.std.proofs.Common.{◌+◌, ◌≡◌, ℕ, arith, refl}
 use Rattle.lsr_config.specs.Configs.{Setup}
-use Rattle.lsr_rounds.specs.Below.serve.Below.workers.Below.journal.declared.mark.Mark.{Mark}
-use Rattle.lsr_rounds.specs.Below.serve.Below.workers.Chains.{AddsUp, AreHandedOut, HasRoom, StaysWorkOf, WorkGoesOn}
-use Rattle.lsr_rounds.specs.Below.serve.Below.workers.declared.worker.Work.{Work}
+use Rattle.run_journal.specs.declared.mark.Mark.{Mark}
+use Rattle.interface_workers.specs.Chains.{AddsUp, AreHandedOut, HasRoom, StaysWorkOf, WorkGoesOn}
+use Rattle.interface_workers.specs.declared.worker.Work.{Work}
 use Rattle.lsr_rounds.specs.Attending.{IsAttended}
 
 -- nothing was fed

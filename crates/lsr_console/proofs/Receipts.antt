@@ -6,14 +6,14 @@ use Rattle.std.specs.Prelude.{slice_get, slice_index_or}
 use Rattle.abstract_paths.specs.declared.events.Event.{Event}
 use Rattle.journal_bytes.specs.declared.entry.WrittenFrame.{WrittenFrame}
 use Rattle.lsr_config.specs.Configs.{Setup}
-use Rattle.lsr_rounds.specs.Below.serve.Below.workers.Below.journal.declared.receipt.Receipt.{Receipt}
-use Rattle.lsr_rounds.specs.Below.serve.Below.workers.Chains.{StaysWorkOf}
-use Rattle.lsr_rounds.specs.Below.serve.Below.workers.Below.core.Names.{IsReceiptOf}
-use Rattle.lsr_rounds.specs.Below.serve.Below.workers.Turns.{IsEventServed}
-use Rattle.lsr_rounds.specs.Below.serve.Below.workers.Wires.{Sending}
-use Rattle.lsr_rounds.specs.Below.serve.Below.workers.Below.tallies.declared.handled.Handled.{Handled}
-use Rattle.lsr_rounds.specs.Below.serve.Below.workers.Below.tallies.declared.handled.Handled.TheVariants as handles
-use Rattle.lsr_rounds.specs.Below.serve.Below.workers.declared.worker.Work.{Work}
+use Rattle.run_journal.specs.declared.receipt.Receipt.{Receipt}
+use Rattle.interface_workers.specs.Chains.{StaysWorkOf}
+use Rattle.shared_core.specs.Names.{IsReceiptOf}
+use Rattle.interface_workers.specs.Turns.{IsEventServed}
+use Rattle.interface_workers.specs.Wires.{Sending}
+use Rattle.worker_tallies.specs.declared.handled.Handled.{Handled}
+use Rattle.worker_tallies.specs.declared.handled.Handled.TheVariants as handles
+use Rattle.interface_workers.specs.declared.worker.Work.{Work}
 use Rattle.lsr_console.specs.Answers.{IsFedAs, IsRefusedFor, refusal_of}
 
 -- one stands where it was put

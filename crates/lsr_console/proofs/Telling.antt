@@ -5,7 +5,7 @@ use Rattle.abstract_paths.specs.declared.events.Event.{Event}
 use Rattle.lsr_config.specs.Configs.{Setup}
 use Rattle.lsr_facts.specs.declared.refusal.Refusal.{Refusal}
 use Rattle.lsr_session.specs.Requests.{latest}
-use Rattle.lsr_rounds.specs.Below.serve.Below.workers.Below.journal.declared.receipt.Receipt.{Receipt}
+use Rattle.run_journal.specs.declared.receipt.Receipt.{Receipt}
 use Rattle.lsr_console.specs.Answers.{AnswersEvent, IsAnswered, OperatorState, answer_text, reply_of}
 
 -- what is answered to an event is printed

@@ -2,12 +2,12 @@
 use Rattle.std.specs.Prelude.{◌≡◌, ℕ, List, [], ◌∷◌, ◌++◌, Bool, false, true, Option, Some, None, Result, Ok, Err, codes, flat_map}
 use Rattle.abstract_paths.specs.declared.events.Event.{Event}
 use Rattle.abstract_router.specs.States.{State}
-use Rattle.lsr_rounds.specs.Below.serve.Below.workers.Chains.{IsWorkOf}
-use Rattle.lsr_rounds.specs.Below.serve.Below.workers.Below.core.Names.{IsKnown, IsReceiptOf}
-use Rattle.lsr_rounds.specs.Below.serve.Below.workers.Below.core.Refused.{MayBeRefused}
-use Rattle.lsr_rounds.specs.Below.serve.Below.workers.Below.tallies.declared.handled.Handled.{Handled}
-use Rattle.lsr_rounds.specs.Below.serve.Below.workers.Below.tallies.declared.handled.Handled.TheVariants as handles
-use Rattle.lsr_rounds.specs.Below.serve.Below.workers.declared.worker.Work.{Work}
+use Rattle.interface_workers.specs.Chains.{IsWorkOf}
+use Rattle.shared_core.specs.Names.{IsKnown, IsReceiptOf}
+use Rattle.shared_core.specs.Refused.{MayBeRefused}
+use Rattle.worker_tallies.specs.declared.handled.Handled.{Handled}
+use Rattle.worker_tallies.specs.declared.handled.Handled.TheVariants as handles
+use Rattle.interface_workers.specs.declared.worker.Work.{Work}
 use Rattle.journal_bytes.specs.Events.{event_bytes}
 use Rattle.journal_bytes.specs.declared.entry.WrittenFrame.{WrittenFrame}
 use Rattle.lsr_config.specs.Configs.{Setup}
@@ -19,7 +19,7 @@ use Rattle.lsr_lines.specs.declared.lines.Request.TheVariants as requests
 use Rattle.lsr_session.specs.Requests.{Shows, latest}
 use Rattle.lsr_text.specs.Answers.{refusal_line, replies_text, reply_line}
 use Rattle.lsr_text.specs.FrameLines.{written_line}
-use Rattle.lsr_rounds.specs.Below.serve.Below.workers.Below.journal.declared.receipt.Receipt.{Receipt}
+use Rattle.run_journal.specs.declared.receipt.Receipt.{Receipt}
 use Rattle.lsr_console.specs.Said.{Says, event_of}
 use Rattle.lsr_console.specs.Told.{bad_line_text, elsewhere_text}
 use Rattle.lsr_console.specs.declared.answering.Lack.{Lack}

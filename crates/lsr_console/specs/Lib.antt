@@ -1,4 +1,3 @@
-pub mod Below
 pub mod Heard
 pub mod Said
 pub mod Told

@@ -1,6 +1,6 @@
 //! What a console answers to a line.
 ghost use Rattle.std.specs.Prelude.{◌≡◌, IfErr, IfOk, string_bytes};
-ghost use Rattle.lsr_rounds.specs.Below.serve.Below.workers.Chains.{HasRoom};
+ghost use Rattle.interface_workers.specs.Chains.{HasRoom};
 ghost use Rattle.lsr_rounds.specs.Attending.{IsAttended};
 ghost use Rattle.lsr_console.specs.declared.answering.Lack.TheVariants.{Undone};
 ghost use Rattle.lsr_console.specs.Answers.{AnswersAsked, AnswersLine, AnswersRequest, Lacks, lack_text};
@@ -10,9 +10,9 @@ use crate::attending::fed_nothing;
 use crate::feeding::answer_event;
 use crate::forms::{FROM_CLOCK, FROM_LINKS, HELP, bad_line_text, elsewhere_text};
 use crate::said::{Said, asked_event, read_said};
+use interface_workers::{CoreName, Gate, KeepSegments, Port, Wire, Work};
 use lsr_lines::Request;
 use lsr_rounds::Desk;
-use lsr_rounds::serve::workers::{CoreName, Gate, KeepSegments, Port, Wire, Work};
 use lsr_session::Recent;
 use std::alloc::{AllocError, Global};
 use std::sync::Wait;

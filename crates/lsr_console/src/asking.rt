@@ -2,9 +2,9 @@
 ghost use Rattle.std.specs.Prelude.{IfOk, string_bytes};
 ghost use Rattle.lsr_console.specs.Answers.{ShowsKnown};
 
+use interface_workers::{CoreName, Gate, KeepSegments, Machine, Question};
 use lsr_lines::Request;
 use lsr_rounds::Desk;
-use lsr_rounds::serve::workers::{CoreName, Gate, KeepSegments, Machine, Question};
 use lsr_session::show;
 use std::alloc::{AllocError, Global};
 use std::sync::Wait;

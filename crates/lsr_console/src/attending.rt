@@ -1,8 +1,8 @@
 //! An operator that fed nothing.
-ghost use Rattle.lsr_rounds.specs.Below.serve.Below.workers.Chains.{HasRoom};
+ghost use Rattle.interface_workers.specs.Chains.{HasRoom};
 ghost use Rattle.lsr_rounds.specs.Attending.{IsAttended};
 
-use lsr_rounds::serve::workers::{CoreName, Port, Work};
+use interface_workers::{CoreName, Port, Work};
 
 /// Where nothing was fed, a router was attended to.
 pub(crate) fn fed_nothing<L: CoreName>(port: &Port<L>, work: &Work)

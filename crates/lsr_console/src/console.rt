@@ -1,7 +1,7 @@
 //! The console of a router that runs.
 ghost use Rattle.std.specs.Prelude.{◌≡◌, ℕ, List, [], IfOk, None, OnOk, is_some};
 ghost use Rattle.std.specs.Io.KnownBytes.{Appends};
-ghost use Rattle.lsr_rounds.specs.Below.serve.Below.workers.Chains.{HasRoom};
+ghost use Rattle.interface_workers.specs.Chains.{HasRoom};
 ghost use Rattle.lsr_rounds.specs.Attending.{IsAttended};
 ghost use Rattle.lsr_console.specs.Consoles.{TellsHeard, TellsLine, TellsOnce};
 ghost use Rattle.lsr_console.specs.Endings.{IsWritten, ending_of};
@@ -12,9 +12,9 @@ use crate::ending::{ConsoleEnding, ending_of};
 use crate::listening::Heard;
 use crate::printing::{put, put_untext};
 use crossbeam_channel::{Receiver, RecvTimeoutError};
-use lsr_rounds::serve::PortCount;
-use lsr_rounds::serve::workers::{CoreName, Gate, KeepSegments, Port, Wire, Work};
+use interface_workers::{CoreName, Gate, KeepSegments, Port, Wire, Work};
 use lsr_rounds::{Desk, Operator};
+use lsr_serve::PortCount;
 use lsr_session::Recent;
 use std::alloc::{AllocError, Global};
 use std::io;

@@ -4,18 +4,18 @@ ghost use Rattle.std.specs.Option.{MatchOption};
 ghost use Rattle.lsr_facts.specs.declared.reply.Reply.TheVariants as replies;
 ghost use Rattle.lsr_session.specs.Requests.{latest};
 ghost use Rattle.lsr_text.specs.Answers.{refusal_line};
-ghost use Rattle.lsr_rounds.specs.Below.serve.Below.workers.Below.journal.declared.receipt.Receipt.{Receipt};
-ghost use Rattle.lsr_rounds.specs.Below.serve.Below.workers.Chains.{HasRoom};
+ghost use Rattle.run_journal.specs.declared.receipt.Receipt.{Receipt};
+ghost use Rattle.interface_workers.specs.Chains.{HasRoom};
 ghost use Rattle.lsr_rounds.specs.Attending.{IsAttended};
 ghost use Rattle.lsr_console.specs.Answers.{AnswersEvent, IsFedAs, IsRefusedFor, frame_line, receipt_text, refusal_of};
 
 use abstract_paths::Event;
+use interface_workers::{
+    CoreName, Gate, Handled, KeepSegments, Port, Receipt, Wire, Work, serve_event,
+};
 use journal_bytes::WrittenFrame;
 use lsr_facts::{Refusal, Reply};
 use lsr_rounds::Desk;
-use lsr_rounds::serve::workers::{
-    CoreName, Gate, Handled, KeepSegments, Port, Receipt, Wire, Work, serve_event,
-};
 use lsr_session::Recent;
 use lsr_text::{push_refusal, push_reply, push_written};
 use std::alloc::{AllocError, Global};

@@ -17,5 +17,3 @@ pub use ending::ConsoleEnding;
 pub use forms::HELP;
 pub use line_streams::InputFault;
 pub use listening::{Heard, WAITING_LINES, listen, open_lines};
-pub use lsr_rounds as rounds;
-pub use lsr_session as session;

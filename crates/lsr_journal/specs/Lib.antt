@@ -1,4 +1,3 @@
-pub mod Below
 pub mod Entries
 pub mod Recorded
 pub mod Segments

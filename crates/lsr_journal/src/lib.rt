@@ -9,6 +9,5 @@ mod segments;
 
 pub use lookup_plane::OpenFault;
 pub use recorded::RecordedSession;
-pub use run_journal as journal;
 pub use run_journal::Segment;
 pub use segments::write_segment;

@@ -3,7 +3,7 @@ use Rattle.std.proofs.Common.{◌≡◌, ◌+◌, ◌≤◌, ℕ, zero, suc, Lis
 use Rattle.std.specs.Str.{IsUtf8}
 use Rattle.std.specs.Io.KnownBytes.{Appends, Keeps, append_known}
 use Rattle.std.proofs.KnownBytes.{Appends-kept, Appends-nil, Appends-trans, Keeps-refl, append_known-grown}
-use Rattle.lsr_session.specs.Below.machine.States.{RouterState}
+use Rattle.router_core.specs.States.{RouterState}
 use Rattle.abstract_world.specs.Worlds.{WorldState}
 use Rattle.abstract_world.specs.declared.moves.Move.{Move}
 use Rattle.lsr_facts.specs.declared.refusal.Refusal.TheVariants.{NoRouter}

@@ -1,7 +1,7 @@
 -- What is printed while a world is played with `--lab`, and what becomes of the world.
 use Rattle.std.specs.Prelude.{◌≡◌, ◌⊎◌, ℕ, zero, suc, true, List, [], ◌∷◌, ◌++◌, Option, Some, None, codes, flat_map}
 use Rattle.std.specs.Io.KnownBytes.{Appends}
-use Rattle.lsr_session.specs.Below.machine.States.{RouterState}
+use Rattle.router_core.specs.States.{RouterState}
 use Rattle.abstract_world.specs.Worlds.{WorldState, at}
 use Rattle.abstract_world.specs.declared.moves.Move.{Move}
 use Rattle.lab_world.specs.Opening.{CanOpen}

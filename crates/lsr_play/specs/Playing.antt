@@ -6,7 +6,7 @@ use Rattle.abstract_world.specs.declared.moves.Move.{Move}
 use Rattle.lab_world.specs.Opening.{CanOpen, IsFaultOf}
 use Rattle.lsr_config.specs.Configs.{Setup}
 use Rattle.lsr_facts.specs.declared.router.Router.{Router}
-use Rattle.lsr_session.specs.Below.machine.States.{opened}
+use Rattle.router_core.specs.States.{opened}
 use Rattle.sequence_charts.specs.Pictures.{Picture, grown, opened as opened_chart}
 use Rattle.sequence_charts.specs.declared.row.Row.{Row}
 use Rattle.world_charts.specs.Rows.{moved_rows}

@@ -1,4 +1,3 @@
-pub mod Below
 pub mod Attending
 pub mod Ended
 pub mod Rounds

@@ -11,7 +11,6 @@ mod serving;
 mod so_far;
 
 pub use fault::RunFault;
-pub use lsr_serve as serve;
 pub use operator::{Desk, Operator};
 pub use pace::Pace;
 pub use round_keeper::RoundKeeper;

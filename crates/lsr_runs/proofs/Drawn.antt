@@ -6,7 +6,7 @@ use Rattle.lsr_lines.specs.Runs.{Stops}
 use Rattle.lsr_lines.specs.declared.run.RunStop.{RunStop}
 use Rattle.lsr_lines.specs.declared.run.RunStop.TheVariants as stops
 use Rattle.lsr_lines.specs.declared.step.Ending.{Ending}
-use Rattle.session_charts.specs.Below.session.Requests.{SessionState}
+use Rattle.lsr_session.specs.Requests.{SessionState}
 use Rattle.sequence_charts.specs.Pictures.{Picture}
 use Rattle.session_charts.specs.Charted.{ChartedState, Draws, begun}
 use Rattle.lsr_runs.specs.Drawing.{IsDrawnIn, RanDrawn, title_of}

@@ -14,7 +14,7 @@ use Rattle.lsr_lines.proofs.Serving.{stops_kept}
 use Rattle.lsr_journal.specs.Recorded.{RecordedState, Records, begun, is_over}
 use Rattle.lsr_journal.specs.Segments.{SpellsSegment}
 use Rattle.lsr_journal.proofs.Keeping.{IsSameBase, records_kept}
-use Rattle.lsr_journal.specs.Below.journal.Journals.{Journal, stretch_of}
+use Rattle.run_journal.specs.Journals.{Journal, stretch_of}
 use Rattle.lsr_runs.specs.Endings.{ending_text}
 use Rattle.lsr_runs.specs.Recording.{HoldsJournal, IsRecordable, RanRecorded, RunsRecorded}
 use Rattle.lsr_runs.specs.declared.written.OutputFault.{OutputFault}

@@ -8,7 +8,7 @@ use Rattle.lsr_lines.specs.Runs.{Stops}
 use Rattle.lsr_lines.specs.declared.run.RunStop.TheVariants as stops
 use Rattle.lsr_lines.specs.declared.step.Ending.{Ending}
 use Rattle.lsr_lines.specs.declared.step.Ending.TheVariants as lines
-use Rattle.session_charts.specs.Below.session.Requests.{SessionState}
+use Rattle.lsr_session.specs.Requests.{SessionState}
 use Rattle.sequence_charts.specs.Pictures.{Picture}
 use Rattle.sequence_charts.specs.Svg.{svg_text}
 use Rattle.session_charts.specs.Charted.{ChartedState, Draws, begun}

@@ -1,4 +1,3 @@
-pub mod Below
 pub mod Charting
 pub mod Checking
 pub mod Decoding

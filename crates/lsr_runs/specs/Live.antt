@@ -9,7 +9,7 @@ use Rattle.line_streams.specs.declared.input.InputFault.{InputFault}
 use Rattle.lsr_lines.specs.declared.live.LiveEnding.{LiveEnding}
 use Rattle.lsr_lines.specs.declared.live.LiveEnding.TheVariants as lives
 use Rattle.lsr_lines.specs.declared.step.Ending.TheVariants as lines
-use Rattle.session_charts.specs.Below.session.Requests.{PrintsAnswer, SessionState}
+use Rattle.lsr_session.specs.Requests.{PrintsAnswer, SessionState}
 use Rattle.lsr_runs.specs.Endings.{ending_text, status_of}
 use Rattle.lsr_runs.specs.Sessions.{CannotBegin, IsConfigText, IsUnreadConfig, begun}
 use Rattle.lsr_runs.specs.declared.endings.Source.TheVariants as sources

@@ -11,7 +11,7 @@ use Rattle.lsr_lines.specs.Runs.{Stops}
 use Rattle.lsr_lines.specs.declared.run.RunStop.{RunStop}
 use Rattle.lsr_lines.specs.declared.run.RunStop.TheVariants as stops
 use Rattle.lsr_lines.specs.declared.step.Ending.TheVariants as lines
-use Rattle.lsr_journal.specs.Below.journal.Journals.{Stretch, stretch_of}
+use Rattle.run_journal.specs.Journals.{Stretch, stretch_of}
 use Rattle.lsr_journal.specs.Recorded.{RecordedState, Records, begun, is_over}
 use Rattle.lsr_journal.specs.Segments.{SpellsSegment}
 use Rattle.lsr_runs.specs.Endings.{ending_text}

@@ -6,9 +6,9 @@ use Rattle.lsr_config.specs.Configs.{Setup}
 use Rattle.lsr_config.specs.Reading.{IsRead}
 use Rattle.lsr_config.specs.declared.config.TheConstants.{BUILT_IN}
 use Rattle.lsr_config.specs.declared.fault.ConfigFault.{ConfigFault}
-use Rattle.session_charts.specs.Below.session.States.{opened}
+use Rattle.lsr_session.specs.States.{opened}
 use Rattle.line_streams.specs.Cuts.{lines_of}
-use Rattle.session_charts.specs.Below.session.Requests.{PrintsAnswer, SessionState}
+use Rattle.lsr_session.specs.Requests.{PrintsAnswer, SessionState}
 use Rattle.lsr_lines.specs.Steps.{Ends}
 use Rattle.line_streams.specs.Texts.{IsTextOf, IsUnread, Stream}
 use Rattle.line_streams.specs.declared.input.InputFault.{InputFault}

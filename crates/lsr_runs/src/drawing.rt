@@ -2,7 +2,7 @@
 ghost use Rattle.std.specs.Prelude.{◌≡◌, IfOk, IfErr, string_bytes};
 ghost use Rattle.std.specs.Option.{option_map};
 ghost use Rattle.std.specs.Io.KnownBytes.{Appends};
-ghost use Rattle.session_charts.specs.Below.session.Requests.{SessionState};
+ghost use Rattle.lsr_session.specs.Requests.{SessionState};
 ghost use Rattle.session_charts.specs.Charted.{begun};
 ghost use Rattle.lsr_runs.specs.Drawing.{IsDrawnIn, RunsDrawn, RunsDrawnOn, drawn_status, kept_chart_text, title_of};
 ghost use Rattle.lsr_runs.specs.Sessions.{IsReady, NeverSteps};

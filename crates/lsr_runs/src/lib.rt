@@ -23,7 +23,6 @@ pub use endings::{BAD_WORDS, DONE, FAILED, RunEnding, Source, status_of, tell_en
 pub use files::{FilesByName, SystemFiles};
 pub use live::{run_live, run_live_of};
 pub use lsr_decode::run_decode;
-pub use lsr_journal as journals;
 pub use playing::{run_lab_of, run_play_of};
 pub use recording::{run_recorded, run_recorded_of};
 pub use session::{misconfigured, read_config_text, run_step, run_step_of, said};

@@ -13,7 +13,7 @@ use crate::files::FilesByName;
 use crate::session::{begin, read_config_text};
 use line_streams::ByteStream;
 use lsr_lines::{Ending, LiveEnding, serve_lines};
-use session_charts::sessions::Session;
+use lsr_session::Session;
 use std::alloc::Global;
 use std::io;
 use std::io::Write;

@@ -5,7 +5,7 @@ ghost use Rattle.std.specs.Io.KnownBytes.{Appends};
 ghost use Rattle.lsr_config.specs.Configs.{Setup};
 ghost use Rattle.lsr_config.specs.Reading.{IsRead};
 ghost use Rattle.lsr_journal.specs.Recorded.{begun};
-ghost use Rattle.lsr_journal.specs.Below.journal.Journals.{stretch_of};
+ghost use Rattle.run_journal.specs.Journals.{stretch_of};
 ghost use Rattle.lsr_runs.specs.Recording.{HoldsJournal, IsRecordable, RunsRecorded, RunsRecordedOn, recorded_form, recorded_status, stop_text};
 ghost use Rattle.lsr_runs.specs.Sessions.{CannotBegin, NeverSteps, said_by};
 

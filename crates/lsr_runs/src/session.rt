@@ -15,7 +15,7 @@ use config_text::place_of;
 use line_streams::{ByteStream, InputFault, read_text};
 use lsr_config::{BUILT_IN, Config, ConfigFault};
 use lsr_lines::step_lines;
-use session_charts::sessions::{Machine, Session};
+use lsr_session::{Machine, Session};
 use std::alloc::{AllocError, Global};
 use std::io;
 use std::io::Write;

@@ -1,3 +1,2 @@
-pub mod Below
 pub mod Requests
 pub use Rattle.router_core.specs.States

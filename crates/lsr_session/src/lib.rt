@@ -9,6 +9,5 @@ mod shown;
 pub use passing::passed_text;
 pub use recent::Recent;
 pub use requests::{Answered, Session, hop_frame};
-pub use router_core as machine;
 pub use router_core::{Machine, Served};
 pub use shown::show;

@@ -4,9 +4,9 @@ use Rattle.std.specs.Prelude.{◌+◌, ℕ, List, Option, length}
 use Rattle.line_streams.specs.Texts.{Stream}
 use Rattle.lsr_config.specs.Configs.{Setup}
 use Rattle.lsr_config.specs.declared.sockets.LinkSockets.{LinkSockets}
-use Rattle.lsr_console.specs.Below.rounds.Ended.{IsSoFar}
-use Rattle.lsr_console.specs.Below.rounds.declared.so_far.RunSoFar.{RunSoFar}
-use Rattle.lsr_console.specs.Below.serve.Told.{reconciled_text}
+use Rattle.lsr_rounds.specs.Ended.{IsSoFar}
+use Rattle.lsr_rounds.specs.declared.so_far.RunSoFar.{RunSoFar}
+use Rattle.lsr_serve.specs.Told.{reconciled_text}
 use Rattle.lsr_tool.specs.declared.console.Attended.{Attended}
 use Rattle.lsr_tool.specs.declared.console.Attended.TheVariants.{Ended, Failed}
 use Rattle.lsr_runs.specs.Playing.{IsFileText}

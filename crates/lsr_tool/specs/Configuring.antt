@@ -9,7 +9,7 @@ use Rattle.lsr_config.specs.declared.fault.ConfigFault.TheVariants as fault
 use Rattle.line_streams.specs.Texts.{Stream}
 use Rattle.line_streams.specs.declared.input.InputFault.{InputFault}
 use Rattle.lsr_lines.specs.declared.step.Ending.TheVariants as lines
-use Rattle.lsr_console.specs.Below.serve.Sockets.{GivesSockets, LacksSockets}
+use Rattle.lsr_serve.specs.Sockets.{GivesSockets, LacksSockets}
 use Rattle.lsr_config.specs.declared.sockets.LinkSockets.{LinkSockets}
 use Rattle.lsr_runs.specs.Endings.{ending_text, status_of}
 use Rattle.lsr_runs.specs.Sessions.{IsConfigText, IsMisconfigured, IsUnreadConfig, name_of}

@@ -5,9 +5,9 @@ use Rattle.line_streams.specs.Texts.{Stream}
 use Rattle.lsr_config.specs.Configs.{Setup}
 use Rattle.lsr_config.specs.Reading.{IsRead}
 use Rattle.lsr_config.specs.declared.sockets.LinkSockets.{LinkSockets}
-use Rattle.lsr_console.specs.Below.serve.Sockets.{GivesSockets}
-use Rattle.lsr_console.specs.Below.serve.Told.{Serves}
-use Rattle.lsr_console.specs.Below.serve.Turns.{AsksForTurns}
+use Rattle.lsr_serve.specs.Sockets.{GivesSockets}
+use Rattle.lsr_serve.specs.Told.{Serves}
+use Rattle.lsr_serve.specs.Turns.{AsksForTurns}
 use Rattle.lsr_runs.specs.Playing.{IsFileText}
 
 -- The text says this configuration, and gives its links these sockets.

@@ -1,12 +1,12 @@
 //! Who attends to a router that runs: its console, who writes its journal, and who tells what happens.
 
+use interface_workers::{CoreName, Gate, KeepSegments, Port, Wire, Work};
 use log::sink::Writer;
 use log::{Level, LevelFilter, Log, info, warn};
-use lsr_console::rounds::serve::workers::{CoreName, Gate, KeepSegments, Port, Wire, Work};
-use lsr_console::rounds::serve::{BesideClock, PortCount};
-use lsr_console::rounds::{Desk, Operator};
 use lsr_console::{Console, ConsoleEnding};
 use lsr_facts::{Router, State};
+use lsr_rounds::{Desk, Operator};
+use lsr_serve::{BesideClock, PortCount};
 use lsr_watch::changes_text;
 use std::alloc::Global;
 use std::io::Write;

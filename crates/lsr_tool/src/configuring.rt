@@ -12,11 +12,11 @@ ghost use Rattle.lsr_runs.specs.Sessions.{IsConfigText};
 use config_text::config_text;
 use line_streams::ByteStream;
 use lsr_config::{Config, ConfigFault, LinkSockets};
-use lsr_console::rounds::serve::read_sockets;
 use lsr_runs::{
     DONE, FilesByName, RunEnding, Source, misconfigured, read_config_text, said, status_of,
     tell_ending,
 };
+use lsr_serve::read_sockets;
 use std::alloc::{AllocError, Global};
 use std::io;
 use std::io::Write;

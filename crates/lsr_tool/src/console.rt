@@ -11,15 +11,11 @@ use line_streams::{ByteStream, tell_input_fault};
 use log::LevelFilter;
 use log::sink::Writer;
 use lsr_config::Config;
-use lsr_console::rounds::serve::reconciler::Mismatch;
-use lsr_console::rounds::serve::{
-    BesideClock, ClockAlone, LinkSockets, RoundFlag, tell_end, tell_ports,
-};
-use lsr_console::rounds::{
-    OpenLinks, RunEnd, RunFault, open_links, serve_links_until, tell_reconciled,
-};
 use lsr_console::{Console, ConsoleEnding, Heard, listen, open_lines};
+use lsr_rounds::{OpenLinks, RunEnd, RunFault, open_links, serve_links_until, tell_reconciled};
 use lsr_runs::{BAD_WORDS, DONE, FAILED, FilesByName, WritesFiles, status_of, tell_ending};
+use lsr_serve::{BesideClock, ClockAlone, LinkSockets, RoundFlag, tell_end, tell_ports};
+use run_reconciler::Mismatch;
 use sorted_rows::Table;
 use std::alloc::Global;
 use std::io::Write;

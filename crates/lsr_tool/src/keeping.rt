@@ -3,12 +3,12 @@
 ghost use Rattle.std.specs.Prelude.{◌≡◌, IfOk, Ok, string_bytes};
 ghost use Rattle.lsr_config.specs.Configs.{Setup};
 ghost use Rattle.lsr_config.specs.Reading.{IsRead};
-ghost use Rattle.lsr_runs.specs.Below.journals.Segments.{SpellsSegment};
+ghost use Rattle.lsr_journal.specs.Segments.{SpellsSegment};
 ghost use Rattle.lsr_tool.specs.Serving.{segment_name};
 
-use lsr_console::rounds::serve::{BesideClock, KeepSegments, NotKept};
-use lsr_runs::journals::{Segment, write_segment};
+use lsr_journal::{Segment, write_segment};
 use lsr_runs::{OutputFault, WritesFiles};
+use lsr_serve::{BesideClock, KeepSegments, NotKept};
 use std::alloc::{AllocError, Global};
 use std::mem;
 use std::sync::{Mutex, Wait};

@@ -9,13 +9,11 @@ use crate::keeping::{SegmentFiles, SegmentKeeper, SegmentWriter, Unwritten, may_
 use config_text::link_without;
 use line_streams::read_text;
 use lsr_config::Config;
-use lsr_console::rounds::serve::{
-    BesideClock, ClockAlone, LinkSockets, read_sockets, read_turns, serve_links,
-};
 use lsr_runs::{
     BAD_WORDS, FAILED, FilesByName, RunEnding, Source, WritesFiles, misconfigured, status_of,
     tell_ending, tell_output_fault,
 };
+use lsr_serve::{BesideClock, ClockAlone, LinkSockets, read_sockets, read_turns, serve_links};
 use sorted_rows::Table;
 use std::alloc::Global;
 use std::io;

@@ -1,4 +1,3 @@
-pub mod Below
 pub mod Commands
 pub mod Rows
 pub mod Charted

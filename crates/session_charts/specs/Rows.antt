@@ -21,8 +21,8 @@ use Rattle.lsr_lines.specs.declared.lines.Request.TheVariants as requests
 use Rattle.lsr_session.specs.declared.requests.Answered.{Answered}
 use Rattle.lsr_session.specs.declared.requests.Answered.TheVariants as answers
 use Rattle.object_text.specs.Words.{address_text}
-use Rattle.lsr_session.specs.Below.machine.declared.inputs.Served.{Served}
-use Rattle.lsr_session.specs.Below.machine.declared.inputs.Served.TheVariants as serves
+use Rattle.router_core.specs.declared.inputs.Served.{Served}
+use Rattle.router_core.specs.declared.inputs.Served.TheVariants as serves
 use Rattle.rsvp_contents.specs.Picking.{content_in}
 use Rattle.rsvp_contents.specs.declared.messages.Content.{Content}
 use Rattle.sequence_charts.specs.declared.row.Row.{Row}

@@ -9,5 +9,4 @@ mod commands;
 pub mod laws;
 mod session;
 
-pub use lsr_session as sessions;
 pub use session::ChartedSession;
