@@ -22,7 +22,7 @@ use std::time::Clock;
 const QUITS: &str = "the run ends\n";
 
 /// Memory ran out for a line.
-#[derive(Clone, Copy, Debug, PartialEq, Eq)]
+#[derive(Clone, Copy, PartialEq, Eq)]
 pub(crate) enum Lack {
     /// Nothing was done for it.
     Undone,

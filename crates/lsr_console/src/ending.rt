@@ -8,7 +8,7 @@ use line_streams::InputFault;
 use std::io;
 
 /// Why a console ends the run.
-#[derive(Debug, Drop)]
+#[derive(Drop)]
 pub enum ConsoleEnding {
     /// The operator wrote `quit`.
     Quit,

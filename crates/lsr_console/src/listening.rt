@@ -13,7 +13,7 @@ use std::sync::Wait;
 pub const WAITING_LINES: usize = 16;
 
 /// What came of a console's input.
-#[derive(Debug, Drop)]
+#[derive(Drop)]
 pub enum Heard {
     /// A line, without its newline.
     Line(String),

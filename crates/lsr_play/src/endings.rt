@@ -15,7 +15,7 @@ const DONE: u8 = 0;
 const FAILED: u8 = 1;
 
 /// How a run over the lines of a world's file ends.
-#[derive(Clone, Copy, Debug)]
+#[derive(Clone, Copy)]
 pub enum PlayEnding<'a> {
     /// Every line was taken, and every move answered.
     Done,

@@ -6,7 +6,7 @@ use lsr_serve::workers::OpenFault;
 use std::alloc::AllocError;
 
 /// Why a run of rounds ends before it is told to.
-#[derive(Clone, Copy, Debug, PartialEq, Eq)]
+#[derive(Clone, Copy, PartialEq, Eq)]
 pub enum RunFault {
     /// A round isn't one run with those before it.
     Mismatch(Mismatch),

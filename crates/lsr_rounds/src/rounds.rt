@@ -27,7 +27,6 @@ pub const ROUND_TURNS: u32 = 16_384;
 const SEATS: usize = 2;
 
 /// What a run left that was told to end: what is known of it, and how many segments of its journal are kept.
-#[derive(Debug)]
 pub struct RunEnd {
     /// The run, all its rounds reconciled.
     pub run: RunSoFar,

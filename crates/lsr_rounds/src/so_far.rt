@@ -14,7 +14,6 @@ use std::mem;
 
 /// A run so far: its last segment, how many entries its rounds had in all, and how much each port did. Everything else of a round is given
 /// up when it is reconciled.
-#[derive(Debug)]
 pub struct RunSoFar {
     /// The last segment of the last round; none before the first.
     pub last: Option<Segment>,

@@ -21,7 +21,7 @@ pub const FAILED: u8 = 1;
 pub const BAD_WORDS: u8 = 2;
 
 /// A text that a run reads.
-#[derive(Clone, Copy, Debug, PartialEq, Eq)]
+#[derive(Clone, Copy, PartialEq, Eq)]
 pub enum Source {
     /// The configuration.
     Config,
@@ -30,7 +30,7 @@ pub enum Source {
 }
 
 /// How a run of `lsr` ends.
-#[derive(Debug, Drop)]
+#[derive(Drop)]
 pub enum RunEnding<'a> {
     /// Its lines were answered as far as this says.
     Ran(Ending<'a>),

@@ -12,7 +12,7 @@ use std::rt::Files;
 use std::{fs, io};
 
 /// Why a file isn't written.
-#[derive(Clone, Copy, Debug, PartialEq, Eq)]
+#[derive(Clone, Copy, PartialEq, Eq)]
 pub enum OutputFault {
     /// The folder that it would stand in isn't there.
     Absent,
