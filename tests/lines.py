@@ -110,8 +110,8 @@ def run_saying(room, words, status, stream, text):
     """The program ends so on these words: what it says has the text in it."""
     came = ask(*words, cwd=room)
     said, other = (came.err, came.out) if stream == "error" else (came.out, came.err)
-    is_said = text.encode() in said and (stream == "both" or not other)
-    if came.status == int(status) and is_said:
+    is_told = bool(other) == (stream == "both")
+    if came.status == int(status) and text.encode() in said and is_told:
         return ""
     return f"wanted on {stream}: {text}\n" + differs(Answer(int(status)), came)
 
