@@ -14,7 +14,7 @@ import time
 from functools import partial
 
 import asked
-from asked import Answer, ask, differs
+from asked import Answer, ask, begins, differs, started
 
 # The most bytes of an input, and of a line that is answered as it comes.
 MOST_INPUT = 16_777_216
@@ -43,11 +43,6 @@ TOLD_UNWRITABLE = b"unwritable\n  the output or the error stream can't be writte
 TOLD_UNREAD_WORDS = b"error: a word isn't UTF-8; see lsr --help\n"
 # The states of a process that waits, and of one that has ended.
 WAITS, ENDED = "S", "Z"
-
-
-def begins(wanted, came):
-    """What differs where only the beginning of the error stream is wanted."""
-    return differs(wanted, came._replace(err=came.err[: len(wanted.err)]))
 
 
 def broken_input(lines):
@@ -105,9 +100,7 @@ def from_interrupted(words):
     given, other = socket.socketpair()
     # A process that is stopped and goes on has its read interrupted where the socket has a time limit (signal(7)).
     given.setsockopt(socket.SOL_SOCKET, socket.SO_RCVTIMEO, struct.pack("ll", asked.MOST_SECONDS, 0))
-    with subprocess.Popen(
-        [asked.program(), *words], stdin=given, stdout=subprocess.PIPE, stderr=subprocess.PIPE
-    ) as child, other:
+    with started(*words, stdin=given, stdout=subprocess.PIPE, stderr=subprocess.PIPE) as child, other:
         given.close()
         for place in range(len(LINES)):
             if not interrupt(child):
@@ -121,15 +114,10 @@ def from_interrupted(words):
 def to_file(words, given, most):
     """The run's answer where its output is a file that takes no more than so many bytes."""
     with tempfile.TemporaryFile() as out:
-        # A write above the limit fails, as Python's processes have that signal ignored; and the program writes nothing
-        # before its input has come.
-        with subprocess.Popen(
-            [asked.program(), *words],
-            stdin=subprocess.PIPE,
-            stdout=out,
-            stderr=subprocess.PIPE,
-            restore_signals=False,
-        ) as child:
+        # The program writes nothing before its input has come. A write above the limit fails: Python ignores the signal of that,
+        # and so does the program that it starts.
+        pipes = {"stdin": subprocess.PIPE, "stderr": subprocess.PIPE, "restore_signals": False}
+        with started(*words, stdout=out, **pipes) as child:
             resource.prlimit(child.pid, resource.RLIMIT_FSIZE, (most, most))
             err = child.communicate(given, timeout=asked.MOST_SECONDS)[1]
         out.seek(0)
@@ -151,26 +139,22 @@ def to_closed_pipe(words):
     ours, theirs = os.pipe()
     os.close(ours)
     try:
-        ran = subprocess.run(
-            [asked.program(), *words], input=LINES, stdout=theirs, stderr=subprocess.PIPE, check=False
-        )
+        return differs(Answer(1, b"", TOLD_UNWRITABLE), ask(*words, given=LINES, stdout=theirs))
     finally:
         os.close(theirs)
-    return differs(Answer(1, b"", TOLD_UNWRITABLE), Answer(ran.returncode, b"", ran.stderr))
 
 
 def error_to_full():
     """The error stream can't be written: there's nowhere to tell it, and the status says it."""
     with open("/dev/full", "wb") as full:
-        ran = subprocess.run([asked.program(), "step"], input=LINES, stdout=subprocess.PIPE, stderr=full, check=False)
-    return differs(Answer(1, ANSWERS), Answer(ran.returncode, ran.stdout))
+        return differs(Answer(1, ANSWERS), ask(*STEP, given=LINES, stderr=full))
 
 
 def many_at_once():
     """The answers to many lines are written in blocks: each write is a packet of this socket."""
     ours, theirs = socket.socketpair(socket.AF_UNIX, socket.SOCK_SEQPACKET)
     ours.settimeout(asked.MOST_SECONDS)
-    with subprocess.Popen([asked.program(), *STEP], stdin=subprocess.PIPE, stdout=theirs) as child, ours:
+    with started(*STEP, stdin=subprocess.PIPE, stdout=theirs) as child, ours:
         theirs.close()
         child.stdin.write(MANY_LINES)
         child.stdin.close()
@@ -186,7 +170,7 @@ def as_they_come():
     """Lines are answered as they come: each answer is there before the next line is."""
     ours, theirs = socket.socketpair()
     ours.settimeout(asked.MOST_SECONDS)
-    with subprocess.Popen([asked.program(), *LIVE], stdin=theirs, stdout=theirs) as child, ours:
+    with started(*LIVE, stdin=theirs, stdout=theirs) as child, ours:
         theirs.close()
         answers = b""
         for line in LINES.splitlines()[:2]:
