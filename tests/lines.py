@@ -44,7 +44,7 @@ GOOD = "good"
 
 def names_in(room, name):
     """The lines of a file that names cases."""
-    return (room / name).read_text().splitlines()
+    return (room / name).read_text("utf-8").splitlines()
 
 
 def read_or_empty(path):
