@@ -15,8 +15,9 @@ from typing import NamedTuple
 
 import asked
 
-# What doesn't come in so many seconds doesn't come.
-MOST_SECONDS = 60
+# What doesn't come in so many seconds doesn't come. A router whose machine is too slow for its clock answers its operator only when
+# a round is over, which is after a minute.
+MOST_SECONDS = 100
 # How long it takes until something is looked at again, in seconds.
 PAUSE = 0.02
 # How long a console is given to tell what changed, in seconds: it does so each tenth of a second.
