@@ -17,8 +17,9 @@ from typing import NamedTuple
 TOP = pathlib.Path(__file__).resolve().parent.parent
 DATA = TOP / "tests" / "data"
 PROVED = TOP / "crates" / "lsr" / "out" / "lsr"
-# It runs the proved program where there is one, and else builds one that isn't proved.
+# It builds the other where there is no proved one.
 LAUNCHER = TOP / "lsr"
+UNPROVED = TOP / "out" / "lsr"
 # One ask that takes longer hangs. A program that isn't proved checks itself as it runs, and is slow.
 MOST_SECONDS = 600
 # So many lines are shown of what differs in one stream.
@@ -35,7 +36,7 @@ class Answer(NamedTuple):
 
 @functools.cache
 def program():
-    """The path of the program: the word behind `--lsr`, else the environment's LSR, else the proved one, else ./lsr."""
+    """The path of the program: the word behind `--lsr`, else the environment's LSR, else the proved one, else ./lsr's."""
     parser = argparse.ArgumentParser(add_help=False)
     parser.add_argument("--lsr", default=os.environ.get("LSR"))
     named = parser.parse_known_args()[0].lsr
@@ -44,7 +45,7 @@ def program():
     if PROVED.exists():
         return str(PROVED)
     subprocess.run([LAUNCHER, "--help"], stdout=subprocess.DEVNULL, check=True)
-    return str(LAUNCHER)
+    return str(UNPROVED)
 
 
 def ask(*words, given=b"", cwd=None, **more):

@@ -24,10 +24,9 @@ PAUSE = 0.02
 LOOK_SECONDS = 0.3
 # The most bytes of a datagram over IPv4.
 MOST_BYTES = 65507
-# What is typed behind a line, so that its answer has an end: it is told as a bad line, in so many lines.
+# What is typed behind a line, so that its answer has an end: it is told as a bad line, and after that stand so many lines.
 MARK = "="
-MARKED = "bad line "
-MARKED_LINES = 3
+LINES_AFTER_MARK = 2
 # A line of the log: how grave it is, who tells it, at a console since when, and what is told.
 LOGGED = re.compile(r"\[[A-Z]+ +[\w:]+\] (?:\d+\.\d s: )?(.*)")
 # The sockets of this machine: in each line their own address is the second word, and the fifth what waits to be sent and read.
@@ -89,6 +88,11 @@ def waiting_bytes(address):
     return None
 
 
+def wait_bound(address):
+    """Waits until a router has the address."""
+    wait_until(lambda: waiting_bytes(address), f"no socket is bound to {address}")
+
+
 def wait_until(holds, what):
     """Waits until it holds."""
     deadline = time.monotonic() + MOST_SECONDS
@@ -129,6 +133,8 @@ class Router:
         self.told = lines_of(self.process.stderr)
         # What was told, and nobody waited for.
         self.log = []
+        # How many lines were typed.
+        self.typed = 0
 
     def next_line(self, lines, wanted):
         """The next line of a stream, in which this one is waited for."""
@@ -144,17 +150,17 @@ class Router:
         """Types a line at the console."""
         self.process.stdin.write(line + "\n")
         self.process.stdin.flush()
+        self.typed += 1
 
     def answer(self, line):
         """Types a line: the lines that it is answered with."""
         self.type(line)
         self.type(MARK)
-        lines = [self.next_line(self.printed, f"the answer to {line}")]
-        while not lines[-1].startswith(MARKED):
-            lines.append(self.next_line(self.printed, f"the answer to {line}"))
-        for _ in range(MARKED_LINES - 1):
-            self.next_line(self.printed, MARKED)
-        return lines[:-1]
+        mark = f"bad line {self.typed}"
+        lines = list(iter(lambda: self.next_line(self.printed, f"the answer to {line}"), mark))
+        for _ in range(LINES_AFTER_MARK):
+            self.next_line(self.printed, mark)
+        return lines
 
     def answer_in_time(self, line, wanted):
         """Types a line until it is answered with these lines: the last answer."""
@@ -225,9 +231,9 @@ def serve(text, *words):
 
 
 @contextlib.contextmanager
-def attend(text, *words):
+def attend(text):
     """A router of this configuration with a console, which runs."""
-    with serve(text, "--console", *words) as router:
+    with serve(text, "--console") as router:
         name = re.search(r'^router = "(.*)"', text, re.MULTILINE)[1]
         router.wait_log(f"router {name} runs: write help to see which lines it takes, and quit to end it")
         yield router

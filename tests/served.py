@@ -1,14 +1,17 @@
+#!/usr/bin/env python3
 """What runs over sockets and at consoles: `lsr serve` as its neighbours and its operator see it.
 
 Routers are served over UDP on addresses of this machine, lines are typed at their consoles, and frames are sent to them.
 """
 
 import contextlib
+import dataclasses
 import functools
 import pathlib
 import re
 import sys
 import tempfile
+from typing import NamedTuple
 
 import asked
 import routers
@@ -49,6 +52,8 @@ PIECE = 4096
 LINES = 4200
 # The LSP of a tunnel from 10.0.0.1 to 10.0.0.2.
 LSP = "10.0.0.2/1/10.0.0.1 10.0.0.1/1"
+# How many bytes wait at a socket where none do.
+NONE_WAIT = "00000000"
 # The kind of a frame with a message from neighbour to neighbour, and the most bytes of a message.
 HOP = b"\x01"
 MOST_MESSAGE = 4096
@@ -94,15 +99,15 @@ def ends_well(ended):
 # The transcript of two consoles.
 
 
+@dataclasses.dataclass
 class Act:
     """A line that is typed at a console, what is answered, and what the log of this console tells before it and after it."""
 
-    def __init__(self, side, line, before):
-        self.side = side
-        self.line = line
-        self.before = before
-        self.answer = []
-        self.after = []
+    side: str
+    line: str
+    before: list
+    answer: list = dataclasses.field(default_factory=list)
+    after: list = dataclasses.field(default_factory=list)
 
 
 def acts_of(block):
@@ -197,7 +202,7 @@ def two_routers_by_turns():
     """Two routers are served for some turns, and the tunnel between them comes up."""
     head, tail, far = tunnel_ends()
     with routers.serve(tail, "--turns", TUNNEL_TURNS) as at_tail:
-        routers.wait_until(lambda: routers.waiting_bytes(far), "the tail's socket")
+        routers.wait_bound(far)
         with routers.serve(head, "--turns", TUNNEL_TURNS) as at_head:
             return turns_differ(at_head.end(), 1, 1) + turns_differ(at_tail.end(), 1, 0)
 
@@ -241,13 +246,12 @@ def killed_neighbour():
 # Frames over sockets, with this script as the neighbours.
 
 
-class Line:
-    """The middle router of a line, and its neighbours' sockets, by the numbers of the links."""
+class Line(NamedTuple):
+    """The middle router of a line, its neighbours' sockets and where it listens, both by the numbers of the links."""
 
-    def __init__(self, router, sockets, listen):
-        self.router = router
-        self.sockets = sockets
-        self.listen = listen
+    router: routers.Router
+    sockets: dict
+    listen: dict
 
     def send(self, link, frame, sender=None):
         """Sends a frame over a link, from its neighbour's socket or another one."""
@@ -260,17 +264,19 @@ class Line:
 
     def is_silent(self):
         """Whether no frame waits at a neighbour."""
-        return all(routers.waiting_bytes(routers.address_of(opened)) == "00000000" for opened in self.sockets.values())
+        return all(routers.waiting_bytes(routers.address_of(opened)) == NONE_WAIT for opened in self.sockets.values())
 
 
 @contextlib.contextmanager
-def line_of_three():
+def line_of_three(*words):
     """The middle router of a line, with a console."""
     listen = dict(enumerate(routers.free_addresses(2), 1))
     host = routers.fresh_host()
     with routers.open_socket(host) as first, routers.open_socket(host) as second:
         addresses = [listen[1], routers.address_of(first), listen[2], routers.address_of(second)]
-        with routers.attend(routers.at_addresses(MIDDLE, addresses)) as router:
+        with routers.serve(routers.at_addresses(MIDDLE, addresses), "--console", *words) as router:
+            for address in listen.values():
+                routers.wait_bound(address)
             yield Line(router, {1: first, 2: second}, listen)
 
 
@@ -358,11 +364,46 @@ def cold_router_refuses():
     with line_of_three() as line:
         text = differs("restart", ["done"], line.router.answer("restart"))
         line.send(1, came)
-        routers.wait_until(lambda: routers.waiting_bytes(line.listen[1]) == "00000000", "the Path isn't read")
+        routers.wait_until(lambda: routers.waiting_bytes(line.listen[1]) == NONE_WAIT, "the Path isn't read")
         ended = line.router.quit()
         text += "" if line.is_silent() else "a frame came\n"
     wanted = ["port 1: 0 of 1 datagrams dropped, 1 refused", "port 1: 1 datagrams: 0 dropped, 0 passed, 0 fed, 1 refused"]
     return text + lacks(wanted + [end_line(0, 0)], ended.log)
+
+
+def lost_frame():
+    """A frame that the socket doesn't take, for a port that there isn't, is told as lost; the router goes on."""
+    came, _ = path_frames()
+    with routers.open_socket(routers.fresh_host()) as neighbour:
+        listen = routers.free_addresses(2)
+        addresses = [listen[0], routers.address_of(neighbour), listen[1], ANY]
+        with routers.attend(routers.at_addresses(MIDDLE, addresses)) as router:
+            Line(router, {1: neighbour}, {1: listen[0]}).send(1, came)
+            text = shows(router, "show paths", ["path 10.0.0.4/1/10.0.0.1 10.0.0.1/1 transit 2 1"])
+            ended = router.quit()
+    lost = "port 1: 1 frames lost, 1 faults of the wire"
+    # It is told when the round is over, and among the counts at the end.
+    return text + differs("losses", [lost, lost], [line for line in ended.log if line == lost]) + ends_well(ended)
+
+
+def echoed():
+    """What a line has the router send is printed with `--echo`, and goes to the neighbour."""
+    with line_of_three("--echo") as line:
+        answer = line.router.answer("tunnel 9 10.0.0.3 47f42400 3 3 04 t9 10.2.0.3/32")
+        sent = line.receive(2)
+        text = ends_well(line.router.quit())
+    return text + differs("echo", ["done", f"tx 2 {sent.removeprefix(HOP).hex()}"], answer)
+
+
+def quiet_log(level, wanted):
+    """The log's lines of another level than `info`: what was dropped, or none."""
+    came, left = path_frames()
+    with line_of_three("--log", level) as line:
+        line.send(1, b"")
+        line.send(1, came)
+        text = frame_differs(left, line.receive(2))
+        ended = line.router.quit()
+    return text + differs("log", wanted, ended.log) + ("" if ended.status == 0 else f"status {ended.status}\n")
 
 
 # Sockets that can't be had, and turns.
@@ -421,7 +462,7 @@ def most_turns():
     """The most turns are begun; such a run takes a day, and is killed."""
     listen, send = routers.free_addresses(2)
     with routers.serve(routers.at_addresses(ONE_LINK, [listen, send]), "--turns", MOST_TURNS) as router:
-        routers.wait_until(lambda: routers.waiting_bytes(listen), "the link's socket")
+        routers.wait_bound(listen)
         return "" if router.process.poll() is None else "the run ended\n"
 
 
@@ -445,8 +486,14 @@ def journal_files(room):
 
 def many_lines(room):
     """A run at whose console so many lines are typed that a piece of the journal is full: how it ended."""
-    lines = "start\n" * LINES + "quit\n"
-    return asked.ask("serve", "router.toml", "--console", "--journal", "night", given=lines.encode(), cwd=room)
+    lines = ["down 1", *["start"] * LINES, "show links", QUIT]
+    return asked.ask("serve", "router.toml", "--console", "--journal", "night", given=("\n".join(lines)).encode(), cwd=room)
+
+
+def answers_differ(ran, end):
+    """What differs in the answers to these lines: what the first said is known to the last, pieces later."""
+    links = ["link 1 down 1250000 0 0 0 0 0 0 0 0", "link 2 up 1250000 0 0 0 0 0 0 0 0"]
+    return differs("output", ["done"] * (LINES + 1) + links + ["the run ends", end], ran.out.decode().splitlines())
 
 
 def checked(files, room):
@@ -459,22 +506,26 @@ def counts_of(checks):
     return [int(found[1]) for found in re.finditer(r"^run of (\d+) entries$", checks.out.decode(), re.MULTILINE)]
 
 
-def journal_differs(room, ran):
-    """What differs in a journal: a full piece is first, all pieces together are the run, and another order is told."""
-    files = journal_files(room)
+def is_run(files, room):
+    """Whether all these files are one run."""
     checks = checked(files, room)
-    counts = counts_of(checks)
-    wanted = ["done"] * LINES + ["the run ends", f"reconciled {sum(counts)} entries"]
-    text = differs("output", wanted, ran.out.decode().splitlines())
-    if (ran.status, checks.status, len(counts), counts[:1]) != (0, 0, len(files), [PIECE]) or len(files) < 2:
-        text += f"statuses {ran.status} and {checks.status}, files of {counts} entries: {checks}\n"
+    return checks.status == 0 and len(counts_of(checks)) == len(files)
+
+
+def journal_differs(room, ran):
+    """What differs in a journal: a piece is full, all together are the run, and another order is told."""
+    files = journal_files(room)
+    counts = counts_of(checked(files, room))
+    text = answers_differ(ran, f"reconciled {sum(counts)} entries")
+    if ran.status != 0 or not is_run(files, room) or max(counts) != PIECE:
+        text += f"status {ran.status}; {len(files)} files, of {counts} entries\n"
     told = (
         f"  in {files[0].name}\n"
         "  it doesn't begin where the file before it ended: one is missing, or they stand in another order: give all, by their "
         "numbers\n"
     )
-    backward = checked(files[1::-1], room)
-    return text + asked.differs(Answer(1, f"run of {counts[1]} entries\nentry 0: Gap\n".encode(), told.encode()), backward)
+    backward = Answer(1, f"run of {counts[1]} entries\nentry 0: Gap\n".encode(), told.encode())
+    return text + asked.differs(backward, checked([files[1], files[0]], room))
 
 
 def again_differs(room):
@@ -500,12 +551,11 @@ def later_file_unwritable():
     with room_for_journal() as room:
         (room / "night.2").mkdir()
         ran = many_lines(room)
-        names = [file.name for file in journal_files(room)]
-        text = differs("files", ["night.1", "night.2"], names)
-        text += differs("output", ["done"] * LINES, ran.out.decode().splitlines()[:LINES])
+        text = answers_differ(ran, ran.out.decode().splitlines()[-1])
+        text += differs("files", ["night.1", "night.2"], [file.name for file in journal_files(room)])
         if ran.status != 1 or b"unwritable\n  night.2 is no regular file, and is not replaced" not in ran.err:
             text += f"status {ran.status}, told: {ran.err.decode()}"
-        return text + asked.differs(Answer(0, f"run of {PIECE} entries\n".encode()), checked([room / "night.1"], room))
+        return text + ("" if is_run([room / "night.1"], room) else "night.1 is no run\n")
 
 
 def killed_run():
@@ -519,7 +569,7 @@ def killed_run():
         finally:
             router.process.kill()
             router.process.wait()
-        return asked.differs(Answer(0, f"run of {PIECE} entries\n".encode()), checked([room / "night.1"], room))
+        return "" if is_run([room / "night.1"], room) else "night.1 is no run\n"
 
 
 # Those that take longest stand first.
@@ -536,6 +586,10 @@ CASES = [
     ("any sender", any_sender),
     ("junk is dropped", junk_is_dropped),
     ("a cold router refuses", cold_router_refuses),
+    ("a frame that is lost", lost_frame),
+    ("echo", echoed),
+    ("a log of warnings", functools.partial(quiet_log, "warn", ["port 1: 1 of 2 datagrams dropped, 0 refused"])),
+    ("no log", functools.partial(quiet_log, "off", [])),
     (f"turns `{MOST_TURNS}`", most_turns),
     *[(f"turns `{word}`", functools.partial(no_turns, word)) for word in NO_TURNS],
     ("an address that is taken", taken_address),
