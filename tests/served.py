@@ -47,6 +47,9 @@ TURNS = [("0050", 50), ("3", 3), ("1", 1)]
 MOST_TURNS = "1000000"
 # How many turns two routers have for a tunnel to come up, each of a tenth of a second.
 TUNNEL_TURNS = "60"
+# How often two routers refresh their state, in milliseconds: nothing expires while a case runs, or in five seconds.
+LONG_REFRESH_MS = 30000
+SHORT_REFRESH_MS = 1000
 # How many entries a piece of the journal has, and more lines than that at a console.
 PIECE = 4096
 LINES = 4200
@@ -88,12 +91,16 @@ def end_line(paths, reservations):
     return f"router: {paths} paths, {reservations} reservations, 0 repairs"
 
 
-def ends_well(ended):
-    """What differs at the end of a run: it is one run, of as many entries as its ports have receipts."""
+def ends_well(ended, printed=("the run ends",)):
+    """What differs at the end of a run: this is printed, and that it is one run, of as many entries as its ports have receipts."""
     receipts = sum(int(found[1]) for found in re.finditer(r"port \d+: (\d+) receipts", "\n".join(ended.log)))
-    wanted = ["the run ends", f"reconciled {receipts} entries"]
-    status = "" if ended.status == 0 else f"status {ended.status}\n"
-    return status + differs("the end", wanted, ended.printed)
+    text = differs("the end", [*printed, f"reconciled {receipts} entries"], ended.printed)
+    return text + ("" if ended.status == 0 else f"status {ended.status}\n")
+
+
+def example(name, addresses):
+    """An example's configuration, with these addresses."""
+    return routers.at_addresses((EXAMPLES / name).read_text(encoding="utf-8"), addresses)
 
 
 # The transcript of two consoles.
@@ -166,41 +173,40 @@ def act_differs(router, act):
 def two_consoles():
     """The transcript of examples/console.md is typed at two consoles. A `show` is asked again until it is answered as written."""
     near1, far1, near2, far2 = routers.free_addresses(4)
-    head = routers.at_addresses((EXAMPLES / "console-head.toml").read_text(encoding="utf-8"), [near1, far1, near2, far2])
-    tail = routers.at_addresses((EXAMPLES / "console-tail.toml").read_text(encoding="utf-8"), [far1, near1, far2, near2])
+    head = example("console-head.toml", [near1, far1, near2, far2])
+    tail = example("console-tail.toml", [far1, near1, far2, near2])
     with routers.attend(head) as at_head, routers.attend(tail) as at_tail:
         sides = {"head": at_head, "tail": at_tail}
         for router in sides.values():
             router.wait_watched(2)
-        for act in transcript((EXAMPLES / "console.md").read_text(encoding="utf-8")):
+        acts = transcript((EXAMPLES / "console.md").read_text(encoding="utf-8"))
+        for act in acts:
             text = act_differs(sides[act.side], act)
             if text:
                 return text
-    return ""
+    return differs("consoles that ended", list(sides), [act.side for act in acts if act.line == QUIT])
 
 
 # A tunnel between two routers.
 
 
-def tunnel_ends():
+def tunnel_ends(refresh_ms):
     """The configurations of two routers: a tunnel begins at the first and ends at the second. And the second's address."""
     near, far = routers.free_addresses(2)
-    head = routers.at_addresses((EXAMPLES / "serve-head.toml").read_text(encoding="utf-8"), [near, far])
-    tail = routers.at_addresses((EXAMPLES / "serve-tail.toml").read_text(encoding="utf-8"), [far, near])
+    ends = example("serve-head.toml", [near, far]), example("serve-tail.toml", [far, near])
+    head, tail = (re.sub("refresh_ms = .*", f"refresh_ms = {refresh_ms}", text) for text in ends)
     return head, tail, far
 
 
 def turns_differ(ended, paths, reservations):
     """What differs at the end of a router that was served for some turns."""
-    told = lacks(["port 1: 0 frames lost, 0 faults of the wire", end_line(paths, reservations)], ended.log)
-    receipts = sum(int(found[1]) for found in re.finditer(r"port \d+: (\d+) receipts", "\n".join(ended.log)))
-    status = "" if ended.status == 0 else f"status {ended.status}\n"
-    return told + status + differs("output", [f"reconciled {receipts} entries"], ended.printed)
+    wanted = ["port 1: 0 frames lost, 0 faults of the wire", end_line(paths, reservations)]
+    return lacks(wanted, ended.log) + ends_well(ended, [])
 
 
 def two_routers_by_turns():
     """Two routers are served for some turns, and the tunnel between them comes up."""
-    head, tail, far = tunnel_ends()
+    head, tail, far = tunnel_ends(LONG_REFRESH_MS)
     with routers.serve(tail, "--turns", TUNNEL_TURNS) as at_tail:
         routers.wait_bound(far)
         with routers.serve(head, "--turns", TUNNEL_TURNS) as at_head:
@@ -209,7 +215,7 @@ def two_routers_by_turns():
 
 def two_routers_at_consoles():
     """The tunnel comes up over a link that has another number at its other end; then both know it, under one label."""
-    head, tail, _ = tunnel_ends()
+    head, tail, _ = tunnel_ends(LONG_REFRESH_MS)
     tail = tail.replace("number = 1\n", "number = 5\n")
     with routers.attend(tail) as at_tail, routers.attend(head) as at_head:
         text = ""
@@ -222,14 +228,15 @@ def two_routers_at_consoles():
             (at_tail, "show table", ["16 pop"]),
         ]:
             text += shows(router, line, wanted)
-        at_head_end, at_tail_end = at_head.quit(), at_tail.quit()
-        text += ends_well(at_head_end) + lacks([end_line(1, 1)], at_head_end.log)
-        return text + ends_well(at_tail_end) + lacks([end_line(1, 0)], at_tail_end.log)
+        for router, reservations in [(at_head, 1), (at_tail, 0)]:
+            ended = router.quit()
+            text += ends_well(ended) + lacks([end_line(1, reservations)], ended.log)
+        return text
 
 
 def killed_neighbour():
     """The tail is killed: the LSP expires at the head, and the tunnel comes up again with the next tail."""
-    head, tail, _ = tunnel_ends()
+    head, tail, _ = tunnel_ends(SHORT_REFRESH_MS)
     with routers.attend(head) as at_head:
         with routers.attend(tail):
             text = shows(at_head, "show table", ["tunnel 1 push 16 1"])
