@@ -317,7 +317,7 @@ def frames_go_on():
                 text += frame_differs(frame, line.receive(link))
         ended = line.router.quit()
         text += "" if line.is_silent() else "another frame came\n"
-    wanted = port_lines(1, dropped=1, passed=1, fed=2) + port_lines(2, fed=1) + [end_line(0, 0)]
+    wanted = port_lines(1, dropped=2, passed=1, fed=3) + port_lines(2, fed=1) + [end_line(1, 0)]
     return text + lacks(wanted, ended.log) + ends_well(ended)
 
 
