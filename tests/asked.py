@@ -6,6 +6,7 @@ makes its cases, and ends with `sys.exit(asked.count(cases))`.
 
 import argparse
 import concurrent.futures
+import contextlib
 import difflib
 import functools
 import os
@@ -48,20 +49,24 @@ def program():
     return str(UNPROVED)
 
 
-def ask(*words, given=b"", cwd=None, **more):
+def ask(*words, given=b"", **more):
     """Runs the program on the words, with these bytes as its standard input. `more` is for `subprocess.run`."""
+    options = {"stdout": subprocess.PIPE, "stderr": subprocess.PIPE, "timeout": MOST_SECONDS, "check": False} | more
     if "stdin" not in more:
-        more["input"] = given
-    ran = subprocess.run(
-        [program(), *words],
-        stdout=subprocess.PIPE,
-        stderr=subprocess.PIPE,
-        cwd=cwd,
-        timeout=MOST_SECONDS,
-        check=False,
-        **more,
-    )
-    return Answer(ran.returncode, ran.stdout, ran.stderr)
+        options["input"] = given
+    ran = subprocess.run([program(), *words], **options)
+    return Answer(ran.returncode, ran.stdout or b"", ran.stderr or b"")
+
+
+@contextlib.contextmanager
+def started(*words, **more):
+    """The program as it runs on the words; it doesn't outlive an error. `more` is for `subprocess.Popen`."""
+    with subprocess.Popen([program(), *words], **more) as child:
+        try:
+            yield child
+        except BaseException:
+            child.kill()
+            raise
 
 
 def stream_differs(name, wanted, came):
@@ -78,6 +83,11 @@ def differs(wanted, came):
     """What differs in two answers."""
     text = "" if wanted.status == came.status else f"status {wanted.status} wanted, {came.status} came\n"
     return text + stream_differs("output", wanted.out, came.out) + stream_differs("error", wanted.err, came.err)
+
+
+def begins(wanted, came):
+    """What differs in two answers where only the beginning of what is told on the error stream is wanted."""
+    return differs(wanted, came._replace(err=came.err[: len(wanted.err)]))
 
 
 def run_case(case):
