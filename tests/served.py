@@ -46,9 +46,11 @@ TURNS = [("0050", 50), ("3", 3), ("1", 1)]
 # The most turns that there are.
 MOST_TURNS = "1000000"
 # How many turns two routers have for a tunnel to come up, each of a tenth of a second.
-TUNNEL_TURNS = "60"
-# How often two routers refresh their state, in milliseconds: nothing expires while a case runs, or in five seconds.
+TUNNEL_TURNS = "80"
+# How often two routers refresh their state, in milliseconds. What isn't refreshed expires after 5.25 times that: so that it doesn't
+# while a case runs, that the tunnel comes up in these turns and stays, and that it expires soon.
 LONG_REFRESH_MS = 30000
+TURNS_REFRESH_MS = 2000
 SHORT_REFRESH_MS = 1000
 # How many entries a piece of the journal has, and more lines than that at a console.
 PIECE = 4096
@@ -191,11 +193,10 @@ def two_consoles():
 
 
 def tunnel_ends(refresh_ms):
-    """The configurations of two routers: a tunnel begins at the first and ends at the second. And the second's address."""
+    """The configurations of two routers: a tunnel begins at the first and ends at the second."""
     near, far = routers.free_addresses(2)
     ends = example("serve-head.toml", [near, far]), example("serve-tail.toml", [far, near])
-    head, tail = (re.sub("refresh_ms = .*", f"refresh_ms = {refresh_ms}", text) for text in ends)
-    return head, tail, far
+    return [re.sub("refresh_ms = .*", f"refresh_ms = {refresh_ms}", text) for text in ends]
 
 
 def turns_differ(ended, paths, reservations):
@@ -205,17 +206,16 @@ def turns_differ(ended, paths, reservations):
 
 
 def two_routers_by_turns():
-    """Two routers are served for some turns, and the tunnel between them comes up."""
-    head, tail, far = tunnel_ends(LONG_REFRESH_MS)
-    with routers.serve(tail, "--turns", TUNNEL_TURNS) as at_tail:
-        routers.wait_bound(far)
-        with routers.serve(head, "--turns", TUNNEL_TURNS) as at_head:
-            return turns_differ(at_head.end(), 1, 1) + turns_differ(at_tail.end(), 1, 0)
+    """Two routers are served for some turns, and the tunnel between them comes up, though one starts some seconds later."""
+    head, tail = tunnel_ends(TURNS_REFRESH_MS)
+    turns = ["--turns", TUNNEL_TURNS]
+    with routers.serve(tail, *turns) as at_tail, routers.serve(head, *turns) as at_head:
+        return turns_differ(at_head.end(), 1, 1) + turns_differ(at_tail.end(), 1, 0)
 
 
 def two_routers_at_consoles():
     """The tunnel comes up over a link that has another number at its other end; then both know it, under one label."""
-    head, tail, _ = tunnel_ends(LONG_REFRESH_MS)
+    head, tail = tunnel_ends(LONG_REFRESH_MS)
     tail = tail.replace("number = 1\n", "number = 5\n")
     with routers.attend(tail) as at_tail, routers.attend(head) as at_head:
         text = ""
@@ -236,7 +236,7 @@ def two_routers_at_consoles():
 
 def killed_neighbour():
     """The tail is killed: the LSP expires at the head, and the tunnel comes up again with the next tail."""
-    head, tail, _ = tunnel_ends(SHORT_REFRESH_MS)
+    head, tail = tunnel_ends(SHORT_REFRESH_MS)
     with routers.attend(head) as at_head:
         with routers.attend(tail):
             text = shows(at_head, "show table", ["tunnel 1 push 16 1"])
@@ -317,7 +317,7 @@ def frames_go_on():
                 text += frame_differs(frame, line.receive(link))
         ended = line.router.quit()
         text += "" if line.is_silent() else "another frame came\n"
-    wanted = port_lines(1, dropped=1, passed=1, fed=2) + port_lines(2, fed=1) + [end_line(0, 0)]
+    wanted = port_lines(1, dropped=2, passed=1, fed=3) + port_lines(2, fed=1) + [end_line(1, 0)]
     return text + lacks(wanted, ended.log) + ends_well(ended)
 
 
