@@ -3,10 +3,11 @@
 //! program `lsr_cases` runs this with ample memory, and what it prints has to be what it prints then: so a call that always says
 //! that there is no memory is seen too.
 //!
-//! It has two parts:
+//! It has three parts:
 //!
 //! - `workers`: two ports feed a router under its lock in turn, events and datagrams by workers, beside a router in one thread that
 //!   serves the same. NAME.step of the folder in which it runs has the lines, as of `lsr step`, and NAME.toml the configuration.
+//! - `worlds`: the moves of a world, made at once.
 //! - `copies`: copies of tables and of a wheel, which no step makes.
 #![tactic(auto)]
 
@@ -15,6 +16,7 @@ mod calls;
 mod copies;
 mod cores;
 mod witness;
+mod worlds;
 
 use crate::bench::{Bench, again};
 use std::sync::Wait;
@@ -38,7 +40,7 @@ fn is_asked_for(words: &[String], part: &str) -> bool {
     }
 }
 
-/// Runs both parts, or the one of the first word, and prints what came of each. Whoever waits for a lock waits by `waits`. Where it is
+/// Runs all parts, or the one of the first word, and prints what came of each. Whoever waits for a lock waits by `waits`. Where it is
 /// marked, the error stream says between which calls none takes memory: `no memory`, and `memory` after them. Whether all is as it
 /// has to be.
 pub fn run<R: Wait + Clone + Drop>(
@@ -55,6 +57,9 @@ pub fn run<R: Wait + Clone + Drop>(
     };
     if is_asked_for(words, "workers") {
         cores::run(waits, &mut bench)?;
+    }
+    if is_asked_for(words, "worlds") {
+        worlds::run(&bench)?;
     }
     if is_asked_for(words, "copies") {
         copies::run(&mut bench)?;
