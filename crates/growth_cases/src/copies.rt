@@ -1,15 +1,13 @@
 //! Copies of tables and of a wheel, which no step makes.
 
-use crate::again::{Starved, again};
-use crate::bench::Bench;
+use crate::bench::{Bench, again};
 use forwarding_table::{Action, FIRST_LABEL, ForwardingTable};
 use label_space::LabelBindings;
 use lsr_facts::{Item, LabelRange};
 use path_state::PathState;
 use refresh_timers::RefreshTimers;
 use sorted_rows::TryCopy;
-use std::alloc::{AllocError, Global};
-use std::io;
+use std::alloc::AllocError;
 use timer_wheel::Wheel;
 
 /// The slots of the wheel.
@@ -28,48 +26,51 @@ const ITEMS: usize = 4;
 /// How often items are refreshed, in milliseconds.
 const REFRESH_MS: u32 = 30_000;
 
-/// What is told of a copy of a label table with one row.
-fn table_text(alloc: Global) -> Result<String, AllocError> {
-    let mut table = ForwardingTable::new(alloc)?;
+/// Tells of a copy of a label table with one row.
+fn copy_table(bench: &Bench<'_>) -> Result<(), AllocError> {
+    let mut table = ForwardingTable::new(bench.alloc)?;
     table.change(FIRST_LABEL, Some(Action::Pop));
-    let copy = table.try_copy(alloc)?;
-    let count = copy.label_count();
-    let word = if copy.look(FIRST_LABEL) == Some(Action::Pop) {
-        "popped"
-    } else {
-        "not popped"
+    let copy = table.try_copy(bench.alloc)?;
+    let count = copy.label_count() as u64;
+    let template = match copy.look(FIRST_LABEL) {
+        Some(Action::Pop) => "a copy of a label table: # labels, # is popped\n",
+        _ => "a copy of a label table: # labels, # isn't popped\n",
     };
-    format!(in alloc; "a copy of a label table: {count} labels, {FIRST_LABEL} is {word}\n")
+    bench.tell_filled(template, &[count, u64::from(FIRST_LABEL)]);
+    Ok(())
 }
 
-/// What is told of a copy of a wheel with one moment.
-fn wheel_text(alloc: Global) -> Result<String, AllocError> {
-    let mut wheel = Wheel::new(alloc, SLOTS)?;
+/// Tells of a copy of a wheel with one moment.
+fn copy_wheel(bench: &Bench<'_>) -> Result<(), AllocError> {
+    let mut wheel = Wheel::new(bench.alloc, SLOTS)?;
     wheel.set(SLOT, MOMENT);
-    let copy = wheel.copied(alloc)?;
-    let before = copy.up_to(alloc, MOMENT - 1)?.len();
-    let then = copy.up_to(alloc, MOMENT)?.len();
-    format!(in alloc; "a copy of a wheel: {before} slots are due before {MOMENT}, {then} then\n")
+    let copy = wheel.copied(bench.alloc)?;
+    let before = copy.up_to(bench.alloc, MOMENT - 1)?.len() as u64;
+    let then = copy.up_to(bench.alloc, MOMENT)?.len() as u64;
+    bench.tell_filled(
+        "a copy of a wheel: # slots are due before #, # then\n",
+        &[before, MOMENT, then],
+    );
+    Ok(())
 }
 
-/// What is told of copies of tables of LSPs, which are empty.
-fn rows_text(alloc: Global) -> Result<String, AllocError> {
-    let paths = PathState::new(alloc)?.try_copy(alloc)?.len();
-    let labels = LabelBindings::new(alloc, LABELS)?.try_copy(alloc)?.len();
-    let items = RefreshTimers::<Item, ITEMS>::new(alloc, REFRESH_MS)?
-        .try_copy(alloc)?
-        .len();
-    format!(in alloc; "copies of empty tables: {paths} paths, {labels} labels, {items} items\n")
+/// Tells of copies of tables of LSPs, which are empty.
+fn copy_rows(bench: &Bench<'_>) -> Result<(), AllocError> {
+    let paths = PathState::new(bench.alloc)?.try_copy(bench.alloc)?;
+    let labels = LabelBindings::new(bench.alloc, LABELS)?.try_copy(bench.alloc)?;
+    let items = RefreshTimers::<Item, ITEMS>::new(bench.alloc, REFRESH_MS)?;
+    let items = items.try_copy(bench.alloc)?;
+    bench.tell_filled(
+        "copies of empty tables: # paths, # labels, # items\n",
+        &[paths.len() as u64, labels.len() as u64, items.len() as u64],
+    );
+    Ok(())
 }
 
-/// Makes the copies, and tells what they have.
-pub fn run(bench: &mut Bench<'_>) -> io::Result<()> {
+/// Makes the copies, and tells what they have. The only error is that memory ran out twice.
+pub fn run(bench: &Bench<'_>) -> Result<(), AllocError> {
     bench.tell("== copies\n");
-    let table = again!(table_text(bench.alloc));
-    bench.tell_made(table);
-    let wheel = again!(wheel_text(bench.alloc));
-    bench.tell_made(wheel);
-    let rows = again!(rows_text(bench.alloc));
-    bench.tell_made(rows);
-    bench.close()
+    again!(copy_table(bench), AllocError, {})?;
+    again!(copy_wheel(bench), AllocError, {})?;
+    again!(copy_rows(bench), AllocError, {})
 }

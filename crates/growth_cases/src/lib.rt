@@ -1,34 +1,68 @@
-//! Calls that may find no memory: where one finds none, what it had to leave as it was is compared, and it is made again. What came
-//! of each is printed, so whichever one request for memory is refused, the same is printed. `docs/refuse` refuses each in turn. The
+//! Calls that may find no memory, and that no line of `lsr` shows: where one finds none, what it had to leave as it was is compared,
+//! and it is made again. What came of each is printed, so the same is printed whichever one request for memory is refused. The
 //! program `lsr_cases` runs this with ample memory, and what it prints has to be what it prints then: so a call that always says
 //! that there is no memory is seen too.
 //!
-//! It stands on files of the folder in which it runs:
+//! It has three parts:
 //!
-//! - `growths.txt` names the routers that serve lines: NAME.step are the lines, as of `lsr step`, and NAME.toml the configuration
-//!   where it isn't the built-in one. They go through `serve_datagram`, `ready` and `make`.
-//! - The events of some of these are fed to a router with its journal, by two ports in turn, with a reader of its label table. Its
-//!   segments are written as journal files, which are read and checked. Those of one come to a router under its lock too, by a
-//!   worker's turns.
-//! - `growth-configurations.txt` says the configurations that are read.
-//! - `growth-worlds.txt` names worlds of routers: NAME.moves is the file of one, as of `lsr play`. Its moves are made one by one in one
-//!   world, and at once in another.
-//!
-//! Copies of tables and of a wheel are made too, which no step makes.
+//! - `workers`: two ports feed a router under its lock in turn, events and datagrams by workers, beside a router in one thread that
+//!   serves the same. NAME.step of the folder in which it runs has the lines, as of `lsr step`, and NAME.toml the configuration.
+//! - `worlds`: the moves of a world, made at once.
+//! - `copies`: copies of tables and of a wheel, which no step makes.
 #![tactic(auto)]
 
-mod again;
 mod bench;
-mod configs;
+mod calls;
 mod copies;
-mod files;
-mod journals;
-mod left;
-mod parts;
-mod scripts;
-mod seen;
-mod steps;
-mod workers;
+mod cores;
+mod witness;
 mod worlds;
 
-pub use parts::{read_words, run};
+use crate::bench::{Bench, again};
+use std::sync::Wait;
+use std::{env, io};
+
+/// The words after the program's name. The errors are that one isn't UTF-8, or that memory ran out twice.
+pub fn read_words(rt: &HostRuntime) -> io::Result<Vec<String>> {
+    again!(words_of(rt), _, {})
+}
+
+/// The words after the program's name.
+fn words_of(rt: &HostRuntime) -> io::Result<Vec<String>> {
+    Ok(env::args(rt)?.skip(1).collect::<Vec<String>>(rt.alloc())?)
+}
+
+/// Whether the part is asked for by the first word: where there is none, each is.
+fn is_asked_for(words: &[String], part: &str) -> bool {
+    match words.first() {
+        Some(word) => word.as_str() == part,
+        None => true,
+    }
+}
+
+/// Runs all parts, or the one of the first word, and prints what came of each. Whoever waits for a lock waits by `waits`. Where it is
+/// marked, the error stream says between which calls none takes memory: `no memory`, and `memory` after them. Whether all is as it
+/// has to be.
+pub fn run<R: Wait + Clone + Drop>(
+    rt: &HostRuntime,
+    waits: &R,
+    words: &[String],
+    is_marked: bool,
+) -> io::Result<bool> {
+    let mut bench = Bench {
+        rt,
+        alloc: rt.alloc(),
+        is_marked,
+        differs: false,
+    };
+    if is_asked_for(words, "workers") {
+        cores::run(waits, &mut bench)?;
+    }
+    if is_asked_for(words, "worlds") {
+        worlds::run(&bench)?;
+    }
+    if is_asked_for(words, "copies") {
+        copies::run(&mut bench)?;
+    }
+    Ok(!bench.differs)
+}

@@ -1,5 +1,5 @@
 -- A core of a new name, which knows this configuration.
-use Rattle.growth_cases.proofs.workers.run_new.Given as goal
+use Rattle.growth_cases.proofs.cores.run_new.Given as goal
 
 abbrev pub ghosts-run_named-L-CoreName : goal.ghosts-run_named-L-CoreName
 ghosts-run_named-L-CoreName g a = record { config = a.config }
