@@ -21,6 +21,8 @@ PROVED = TOP / "crates" / "lsr" / "out" / "lsr"
 # It builds the other where there is no proved one.
 LAUNCHER = TOP / "lsr"
 UNPROVED = TOP / "out" / "lsr"
+# What the program is called as it runs, whatever its file's name is: its help says it.
+NAME = "lsr"
 # One ask that takes longer hangs. A program that isn't proved checks itself as it runs, and is slow.
 MOST_SECONDS = 600
 # So many lines are shown of what differs in one stream.
@@ -54,14 +56,14 @@ def ask(*words, given=b"", **more):
     options = {"stdout": subprocess.PIPE, "stderr": subprocess.PIPE, "timeout": MOST_SECONDS, "check": False} | more
     if "stdin" not in more:
         options["input"] = given
-    ran = subprocess.run([program(), *words], **options)
+    ran = subprocess.run([NAME, *words], executable=program(), **options)
     return Answer(ran.returncode, ran.stdout or b"", ran.stderr or b"")
 
 
 @contextlib.contextmanager
 def started(*words, **more):
     """The program as it runs on the words; it doesn't outlive an error. `more` is for `subprocess.Popen`."""
-    with subprocess.Popen([program(), *words], **more) as child:
+    with subprocess.Popen([NAME, *words], executable=program(), **more) as child:
         try:
             yield child
         except BaseException:
