@@ -132,6 +132,18 @@ struct Watch<'a> {
 }
 
 impl<'a> Watch<'a> {
+    /// The gate of this run before it.
+    fn new(clock: &'a HostRuntime, case: Case, entries: &'a AtomicU64) -> Watch<'a> {
+        Watch {
+            clock,
+            case,
+            entries,
+            has_left: AtomicBool::new(false),
+            has_waited: AtomicBool::new(false),
+            is_early: AtomicBool::new(false),
+        }
+    }
+
     /// Waits until port 2 has left.
     fn wait(&self) {
         for _look in 0..MOST_LOOKS {
@@ -281,14 +293,7 @@ fn serve<R: Threads + Wait + Clone + Send + Sync + Drop>(
         is_in_order: true,
         entries: &entries,
     };
-    let watch = Watch {
-        clock: rt,
-        case,
-        entries: &entries,
-        has_left: AtomicBool::new(false),
-        has_waited: AtomicBool::new(false),
-        is_early: AtomicBool::new(false),
-    };
+    let watch = Watch::new(rt, case, &entries);
     let config = read_config(alloc, BUILT_IN)?;
     let links = links(alloc, case.plan)?;
     let clock_wire = ScriptedWire::new(alloc, SILENT);
