@@ -1,22 +1,31 @@
-//! Worked cases of threads and sockets: what threads leave that feed a router, what a reader of its label table finds, what goes over
-//! sockets, and two routers between which a tunnel comes up. What came of each is printed. The program `lsr_cases` runs them.
+//! Worked cases of threads that feed a router: what they leave, what a reader of its label table finds, and what becomes of a wire that
+//! fails. What came of each is printed; the program `lsr_cases` runs them. And what measures of threads share with them: routers that
+//! are fed, what is left of that, and frames.
 #![tactic(auto)]
 
-mod both_at_once;
+mod by_hand;
+mod calls;
 mod cases;
-mod failing_wire;
-mod full_journal;
-mod kept_segments;
-mod link_ends;
-mod one_thread;
-mod reader_row;
-mod silent_links;
-mod small_runs;
-mod socket_frames;
-mod socket_words;
-mod strange_receipt;
-mod two_routers;
-mod two_threads;
-mod wires;
+mod fault;
+mod feeding;
+mod follower;
+mod frames;
+mod left;
+mod scripted_wire;
+mod served;
+mod visits;
+mod wired;
 
 pub use cases::run_cases;
+pub use fault::Fault;
+pub use feeding::{Feed, feed_router, open_router, read_config};
+pub use follower::{Fate, Follower, followers};
+pub use frames::{
+    IN_LINK, LABELLED_FRAME, OUT_LINK, PATH_FRAME, RESV_FRAME, TEAR_FRAME, about_tunnel, put_bytes,
+};
+pub use interface_workers::{
+    Core, CoreName, CoreReader, Gate, OpenGate, Opened, Port, Wire, WireFault, Work, serve_event,
+    serve_link,
+};
+pub use left::{Left, count_entries};
+pub use run_reconciler::reconcile;

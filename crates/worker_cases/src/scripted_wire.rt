@@ -1,47 +1,61 @@
-//! A wire in memory that fails once and goes on.
+//! A wire in memory, on which a script says what comes and when it fails.
 ghost use Rattle.std.specs.Prelude.{◌≡◌, ◌+◌, ◌-◌, ◌^◌, ◌<◌, ◌≤◌, IfSome, length};
 
 use interface_workers::{Wire, WireFault};
 use std::alloc::Global;
 
-/// A frame that a wire was given.
-#[derive(Drop)]
-pub struct GivenFrame {
-    /// The number of the link.
-    pub link: u16,
-    /// Its bytes.
-    pub bytes: Vec<u8>,
-    /// Whether the wire carried it; else it is lost.
-    pub is_carried: bool,
-}
-
 /// What happens on a wire.
 #[derive(Clone, Copy)]
-pub struct WirePlan {
+pub(crate) struct WirePlan {
     /// The frames that come, in their order.
-    pub arrivals: &'static [&'static [u8]],
+    pub(crate) arrivals: &'static [&'static [u8]],
+    /// Whether they come again and again; else nothing comes after them.
+    pub(crate) is_endless: bool,
     /// The call at which the wire fails, from 1 on; 0 for none. A frame that would have come then is lost.
-    pub fails_at: u64,
+    pub(crate) fails_at: u64,
     /// The place of a frame, from 0 on, in whose stead none comes.
-    pub without: Option<usize>,
+    pub(crate) without: Option<usize>,
 }
 
-/// A wire on which frames come in their order, which fails at one of its calls and goes on, and which keeps what it was given.
+/// A wire on which nothing comes, and which never fails.
+pub(crate) const SILENT: WirePlan = WirePlan {
+    arrivals: &[],
+    is_endless: false,
+    fails_at: 0,
+    without: None,
+};
+
+/// A frame that a wire was given.
 #[derive(Drop)]
-pub struct FailingWire {
+pub(crate) struct GivenFrame {
+    /// The number of the link.
+    pub(crate) link: u16,
+    /// Its bytes.
+    pub(crate) bytes: Vec<u8>,
+    /// Whether the wire carried it; else it is lost.
+    pub(crate) is_carried: bool,
+}
+
+/// A wire on which frames come by a plan, which goes on where it failed, and which keeps what it was given.
+#[derive(Drop)]
+pub(crate) struct ScriptedWire {
     alloc: Global,
     plan: WirePlan,
-    asked: usize,
-    calls: u64,
+    /// How often it was asked for a frame.
+    pub(crate) asked: usize,
+    /// How often it was asked for a frame or given one.
+    pub(crate) calls: u64,
     failures: u64,
-    lost_arrival: Option<usize>,
-    given: Vec<GivenFrame>,
+    /// The place of the frame that was lost as it would have come, from 0 on.
+    pub(crate) lost_arrival: Option<usize>,
+    /// The frames that it was given, in their order.
+    pub(crate) given: Vec<GivenFrame>,
 }
 
-impl FailingWire {
+impl ScriptedWire {
     /// A wire on which nothing happened yet.
-    pub fn new(alloc: Global, plan: WirePlan) -> FailingWire {
-        FailingWire {
+    pub(crate) fn new(alloc: Global, plan: WirePlan) -> ScriptedWire {
+        ScriptedWire {
             alloc,
             plan,
             asked: 0,
@@ -52,37 +66,16 @@ impl FailingWire {
         }
     }
 
-    /// How often it was asked for a frame.
-    pub fn asked(&self) -> usize {
-        self.asked
-    }
-
-    /// How often it was asked for a frame or given one.
-    pub fn calls(&self) -> u64 {
-        self.calls
-    }
-
-    /// The place of the frame that was lost as it would have come, from 0 on.
-    pub fn lost_arrival(&self) -> Option<usize> {
-        self.lost_arrival
-    }
-
-    /// The frames that it was given, in their order.
-    pub fn given(&self) -> &[GivenFrame] {
-        self.given.as_slice()
-    }
-
-    /// Whether a frame that was lost was carried later on.
-    pub fn is_carried_later(&self) -> bool {
-        let mut lost: Option<&GivenFrame> = None;
-        for frame in self.given.as_slice() {
-            match lost {
-                None if !frame.is_carried => lost = Some(frame),
-                Some(first) if frame.is_carried && is_same_frame(first, frame) => return true,
-                _ => {}
-            }
+    /// The frame that comes at this place, where there is one.
+    fn coming(&self, place: usize) -> Option<&'static [u8]> {
+        let arrivals = self.plan.arrivals;
+        if self.plan.without == Some(place) {
+            return None;
         }
-        false
+        if self.plan.is_endless {
+            return arrivals.get(place % arrivals.len().max(1)).copied();
+        }
+        arrivals.get(place).copied()
     }
 
     /// One call more: whether the wire fails at it.
@@ -116,11 +109,6 @@ impl FailingWire {
     }
 }
 
-/// Whether two frames are the same, over the same link.
-fn is_same_frame(frame: &GivenFrame, other: &GivenFrame) -> bool {
-    frame.link == other.link && frame.bytes.as_slice() == other.bytes.as_slice()
-}
-
 /// Puts a frame at the front of a buffer, where it has room for it: how many bytes it has.
 fn put_front(buffer: &mut [u8], frame: &[u8]) -> Option<usize>
     ensures { IfSome result (λ n. n ≤ length buffer.new) }
@@ -132,7 +120,7 @@ fn put_front(buffer: &mut [u8], frame: &[u8]) -> Option<usize>
     Some(frame.len())
 }
 
-impl Wire for FailingWire {
+impl Wire for ScriptedWire {
     ghost use Rattle.std.specs.Prelude.{None};
 
     ghost history = { λ wire. record { failed = wire.failures; answered = None; given = None } };
@@ -145,9 +133,9 @@ impl Wire for FailingWire {
             self.lost_arrival = Some(place);
             return Err(self.fail());
         }
-        match self.plan.arrivals.get(place) {
-            Some(frame) if self.plan.without != Some(place) => Ok(put_front(buffer, frame)),
-            _ => Ok(None),
+        match self.coming(place) {
+            Some(frame) => Ok(put_front(buffer, frame)),
+            None => Ok(None),
         }
     }
 

@@ -1,4 +1,4 @@
-use Rattle.worker_fixtures.proofs.feeding.feed_router.Given as goal
+use Rattle.worker_cases.proofs.feeding.feed_router.Given as goal
 
 abbrev pub ghosts-feed_named-L-CoreName : goal.ghosts-feed_named-L-CoreName
 ghosts-feed_named-L-CoreName g a = record { config = a.config }

@@ -7,11 +7,10 @@ use forwarding_table::Action;
 use interface_workers::{Closed, Core, CoreName, CoreReader, Mark, Port, read_by};
 use lsr_facts::{Refusal, Router};
 use std::alloc::{AllocError, Global};
-use std::fmt;
 use std::sync::Wait;
 
 /// What becomes of a frame.
-#[derive(Clone, Copy)]
+#[derive(Clone, Copy, Debug)]
 pub enum Fate {
     /// It goes on over the link of this number.
     Forwarded(u16),
@@ -19,16 +18,6 @@ pub enum Fate {
     Refused(Refusal),
     /// Neither.
     Other,
-}
-
-impl fmt::Display for Fate {
-    fn fmt<W: fmt::Write>(&self, f: &mut fmt::Formatter<W>) -> fmt::Result {
-        match self {
-            Fate::Forwarded(link) => write!(f, "forwarded over link {link}"),
-            Fate::Refused(refusal) => write!(f, "refused {}", refusal.number()),
-            Fate::Other => write!(f, "neither forwarded nor refused"),
-        }
-    }
 }
 
 /// What came over a link.
@@ -68,7 +57,7 @@ fn read_as(answer: Option<Result<Datagram, Refusal>>) -> Came {
 }
 
 /// Feeds an event. What the router answers is let go; the error is its refusal.
-fn feed_event<L: CoreName, R: Wait + Drop>(
+pub(crate) fn feed_event<L: CoreName, R: Wait + Drop>(
     rt: &R,
     alloc: Global,
     core: &Core<L, R>,

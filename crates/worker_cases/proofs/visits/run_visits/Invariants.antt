@@ -1,4 +1,4 @@
-use Rattle.worker_cases.proofs.two_threads.run.Given as goal
+use Rattle.worker_cases.proofs.visits.run_visits.Given as goal
 
 abbrev pub ghosts-run_named-L-CoreName : goal.ghosts-run_named-L-CoreName
 ghosts-run_named-L-CoreName g a = record { config = a.config }
