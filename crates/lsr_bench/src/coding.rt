@@ -3,7 +3,7 @@
 use crate::measuring::{Measured, tell, time_rounds};
 use rsvp_messages::{Message, Reading, read_message, write_message};
 use std::alloc::Global;
-use worker_fixtures::{Fault, PATH_FRAME};
+use worker_cases::{Fault, PATH_FRAME};
 
 /// The message of the built-in router's Path, which stands after the byte of its frame's kind.
 fn read_path(alloc: Global) -> Result<Message, Fault> {

@@ -6,23 +6,29 @@ mod coding;
 mod load;
 mod lookups;
 mod measuring;
+mod neighbours;
 mod playing;
-mod sending;
 mod steps;
-mod wires;
 mod withdrawals;
 
 use crate::coding::measure_coding;
 use crate::load::{count_load, measure_load};
 use crate::lookups::{count_lookups, measure_longest, measure_lookups};
-use crate::sending::Traffic;
+use crate::neighbours::Traffic;
 use crate::steps::{count_steps, measure_steps};
-use crate::withdrawals::{count_withdrawals, measure_withdrawals};
+use crate::withdrawals::measure_withdrawals;
 use std::io;
 use std::net::Net;
 use std::sync::Wait;
 use std::thread::Threads;
-use worker_fixtures::{BAD_WORDS, DONE, FAILED, Fault, count_in};
+use worker_cases::Fault;
+
+/// The status of a run that did what it was asked.
+const DONE: u8 = 0;
+/// That of one that failed.
+const FAILED: u8 = 1;
+/// That of words that ask for nothing that is known.
+const BAD_WORDS: u8 = 2;
 
 /// What to do where the words ask for nothing that is known.
 const USAGE: &str = "\
@@ -36,29 +42,6 @@ write one of these, or no word for a short run of steps, look-ups and workers, w
   withdrawals [N]   what becomes of frames while an LSP comes and goes N times; 10000 without N
 N is a number from 1 to 4294967295.";
 
-/// A measure.
-#[derive(Clone, Copy)]
-enum Measure {
-    Steps,
-    Coding,
-    Lookups,
-    Longest,
-    Datagrams,
-    Forwarding,
-    Withdrawals,
-}
-
-/// The measures, by their words, with the size of each where nobody says one.
-const MEASURES: [(&str, Measure, u32); 7] = [
-    ("steps", Measure::Steps, 100_000),
-    ("coding", Measure::Coding, 1_000_000),
-    ("lookups", Measure::Lookups, 2_000_000),
-    ("longest", Measure::Longest, 10_000_000),
-    ("datagrams", Measure::Datagrams, 100_000),
-    ("forwarding", Measure::Forwarding, 400_000),
-    ("withdrawals", Measure::Withdrawals, 10_000),
-];
-
 /// How many steps of each kind a router takes in a short run that it takes again and again.
 const SHORT_STEPS: u32 = 2_000;
 /// How many labels each reader looks up there.
@@ -70,22 +53,24 @@ const SHORT_DATAGRAMS: u32 = 1_600;
 /// How often an LSP comes and goes there.
 const SHORT_ROUNDS: u32 = 100;
 
-/// Measures this at this size, and prints what came.
+/// Makes the measure that this word names, at this size or else at its own, and prints what came; none where there is no such measure.
 fn measure<R: Net + Threads + Wait + Clone + Send + Sync + Drop>(
     rt: &HostRuntime,
     handles: &R,
-    what: Measure,
-    size: u32,
-) -> Result<(), Fault> {
-    match what {
-        Measure::Steps => measure_steps(rt, size),
-        Measure::Coding => measure_coding(rt, size),
-        Measure::Lookups => measure_lookups(rt, handles, size),
-        Measure::Longest => measure_longest(rt, handles, size),
-        Measure::Datagrams => measure_load(rt, handles, Traffic::Paths, size),
-        Measure::Forwarding => measure_load(rt, handles, Traffic::Frames, size),
-        Measure::Withdrawals => measure_withdrawals(rt, handles, size),
-    }
+    word: &str,
+    size: Option<u32>,
+) -> Option<Result<(), Fault>> {
+    let made = match word {
+        "steps" => measure_steps(rt, size.unwrap_or(100_000)),
+        "coding" => measure_coding(rt, size.unwrap_or(1_000_000)),
+        "lookups" => measure_lookups(rt, handles, size.unwrap_or(2_000_000)),
+        "longest" => measure_longest(rt, handles, size.unwrap_or(10_000_000)),
+        "datagrams" => measure_load(rt, handles, Traffic::Paths, size.unwrap_or(100_000)),
+        "forwarding" => measure_load(rt, handles, Traffic::Frames, size.unwrap_or(400_000)),
+        "withdrawals" => measure_withdrawals(rt, handles, size.unwrap_or(10_000), true),
+        _ => return None,
+    };
+    Some(made)
 }
 
 /// Takes steps, looks labels up, has workers serve links, and prints what is counted.
@@ -97,21 +82,24 @@ fn run_short<R: Net + Threads + Wait + Clone + Send + Sync + Drop>(
     count_lookups(rt, handles, SHORT_LOOKUPS)?;
     count_load(rt, handles, Traffic::Paths, SHORT_MESSAGES)?;
     count_load(rt, handles, Traffic::Frames, SHORT_DATAGRAMS)?;
-    count_withdrawals(rt, handles, SHORT_ROUNDS)
+    measure_withdrawals(rt, handles, SHORT_ROUNDS, false)
 }
 
-/// The measure that words name, and its size; none where there is no such measure.
-fn asked(words: &[String]) -> Option<(Measure, u32)> {
-    let word = words.first()?;
-    if words.len() > 2 {
-        return None;
+/// Makes what words ask for; none where they ask for nothing that is known.
+fn answer<R: Net + Threads + Wait + Clone + Send + Sync + Drop>(
+    rt: &HostRuntime,
+    handles: &R,
+    words: &[String],
+) -> Option<Result<(), Fault>> {
+    match words {
+        [] => Some(run_short(rt, handles)),
+        [word] => measure(rt, handles, word.as_str(), None),
+        [word, digits] => match digits.parse::<u32>() {
+            Ok(size) if size > 0 => measure(rt, handles, word.as_str(), Some(size)),
+            _ => None,
+        },
+        _ => None,
     }
-    for (name, measure, size) in MEASURES {
-        if word.as_str() == name {
-            return count_in(words.get(1), size).map(|size| (measure, size));
-        }
-    }
-    None
 }
 
 /// Makes the measure that these words ask for, and gives the status: 0 where it was made, 1 where it failed, and 2 where the words ask for
@@ -121,19 +109,15 @@ pub fn run<R: Net + Threads + Wait + Clone + Send + Sync + Drop>(
     handles: &R,
     words: &[String],
 ) -> io::Result<u8> {
-    let answer = match asked(words) {
-        Some((what, size)) => measure(rt, handles, what, size),
-        None if words.is_empty() => run_short(rt, handles),
-        None => {
-            eprintln!(rt; "{USAGE}")?;
-            return Ok(BAD_WORDS);
-        }
-    };
-    match answer {
-        Ok(()) => Ok(DONE),
-        Err(fault) => {
+    match answer(rt, handles, words) {
+        Some(Ok(())) => Ok(DONE),
+        Some(Err(fault)) => {
             eprintln!(rt; "{fault}")?;
             Ok(FAILED)
+        }
+        None => {
+            eprintln!(rt; "{USAGE}")?;
+            Ok(BAD_WORDS)
         }
     }
 }

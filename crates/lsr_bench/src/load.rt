@@ -1,12 +1,13 @@
 //! How many datagrams a router takes over sockets, and how many frames it forwards; and what threads take that do nothing with them.
 ghost use Rattle.std.specs.Prelude.{◌≡◌, ◌<◌, ◌^◌, ◌-◌, false};
 
-use crate::measuring::{percent, tell, whole};
+use crate::measuring::{per_second, percent, tell, whole};
+use crate::neighbours::{
+    CountedWire, Load, Sender, Taker, Traffic, counted_wires, free_links, open_senders, send_all,
+};
 use crate::playing::{PORTS, Play, play};
-use crate::sending::{Load, Sender, Taker, Traffic, open_senders, send_all};
-use crate::wires::{CountedWire, counted_wires, free_links};
 use lsr_config::BUILT_IN;
-use lsr_serve::{LinkWire, link_workers, run_worker};
+use lsr_serve::{LinkWire, UdpWire, link_workers, run_worker};
 use std::alloc::{AllocError, Global};
 use std::net::Net;
 use std::sync::Wait;
@@ -14,7 +15,7 @@ use std::sync::atomic::{AtomicU64, Ordering};
 use std::thread;
 use std::thread::Threads;
 use std::time::{Duration, Instant};
-use worker_fixtures::{CoreName, Fault, Left, OUT_LINK, OpenGate, Opened, Wire, per_second};
+use worker_cases::{CoreName, Fault, Left, OUT_LINK, OpenGate, Opened, Wire};
 
 /// The links that the built-in router hasn't. Its link 2 leads on to where its Path goes.
 const MORE_LINKS: &str = r#"
@@ -45,8 +46,21 @@ fn is_spent<W: Wire>(wire: &W) -> bool
     wire.failures() == u64::MAX
 }
 
-/// Asks the wire of a link for a datagram so many times, and sends each on as it came, where frames are forwarded. A fault is the wire's to
-/// count.
+/// Asks the wire for a datagram once, and sends it on as it came, where frames are forwarded. A fault is the wire's to count.
+fn take_once<W: Wire>(wire: &mut W, traffic: Traffic, buffer: &mut [u8])
+    requires { (W.history wire.old).failed < 2 ^ 64 - 1 }
+{
+    let came = wire.receive(buffer);
+    let Ok(Some(len)) = came else {
+        return;
+    };
+    if matches!(traffic, Traffic::Frames) && !is_spent(wire) {
+        let _sent = wire.send(OUT_LINK, &buffer[..len]);
+    }
+}
+
+/// Asks the wire of a link for a datagram so many times. It ends before where the wire failed as often as can be counted. The only error is
+/// out of memory.
 fn take_bare<W: Wire + Drop>(
     alloc: Global,
     link: LinkWire<W>,
@@ -60,15 +74,9 @@ fn take_bare<W: Wire + Drop>(
     let mut buffer = vec![in alloc; 0_u8; BUFFER_LEN]?;
     for _turn in 0..turns {
         if is_spent(&wire) {
-            break;
+            return Ok(());
         }
-        let came = wire.receive(&mut buffer);
-        if let Ok(Some(len)) = came
-            && matches!(traffic, Traffic::Frames)
-            && !is_spent(&wire)
-        {
-            let _sent = wire.send(OUT_LINK, &buffer.as_slice()[..len]);
-        }
+        take_once(&mut wire, traffic, &mut buffer);
     }
     Ok(())
 }
@@ -92,7 +100,7 @@ struct Loaded {
 #[derive(Drop)]
 struct Serving<'a> {
     rt: &'a HostRuntime,
-    wires: Vec<LinkWire<CountedWire<'a>>>,
+    wires: Vec<LinkWire<CountedWire<'a, UdpWire<'a>>>>,
     senders: Vec<Sender<'a>>,
     /// How many datagrams each wire took.
     counts: &'a [AtomicU64],
@@ -227,25 +235,16 @@ fn sum_of(counts: &[AtomicU64]) -> u64 {
     sum
 }
 
-/// Prints how many receipts there are, whether they and the journal are one run, and how many frames were forwarded.
-fn tell_run(rt: &HostRuntime, loaded: Loaded) -> Result<(), Fault> {
-    let words = if loaded.is_one_run {
+/// Whether these are one run, in words.
+fn judgement(loaded: Loaded) -> &'static str {
+    if loaded.is_one_run {
         "reconciled"
     } else {
         "not one run"
-    };
-    let numbers = [
-        loaded.messages,
-        loaded.segments,
-        loaded.forwarded,
-        per_second(loaded.forwarded, loaded.took),
-    ];
-    let line = "@: # receipts, # segments of the journal; # frames forwarded, # a second";
-    tell(rt, line, words, &numbers)?;
-    Ok(())
+    }
 }
 
-/// Has this load taken, and prints how many datagrams were taken in which time: how many a second.
+/// Has this load taken, and prints what came of it: how many datagrams were taken a second.
 fn measure_taken<R: Net + Threads + Wait + Clone + Send + Sync + Drop>(
     rt: &HostRuntime,
     handles: &R,
@@ -254,17 +253,15 @@ fn measure_taken<R: Net + Threads + Wait + Clone + Send + Sync + Drop>(
 ) -> Result<u64, Fault> {
     let loaded = take_load(rt, handles, load)?;
     let rate = per_second(loaded.taken, loaded.took);
-    let numbers = [
-        u64::from(load.neighbours),
-        loaded.taken,
-        load.total(),
-        whole(loaded.took.as_millis()),
-        rate,
-    ];
-    let line = "neighbours #, @: # of # datagrams taken in # ms: # a second";
+    let millis = whole(loaded.took.as_millis());
+    let numbers = [u64::from(load.neighbours), loaded.taken, millis, rate];
+    let line = "neighbours #, @: # datagrams taken in # ms: # a second";
     tell(rt, line, words, &numbers)?;
     if !matches!(load.taker, Taker::Bare) {
-        tell_run(rt, loaded)?;
+        let frames = per_second(loaded.forwarded, loaded.took);
+        let numbers = [loaded.messages, loaded.segments, loaded.forwarded, frames];
+        let line = "@: # receipts, # segments of the journal; # frames forwarded, # a second";
+        tell(rt, line, judgement(loaded), &numbers)?;
     }
     Ok(rate)
 }
@@ -278,15 +275,19 @@ pub(crate) fn measure_load<R: Net + Threads + Wait + Clone + Send + Sync + Drop>
     total: u32,
 ) -> Result<(), Fault> {
     for neighbours in [1, PORTS] {
-        let single = Load::of(traffic, neighbours, total, Taker::OneByOne);
-        measure_taken(rt, handles, single, "one by one")?;
-        let together = Load::of(traffic, neighbours, total, Taker::Together);
-        let rate = measure_taken(rt, handles, together, "together")?;
-        let bare = Load::of(traffic, neighbours, total, Taker::Bare);
-        let most = measure_taken(rt, handles, bare, "without a router")?;
-        let numbers = [u64::from(neighbours), percent(rate, most)];
+        let mut load = Load {
+            traffic,
+            neighbours,
+            count: total / u32::from(neighbours.max(1)),
+            taker: Taker::OneByOne,
+        };
+        measure_taken(rt, handles, load, "one by one")?;
+        load.taker = Taker::Together;
+        let rate = measure_taken(rt, handles, load, "together")?;
+        load.taker = Taker::Bare;
+        let most = measure_taken(rt, handles, load, "without a router")?;
         let line = "neighbours #, together: #% of what is taken without a router";
-        tell(rt, line, "", &numbers)?;
+        tell(rt, line, "", &[u64::from(neighbours), percent(rate, most)])?;
     }
     Ok(())
 }
@@ -299,22 +300,23 @@ pub(crate) fn count_load<R: Net + Threads + Wait + Clone + Send + Sync + Drop>(
     traffic: Traffic,
     total: u32,
 ) -> Result<(), Fault> {
-    let load = Load::of(traffic, PORTS, total, Taker::Together);
+    let mut load = Load {
+        traffic,
+        neighbours: PORTS,
+        count: total / u32::from(PORTS),
+        taker: Taker::Together,
+    };
     let loaded = take_load(rt, handles, load)?;
-    let line = if loaded.is_one_run {
-        "@: # of # taken by # workers; reconciled"
-    } else {
-        "@: # of # taken by # workers; not one run"
+    let (line, taken) = match traffic {
+        Traffic::Paths => ("datagrams: # of # taken by # workers; @", loaded.messages),
+        Traffic::Frames => ("forwarding: # of # taken by # workers; @", loaded.taken),
     };
-    let (words, taken) = match traffic {
-        Traffic::Paths => ("datagrams", loaded.messages),
-        Traffic::Frames => ("forwarding", loaded.taken),
-    };
-    let numbers = [taken, load.total(), u64::from(PORTS)];
-    tell(rt, line, words, &numbers)?;
+    let total = u64::from(total);
+    let numbers = [taken, total, u64::from(PORTS)];
+    tell(rt, line, judgement(loaded), &numbers)?;
     if matches!(traffic, Traffic::Paths) {
-        let bare = Load::of(traffic, PORTS, total, Taker::Bare);
-        let numbers = [take_load(rt, handles, bare)?.taken, load.total()];
+        load.taker = Taker::Bare;
+        let numbers = [take_load(rt, handles, load)?.taken, total];
         let line = "datagrams: # of # taken without a router";
         tell(rt, line, "", &numbers)?;
     }

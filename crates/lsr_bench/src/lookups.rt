@@ -3,7 +3,9 @@ ghost use Rattle.std.specs.Prelude.{◌≡◌, ◌≤◌, [], IfOk};
 ghost use Rattle.lookup_plane.specs.Changes.{IsChangeOf};
 ghost use Rattle.lsr_bench.specs.declared.lookups.TheConstants.{FIRST_LABEL, LAST_LABEL};
 
-use crate::measuring::{Measured, Timed, percent, tell, time_rounds, time_until, whole};
+use crate::measuring::{
+    Measured, Timed, per_second, percent, tell, time_rounds, time_until, whole,
+};
 use forwarding_table::Action;
 use lookup_plane::{LookupReader, MAX_LABELS, OpenFault, Plane, TableChange};
 use sorted_rows::Table;
@@ -13,7 +15,7 @@ use std::sync::atomic::{AtomicBool, Ordering};
 use std::thread;
 use std::thread::Threads;
 use std::time::Duration;
-use worker_fixtures::{Fault, OUT_LINK};
+use worker_cases::{Fault, OUT_LINK};
 
 /// The first label of the range that is looked up.
 const FIRST_LABEL: u32 = 16;
@@ -75,7 +77,7 @@ fn swap_of(alloc: Global, label: u32) -> Result<TableChange, AllocError>
 }
 
 impl<R: Wait + Drop> Measured for Writer<R> {
-    /// Publishes that one more label is swapped. It waits for readers that still read what was shown before the last change.
+    /// Publishes that one label more is swapped. It waits for readers that still read what was shown before the last change.
     fn once(&mut self, alloc: Global) -> Result<u64, Fault> {
         let change = swap_of(alloc, label_in(self.turn))?;
         self.turn = self.turn.wrapping_add(1);
@@ -84,6 +86,16 @@ impl<R: Wait + Drop> Measured for Writer<R> {
             return Ok(1);
         }
         Err(Fault::Memory)
+    }
+}
+
+impl<R: Wait + Drop> Writer<R> {
+    /// Publishes that each label is swapped.
+    fn publish_all(&mut self, alloc: Global) -> Result<(), Fault> {
+        for _ in FIRST_LABEL..=LAST_LABEL {
+            self.once(alloc)?;
+        }
+        Ok(())
     }
 }
 
@@ -98,10 +110,10 @@ fn open<R: Wait + Clone + Drop>(
     match Plane::new(alloc, handles.clone()?, FIRST_LABEL, LAST_LABEL, readers) {
         Ok((plane, readers)) => {
             let mut writer = Writer { plane, turn: 0 };
-            for _ in FIRST_LABEL..=LAST_LABEL {
-                writer.once(alloc)?;
+            match writer.publish_all(alloc) {
+                Ok(()) => Ok((writer, readers)),
+                Err(fault) => Err(fault),
             }
-            Ok((writer, readers))
         }
         Err(OpenFault::Memory) => Err(Fault::Memory),
         Err(OpenFault::Reader) => Err(Fault::Reader),
@@ -160,41 +172,26 @@ impl<'a> Measured for Bare<'a> {
     }
 }
 
-/// Nothing is done: what is left is the clock's own time.
-#[derive(Drop)]
-struct Nothing;
-
-impl Measured for Nothing {
-    fn once(&mut self, _alloc: Global) -> Result<u64, Fault> {
-        Ok(0)
-    }
-}
-
-/// What readers do: how many labels each looks up at once, in how many rounds of how many calls, and whether changes are published beside.
+/// What readers do: how many labels each looks up at once, and in how many rounds of how many calls.
 #[derive(Clone, Copy)]
 struct Looks {
     burst: u32,
     rounds: u32,
     calls: u32,
-    is_beside: bool,
 }
 
-/// How fast all were, and the longest of their rounds.
+/// How many labels all readers looked up a second, and the longest of their rounds.
 #[derive(Clone, Copy)]
 struct Pace {
-    /// How many labels they looked up a second.
     rate: u64,
-    /// How many changes were published a second.
-    changes: u64,
     longest: Duration,
     long: u64,
 }
 
-/// How fast all these were, each of which has to have found each label.
+/// The pace of readers, each of which has to have found each label.
 fn pace_of(all: &[Result<Timed, Fault>], burst: u32) -> Result<Pace, Fault> {
     let mut pace = Pace {
         rate: 0,
-        changes: 0,
         longest: Duration::ZERO,
         long: 0,
     };
@@ -203,19 +200,18 @@ fn pace_of(all: &[Result<Timed, Fault>], burst: u32) -> Result<Pace, Fault> {
             Ok(timed) => timed,
             Err(fault) => return Err(*fault),
         };
-        let links = timed.calls.saturating_mul(u64::from(burst)).saturating_mul(u64::from(OUT_LINK));
-        if timed.sum != links {
+        let labels = timed.calls.saturating_mul(u64::from(burst));
+        if timed.sum != labels.saturating_mul(u64::from(OUT_LINK)) {
             return Err(Fault::NotFound);
         }
-        let rate = timed.calls_a_second().saturating_mul(u64::from(burst));
-        pace.rate = pace.rate.saturating_add(rate);
+        pace.rate = pace.rate.saturating_add(per_second(labels, timed.took));
         pace.longest = pace.longest.max(timed.longest);
         pace.long = pace.long.saturating_add(timed.long);
     }
     Ok(pace)
 }
 
-/// How fast one thread for each table looks labels up.
+/// The pace of one thread for each of these.
 fn look_by<R: Threads + Sync, T: Measured + Send + Drop>(
     rt: &HostRuntime,
     handles: &R,
@@ -233,39 +229,20 @@ fn look_by<R: Threads + Sync, T: Measured + Send + Drop>(
     pace_of(all.as_slice(), looks.burst)
 }
 
-/// How fast readers of this writer's table look labels up; it publishes changes all the time where that is asked for.
-fn look_beside<R: Threads + Wait + Send + Sync + Drop>(
-    rt: &HostRuntime,
-    handles: &R,
-    writer: &mut Writer<R>,
-    readers: Vec<Reader>,
-    looks: Looks,
-) -> Result<Pace, Fault> {
-    let is_done = AtomicBool::new(!looks.is_beside);
-    let (pace, changes) = thread::join(
-        handles,
-        || {
-            let pace = look_by(rt, handles, readers, looks);
-            is_done.store(true, Ordering::SeqCst);
-            pace
-        },
-        || time_until(rt, writer, &is_done),
-    );
-    let mut pace = pace?;
-    pace.changes = changes?.calls_a_second();
-    Ok(pace)
-}
-
-/// How fast so many readers of a table look labels up.
+/// The pace of so many readers of a table, and how many changes a second its writer publishes beside them: all the time, or none.
 fn look<R: Threads + Wait + Clone + Send + Sync + Drop>(
     rt: &HostRuntime,
     handles: &R,
     readers: usize,
     looks: Looks,
-) -> Result<Pace, Fault>
+    is_beside: bool,
+) -> Result<(Pace, u64), Fault>
     requires { readers ≤ 64 }
 {
-    let (mut writer, readers) = open(rt.alloc(), handles, readers)?;
+    let (mut writer, readers) = match open(rt.alloc(), handles, readers) {
+        Ok(opened) => opened,
+        Err(fault) => return Err(fault),
+    };
     let readers = readers
         .into_iter()
         .map(|reader| Reader {
@@ -274,10 +251,21 @@ fn look<R: Threads + Wait + Clone + Send + Sync + Drop>(
             burst: looks.burst,
         })
         .collect(rt.alloc())?;
-    look_beside(rt, handles, &mut writer, readers, looks)
+    let is_done = AtomicBool::new(!is_beside);
+    let (pace, changes) = thread::join(
+        handles,
+        || {
+            let pace = look_by(rt, handles, readers, looks);
+            is_done.store(true, Ordering::SeqCst);
+            pace
+        },
+        || time_until(rt, &mut writer, &is_done),
+    );
+    let changes = changes?;
+    Ok((pace?, per_second(changes.calls, changes.took)))
 }
 
-/// How fast so many threads look labels up in a bare array that they share.
+/// The pace of so many threads that look labels up in a bare array that they share.
 fn look_bare<R: Threads + Sync>(
     rt: &HostRuntime,
     handles: &R,
@@ -294,35 +282,31 @@ fn look_bare<R: Threads + Sync>(
     look_by(rt, handles, vec![in alloc; bare; readers]?, looks)
 }
 
-/// Measures how many look-ups a second so many readers make, each so many, this many labels at once.
+/// Prints how many look-ups a second so many readers make without a writer, beside one, and in a bare array.
 fn measure_readers<R: Threads + Wait + Clone + Send + Sync + Drop>(
     rt: &HostRuntime,
     handles: &R,
     readers: usize,
-    burst: u32,
+    looks: Looks,
     words: &str,
-    count: u32,
 ) -> Result<(), Fault>
     requires { readers ≤ 64 }
 {
-    let mut looks = Looks {
-        burst,
-        rounds: 1,
-        calls: count / burst.max(1),
-        is_beside: false,
-    };
-    let alone = look(rt, handles, readers, looks)?.rate;
-    let bare = look_bare(rt, handles, readers, looks)?.rate;
-    looks.is_beside = true;
-    let beside = look(rt, handles, readers, looks)?;
-    let rates = [readers as u64, alone, beside.rate, bare];
-    let line = "readers #: # @ a second without a writer, # beside a writer, # in a bare array";
-    tell(rt, line, words, &rates)?;
-    let left = percent(beside.rate, alone);
-    let of_bare = percent(beside.rate, bare);
-    let shares = [readers as u64, beside.changes, left, of_bare];
-    let line = "readers #: # changes a second; #% of the look-ups are left beside them, #% of the array's";
-    tell(rt, line, words, &shares)?;
+    let (alone, _) = look(rt, handles, readers, looks, false)?;
+    let (beside, changes) = look(rt, handles, readers, looks, true)?;
+    let bare = look_bare(rt, handles, readers, looks)?;
+    let numbers = [
+        readers as u64,
+        alone.rate,
+        beside.rate,
+        percent(beside.rate, alone.rate),
+        changes,
+        bare.rate,
+        percent(beside.rate, bare.rate),
+    ];
+    let line =
+        "readers #: # @ a second without a writer, # (#%) beside one that publishes # changes a second; # in a bare array, of which that is #%";
+    tell(rt, line, words, &numbers)?;
     Ok(())
 }
 
@@ -332,19 +316,27 @@ pub(crate) fn measure_lookups<R: Threads + Wait + Clone + Send + Sync + Drop>(
     handles: &R,
     count: u32,
 ) -> Result<(), Fault> {
-    let (mut writer, _readers) = open(rt.alloc(), handles, 0)?;
+    let (mut writer, _readers) = match open(rt.alloc(), handles, 0) {
+        Ok(opened) => opened,
+        Err(fault) => return Err(fault),
+    };
     let changes = time_rounds(rt, &mut writer, 1, CHANGES_ALONE)?;
-    let changes = [changes.calls_a_second()];
-    tell(rt, "readers 0: # changes a second", "", &changes)?;
+    let line = "readers 0: # changes a second";
+    tell(rt, line, "", &[per_second(changes.calls, changes.took)])?;
     for readers in 1..=MOST_READERS {
         for (burst, words) in WAYS {
-            measure_readers(rt, handles, readers, burst, words, count)?;
+            let looks = Looks {
+                burst,
+                rounds: 1,
+                calls: count / burst.max(1),
+            };
+            measure_readers(rt, handles, readers, looks, words)?;
         }
     }
     Ok(())
 }
 
-/// Measures the longest of so many look-ups beside a writer, and of as many pairs of readings of the clock.
+/// Measures the longest of so many look-ups beside a writer, and of as many pairs of readings of the clock with nothing between.
 pub(crate) fn measure_longest<R: Threads + Wait + Clone + Send + Sync + Drop>(
     rt: &HostRuntime,
     handles: &R,
@@ -354,16 +346,24 @@ pub(crate) fn measure_longest<R: Threads + Wait + Clone + Send + Sync + Drop>(
         burst: 1,
         rounds: count,
         calls: 1,
-        is_beside: true,
     };
-    let pace = look(rt, handles, 1, looks)?;
-    let clock = time_rounds(rt, &mut Nothing, count, 1)?;
-    let line = "longest of # @: # ns, # took over 10000 ns";
-    let count = u64::from(count);
-    let numbers = [count, whole(pace.longest.as_nanos()), pace.long];
-    tell(rt, line, "look-ups beside a writer", &numbers)?;
-    let numbers = [count, whole(clock.longest.as_nanos()), clock.long];
-    tell(rt, line, "pairs of readings of the clock", &numbers)?;
+    let (pace, _) = look(rt, handles, 1, looks, true)?;
+    let mut nothing = Bare {
+        actions: &[],
+        turn: 0,
+        burst: 0,
+    };
+    let clock = time_rounds(rt, &mut nothing, count, 1)?;
+    let numbers = [
+        u64::from(count),
+        whole(pace.longest.as_nanos()),
+        pace.long,
+        whole(clock.longest.as_nanos()),
+        clock.long,
+    ];
+    let line =
+        "longest of # look-ups beside a writer: # ns, # took over 10000 ns; of as many pairs of readings of the clock: # ns, # took over 10000 ns";
+    tell(rt, line, "", &numbers)?;
     Ok(())
 }
 
@@ -378,9 +378,8 @@ pub(crate) fn count_lookups<R: Threads + Wait + Clone + Send + Sync + Drop>(
             burst,
             rounds: 1,
             calls: count / burst.max(1),
-            is_beside: true,
         };
-        look(rt, handles, MOST_READERS, looks)?;
+        look(rt, handles, MOST_READERS, looks, true)?;
         let numbers = [MOST_READERS as u64, u64::from(count)];
         let line = "lookups: # readers found each label, # @ by each";
         tell(rt, line, words, &numbers)?;

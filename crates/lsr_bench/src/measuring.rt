@@ -5,10 +5,12 @@ use std::fmt::Write;
 use std::io;
 use std::sync::atomic::{AtomicBool, Ordering};
 use std::time::{Duration, Instant};
-use worker_fixtures::{Fault, per_second};
+use worker_cases::Fault;
 
 /// What takes more nanoseconds than these is long.
 const LONG_NANOS: u128 = 10_000;
+
+const NANOS_PER_SECOND: u128 = 1_000_000_000;
 
 /// What is done again and again.
 pub(crate) trait Measured {
@@ -54,11 +56,11 @@ impl Timed {
     pub(crate) fn nanos_a_call(&self) -> u64 {
         whole(self.took.as_nanos() / u128::from(self.calls.max(1)))
     }
+}
 
-    /// How many calls there were a second.
-    pub(crate) fn calls_a_second(&self) -> u64 {
-        per_second(self.calls, self.took)
-    }
+/// How many of something there are in a second, where so many took this time.
+pub(crate) fn per_second(count: u64, took: Duration) -> u64 {
+    whole(u128::from(count) * NANOS_PER_SECOND / took.as_nanos().max(1))
 }
 
 /// A number, as far as it can be told.

@@ -6,7 +6,7 @@ use std::alloc::Global;
 use std::marker::Brand;
 use std::sync::Wait;
 use std::sync::ledger::Blank;
-use worker_fixtures::{CoreName, Fault, Opened, open_router, read_config};
+use worker_cases::{CoreName, Fault, Opened, open_router, read_config};
 
 /// How many ports and readers the router has, and how many links.
 pub(crate) const PORTS: u16 = 4;

@@ -1,6 +1,6 @@
 //! Frames that are forwarded while the entry of their label comes and goes.
 
-use crate::measuring::{tell, whole};
+use crate::measuring::{per_second, tell, whole};
 use crate::playing::{Play, play};
 use lsr_config::BUILT_IN;
 use lsr_facts::Refusal;
@@ -10,9 +10,9 @@ use std::sync::atomic::{AtomicBool, Ordering};
 use std::thread;
 use std::thread::Threads;
 use std::time::{Duration, Instant};
-use worker_fixtures::{
+use worker_cases::{
     Core, CoreName, Fate, Fault, Follower, IN_LINK, LABELLED_FRAME, OUT_LINK, Opened, PATH_FRAME,
-    RESV_FRAME, TEAR_FRAME, followers, per_second,
+    RESV_FRAME, TEAR_FRAME, followers,
 };
 
 /// The labels of the built-in router.
@@ -21,39 +21,18 @@ const ITS_LABELS: &str = "[16, 4111]";
 const ONE_LABEL: &str = "[16, 16]";
 
 /// How many frames were forwarded, refused for their label, or neither.
-#[derive(Clone, Copy)]
-struct Fates {
-    forwarded: u64,
-    refused: u64,
-    other: u64,
-}
+type Fates = [u64; 3];
 
-impl Fates {
-    /// None yet.
-    const NONE: Fates = Fates {
-        forwarded: 0,
-        refused: 0,
-        other: 0,
-    };
-
-    /// One more.
-    fn count(&mut self, fate: Fate) {
-        match fate {
-            Fate::Forwarded(OUT_LINK) => self.forwarded = self.forwarded.saturating_add(1),
-            Fate::Refused(Refusal::NoLabel) => self.refused = self.refused.saturating_add(1),
-            _ => self.other = self.other.saturating_add(1),
-        }
-    }
-
-    /// Others too.
-    fn add(&mut self, more: Fates) {
-        self.forwarded = self.forwarded.saturating_add(more.forwarded);
-        self.refused = self.refused.saturating_add(more.refused);
-        self.other = self.other.saturating_add(more.other);
+/// One frame more met this fate.
+fn count(fates: &mut Fates, fate: Fate) {
+    match fate {
+        Fate::Forwarded(OUT_LINK) => fates[0] = fates[0].saturating_add(1),
+        Fate::Refused(Refusal::NoLabel) => fates[1] = fates[1].saturating_add(1),
+        _ => fates[2] = fates[2].saturating_add(1),
     }
 }
 
-/// What threads saw: the fates of frames after each Resv, after each PathTear, and of those that came beside them.
+/// What became of frames after each Resv, after each PathTear, and of those that came beside them; and how long that took.
 #[derive(Clone, Copy)]
 struct Seen {
     after_resv: Fates,
@@ -85,14 +64,20 @@ fn signal<L: CoreName, R: Wait + Drop>(
     follower: &mut Follower<L>,
     rounds: u32,
 ) -> (Fates, Fates) {
-    let mut after_resv = Fates::NONE;
-    let mut after_tear = Fates::NONE;
+    let mut after_resv = [0; 3];
+    let mut after_tear = [0; 3];
     for _round in 0..rounds {
         let is_there = follower.feed(handles, alloc, core, IN_LINK, PATH_FRAME)
             && follower.feed(handles, alloc, core, OUT_LINK, RESV_FRAME);
-        after_resv.count(forward_after(alloc, core, follower, is_there));
+        count(
+            &mut after_resv,
+            forward_after(alloc, core, follower, is_there),
+        );
         let is_gone = follower.feed(handles, alloc, core, IN_LINK, TEAR_FRAME);
-        after_tear.count(forward_after(alloc, core, follower, is_gone));
+        count(
+            &mut after_tear,
+            forward_after(alloc, core, follower, is_gone),
+        );
     }
     (after_resv, after_tear)
 }
@@ -105,14 +90,28 @@ fn forward_until<L: CoreName, R: Wait + Drop>(
     is_done: &AtomicBool,
 ) -> Fates {
     let mut follower = follower;
-    let mut fates = Fates::NONE;
+    let mut fates = [0; 3];
     for _frame in 0..u64::MAX {
         if is_done.load(Ordering::SeqCst) {
             break;
         }
-        fates.count(follower.forward(alloc, core.router(), IN_LINK, LABELLED_FRAME));
+        count(
+            &mut fates,
+            follower.forward(alloc, core.router(), IN_LINK, LABELLED_FRAME),
+        );
     }
     fates
+}
+
+/// The sum of fates.
+fn sum_of(all: &[Fates]) -> Fates {
+    let mut sum = [0_u64; 3];
+    for fates in all {
+        for (place, more) in sum.iter_mut().zip(fates) {
+            *place = place.saturating_add(*more);
+        }
+    }
+    sum
 }
 
 /// An LSP comes and goes so many times.
@@ -125,7 +124,7 @@ struct Withdrawing<'a> {
 impl<'a, R: Threads + Wait + Send + Sync + Drop> Play<R> for Withdrawing<'a> {
     type Left = Seen;
 
-    /// One thread signals by one port, and others forward by the readers of the others until that is done.
+    /// One thread signals by one port, and the others forward by the readers of the others until that is done.
     fn play<L: CoreName + Send + Sync>(
         self,
         handles: &R,
@@ -138,84 +137,67 @@ impl<'a, R: Threads + Wait + Send + Sync + Drop> Play<R> for Withdrawing<'a> {
             readers,
         } = opened;
         let alloc = rt.alloc();
+        let core = &core;
         let mut others = followers(alloc, ports, readers)?;
-        let Some(mut first) = others.pop() else {
+        let Some(mut signaller) = others.pop() else {
             return Err(Fault::Reader);
         };
-        let shared = &core;
         let is_done = AtomicBool::new(false);
         let start = Instant::now(rt)?;
-        let (all, (after_resv, after_tear)) = thread::join(
+        let (beside, (after_resv, after_tear)) = thread::join(
             handles,
             || thread::map_vec(
                 handles,
                 others,
-                &|follower| forward_until(alloc, shared, follower, &is_done),
+                &|follower| forward_until(alloc, core, follower, &is_done),
             ),
             || {
-                let seen = signal(handles, alloc, shared, &mut first, rounds);
+                let seen = signal(handles, alloc, core, &mut signaller, rounds);
                 is_done.store(true, Ordering::SeqCst);
                 seen
             },
         );
         let took = start.elapsed(rt)?;
-        let mut beside = Fates::NONE;
-        for fates in all? {
-            beside.add(fates);
-        }
         Ok(Seen {
             after_resv,
             after_tear,
-            beside,
+            beside: sum_of(beside?.as_slice()),
             took,
         })
     }
 }
 
-/// Prints what became of frames.
-fn tell_fates(rt: &HostRuntime, of: &str, fates: Fates) -> Result<(), Fault> {
-    let line = "withdrawals: @: # forwarded, # refused for their label, # otherwise";
-    let numbers = [fates.forwarded, fates.refused, fates.other];
-    tell(rt, line, of, &numbers)?;
-    Ok(())
-}
-
-/// An LSP comes and goes so many times, while three threads forward frames under its label: prints what becomes of frames that come
-/// once the receipt of its Resv is learnt, and once that of its PathTear is.
-pub(crate) fn count_withdrawals<R: Threads + Wait + Clone + Send + Sync + Drop>(
-    rt: &HostRuntime,
-    handles: &R,
-    rounds: u32,
-) -> Result<(), Fault> {
-    run_rounds(rt, handles, rounds)?;
-    Ok(())
-}
-
-/// The same; gives what was seen.
-fn run_rounds<R: Threads + Wait + Clone + Send + Sync + Drop>(
-    rt: &HostRuntime,
-    handles: &R,
-    rounds: u32,
-) -> Result<Seen, Fault> {
-    // (the built-in router, where it has one label to give out)
-    let text = BUILT_IN.replace(rt.alloc(), ITS_LABELS, ONE_LABEL)?;
-    let seen = play(handles, rt.alloc(), text.as_str(), Withdrawing { rt, rounds })?;
-    tell_fates(rt, "once the Resv is learnt", seen.after_resv)?;
-    tell_fates(rt, "once the PathTear is learnt", seen.after_tear)?;
-    Ok(seen)
-}
-
-/// Measures how many frames three threads forward or refuse a second while an LSP comes and goes so many times, and prints that too.
+/// An LSP of the built-in router, where it has one label to give out, comes and goes so many times, while three threads forward frames under
+/// its label. Prints what becomes of frames that come once the receipt of its Resv is learnt, and once that of its PathTear is; and where
+/// that is asked for, how many frames the three threads forward or refuse a second.
 pub(crate) fn measure_withdrawals<R: Threads + Wait + Clone + Send + Sync + Drop>(
     rt: &HostRuntime,
     handles: &R,
     rounds: u32,
+    is_timed: bool,
 ) -> Result<(), Fault> {
-    let seen = run_rounds(rt, handles, rounds)?;
-    tell_fates(rt, "by three workers beside it, which learn of nothing", seen.beside)?;
-    let frames = seen.beside.forwarded.saturating_add(seen.beside.refused);
-    let numbers = [u64::from(rounds), whole(seen.took.as_millis()), per_second(frames, seen.took)];
-    let line = "withdrawals: # rounds in # ms, beside # frames a second";
-    tell(rt, line, "", &numbers)?;
+    let text = BUILT_IN.replace(rt.alloc(), ITS_LABELS, ONE_LABEL)?;
+    let seen = play(
+        handles,
+        rt.alloc(),
+        text.as_str(),
+        Withdrawing { rt, rounds },
+    )?;
+    let line = "withdrawals: @: # forwarded, # refused for their label, # otherwise";
+    tell(rt, line, "once the Resv is learnt", &seen.after_resv)?;
+    tell(rt, line, "once the PathTear is learnt", &seen.after_tear)?;
+    if is_timed {
+        let [forwarded, refused, _] = seen.beside;
+        let rate = per_second(forwarded.saturating_add(refused), seen.took);
+        tell(
+            rt,
+            line,
+            "by three workers beside it, which learn of nothing",
+            &seen.beside,
+        )?;
+        let numbers = [u64::from(rounds), whole(seen.took.as_millis()), rate];
+        let line = "withdrawals: # rounds in # ms, beside # frames a second";
+        tell(rt, line, "", &numbers)?;
+    }
     Ok(())
 }

@@ -1,7 +1,8 @@
-//! Neighbours of a router with four links over sockets of this machine: what each sends, and how.
+//! Neighbours of a router with four links over sockets of this machine: what each sends, and the wires that count what was taken.
 
 use crate::playing::PORTS;
 use lsr_config::LinkSockets;
+use lsr_serve::{LinkWire, UdpWire, open_wires};
 use sorted_rows::Table;
 use std::alloc::{AllocError, Global};
 use std::net::{Net, SocketAddr, UdpSocket};
@@ -9,7 +10,9 @@ use std::sync::atomic::{AtomicU64, Ordering};
 use std::thread;
 use std::thread::Threads;
 use std::time::Duration;
-use worker_fixtures::{Fault, LABELLED_FRAME, OUT_LINK, PATH_FRAME, RESV_FRAME, about_tunnel};
+use worker_cases::{
+    Fault, LABELLED_FRAME, OUT_LINK, PATH_FRAME, RESV_FRAME, Wire, WireFault, about_tunnel,
+};
 
 /// The tunnels whose Paths come where frames are forwarded, each over the link of its number. Whichever comes first has the label of
 /// [`LABELLED_FRAME`], so the Resvs of all three come.
@@ -24,6 +27,9 @@ const WINDOW: u64 = 64;
 const LOOK_US: u64 = 50;
 /// How often it looks before it gives up: a minute in all.
 const MOST_LOOKS: u32 = 1_200_000;
+
+/// Any port of this machine that nobody has.
+const ANY: &str = "127.0.0.1:0";
 
 /// What the neighbours send.
 #[derive(Clone, Copy)]
@@ -59,16 +65,6 @@ pub(crate) struct Load {
 }
 
 impl Load {
-    /// This traffic, so many datagrams in all.
-    pub(crate) fn of(traffic: Traffic, neighbours: u16, total: u32, taker: Taker) -> Load {
-        Load {
-            traffic,
-            neighbours,
-            count: total / u32::from(neighbours.max(1)),
-            taker,
-        }
-    }
-
     /// How many datagrams the neighbour of a link sends. Where frames are forwarded that of link 2 sends its Resvs in any case.
     pub(crate) fn count_over(&self, link: u16) -> u32 {
         match (self.traffic, link) {
@@ -76,15 +72,6 @@ impl Load {
             (Traffic::Frames, OUT_LINK) => self.count / MESSAGE_SHARE,
             _ => 0,
         }
-    }
-
-    /// How many datagrams they send in all.
-    pub(crate) fn total(&self) -> u64 {
-        let mut total = 0_u64;
-        for link in 1..=PORTS {
-            total = total.saturating_add(u64::from(self.count_over(link)));
-        }
-        total
     }
 }
 
@@ -120,10 +107,10 @@ impl<'a> Sender<'a> {
     fn datagram(&self, turn: u32) -> &[u8] {
         let round = self.round.max(1);
         let messages = self.messages.as_slice();
-        if turn % round > 0 || messages.is_empty() {
-            return LABELLED_FRAME;
+        match messages.get((turn / round) as usize % messages.len().max(1)) {
+            Some(message) if turn % round == 0 => message.as_slice(),
+            _ => LABELLED_FRAME,
         }
-        messages[(turn / round) as usize % messages.len()].as_slice()
     }
 
     /// Sends all; whether all were sent.
@@ -193,4 +180,110 @@ pub(crate) fn send_all<R: Threads + Sync>(
         }
     }
     Ok(())
+}
+
+/// An address that nobody has. Its socket is held among these, so that the next address is another one.
+fn free_address<R: Net>(handles: &R, held: &mut Vec<UdpSocket>) -> Result<SocketAddr, Fault> {
+    let socket = UdpSocket::bind(handles, ANY)?;
+    let address = socket.local_addr()?;
+    match held.push(socket) {
+        Ok(()) => Ok(address),
+        Err(_) => Err(Fault::Memory),
+    }
+}
+
+/// The sockets of the links, all at addresses of this machine that nobody has, each another one.
+pub(crate) fn free_links<R: Net>(
+    handles: &R,
+    alloc: Global,
+) -> Result<Table<u16, LinkSockets>, Fault> {
+    let mut held = Vec::new(alloc);
+    let mut links = Table::new(alloc);
+    for number in 1..=PORTS {
+        let listen = free_address(handles, &mut held)?;
+        let send = free_address(handles, &mut held)?;
+        links.set(number, LinkSockets { listen, send })?;
+    }
+    Ok(links)
+}
+
+/// A wire that counts what it took, and takes no more than was sent.
+#[derive(Drop)]
+pub(crate) struct CountedWire<'a, W> {
+    /// The wire.
+    wire: W,
+    /// How many datagrams it took.
+    taken: &'a AtomicU64,
+    /// How many are sent in all.
+    sent: u64,
+    /// Whether it shows what came together.
+    is_shown_more: bool,
+}
+
+impl<'a, W> CountedWire<'a, W> {
+    /// Whether it took all.
+    fn is_over(&self) -> bool {
+        self.taken.load(Ordering::SeqCst) >= self.sent
+    }
+}
+
+impl<'a, W: Wire> Wire for CountedWire<'a, W> {
+    ghost use Rattle.std.specs.Prelude.{None};
+
+    ghost history = { λ counted. record { failed = (W.history counted.wire).failed; answered = None; given = None } };
+
+    /// The next datagram that came; none where all that were sent are taken.
+    fn receive(&mut self, buffer: &mut [u8]) -> Result<Option<usize>, WireFault> {
+        if self.is_over() {
+            return Ok(None);
+        }
+        let came = self.wire.receive(buffer);
+        if let Ok(Some(_)) = came {
+            self.taken.fetch_add(1, Ordering::SeqCst);
+        }
+        came
+    }
+
+    /// A datagram that the wire has more, where that is shown, and not all that were sent are taken.
+    fn ahead(&self, index: usize) -> Option<&[u8]> {
+        if !self.is_shown_more || self.is_over() {
+            return None;
+        }
+        self.wire.ahead(index)
+    }
+
+    fn send(&mut self, link: u16, bytes: &[u8]) -> Result<(), WireFault> {
+        self.wire.send(link, bytes)
+    }
+
+    fn failures(&self) -> u64 {
+        self.wire.failures()
+    }
+}
+
+/// The wires of the links, each of which counts what it took.
+pub(crate) fn counted_wires<'a, R: Net>(
+    handles: &R,
+    alloc: Global,
+    links: &'a Table<u16, LinkSockets>,
+    load: Load,
+    counts: &'a [AtomicU64],
+) -> Result<Vec<LinkWire<CountedWire<'a, UdpWire<'a>>>>, Fault> {
+    let Ok(wires) = open_wires(handles, alloc, links) else {
+        return Err(Fault::System);
+    };
+    let wires = wires
+        .into_iter()
+        .zip(counts)
+        .map(|(LinkWire { number, wire }, taken)| LinkWire {
+            number,
+            wire: CountedWire {
+                wire,
+                taken,
+                sent: u64::from(load.count_over(number)),
+                is_shown_more: matches!(load.taker, Taker::Together),
+            },
+        })
+        .collect(alloc)?;
+    Ok(wires)
 }
