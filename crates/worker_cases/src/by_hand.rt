@@ -1,16 +1,20 @@
 //! Cases of a router that is fed by hand, by one port: what a reader of its label table finds beside the events that change it, and a
 //! journal that is full.
+ghost use Rattle.std.specs.Prelude.{◌≡◌};
 
 use crate::fault::Fault;
-use crate::feeding::{Feed, feed_router};
+use crate::feeding::{open_router, read_config};
 use crate::follower::{Follower, feed_event};
 use crate::frames::{IN_LINK, LABELLED_FRAME, OUT_LINK, PATH_FRAME, RESV_FRAME, TEAR_FRAME};
 use crate::left::count_entries;
 use abstract_paths::Event;
-use interface_workers::{Core, CoreName, CoreReader, Port};
+use interface_workers::{Core, CoreName, Opened, Port};
+use lsr_config::{BUILT_IN, Config};
 use lsr_facts::Refusal;
 use std::alloc::Global;
+use std::marker::Brand;
 use std::sync::Wait;
+use std::sync::ledger::Blank;
 
 /// The label that is looked up: the first that the router gives out.
 const LABEL: u32 = 16;
@@ -104,35 +108,36 @@ fn fill<L: CoreName, R: Wait + Drop>(
     Ok(())
 }
 
-/// One port that feeds, and what it feeds.
-#[derive(Drop)]
-struct ByHand<'a> {
-    rt: &'a HostRuntime,
+/// Takes the steps by a port of the router of this name, and a reader that follows; or fills its journal by the port.
+fn run_named<L: CoreName, R: Wait + Clone + Drop>(
+    rt: &HostRuntime,
+    waits: &R,
+    alloc: Global,
+    blank: Blank,
+    config: Config,
     is_filled: bool,
-}
-
-impl<'a, R: Wait + Drop> Feed<R> for ByHand<'a> {
-    type Output = ();
-
-    /// Fills the journal by the port; or takes the steps, which the reader follows.
-    fn feed<L: CoreName>(
-        self,
-        waits: &R,
-        alloc: Global,
-        core: &Core<L, R>,
-        port: Port<L>,
-        reader: CoreReader<L>,
-    ) -> Result<(), Fault> {
-        let mut port = port;
-        if self.is_filled {
-            return fill(self.rt, waits, alloc, core, &mut port);
-        }
-        let mut follower = Follower::new(port, reader);
-        for step in STEPS {
-            follow(self.rt, waits, alloc, core, &mut follower, step)?;
-        }
-        Ok(())
+) -> Result<(), Fault>
+    requires name { blank.name ≡ L.name }
+    requires parts { blank.parts ≡ L.parts }
+    requires config { config ≡ L.config }
+    requires one { blank.parts ≡ 1 }
+{
+    let Opened {
+        core,
+        mut ports,
+        mut readers,
+    } = open_router::<L, R>(alloc, waits.clone()?, blank, config, 1)?;
+    let (Some(mut port), Some(reader)) = (ports.pop(), readers.pop()) else {
+        return Err(Fault::NotTaken);
+    };
+    if is_filled {
+        return fill(rt, waits, alloc, &core, &mut port);
     }
+    let mut follower = Follower::new(port, reader);
+    for step in STEPS {
+        follow(rt, waits, alloc, &core, &mut follower, step)?;
+    }
+    Ok(())
 }
 
 /// A Path comes over link 1, its Resv over link 2, and its PathTear over link 1, with labelled frames between, to one router; the journal
@@ -141,9 +146,8 @@ pub(crate) fn run<R: Wait + Clone + Drop>(
     rt: &HostRuntime,
     waits: &R,
     alloc: Global,
+    is_filled: bool,
 ) -> Result<(), Fault> {
-    for is_filled in [false, true] {
-        feed_router(waits, alloc, ByHand { rt, is_filled })?;
-    }
-    Ok(())
+    let config = read_config(alloc, BUILT_IN)?;
+    run_named::<Brand, R>(rt, waits, alloc, Blank::new(1), config, is_filled)
 }

@@ -45,11 +45,7 @@ struct Answered {
 }
 
 /// What this router answers that serves the inputs one by one. The only error is out of memory.
-fn serve_each(
-    alloc: Global,
-    machine: Machine,
-    inputs: &[Input],
-) -> Result<Answered, AllocError> {
+fn serve_each(alloc: Global, machine: Machine, inputs: &[Input]) -> Result<Answered, AllocError> {
     let mut machine = machine;
     let mut answers = Vec::new(alloc);
     for input in inputs {
@@ -98,7 +94,9 @@ fn tell_same(
     let is_same = answers == format!(in alloc; "{:?}", other.answers)?;
     let is_known = is_same_state(&one.state, &other.state);
     let count = one.answers.len();
-    println!(rt; "one thread: {of}: {count} answers, the same: {is_same}; known at the end, the same: {is_known}")?;
+    println!(rt;
+        "one thread: {of}: {count} answers, the same: {is_same}; known at the end, the same: {is_known}"
+    )?;
     Ok(())
 }
 

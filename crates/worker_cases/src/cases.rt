@@ -1,7 +1,7 @@
 //! The worked cases.
 
-use crate::{by_hand, calls, served, wired};
 use crate::fault::Fault;
+use crate::{by_hand, calls, served, wired};
 use std::alloc::Global;
 use std::sync::Wait;
 use std::thread::Threads;
@@ -13,7 +13,8 @@ pub fn run_cases<R: Threads + Wait + Clone + Send + Sync + Drop>(
     alloc: Global,
 ) -> Result<(), Fault> {
     calls::run(rt, alloc)?;
-    by_hand::run(rt, waits, alloc)?;
+    by_hand::run(rt, waits, alloc, false)?;
+    by_hand::run(rt, waits, alloc, true)?;
     wired::run(rt, waits, alloc)?;
     served::run(rt, waits, alloc)
 }

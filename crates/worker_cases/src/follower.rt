@@ -20,42 +20,6 @@ pub enum Fate {
     Other,
 }
 
-/// What came over a link.
-enum Came {
-    /// An event.
-    Event(Event),
-    /// Anything else, and what becomes of it.
-    Frame(Fate),
-}
-
-impl Drop for Came {
-    fn drop(self) {
-        match self {
-            Came::Event(_event) => {}
-            Came::Frame(_) => {}
-        }
-    }
-}
-
-/// What came over a link, by what it was read as.
-fn read_as(answer: Option<Result<Datagram, Refusal>>) -> Came {
-    match answer {
-        Some(Ok(Datagram::Event(event))) => Came::Event(event),
-        Some(
-            Ok(
-                Datagram::Passed(
-                    Passed::Sent {
-                        link,
-                        frame: _frame,
-                    },
-                ),
-            ),
-        ) => Came::Frame(Fate::Forwarded(link)),
-        Some(Err(refusal)) => Came::Frame(Fate::Refused(refusal)),
-        _ => Came::Frame(Fate::Other),
-    }
-}
-
 /// Feeds an event. What the router answers is let go; the error is its refusal.
 pub(crate) fn feed_event<L: CoreName, R: Wait + Drop>(
     rt: &R,
@@ -104,14 +68,17 @@ impl<L: CoreName> Follower<L> {
         }
     }
 
-    /// What comes over a link with this frame, by what the reader sees.
-    fn read(&mut self, alloc: Global, router: &Router, link: u16, frame: &[u8]) -> Came {
-        let Some(reader) = self.reader.take() else {
-            return Came::Frame(Fate::Other);
-        };
-        let (answer, reader) = read_by(alloc, router, reader, link, frame);
+    /// What comes over a link with this frame, by what the reader sees; none where it isn't shown the label table.
+    fn read(
+        &mut self,
+        alloc: Global,
+        router: &Router,
+        link: u16,
+        frame: &[u8],
+    ) -> Option<Result<Datagram, Refusal>> {
+        let (answer, reader) = read_by(alloc, router, self.reader.take()?, link, frame);
         self.reader = Some(reader);
-        read_as(answer)
+        answer
     }
 
     /// The reader learns of the port's last entry.
@@ -131,8 +98,10 @@ impl<L: CoreName> Follower<L> {
         frame: &[u8],
     ) -> bool {
         let is_taken = match &self.read(alloc, core.router(), link, frame) {
-            Came::Event(event) => feed_rotating(rt, alloc, core, &mut self.port, event),
-            Came::Frame(_) => false,
+            Some(Ok(Datagram::Event(event))) => {
+                feed_rotating(rt, alloc, core, &mut self.port, event)
+            }
+            _ => false,
         };
         self.learn();
         is_taken
@@ -141,8 +110,9 @@ impl<L: CoreName> Follower<L> {
     /// What becomes of a labelled frame that comes to this router over a link.
     pub fn forward(&mut self, alloc: Global, router: &Router, link: u16, frame: &[u8]) -> Fate {
         match &self.read(alloc, router, link, frame) {
-            Came::Event(_) => Fate::Other,
-            Came::Frame(fate) => *fate,
+            Some(Ok(Datagram::Passed(Passed::Sent { link, .. }))) => Fate::Forwarded(*link),
+            Some(Err(refusal)) => Fate::Refused(*refusal),
+            _ => Fate::Other,
         }
     }
 

@@ -1,6 +1,6 @@
 //! What threads leave that feed a router.
 
-use interface_workers::{Core, CoreName, Finished, Port, Receipt, Segment, Work, is_same_state};
+use interface_workers::{Core, CoreName, Port, Receipt, Segment, Work, is_same_state};
 use run_reconciler::reconcile;
 use std::alloc::{AllocError, Global};
 use std::sync::Wait;
@@ -32,16 +32,6 @@ pub struct Left {
 }
 
 impl Left {
-    /// Nothing yet.
-    fn new(alloc: Global) -> Left {
-        Left {
-            receipts: Vec::new(alloc),
-            segments: Vec::new(alloc),
-            is_end: false,
-            forwarded: 0,
-        }
-    }
-
     /// Adds the work of a port. The only error is out of memory.
     fn add(&mut self, work: Work) -> Result<(), AllocError> {
         let Work {
@@ -56,14 +46,6 @@ impl Left {
         Ok(())
     }
 
-    /// Adds the work of ports. The only error is out of memory.
-    fn add_all(&mut self, works: Vec<Result<Work, AllocError>>) -> Result<(), AllocError> {
-        for work in works {
-            self.add(work?)?;
-        }
-        Ok(())
-    }
-
     /// Puts the last segment to the others, all in their order: by the number at their beginning, an empty one first. The only error is
     /// out of memory.
     fn put_last(&mut self, last: Segment) -> Result<(), AllocError> {
@@ -72,34 +54,26 @@ impl Left {
         Ok(())
     }
 
-    /// Takes the last segment of a router, which is fed no more, and compares its end with what the router knows. The only error is out
-    /// of memory.
-    fn close<L: CoreName, R: Wait + Drop>(
-        &mut self,
-        rt: &R,
-        alloc: Global,
-        core: Core<L, R>,
-    ) -> Result<(), AllocError> {
-        let known = core.inspect(rt, alloc)?;
-        let Finished {
-            last,
-            keeper: _keeper,
-            kept: _,
-        } = core.finish(alloc)?;
-        self.is_end = is_same_state(&known, last.end());
-        self.put_last(last)
-    }
-
-    /// The works of all ports of a router, with its last segment, all in their order. The only error is out of memory.
+    /// The works of all ports of a router, which is fed no more, with its last segment, all in their order. The only error is out of
+    /// memory.
     pub fn gathered<L: CoreName, R: Wait + Drop>(
         rt: &R,
         alloc: Global,
         core: Core<L, R>,
         works: Vec<Result<Work, AllocError>>,
     ) -> Result<Left, AllocError> {
-        let mut left = Left::new(alloc);
-        left.add_all(works)?;
-        left.close(rt, alloc, core)?;
+        let known = core.inspect(rt, alloc)?;
+        let last = core.finish(alloc)?.last;
+        let mut left = Left {
+            receipts: Vec::new(alloc),
+            segments: Vec::new(alloc),
+            is_end: is_same_state(&known, last.end()),
+            forwarded: 0,
+        };
+        for work in works {
+            left.add(work?)?;
+        }
+        left.put_last(last)?;
         Ok(left)
     }
 

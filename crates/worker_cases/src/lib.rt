@@ -18,7 +18,7 @@ mod wired;
 
 pub use cases::run_cases;
 pub use fault::Fault;
-pub use feeding::{Feed, feed_router, open_router, read_config};
+pub use feeding::{open_router, read_config};
 pub use follower::{Fate, Follower, followers};
 pub use frames::{
     IN_LINK, LABELLED_FRAME, OUT_LINK, PATH_FRAME, RESV_FRAME, TEAR_FRAME, about_tunnel, put_bytes,

@@ -17,7 +17,9 @@ use std::{io, thread};
 
 /// The ports of the links, in their order, and the clock's.
 const HELD_PORT: u16 = 1;
+
 const FREE_PORT: u16 = 2;
+
 const CLOCK_PORT: u16 = 3;
 /// How long a port that is held sleeps until it looks again, in milliseconds.
 const LOOK_MS: u64 = 10;
@@ -55,24 +57,34 @@ struct Case {
     is_counted: bool,
 }
 
-/// Nothing comes but moments: few, and more than a segment of the journal holds. One PathTear comes over each link. PathTears come again
-/// and again, so that each of three threads feeds more than a segment holds: all segments are kept, and then one.
-const CASES: [Case; 5] = [
-    Case {
-        name: "silent links",
-        plan: SILENT,
-        turns: 3,
-        is_held: false,
-        room: u64::MAX,
-        is_counted: true,
+/// Nothing comes but three moments, and all segments are kept.
+const SHORT: Case = Case {
+    name: "silent links",
+    plan: SILENT,
+    turns: 3,
+    is_held: false,
+    room: u64::MAX,
+    is_counted: true,
+};
+/// PathTears of an LSP that isn't known come again and again, so that each of three threads feeds more than a segment holds.
+const LONG: Case = Case {
+    name: "all kept",
+    plan: WirePlan {
+        arrivals: &[TEAR_FRAME],
+        is_endless: true,
+        ..SILENT
     },
+    turns: 5_000,
+    is_counted: false,
+    ..SHORT
+};
+/// These; more moments than a segment holds; and one PathTear over each link.
+const CASES: [Case; 5] = [
+    SHORT,
     Case {
         name: "a long run",
-        plan: SILENT,
         turns: 5_000,
-        is_held: false,
-        room: u64::MAX,
-        is_counted: true,
+        ..SHORT
     },
     Case {
         name: "both at once",
@@ -82,32 +94,16 @@ const CASES: [Case; 5] = [
         },
         turns: 2,
         is_held: true,
-        room: u64::MAX,
-        is_counted: true,
+        ..SHORT
     },
-    Case {
-        name: "all kept",
-        plan: TEARS,
-        turns: 5_000,
-        is_held: false,
-        room: u64::MAX,
-        is_counted: false,
-    },
+    LONG,
     Case {
         name: "one kept",
-        plan: TEARS,
-        turns: 5_000,
-        is_held: false,
         room: 1,
         is_counted: true,
+        ..LONG
     },
 ];
-/// PathTears of an LSP that isn't known.
-const TEARS: WirePlan = WirePlan {
-    arrivals: &[TEAR_FRAME],
-    is_endless: true,
-    ..SILENT
-};
 
 /// A clock that never waits.
 #[derive(Clone, Copy)]
@@ -136,6 +132,18 @@ struct Watch<'a> {
 }
 
 impl<'a> Watch<'a> {
+    /// The gate of this run before it.
+    fn new(clock: &'a HostRuntime, case: Case, entries: &'a AtomicU64) -> Watch<'a> {
+        Watch {
+            clock,
+            case,
+            entries,
+            has_left: AtomicBool::new(false),
+            has_waited: AtomicBool::new(false),
+            is_early: AtomicBool::new(false),
+        }
+    }
+
     /// Waits until port 2 has left.
     fn wait(&self) {
         for _look in 0..MOST_LOOKS {
@@ -285,19 +293,21 @@ fn serve<R: Threads + Wait + Clone + Send + Sync + Drop>(
         is_in_order: true,
         entries: &entries,
     };
-    let watch = Watch {
-        clock: rt,
-        case,
-        entries: &entries,
-        has_left: AtomicBool::new(false),
-        has_waited: AtomicBool::new(false),
-        is_early: AtomicBool::new(false),
-    };
+    let watch = Watch::new(rt, case, &entries);
     let config = read_config(alloc, BUILT_IN)?;
     let links = links(alloc, case.plan)?;
     let clock_wire = ScriptedWire::new(alloc, SILENT);
     match serve_on(
-        waits, &Hasty, alloc, config, links, clock_wire, &watch, case.turns, keeper, &mut ClockAlone,
+        waits,
+        &Hasty,
+        alloc,
+        config,
+        links,
+        clock_wire,
+        &watch,
+        case.turns,
+        keeper,
+        &mut ClockAlone,
     ) {
         Ok((served, keeper)) => tell(rt, alloc, &watch, &keeper, &served),
         Err(_) => Err(Fault::Memory),

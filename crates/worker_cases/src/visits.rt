@@ -87,9 +87,7 @@ fn feed_moments<L: CoreName, R: Wait + Drop>(
     for turn in 0..turns {
         let moment = (u64::from(turn) + 1).saturating_mul(period);
         let event = Event::Tick(moment);
-        serve_event(
-            rt, alloc, core, port, wire, &OpenGate, &mut work, &event,
-        );
+        serve_event(rt, alloc, core, port, wire, &OpenGate, &mut work, &event);
     }
     Ok(work)
 }
@@ -115,9 +113,7 @@ fn make<L: CoreName, R: Wait + Drop>(
             );
             work
         }
-        Task::Tick(period) => {
-            feed_moments(rt, alloc, core, &mut port, &mut wire, turns, period)
-        }
+        Task::Tick(period) => { feed_moments(rt, alloc, core, &mut port, &mut wire, turns, period) }
     };
     Done { work, wire }
 }

@@ -143,8 +143,9 @@ fn fail_at<R: Threads + Wait + Clone + Send + Sync + Drop>(
     };
     let asked = times_asked(run.wires.as_slice());
     let word = run_word(&run.left);
+    let visit = at.saturating_add(1);
     println!(rt;
-        "failing wire: visit {at}, call {call}: asked {asked} times, {word}, {journal}, {came_of}"
+        "failing wire: visit {visit}, call {call}: asked {asked} times, {word}, {journal}, {came_of}"
     )?;
     Ok(())
 }
