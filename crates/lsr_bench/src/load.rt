@@ -5,7 +5,7 @@ use crate::measuring::{per_second, percent, tell, whole};
 use crate::neighbours::{
     CountedWire, Load, Sender, Taker, Traffic, counted_wires, free_links, open_senders, send_all,
 };
-use crate::playing::{PORTS, Play, play};
+use crate::playing::{PORTS, Play, with_router};
 use lsr_config::BUILT_IN;
 use lsr_serve::{LinkWire, UdpWire, link_workers, run_worker};
 use std::alloc::{AllocError, Global};
@@ -214,7 +214,7 @@ fn take_load<R: Net + Threads + Wait + Clone + Send + Sync + Drop>(
         return serve_bare(handles, serving, load.traffic);
     }
     let text = format!(in alloc; "{BUILT_IN}{MORE_LINKS}")?;
-    play(handles, alloc, text.as_str(), serving)
+    with_router(handles, alloc, text.as_str(), serving)
 }
 
 /// Counts of what each wire took, all 0 at first.

@@ -44,7 +44,7 @@ fn play_named<L: CoreName + Send + Sync, R: Wait + Clone + Drop, P: Play<R> + Dr
 }
 
 /// Opens the router of the configuration that this text says, with four ports, and does this with it.
-pub(crate) fn play<R: Wait + Clone + Drop, P: Play<R> + Drop>(
+pub(crate) fn with_router<R: Wait + Clone + Drop, P: Play<R> + Drop>(
     handles: &R,
     alloc: Global,
     text: &str,

@@ -1,7 +1,7 @@
 //! Frames that are forwarded while the entry of their label comes and goes.
 
 use crate::measuring::{per_second, tell, whole};
-use crate::playing::{Play, play};
+use crate::playing::{Play, with_router};
 use lsr_config::BUILT_IN;
 use lsr_facts::Refusal;
 use std::alloc::Global;
@@ -177,7 +177,7 @@ pub(crate) fn measure_withdrawals<R: Threads + Wait + Clone + Send + Sync + Drop
     is_timed: bool,
 ) -> Result<(), Fault> {
     let text = BUILT_IN.replace(rt.alloc(), ITS_LABELS, ONE_LABEL)?;
-    let seen = play(
+    let seen = with_router(
         handles,
         rt.alloc(),
         text.as_str(),

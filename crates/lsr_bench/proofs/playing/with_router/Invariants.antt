@@ -1,4 +1,4 @@
-use Rattle.lsr_bench.proofs.playing.play.Given as goal
+use Rattle.lsr_bench.proofs.playing.with_router.Given as goal
 
 abbrev pub ghosts-play_named-L-CoreName : goal.ghosts-play_named-L-CoreName
 ghosts-play_named-L-CoreName g a = record { config = a.config }
