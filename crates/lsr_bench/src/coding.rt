@@ -1,49 +1,60 @@
 //! How long it takes to read a message, and to write it.
 
+use crate::measuring::{Measured, tell, time_rounds};
 use rsvp_messages::{Message, Reading, read_message, write_message};
 use std::alloc::Global;
-use std::time::{Clock, Duration, Instant};
-use worker_measures::fixtures::{Fault, PATH_FRAME};
+use worker_cases::{Fault, PATH_FRAME};
 
 /// The message of the built-in router's Path, which stands after the byte of its frame's kind.
-fn path_bytes() -> &'static [u8] {
-    PATH_FRAME.get(1..).unwrap_or(PATH_FRAME)
-}
-
-/// The message that these bytes spell.
-fn read_whole(alloc: Global, bytes: &[u8]) -> Result<Message, Fault> {
-    match read_message(alloc, bytes) {
+fn read_path(alloc: Global) -> Result<Message, Fault> {
+    match read_message(alloc, PATH_FRAME.get(1..).unwrap_or(PATH_FRAME)) {
         Ok(Reading::Whole(message)) => Ok(message),
         _ => Err(Fault::NotTaken),
     }
 }
 
-/// How long it takes to read a Path so many times.
-fn time_reading<C: Clock>(clock: &C, alloc: Global, count: u32) -> Result<Duration, Fault> {
-    let bytes = path_bytes();
-    let start = Instant::now(clock)?;
-    for _ in 0..count {
-        let _message = read_whole(alloc, bytes)?;
+/// The Path is read.
+#[derive(Drop)]
+struct PathReading;
+
+impl Measured for PathReading {
+    fn once(&mut self, alloc: Global) -> Result<u64, Fault> {
+        match &read_path(alloc) {
+            Ok(_) => Ok(1),
+            Err(fault) => Err(*fault),
+        }
     }
-    Ok(start.elapsed(clock)?)
 }
 
-/// How long it takes to write one so many times.
-fn time_writing<C: Clock>(clock: &C, alloc: Global, count: u32) -> Result<Duration, Fault> {
-    let message = read_whole(alloc, path_bytes())?;
-    let mut out = Vec::new(alloc);
-    let start = Instant::now(clock)?;
-    for _ in 0..count {
-        out.clear();
-        write_message(&message, &mut out)?;
-    }
-    Ok(start.elapsed(clock)?)
+/// It is written.
+#[derive(Drop)]
+struct PathWriting {
+    message: Message,
+    out: Vec<u8>,
 }
 
-/// Measures how long it takes to read the built-in router's Path, and to write it, by so many times. The fault says what to do.
-pub fn measure_coding<R: Clock + Print>(rt: &R, alloc: Global, count: u32) -> Result<(), Fault> {
-    let reading = time_reading(rt, alloc, count)?.as_nanos() / u128::from(count.max(1));
-    let writing = time_writing(rt, alloc, count)?.as_nanos() / u128::from(count.max(1));
-    println!(rt; "coding: a Path is read in {reading} ns, and written in {writing} ns")?;
+impl Measured for PathWriting {
+    fn once(&mut self, _alloc: Global) -> Result<u64, Fault> {
+        self.out.clear();
+        write_message(&self.message, &mut self.out)?;
+        Ok(1)
+    }
+}
+
+/// Measures how long it takes to read the built-in router's Path, and to write it, by so many times.
+pub(crate) fn measure_coding(rt: &HostRuntime, count: u32) -> Result<(), Fault> {
+    let reading = time_rounds(rt, &mut PathReading, 1, count)?;
+    let mut writing = PathWriting {
+        message: read_path(rt.alloc())?,
+        out: Vec::new(rt.alloc()),
+    };
+    let writing = time_rounds(rt, &mut writing, 1, count)?;
+    let nanos = [reading.nanos_a_call(), writing.nanos_a_call()];
+    tell(
+        rt,
+        "coding: a Path is read in # ns, and written in # ns",
+        "",
+        &nanos,
+    )?;
     Ok(())
 }

@@ -1,339 +1,388 @@
-//! How many look-ups of labels there are a second.
-ghost use Rattle.std.specs.Prelude.{◌≤◌};
+//! How many look-ups of labels there are a second, in a published table and in a bare array.
+ghost use Rattle.std.specs.Prelude.{◌≡◌, ◌≤◌, [], IfOk};
+ghost use Rattle.lookup_plane.specs.Changes.{IsChangeOf};
+ghost use Rattle.lsr_bench.specs.declared.lookups.TheConstants.{FIRST_LABEL, LAST_LABEL};
 
-use crate::publishing::{OUT_LINK, SWAP, Writer, open};
-use crate::tables::{
-    BURST, Bare, Bursts, Longest, LookUp, Nothing, Pace, longest_of, pace_of, pace_of_bursts,
+use crate::measuring::{
+    Measured, Timed, per_second, percent, tell, time_rounds, time_until, whole,
 };
-use lookup_plane::{LookupReader, MAX_LABELS};
-use std::alloc::Global;
+use forwarding_table::Action;
+use lookup_plane::{LookupReader, MAX_LABELS, OpenFault, Plane, TableChange};
+use sorted_rows::Table;
+use std::alloc::{AllocError, Global};
 use std::sync::Wait;
 use std::sync::atomic::{AtomicBool, Ordering};
+use std::thread;
 use std::thread::Threads;
-use std::time::Clock;
-use std::{io, thread};
-use worker_measures::fixtures::Fault;
+use std::time::Duration;
+use worker_cases::{Fault, OUT_LINK};
+
+/// The first label of the range that is looked up.
+const FIRST_LABEL: u32 = 16;
+/// The last one: 4,096 labels in all.
+const LAST_LABEL: u32 = FIRST_LABEL + MAX_LABELS - 1;
+/// How far it is from one label that is looked up to the next, round and round: it comes to all of them.
+const STRIDE: u32 = 1_657;
+/// What is done with each label.
+const SWAP: Action = Action::Swap {
+    label: 100,
+    link: OUT_LINK,
+};
 
 /// The most readers at once.
 const MOST_READERS: usize = 4;
 /// How many changes are published where nobody reads.
 const CHANGES_ALONE: u32 = 100_000;
+/// How many labels a burst looks up at once: as many as packets in a vector of forwarders that work in bursts.
+const BURST: u32 = 256;
+/// How many labels are looked up at once, and what is printed for it.
+const WAYS: [(u32, &str); 2] = [(1, "single look-ups"), (BURST, "look-ups in bursts of 256")];
 
-/// How many hundredths a part is of a whole.
-fn percent(part: u64, whole: u64) -> u64 {
-    let hundredths = u128::from(part) * 100 / u128::from(whole.max(1));
-    u64::try_from(hundredths).unwrap_or(u64::MAX)
+/// The label that is looked up in this turn.
+fn label_in(turn: u32) -> u32
+    ensures { (FIRST_LABEL ≤ result) × (result ≤ LAST_LABEL) }
+{
+    FIRST_LABEL + turn.wrapping_mul(STRIDE) % MAX_LABELS
 }
 
-/// How readers look labels up.
-#[derive(Clone, Copy)]
-enum LookupMode {
-    /// Each label by itself.
-    Single,
-    /// In bursts.
-    Bursts,
-}
-
-impl LookupMode {
-    /// What is printed for it.
-    fn words(self) -> &'static str {
-        match self {
-            LookupMode::Single => "single look-ups",
-            LookupMode::Bursts => "look-ups in bursts of 256",
-        }
+/// The link by which an action lets frames leave; 0 where there is none.
+fn link_of(action: Option<Action>) -> u64 {
+    match action {
+        Some(Action::Swap { label: _, link }) => u64::from(link),
+        _ => 0,
     }
 }
 
-/// How fast the look-ups of a thread are, of a table of its own, each by itself.
-fn pace_of_singles<C: Clock, T: LookUp + Drop>(
-    clock: &C,
-    table: T,
-    count: u32,
-) -> io::Result<Pace> {
-    let mut table = table;
-    pace_of(clock, &mut table, count)
+/// The writer of a table, of which all that it took in is published.
+#[derive(Drop)]
+struct Writer<R: Wait + Drop> {
+    plane: Plane<R>,
+    turn: u32,
+    ghost first: { plane.first_label ≡ FIRST_LABEL },
+    ghost last: { plane.last_label ≡ LAST_LABEL },
+    ghost pending: { plane.pending ≡ [] },
 }
 
-/// The sum of the paces, of which each has to have found so many links in all.
-fn sum_of(paces: &[io::Result<Pace>], links: u64) -> Result<u64, Fault> {
-    let mut sum = 0_u64;
-    for pace in paces {
-        match pace {
-            Ok(pace) if pace.links == links => sum = sum.saturating_add(pace.per_second),
-            Ok(_) => return Err(Fault::NotFound),
-            Err(_) => return Err(Fault::System),
-        }
-    }
-    Ok(sum)
-}
-
-/// How many look-ups a second there are in this mode by one thread for each table, each of which makes so many, up to a whole burst.
-fn read_all<R: Threads + Clock + Sync, T: LookUp + Bursts + Send + Drop>(
-    rt: &R,
-    mode: LookupMode,
-    tables: Vec<T>,
-    count: u32,
-) -> Result<u64, Fault> {
-    let whole = count - count % BURST;
-    let paces = thread::map_vec(
-        rt,
-        tables,
-        &|table| match mode {
-            LookupMode::Single => pace_of_singles(rt, table, whole),
-            LookupMode::Bursts => pace_of_bursts(rt, table, whole),
-        },
-    )?;
-    sum_of(paces.as_slice(), u64::from(whole) * u64::from(OUT_LINK))
-}
-
-/// What there is in a second beside a writer.
-#[derive(Clone, Copy)]
-struct Beside {
-    /// Look-ups.
-    looks: u64,
-    /// Changes that the writer publishes.
-    changes: u64,
-}
-
-/// How many look-ups a second there are beside a writer that publishes all the time.
-fn read_beside<R: Threads + Wait + Clock + Send + Sync + Drop>(
-    rt: &R,
-    alloc: Global,
-    mode: LookupMode,
-    writer: &mut Writer<R>,
-    readers: Vec<LookupReader>,
-    count: u32,
-) -> Result<Beside, Fault> {
-    let is_done = AtomicBool::new(false);
-    let (looks, changes) = thread::join(
-        rt,
-        || {
-            let looks = read_all(rt, mode, readers, count);
-            is_done.store(true, Ordering::SeqCst);
-            looks
-        },
-        || writer.publish_until(rt, alloc, &is_done, u32::MAX),
-    );
-    Ok(Beside {
-        looks: looks?,
-        changes: changes?,
+/// The change by which a label is swapped. The only error is out of memory.
+fn swap_of(alloc: Global, label: u32) -> Result<TableChange, AllocError>
+    requires { (FIRST_LABEL ≤ label) × (label ≤ LAST_LABEL) }
+    ensures { IfOk result (IsChangeOf FIRST_LABEL LAST_LABEL) }
+{
+    let rows = Vec::from_array(alloc, [(label, Some(SWAP))])?;
+    Ok(TableChange {
+        cleared: false,
+        labels: Table::from_rows(rows),
+        tunnels: Table::new(alloc),
     })
 }
 
-/// How many look-ups a second so many readers make in this mode.
-fn readers_alone<R: Threads + Wait + Clock + Clone + Send + Sync + Drop>(
-    rt: &R,
-    alloc: Global,
-    mode: LookupMode,
-    readers: usize,
-    count: u32,
-) -> Result<u64, Fault>
-    requires { readers ≤ 64 }
-{
-    match open(alloc, rt.clone()?, readers) {
-        Ok((_writer, readers)) => read_all(rt, mode, readers, count),
-        Err(fault) => Err(fault),
+impl<R: Wait + Drop> Measured for Writer<R> {
+    /// Publishes that one label more is swapped. It waits for readers that still read what was shown before the last change.
+    fn once(&mut self, alloc: Global) -> Result<u64, Fault> {
+        let change = swap_of(alloc, label_in(self.turn))?;
+        self.turn = self.turn.wrapping_add(1);
+        if self.plane.published_count() < u64::MAX && self.plane.append(change).is_ok() {
+            self.plane.publish();
+            return Ok(1);
+        }
+        Err(Fault::Memory)
     }
 }
 
-/// How many look-ups a second so many readers make in this mode beside a writer.
-fn readers_beside<R: Threads + Wait + Clock + Clone + Send + Sync + Drop>(
-    rt: &R,
-    alloc: Global,
-    mode: LookupMode,
-    readers: usize,
-    count: u32,
-) -> Result<Beside, Fault>
-    requires { readers ≤ 64 }
-{
-    match open(alloc, rt.clone()?, readers) {
-        Ok((mut writer, readers)) => read_beside(rt, alloc, mode, &mut writer, readers, count),
-        Err(fault) => Err(fault),
+impl<R: Wait + Drop> Writer<R> {
+    /// Publishes that each label is swapped.
+    fn publish_all(&mut self, alloc: Global) -> Result<(), Fault> {
+        for _ in FIRST_LABEL..=LAST_LABEL {
+            self.once(alloc)?;
+        }
+        Ok(())
     }
 }
 
-/// How many look-ups a second so many threads make in this mode in a bare array that they share.
-fn array_alone<R: Threads + Clock + Sync>(
-    rt: &R,
+/// A table in which each label is swapped, and so many readers of it.
+fn open<R: Wait + Clone + Drop>(
     alloc: Global,
-    mode: LookupMode,
+    handles: &R,
     readers: usize,
-    count: u32,
-) -> Result<u64, Fault> {
+) -> Result<(Writer<R>, Vec<LookupReader>), Fault>
+    requires { readers ≤ 64 }
+{
+    match Plane::new(alloc, handles.clone()?, FIRST_LABEL, LAST_LABEL, readers) {
+        Ok((plane, readers)) => {
+            let mut writer = Writer { plane, turn: 0 };
+            match writer.publish_all(alloc) {
+                Ok(()) => Ok((writer, readers)),
+                Err(fault) => Err(fault),
+            }
+        }
+        Err(OpenFault::Memory) => Err(Fault::Memory),
+        Err(OpenFault::Reader) => Err(Fault::Reader),
+    }
+}
+
+/// A reader of a published table. It is away only while it reads.
+#[derive(Drop)]
+struct Reader {
+    reader: Option<LookupReader>,
+    turn: u32,
+    burst: u32,
+}
+
+impl Measured for Reader {
+    /// Looks the labels of a burst up, all by what the table shows at one moment: the sum of the links that frames would leave by.
+    fn once(&mut self, _alloc: Global) -> Result<u64, Fault> {
+        let Some(reader) = self.reader.take() else {
+            return Err(Fault::Reader);
+        };
+        let Ok(lookups) = reader.enter() else {
+            return Err(Fault::Reader);
+        };
+        let first = self.turn;
+        self.turn = first.wrapping_add(self.burst);
+        let mut links = 0_u64;
+        for place in 0..self.burst {
+            links = links.wrapping_add(link_of(lookups.look(label_in(first.wrapping_add(place)))));
+        }
+        self.reader = Some(lookups.leave());
+        Ok(links)
+    }
+}
+
+/// A reader of actions in a bare array, that of the first label first.
+#[derive(Clone, Copy)]
+struct Bare<'a> {
+    actions: &'a [Option<Action>],
+    turn: u32,
+    burst: u32,
+}
+
+impl<'a> Measured for Bare<'a> {
+    /// Looks the labels of a burst up: the sum of the links that frames would leave by.
+    fn once(&mut self, _alloc: Global) -> Result<u64, Fault> {
+        let first = self.turn;
+        self.turn = first.wrapping_add(self.burst);
+        let mut links = 0_u64;
+        for place in 0..self.burst {
+            let at = label_in(first.wrapping_add(place)) - FIRST_LABEL;
+            if let Some(action) = self.actions.get(at as usize) {
+                links = links.wrapping_add(link_of(*action));
+            }
+        }
+        Ok(links)
+    }
+}
+
+/// What readers do: how many labels each looks up at once, and in how many rounds of how many calls.
+#[derive(Clone, Copy)]
+struct Looks {
+    burst: u32,
+    rounds: u32,
+    calls: u32,
+}
+
+/// How many labels all readers looked up a second, and the longest of their rounds.
+#[derive(Clone, Copy)]
+struct Pace {
+    rate: u64,
+    longest: Duration,
+    long: u64,
+}
+
+/// The pace of readers, each of which has to have found each label.
+fn pace_of(all: &[Result<Timed, Fault>], burst: u32) -> Result<Pace, Fault> {
+    let mut pace = Pace {
+        rate: 0,
+        longest: Duration::ZERO,
+        long: 0,
+    };
+    for one in all {
+        let timed = match one {
+            Ok(timed) => timed,
+            Err(fault) => return Err(*fault),
+        };
+        let labels = timed.calls.saturating_mul(u64::from(burst));
+        if timed.sum != labels.saturating_mul(u64::from(OUT_LINK)) {
+            return Err(Fault::NotFound);
+        }
+        pace.rate = pace.rate.saturating_add(per_second(labels, timed.took));
+        pace.longest = pace.longest.max(timed.longest);
+        pace.long = pace.long.saturating_add(timed.long);
+    }
+    Ok(pace)
+}
+
+/// The pace of one thread for each of these.
+fn look_by<R: Threads + Sync, T: Measured + Send + Drop>(
+    rt: &HostRuntime,
+    handles: &R,
+    tables: Vec<T>,
+    looks: Looks,
+) -> Result<Pace, Fault> {
+    let all = thread::map_vec(
+        handles,
+        tables,
+        &|table: T| {
+            let mut table = table;
+            time_rounds(rt, &mut table, looks.rounds, looks.calls)
+        },
+    )?;
+    pace_of(all.as_slice(), looks.burst)
+}
+
+/// The pace of so many readers of a table, and how many changes a second its writer publishes beside them: all the time, or none.
+fn look<R: Threads + Wait + Clone + Send + Sync + Drop>(
+    rt: &HostRuntime,
+    handles: &R,
+    readers: usize,
+    looks: Looks,
+    is_beside: bool,
+) -> Result<(Pace, u64), Fault>
+    requires { readers ≤ 64 }
+{
+    let (mut writer, readers) = match open(rt.alloc(), handles, readers) {
+        Ok(opened) => opened,
+        Err(fault) => return Err(fault),
+    };
+    let readers = readers
+        .into_iter()
+        .map(|reader| Reader {
+            reader: Some(reader),
+            turn: 0,
+            burst: looks.burst,
+        })
+        .collect(rt.alloc())?;
+    let is_done = AtomicBool::new(!is_beside);
+    let (pace, changes) = thread::join(
+        handles,
+        || {
+            let pace = look_by(rt, handles, readers, looks);
+            is_done.store(true, Ordering::SeqCst);
+            pace
+        },
+        || time_until(rt, &mut writer, &is_done),
+    );
+    let changes = changes?;
+    Ok((pace?, per_second(changes.calls, changes.took)))
+}
+
+/// The pace of so many threads that look labels up in a bare array that they share.
+fn look_bare<R: Threads + Sync>(
+    rt: &HostRuntime,
+    handles: &R,
+    readers: usize,
+    looks: Looks,
+) -> Result<Pace, Fault> {
+    let alloc = rt.alloc();
     let actions = vec![in alloc; Some(SWAP); MAX_LABELS as usize]?;
     let bare = Bare {
         actions: actions.as_slice(),
+        turn: 0,
+        burst: looks.burst,
     };
-    read_all(rt, mode, vec![in alloc; bare; readers]?, count)
+    look_by(rt, handles, vec![in alloc; bare; readers]?, looks)
 }
 
-/// How many changes a second are published where nobody reads.
-fn writer_alone<R: Wait + Clock + Clone + Drop>(rt: &R, alloc: Global) -> Result<u64, Fault> {
-    match open(alloc, rt.clone()?, 0) {
-        Ok((mut writer, _readers)) => writer.publish_until(
-            rt,
-            alloc,
-            &AtomicBool::new(false),
-            CHANGES_ALONE,
-        ),
-        Err(fault) => Err(fault),
-    }
-}
-
-/// The longest of so many look-ups by one reader beside a writer.
-fn longest_beside<R: Threads + Wait + Clock + Send + Sync + Drop>(
-    rt: &R,
-    alloc: Global,
-    writer: &mut Writer<R>,
-    reader: LookupReader,
-    count: u32,
-) -> Result<Longest, Fault> {
-    let is_done = AtomicBool::new(false);
-    let (longest, changes) = thread::join(
-        rt,
-        || {
-            let mut reader = reader;
-            let longest = longest_of(rt, &mut reader, count);
-            is_done.store(true, Ordering::SeqCst);
-            longest
-        },
-        || writer.publish_until(rt, alloc, &is_done, u32::MAX),
-    );
-    changes?;
-    Ok(longest?)
-}
-
-/// The longest of so many look-ups by the last of these readers beside a writer.
-fn longest_of_last<R: Threads + Wait + Clock + Send + Sync + Drop>(
-    rt: &R,
-    alloc: Global,
-    writer: &mut Writer<R>,
-    readers: Vec<LookupReader>,
-    count: u32,
-) -> Result<Longest, Fault> {
-    let mut readers = readers;
-    match readers.pop() {
-        Some(reader) => longest_beside(rt, alloc, writer, reader, count),
-        None => Err(Fault::Reader),
-    }
-}
-
-/// The longest of so many look-ups by one reader beside a writer, of a table of its own.
-fn longest_look_up<R: Threads + Wait + Clock + Clone + Send + Sync + Drop>(
-    rt: &R,
-    alloc: Global,
-    count: u32,
-) -> Result<Longest, Fault> {
-    match open(alloc, rt.clone()?, 1) {
-        Ok((mut writer, readers)) => longest_of_last(rt, alloc, &mut writer, readers, count),
-        Err(fault) => Err(fault),
-    }
-}
-
-/// Prints how many look-ups a second so many readers make.
-fn tell_rate<R: Print>(
-    rt: &R,
+/// Prints how many look-ups a second so many readers make without a writer, beside one, and in a bare array.
+fn measure_readers<R: Threads + Wait + Clone + Send + Sync + Drop>(
+    rt: &HostRuntime,
+    handles: &R,
     readers: usize,
-    mode: LookupMode,
-    rate: u64,
-    at: &str,
-) -> Result<(), Fault> {
-    let words = mode.words();
-    println!(rt; "readers {readers}: {rate} {words} a second {at}")?;
-    Ok(())
-}
-
-/// Prints what the writer publishes and takes.
-fn tell_writer<R: Print>(
-    rt: &R,
-    readers: usize,
-    alone: u64,
-    beside: Beside,
-    bare: u64,
-) -> Result<(), Fault> {
-    let changes = beside.changes;
-    let kept = percent(beside.looks, alone);
-    let of_bare = percent(beside.looks, bare);
-    println!(rt;
-        "readers {readers}: {changes} changes a second; {kept}% of the look-ups are left beside them, {of_bare}% of the array's"
-    )?;
-    Ok(())
-}
-
-/// Measures and prints how many look-ups a second so many readers make in this mode.
-fn tell_readers<R: Threads + Wait + Clock + Print + Clone + Send + Sync + Drop>(
-    rt: &R,
-    alloc: Global,
-    mode: LookupMode,
-    readers: usize,
-    count: u32,
+    looks: Looks,
+    words: &str,
 ) -> Result<(), Fault>
     requires { readers ≤ 64 }
 {
-    let alone = readers_alone(rt, alloc, mode, readers, count)?;
-    tell_rate(rt, readers, mode, alone, "without a writer")?;
-    let beside = readers_beside(rt, alloc, mode, readers, count)?;
-    tell_rate(rt, readers, mode, beside.looks, "beside a writer")?;
-    let bare = array_alone(rt, alloc, mode, readers, count)?;
-    tell_rate(rt, readers, mode, bare, "in a bare array")?;
-    tell_writer(rt, readers, alone, beside, bare)
-}
-
-/// Prints the longest look-up.
-fn tell_longest<R: Print>(rt: &R, of: &str, longest: Longest, count: u32) -> Result<(), Fault> {
-    let nanos = longest.worst.as_nanos();
-    let long = longest.long;
-    println!(rt; "longest of {count} {of}: {nanos} ns, {long} took over 10000 ns")?;
+    let (alone, _) = look(rt, handles, readers, looks, false)?;
+    let (beside, changes) = look(rt, handles, readers, looks, true)?;
+    let bare = look_bare(rt, handles, readers, looks)?;
+    let numbers = [
+        readers as u64,
+        alone.rate,
+        beside.rate,
+        percent(beside.rate, alone.rate),
+        changes,
+        bare.rate,
+        percent(beside.rate, bare.rate),
+    ];
+    let line =
+        "readers #: # @ a second without a writer, # (#%) beside one that publishes # changes a second; # in a bare array, of which that is #%";
+    tell(rt, line, words, &numbers)?;
     Ok(())
 }
 
-/// Looks labels up in this mode beside a writer, so many by each reader, and prints that each was found.
-fn tell_found<R: Threads + Wait + Clock + Print + Clone + Send + Sync + Drop>(
-    rt: &R,
-    alloc: Global,
-    mode: LookupMode,
+/// Measures look-ups, each reader of which makes so many.
+pub(crate) fn measure_lookups<R: Threads + Wait + Clone + Send + Sync + Drop>(
+    rt: &HostRuntime,
+    handles: &R,
     count: u32,
 ) -> Result<(), Fault> {
-    let _beside = readers_beside(rt, alloc, mode, MOST_READERS, count)?;
-    let words = mode.words();
-    println!(rt; "lookups: {MOST_READERS} readers found each label, {count} {words} by each")?;
-    Ok(())
-}
-
-/// Looks labels up in both ways beside a writer, so many by each reader, and prints that each was found. The fault says what to do.
-pub fn count_lookups<R: Threads + Wait + Clock + Print + Clone + Send + Sync + Drop>(
-    rt: &R,
-    alloc: Global,
-    count: u32,
-) -> Result<(), Fault> {
-    tell_found(rt, alloc, LookupMode::Single, count)?;
-    tell_found(rt, alloc, LookupMode::Bursts, count)
-}
-
-/// Measures look-ups, each reader of which makes so many, and prints what came. The fault says what to do.
-pub fn measure_lookups<R: Threads + Wait + Clock + Print + Clone + Send + Sync + Drop>(
-    rt: &R,
-    alloc: Global,
-    count: u32,
-) -> Result<(), Fault> {
-    let changes = writer_alone(rt, alloc)?;
-    println!(rt; "readers 0: {changes} changes a second")?;
+    let (mut writer, _readers) = match open(rt.alloc(), handles, 0) {
+        Ok(opened) => opened,
+        Err(fault) => return Err(fault),
+    };
+    let changes = time_rounds(rt, &mut writer, 1, CHANGES_ALONE)?;
+    let line = "readers 0: # changes a second";
+    tell(rt, line, "", &[per_second(changes.calls, changes.took)])?;
     for readers in 1..=MOST_READERS {
-        tell_readers(rt, alloc, LookupMode::Single, readers, count)?;
-        tell_readers(rt, alloc, LookupMode::Bursts, readers, count)?;
+        for (burst, words) in WAYS {
+            let looks = Looks {
+                burst,
+                rounds: 1,
+                calls: count / burst.max(1),
+            };
+            measure_readers(rt, handles, readers, looks, words)?;
+        }
     }
     Ok(())
 }
 
-/// Measures the longest of so many look-ups beside a writer, and prints it; and the longest of as many pairs of readings of the clock.
-/// The fault says what to do.
-pub fn measure_longest<R: Threads + Wait + Clock + Print + Clone + Send + Sync + Drop>(
-    rt: &R,
-    alloc: Global,
+/// Measures the longest of so many look-ups beside a writer, and of as many pairs of readings of the clock with nothing between.
+pub(crate) fn measure_longest<R: Threads + Wait + Clone + Send + Sync + Drop>(
+    rt: &HostRuntime,
+    handles: &R,
     count: u32,
 ) -> Result<(), Fault> {
-    let longest = longest_look_up(rt, alloc, count)?;
-    tell_longest(rt, "look-ups beside a writer", longest, count)?;
-    let clock = longest_of(rt, &mut Nothing, count)?;
-    tell_longest(rt, "pairs of readings of the clock", clock, count)
+    let looks = Looks {
+        burst: 1,
+        rounds: count,
+        calls: 1,
+    };
+    let (pace, _) = look(rt, handles, 1, looks, true)?;
+    let mut nothing = Bare {
+        actions: &[],
+        turn: 0,
+        burst: 0,
+    };
+    let clock = time_rounds(rt, &mut nothing, count, 1)?;
+    let numbers = [
+        u64::from(count),
+        whole(pace.longest.as_nanos()),
+        pace.long,
+        whole(clock.longest.as_nanos()),
+        clock.long,
+    ];
+    let line =
+        "longest of # look-ups beside a writer: # ns, # took over 10000 ns; of as many pairs of readings of the clock: # ns, # took over 10000 ns";
+    tell(rt, line, "", &numbers)?;
+    Ok(())
+}
+
+/// Looks labels up in both ways beside a writer, so many by each reader, and prints that each was found.
+pub(crate) fn count_lookups<R: Threads + Wait + Clone + Send + Sync + Drop>(
+    rt: &HostRuntime,
+    handles: &R,
+    count: u32,
+) -> Result<(), Fault> {
+    for (burst, words) in WAYS {
+        let looks = Looks {
+            burst,
+            rounds: 1,
+            calls: count / burst.max(1),
+        };
+        look(rt, handles, MOST_READERS, looks, true)?;
+        let numbers = [MOST_READERS as u64, u64::from(count)];
+        let line = "lookups: # readers found each label, # @ by each";
+        tell(rt, line, words, &numbers)?;
+    }
+    Ok(())
 }

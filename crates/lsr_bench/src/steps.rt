@@ -1,272 +1,363 @@
-//! How long steps of one router take.
+//! How long steps of one router take, which is fed by one thread.
 
-use crate::fed::{Fed, FrameReply, MOST_LSPS};
-use router_core::Event;
+use crate::measuring::{Measured, tell, time_rounds};
+use lsr_config::BUILT_IN;
+use lsr_facts::{Reply, WORST_PRIORITY};
+use router_core::{Event, Machine, Served};
 use std::alloc::Global;
-use std::time::{Clock, Duration, Instant};
-use worker_measures::fixtures::{Fault, OUT_LINK, PATH_FRAME, about_tunnel};
+use worker_cases::{
+    Fault, IN_LINK, OUT_LINK, PATH_FRAME, RESV_FRAME, TEAR_FRAME, about_tunnel, put_bytes,
+    read_config,
+};
 
-/// The sizes of router at which each is measured, in LSPs.
+/// The most LSPs that a router knows.
+const MOST_LSPS: u16 = 1_024;
+/// The sizes of router at which each step is measured, in LSPs.
 const SIZES: [u16; 3] = [1, 64, MOST_LSPS];
 /// How often what a router does once is measured; the shortest time is told.
-const TIMES: u32 = 8;
+const RUNS: u32 = 8;
 /// The refresh period of the built-in router, in milliseconds.
 const REFRESH_MS: u64 = 30_000;
 /// A time in which all that came has expired: three refresh periods and a half, and half as much again (RFC 2205, 3.7), and more.
 const LIFETIME_MS: u64 = 200_000;
 
-/// A step, or three, that a router takes again and again.
-#[derive(Clone, Copy)]
-enum Turn {
-    /// A Path comes again.
-    Path,
-    /// A Resv comes again.
-    Resv,
-    /// An LSP is torn down, and set up and reserved again: three messages.
-    Again,
-    /// A millisecond passes at which nothing is due.
-    Idle,
-    /// Bytes come that are no frame.
-    Junk,
-}
+/// The limit of the built-in router's links, in its configuration.
+const ITS_LIMIT: &str = "limit = 1250000";
+/// A limit for as many LSPs as a router knows, each of which takes 125,000 bytes a second: 128,000,000.
+const ROOMY_LIMIT: &str = "limit = 128000000";
+/// A way round link 2, over link 3, and the tunnel that it runs in.
+const A_BYPASS: &str = r#"
+[[link]]
+number = 3
+address = "10.3.0.2"
+peer = "10.3.0.5"
+peer_router = "10.0.0.5"
+limit = 128000000
 
+[[tunnel]]
+number = 2000
+endpoint = "10.0.0.4"
+route = ["10.0.0.5/32", "10.0.0.4/32"]
+rate = "47f42400"
+setup = 7
+hold = 7
+flags = 0
+name = "round"
+
+[[bypass]]
+number = 1
+tunnel = 2000
+link = 2
+"#;
+/// The link of the bypass.
+const ROUND_LINK: u16 = 3;
+/// The Resv of the bypass's tunnel, without a checksum.
+const ROUND_FRAME: &[u8] = b"\x01\x10\x02\x00\x00\xff\x00\x00\x6c\x00\x10\x01\x07\x0a\x00\x00\
+\x04\x00\x00\x07\xd0\x0a\x00\x00\x02\x00\x0c\x03\x01\x0a\x03\x00\
+\x05\x00\x00\x00\x03\x00\x08\x05\x01\x00\x00\x75\x30\x00\x08\x08\
+\x01\x00\x00\x00\x12\x00\x24\x09\x02\x00\x00\x00\x07\x05\x00\x00\
+\x06\x7f\x00\x00\x05\x47\xf4\x24\x00\x47\xf4\x24\x00\x7f\x80\x00\
+\x00\x00\x00\x00\x40\x00\x00\x05\xdc\x00\x0c\x0a\x07\x0a\x00\x00\
+\x02\x00\x00\x00\x01\x00\x08\x10\x01\x00\x00\x01\xf4";
+
+/// The place of the number of its tunnel in each frame of a message.
+const TUNNEL_AT: usize = 19;
+/// The place of the priorities in [`PATH_FRAME`], setup before holding.
+const PRIORITIES_AT: usize = 85;
+/// The best ones.
+const BEST: [u8; 2] = [0, 0];
+/// The place of the flags there.
+const FLAGS_AT: usize = 87;
+/// The flags that ask for protection of the link, and for a record with labels (RFC 3209, 4.7.2).
+const PROTECTED: [u8; 1] = [0x17];
+/// The place of the rate of the token bucket in [`RESV_FRAME`], and of its size.
+const RATE_AT: usize = 69;
+
+const SIZE_AT: usize = 73;
+/// The word in which a message has a rate of 128,000,000 bytes a second, that of 1,024 LSPs (RFC 2210, 3).
+const WHOLE_RATE: [u8; 4] = [0x4c, 0xf4, 0x24, 0x00];
 /// Bytes that are no frame: the kind is unknown.
 const JUNK: &[u8] = b"\x07junk";
 
-/// All of them.
-const TURNS: [Turn; 5] = [Turn::Path, Turn::Resv, Turn::Again, Turn::Idle, Turn::Junk];
-
-impl Turn {
-    /// What is printed for it.
-    fn words(self) -> &'static str {
-        match self {
-            Turn::Path => "a Path again",
-            Turn::Resv => "a Resv again",
-            Turn::Again => "a PathTear, a Path and a Resv",
-            Turn::Idle => "an idle millisecond",
-            Turn::Junk => "junk",
-        }
-    }
-
-    /// The router takes it, with the LSP at a place: how many frames that sends.
-    fn take(self, alloc: Global, fed: &mut Fed, at: usize) -> Result<u64, Fault> {
-        match self {
-            Turn::Path => fed.path(alloc, at),
-            Turn::Resv => fed.resv(alloc, at),
-            Turn::Again => {
-                let torn = fed.tear(alloc, at)?;
-                let again = fed.path(alloc, at)?;
-                Ok(
-                    torn.saturating_add(again)
-                        .saturating_add(fed.resv(alloc, at)?),
-                )
-            }
-            Turn::Idle => fed.pass(alloc, 1),
-            Turn::Junk => match fed.answer(alloc, JUNK) {
-                FrameReply::Other => Ok(0),
-                FrameReply::Sent(_) | FrameReply::Error(..) => Err(Fault::NotTaken),
-            },
-        }
-    }
-}
-
-/// A router takes a turn so many times, with one LSP after the other: how many frames that sends.
-fn take_turns(alloc: Global, fed: &mut Fed, turn: Turn, count: u32) -> Result<u64, Fault> {
-    let mut sent = 0_u64;
-    let lsps = fed.count().max(1);
-    for at in 0..count as usize {
-        sent = sent.saturating_add(turn.take(alloc, fed, at % lsps)?);
-    }
-    Ok(sent)
-}
-
-/// How many frames a router of so many LSPs sends in so many turns.
-fn count_turns(alloc: Global, lsps: u16, turn: Turn, count: u32) -> Result<u64, Fault> {
-    let mut fed = Fed::open(alloc, lsps)?;
-    fed.set_up(alloc, 0)?;
-    take_turns(alloc, &mut fed, turn, count)
-}
-
-/// How long a router of so many LSPs takes for so many turns.
-fn time_turns<C: Clock>(
-    clock: &C,
-    alloc: Global,
-    lsps: u16,
-    turn: Turn,
-    count: u32,
-) -> Result<Duration, Fault> {
-    let mut fed = Fed::open(alloc, lsps)?;
-    fed.set_up(alloc, 0)?;
-    let start = Instant::now(clock)?;
-    take_turns(alloc, &mut fed, turn, count)?;
-    Ok(start.elapsed(clock)?)
-}
-
-/// What a router does once, with all of its LSPs.
+/// What comes to a router.
 #[derive(Clone, Copy)]
-enum Once {
-    /// The refresh period ends, and all Paths and Resvs are sent again.
-    Refresh,
-    /// The link goes down that all LSPs are reserved on.
+enum Input {
+    /// The Path of an LSP.
+    Path,
+    /// Its Resv.
+    Resv,
+    /// Its PathTear.
+    Tear,
+    /// Bytes that are no frame.
+    Junk,
+    /// The end of so many milliseconds.
+    Pass(u64),
+    /// Link 2 goes down, on which all are reserved.
     Down,
-    /// It goes down, and all are repaired over a bypass.
-    Repair,
-    /// A Resv comes for which all others have to give way.
-    Victims,
 }
 
-/// All of them.
-const ALL_ONCE: [Once; 4] = [Once::Refresh, Once::Down, Once::Repair, Once::Victims];
+/// How the LSPs are set up before.
+#[derive(Clone, Copy)]
+enum Setting {
+    /// All are reserved.
+    Reserved,
+    /// All are protected by a bypass.
+    Protected,
+    /// The Resv of the last one is awaited, for which all others have to give way.
+    Awaited,
+}
 
-impl Once {
-    /// What is printed for it.
-    fn words(self) -> &'static str {
-        match self {
-            Once::Refresh => "all are refreshed",
-            Once::Down => "link down, all are reserved on it",
-            Once::Repair => "link down, all are repaired",
-            Once::Victims => "a Resv takes all others",
-        }
+/// What is printed for a step of a router, or for three; what comes; and how its LSPs are set up before.
+type Step = (&'static str, &'static [Input], Setting);
+
+/// What a router does again and again, with one LSP after the other.
+const AGAIN: [Step; 5] = [
+    ("a Path again", &[Input::Path], Setting::Reserved),
+    ("a Resv again", &[Input::Resv], Setting::Reserved),
+    (
+        "a PathTear, a Path and a Resv",
+        &[Input::Tear, Input::Path, Input::Resv],
+        Setting::Reserved,
+    ),
+    ("an idle millisecond", &[Input::Pass(1)], Setting::Reserved),
+    ("junk", &[Input::Junk], Setting::Reserved),
+];
+/// What it does once, with all of them.
+const ONCE: [Step; 4] = [
+    (
+        "all are refreshed",
+        &[Input::Pass(REFRESH_MS)],
+        Setting::Reserved,
+    ),
+    (
+        "link down, all are reserved on it",
+        &[Input::Down],
+        Setting::Reserved,
+    ),
+    (
+        "link down, all are repaired",
+        &[Input::Down],
+        Setting::Protected,
+    ),
+    ("a Resv takes all others", &[Input::Resv], Setting::Awaited),
+];
+
+/// The router of the built-in configuration with room for all LSPs, and more of this text.
+fn open_router(alloc: Global, more: &str) -> Result<Machine, Fault> {
+    let roomy = BUILT_IN.replace(alloc, ITS_LIMIT, ROOMY_LIMIT)?;
+    let text = format!(in alloc; "{roomy}{more}")?;
+    Ok(Machine::open(alloc, read_config(alloc, text.as_str())?)?)
+}
+
+/// What a router replies to a frame that comes over a link, and how many frames it sends; none where it takes nothing.
+fn reply_to(alloc: Global, router: &mut Machine, link: u16, frame: &[u8]) -> Option<(Reply, u64)> {
+    match &router.serve_datagram(alloc, link, frame) {
+        Ok(Served::Made(made)) => Some((made.reply, made.outputs.as_slice().len() as u64)),
+        _ => None,
+    }
+}
+
+/// A frame comes over a link, about the tunnel of this number, and is done: how many frames that sends.
+fn feed(
+    alloc: Global,
+    router: &mut Machine,
+    link: u16,
+    frame: &mut Vec<u8>,
+    tunnel: u16,
+) -> Result<u64, Fault> {
+    put_bytes(frame, TUNNEL_AT, &tunnel.to_be_bytes());
+    match reply_to(alloc, router, link, frame.as_slice()) {
+        Some((Reply::Done, sent)) => Ok(sent),
+        _ => Err(Fault::NotTaken),
+    }
+}
+
+/// An event comes, and is done: how many frames that sends.
+fn serve(alloc: Global, router: &mut Machine, event: Event) -> Result<u64, Fault> {
+    match &router.serve_event(alloc, event) {
+        Ok(made) if matches!(made.reply, Reply::Done) => Ok(made.outputs.as_slice().len() as u64),
+        _ => Err(Fault::NotTaken),
+    }
+}
+
+/// A router, the frames that come to it, and how many LSPs it is fed. Each frame is put about the LSP that it comes of.
+#[derive(Drop)]
+struct Fed {
+    router: Machine,
+    inputs: &'static [Input],
+    path: Vec<u8>,
+    resv: Vec<u8>,
+    tear: Vec<u8>,
+    lsps: u16,
+    /// The tunnel of the LSP of which something came last.
+    tunnel: u16,
+    moment: u64,
+}
+
+impl Fed {
+    /// A router that is to be fed so many LSPs, and what comes then.
+    fn new(alloc: Global, more: &str, inputs: &'static [Input], lsps: u16) -> Result<Fed, Fault> {
+        Ok(Fed {
+            router: open_router(alloc, more)?,
+            inputs,
+            path: about_tunnel(alloc, PATH_FRAME, 1)?,
+            resv: about_tunnel(alloc, RESV_FRAME, 1)?,
+            tear: about_tunnel(alloc, TEAR_FRAME, 1)?,
+            lsps,
+            tunnel: 0,
+            moment: 0,
+        })
     }
 
-    /// A router of so many LSPs that is about to do it.
-    fn open(self, alloc: Global, lsps: u16) -> Result<Fed, Fault> {
-        let mut fed = match self {
-            Once::Repair => Fed::open_protected(alloc, lsps.min(MOST_LSPS - 1))?,
-            Once::Refresh | Once::Down | Once::Victims => Fed::open(alloc, lsps)?,
+    /// A router to which so many LSPs came that are set up for this step. Where a bypass protects them there is one less, whose place its tunnel has.
+    fn open(alloc: Global, (_, inputs, setting): Step, lsps: u16) -> Result<Fed, Fault> {
+        let is_protected = matches!(setting, Setting::Protected);
+        let mut fed = if is_protected {
+            Fed::new(alloc, A_BYPASS, inputs, lsps.min(MOST_LSPS - 1))?
+        } else {
+            Fed::new(alloc, "", inputs, lsps)?
         };
-        let is_greedy = matches!(self, Once::Victims);
-        if is_greedy {
-            fed.make_last_greedy();
+        if is_protected {
+            put_bytes(&mut fed.path, FLAGS_AT, &PROTECTED);
+            fed.take(alloc, Input::Pass(1))?;
+            reply_to(alloc, &mut fed.router, ROUND_LINK, ROUND_FRAME);
         }
-        fed.set_up(alloc, usize::from(is_greedy))?;
+        fed.set_up(alloc, matches!(setting, Setting::Awaited))?;
         Ok(fed)
     }
 
-    /// The router does it: how many frames that sends.
-    fn take(self, alloc: Global, fed: &mut Fed) -> Result<u64, Fault> {
-        match self {
-            Once::Refresh => fed.pass(alloc, REFRESH_MS),
-            Once::Down | Once::Repair => fed.serve(alloc, Event::LinkDown(OUT_LINK)),
-            Once::Victims => fed.resv(alloc, fed.count().saturating_sub(1)),
+    /// The Path and the Resv of each LSP come. Where the last Resv is awaited, it doesn't; its LSP is set up and held at the best priority, and
+    /// takes all that may be reserved.
+    fn set_up(&mut self, alloc: Global, is_awaited: bool) -> Result<(), Fault> {
+        for tunnel in 1..=self.lsps {
+            self.tunnel = tunnel;
+            let is_last = is_awaited && tunnel == self.lsps;
+            if is_last {
+                put_bytes(&mut self.path, PRIORITIES_AT, &BEST);
+                put_bytes(&mut self.resv, RATE_AT, &WHOLE_RATE);
+                put_bytes(&mut self.resv, SIZE_AT, &WHOLE_RATE);
+            }
+            self.take(alloc, Input::Path)?;
+            if is_last {
+                self.tunnel = tunnel.saturating_sub(1);
+            } else {
+                self.take(alloc, Input::Resv)?;
+            }
+        }
+        Ok(())
+    }
+
+    /// This comes, and is done: how many frames that sends.
+    fn take(&mut self, alloc: Global, input: Input) -> Result<u64, Fault> {
+        let tunnel = self.tunnel;
+        let router = &mut self.router;
+        match input {
+            Input::Path => feed(alloc, router, IN_LINK, &mut self.path, tunnel),
+            Input::Resv => feed(alloc, router, OUT_LINK, &mut self.resv, tunnel),
+            Input::Tear => feed(alloc, router, IN_LINK, &mut self.tear, tunnel),
+            Input::Junk => match reply_to(alloc, router, IN_LINK, JUNK) {
+                Some(_) => Err(Fault::NotTaken),
+                None => Ok(0),
+            },
+            Input::Pass(milliseconds) => {
+                self.moment = self.moment.saturating_add(milliseconds);
+                serve(alloc, router, Event::Tick(self.moment))
+            }
+            Input::Down => serve(alloc, router, Event::LinkDown(OUT_LINK)),
         }
     }
-}
 
-/// How many frames a router of so many LSPs sends that does this once.
-fn count_once(alloc: Global, lsps: u16, once: Once) -> Result<u64, Fault> {
-    let mut fed = once.open(alloc, lsps)?;
-    once.take(alloc, &mut fed)
-}
-
-/// How long a router of so many LSPs takes that does this once.
-fn time_once<C: Clock>(clock: &C, alloc: Global, lsps: u16, once: Once) -> Result<Duration, Fault> {
-    let mut fed = once.open(alloc, lsps)?;
-    let start = Instant::now(clock)?;
-    once.take(alloc, &mut fed)?;
-    Ok(start.elapsed(clock)?)
-}
-
-/// The shortest of some times.
-fn shortest<C: Clock>(
-    clock: &C,
-    alloc: Global,
-    lsps: u16,
-    once: Once,
-    times: u32,
-) -> Result<Duration, Fault> {
-    let mut best = time_once(clock, alloc, lsps, once)?;
-    for _ in 1..times {
-        best = best.min(time_once(clock, alloc, lsps, once)?);
+    /// Prints how many LSPs it knows, and how much of link 2 is reserved at each of the eight priorities or a better one: the sum of the eight.
+    fn tell_known(&self, rt: &HostRuntime) -> Result<(), Fault> {
+        let known = self.router.export(rt.alloc())?.facts.paths.as_slice().len();
+        let mut reserved = 0_u64;
+        for priority in 0..=WORST_PRIORITY {
+            reserved = reserved.saturating_add(self.router.reserved(OUT_LINK, priority));
+        }
+        let line = "steps: # LSPs known; bytes a second reserved, the sum over priorities: #";
+        tell(rt, line, "", &[known as u64, reserved])?;
+        Ok(())
     }
-    Ok(best)
 }
 
-/// Prints how long a turn takes by routers of each size, by so many turns of each.
-fn measure_turn<R: Clock + Print>(
-    rt: &R,
-    alloc: Global,
-    turn: Turn,
-    count: u32,
-) -> Result<(), Fault> {
-    let what = turn.words();
+impl Measured for Fed {
+    /// All that is to come comes, of the next LSP: how many frames that sends.
+    fn once(&mut self, alloc: Global) -> Result<u64, Fault> {
+        self.tunnel = if self.tunnel < self.lsps {
+            self.tunnel + 1
+        } else {
+            1
+        };
+        let mut sent = 0_u64;
+        for input in self.inputs {
+            sent = sent.saturating_add(self.take(alloc, *input)?);
+        }
+        Ok(sent)
+    }
+}
+
+/// Prints how long this step takes by routers of each size: the shortest of so many runs of so many calls.
+fn measure_step(rt: &HostRuntime, step: Step, runs: u32, calls: u32) -> Result<(), Fault> {
     for lsps in SIZES {
-        let took = time_turns(rt, alloc, lsps, turn, count)?;
-        let nanos = took.as_nanos() / u128::from(count.max(1));
-        println!(rt; "steps: {lsps} LSPs: {what}: {nanos} ns")?;
+        let mut nanos = u64::MAX;
+        for _ in 0..runs {
+            let mut fed = Fed::open(rt.alloc(), step, lsps)?;
+            nanos = nanos.min(time_rounds(rt, &mut fed, 1, calls)?.nanos_a_call());
+        }
+        tell(
+            rt,
+            "steps: # LSPs: @: # ns",
+            step.0,
+            &[u64::from(lsps), nanos],
+        )?;
     }
     Ok(())
 }
 
-/// Prints how long a router of each size takes for what it does once.
-fn measure_once<R: Clock + Print>(rt: &R, alloc: Global, once: Once) -> Result<(), Fault> {
-    let what = once.words();
-    for lsps in SIZES {
-        let nanos = shortest(rt, alloc, lsps, once, TIMES)?.as_nanos();
-        println!(rt; "steps: {lsps} LSPs: {what}: {nanos} ns")?;
+/// Measures how long steps of one router take, by so many of those that it takes again and again.
+pub(crate) fn measure_steps(rt: &HostRuntime, count: u32) -> Result<(), Fault> {
+    for step in AGAIN {
+        measure_step(rt, step, 1, count)?;
+    }
+    for step in ONCE {
+        measure_step(rt, step, RUNS, 1)?;
     }
     Ok(())
 }
 
-/// Measures how long steps of one router take, by so many of those that it takes again and again. The fault says what to do.
-pub fn measure_steps<R: Clock + Print>(rt: &R, alloc: Global, count: u32) -> Result<(), Fault> {
-    for turn in TURNS {
-        measure_turn(rt, alloc, turn, count)?;
-    }
-    for once in ALL_ONCE {
-        measure_once(rt, alloc, once)?;
-    }
-    Ok(())
-}
-
-/// Prints how many frames a router of the most LSPs sends in so many turns.
-fn tell_turns<R: Print>(rt: &R, alloc: Global, turn: Turn, count: u32) -> Result<(), Fault> {
-    let what = turn.words();
-    let sent = count_turns(alloc, MOST_LSPS, turn, count)?;
-    println!(rt; "steps: {MOST_LSPS} LSPs: {what}, {count} times: {sent} frames are sent")?;
-    Ok(())
-}
-
-/// Prints how many frames a router of the most LSPs sends for what it does once.
-fn tell_once<R: Print>(rt: &R, alloc: Global, once: Once) -> Result<(), Fault> {
-    let what = once.words();
-    let sent = count_once(alloc, MOST_LSPS, once)?;
-    println!(rt; "steps: {MOST_LSPS} LSPs: {what}: {sent} frames are sent")?;
-    Ok(())
-}
-
-/// Prints how many LSPs a router knows, and what is reserved at all eight priorities together on the link that they leave by.
-fn tell_known<R: Print>(rt: &R, alloc: Global, fed: &Fed) -> Result<(), Fault> {
-    let known = fed.known(alloc)?;
-    let reserved = fed.reserved_in_all(OUT_LINK);
-    println!(rt;
-        "steps: {known} LSPs known; bytes a second reserved, the sum over priorities: {reserved}"
-    )?;
-    Ok(())
+/// How many frames a router of the most LSPs sends that does this so many times.
+fn frames_of(rt: &HostRuntime, step: Step, calls: u32) -> Result<u64, Fault> {
+    let mut fed = Fed::open(rt.alloc(), step, MOST_LSPS)?;
+    Ok(time_rounds(rt, &mut fed, 1, calls)?.sum)
 }
 
 /// A router knows all the LSPs that it may; then one more comes, and then a moment past every expiry. Prints what it knows.
-fn tell_filled<R: Print>(rt: &R, alloc: Global) -> Result<(), Fault> {
-    let mut fed = Fed::open(alloc, MOST_LSPS)?;
-    fed.set_up(alloc, 0)?;
-    tell_known(rt, alloc, &fed)?;
+fn count_filled(rt: &HostRuntime) -> Result<(), Fault> {
+    let alloc = rt.alloc();
+    let mut fed = Fed::open(alloc, AGAIN[0], MOST_LSPS)?;
+    fed.tell_known(rt)?;
     let more = about_tunnel(alloc, PATH_FRAME, MOST_LSPS + 1)?;
-    match fed.answer(alloc, more.as_slice()) {
-        FrameReply::Error(code, value) => println!(rt; "steps: one more: error {code} {value}")?,
-        FrameReply::Sent(_) | FrameReply::Other => return Err(Fault::NotTaken),
-    }
-    fed.pass(alloc, LIFETIME_MS)?;
-    tell_known(rt, alloc, &fed)
+    let reply = reply_to(alloc, &mut fed.router, IN_LINK, more.as_slice());
+    let Some((Reply::Error(error), _)) = reply else {
+        return Err(Fault::NotTaken);
+    };
+    let numbers = [u64::from(error.code), u64::from(error.value)];
+    tell(rt, "steps: one more: error # #", "", &numbers)?;
+    fed.take(alloc, Input::Pass(LIFETIME_MS))?;
+    fed.tell_known(rt)
 }
 
-/// Takes steps of one router, so many of those that it takes again and again, and prints what it sends and knows. The fault says
-/// what to do.
-pub fn count_steps<R: Print>(rt: &R, alloc: Global, count: u32) -> Result<(), Fault> {
-    for turn in TURNS {
-        tell_turns(rt, alloc, turn, count)?;
+/// Takes steps of one router, so many of those that it takes again and again, and prints what it sends and knows.
+pub(crate) fn count_steps(rt: &HostRuntime, count: u32) -> Result<(), Fault> {
+    let lsps = u64::from(MOST_LSPS);
+    for step in AGAIN {
+        let numbers = [lsps, u64::from(count), frames_of(rt, step, count)?];
+        let line = "steps: # LSPs: @, # times: # frames are sent";
+        tell(rt, line, step.0, &numbers)?;
     }
-    for once in ALL_ONCE {
-        tell_once(rt, alloc, once)?;
+    for step in ONCE {
+        let numbers = [lsps, frames_of(rt, step, 1)?];
+        tell(rt, "steps: # LSPs: @: # frames are sent", step.0, &numbers)?;
     }
-    tell_filled(rt, alloc)
+    count_filled(rt)
 }
