@@ -27,6 +27,7 @@ import itertools
 import os
 import pathlib
 import re
+import select
 import shutil
 import socket
 import subprocess
@@ -605,6 +606,8 @@ CONSOLE = [
 # What is told of a line for which there was no memory: it is to be written again, or it was answered.
 UNDONE = b"memory\n  nothing was done: write the line again\n"
 UNTOLD = b"memory\n  it was answered: show recent has the reply\n"
+# What it tells that ends for want of memory, or had none for a piece of its journal.
+UNSERVED = (*STARVED, b"segment 1: not kept\n")
 # The router: where it listens, and where it sends to.
 CONSOLE_CONFIG = """router = "10.0.0.1"
 refresh_ms = 1000000
@@ -623,6 +626,7 @@ send = "127.0.0.1:{}"
 MOST_STARTS = 10
 PORT_TAKEN = b"link 1: socket\n"
 CONSOLES_AT_ONCE = 4 * PROCESSORS
+CONSOLE_SECONDS = int(os.environ.get('CS','120'))
 
 
 def free_port():
@@ -632,11 +636,14 @@ def free_port():
         return held.getsockname()[1]
 
 
-def read_answer(stream, texts):
-    """Reads one of these texts, or else as much as can't be one, or is the last."""
+def read_answer(process, texts):
+    """Reads one of these texts; else what can't be the beginning of one, or comes before the run ends, which is told at once."""
     came = b""
     while came not in texts and any(text.startswith(came) for text in texts):
-        more = os.read(stream.fileno(), len(max(texts, key=len)))
+        ready, _, _ = select.select([process.stdout, process.stderr], [], [])
+        if process.stdout not in ready:
+            break
+        more = os.read(process.stdout.fileno(), len(max(texts, key=len)))
         if not more:
             break
         came += more
@@ -655,11 +662,11 @@ def type_line(process, line, wanted):
     """Types a line, and again where nothing was done: what is told of it at last, and whether there was no memory at first."""
     texts = {wanted, UNDONE, UNTOLD, REFUSAL}
     write_line(process.stdin, line)
-    came = read_answer(process.stdout, texts)
+    came = read_answer(process, texts)
     if came not in (UNDONE, REFUSAL):
         return came, came == UNTOLD
     write_line(process.stdin, line)
-    return read_answer(process.stdout, {wanted}), True
+    return read_answer(process, {wanted}), True
 
 
 def type_all(process):
@@ -677,11 +684,11 @@ def type_all(process):
 def judge_console(process, was_short, strange):
     """What comes of a router with a console, to which all was typed."""
     write_line(process.stdin, "quit")
-    out, err = process.communicate(timeout=MOST_SECONDS)
+    out, err = process.communicate()
     is_whole = re.fullmatch(rb"the run ends\nreconciled [0-9]+ entries\n", out)
     if process.returncode == 0 and is_whole and not strange and not err:
         return (AGAIN if was_short else SAME), out, err
-    is_told = process.returncode == 1 and (b"memory\n" in err or b"not kept\n" in err)
+    is_told = process.returncode == 1 and err.startswith(UNSERVED)
     return (ENDED if is_told else DIFFERS), strange + out, err
 
 
@@ -693,11 +700,14 @@ def serve_once(room, call):
     pipes = {stream: subprocess.PIPE for stream in ("stdin", "stdout", "stderr")}
     process, reports = start(room, Ask(words), "", {"REFUSED": MEMORY, "ONLY": str(call)}, **pipes)
     with reports, process:
-        watch = threading.Timer(MOST_SECONDS, process.kill)
+        watch = threading.Timer(CONSOLE_SECONDS, process.kill)
         watch.start()
         word, out, err = judge_console(process, *type_all(process))
         watch.cancel()
-        calls = int(reports.readline().split()[1])
+        ends = reports.read().split()
+    if not ends:
+        return DIFFERS, call, out, err + b"(killed, after %d s or by itself)" % CONSOLE_SECONDS
+    calls = int(ends[1])
     files = sorted(map(str, room.folder.glob(f"{pathlib.Path(prefix).name}.*")))
     if files and ask_lsr(room, "check", *files).status:
         return DIFFERS, calls, out, b"lsr check fails of the journal's files"
