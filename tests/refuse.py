@@ -50,11 +50,11 @@ MOST_SHOWN = 3
 SHOWN_BYTES = 400
 # What is refused.
 MEMORY, FAILS, SHORT, INTERRUPTED = "memory", "fails", "short", "interrupted"
-# What comes of a run: all that it gives else; a line refused and given again; its end, told; or what mustn't be.
-SAME, AGAIN, ENDED, DIFFERS = "the same", "refused and again", "ended", "differ"
+# What comes of a run: all that it gives else; a line or a message answered with refusal 40; its end, told; or what mustn't be.
+SAME, REFUSED, ENDED, DIFFERS = "the same", "answered with 40", "ended", "differ"
 REFUSAL = b"refused 40 NoMemory\n"
 # What a run tells that ends for want of memory, and what `lsr check` prints then.
-STARVED = (b"memory\n", b"config Memory\n")
+STARVED = re.compile(rb"(memory|world Memory|config Memory(\n  in .*)?)\n")
 UNCHECKED = b"entry 0: Memory\n"
 # Refusals that leave no entry in a journal.
 NO_ENTRY = {b"%d" % number for number in (*range(1, 10), 13, 14, 40, 41, 42, 43)}
@@ -264,7 +264,7 @@ def section(room, name):
 
 def is_starved(one):
     """Whether a run ended for want of memory, and said so."""
-    return one.status == 1 and one.err.startswith(STARVED)
+    return one.status == 1 and STARVED.fullmatch(one.err)
 
 
 def is_same(wanted, one):
@@ -339,7 +339,7 @@ def starts_of(answers):
 def judge_lines(whole, refused, starts, one):
     """Of a run over lines: what is printed in all, where a line was refused, and between lines."""
     if one.status == 0 and not one.err and one.out in (refused | {whole}):
-        return SAME if one.out == whole else AGAIN
+        return SAME if one.out == whole else REFUSED
     return ENDED if is_starved(one) and one.out in starts else None
 
 
@@ -462,7 +462,7 @@ def judge_recorded(whole, refused, begun, starts, one):
     what is printed between lines."""
     pair = (one.out, one.kept)
     if one.status == 0 and not one.err and pair in (refused | {whole}):
-        return SAME if pair == whole else AGAIN
+        return SAME if pair == whole else REFUSED
     return ENDED if is_starved(one) and one.out in starts and one.kept in begun | {b""} else None
 
 
@@ -509,17 +509,40 @@ CAPTURES = ["first-path.pcap", "first-path.pcapng"]
 
 def judge_chart(wanted, one):
     """Of a run that is drawn. Where memory ran out for the chart alone, all is printed, and no file is left."""
-    if one.status == 0 and not one.err and REFUSAL in one.out and REFUSAL.split()[-1] in one.kept:
-        return AGAIN
+    is_drawn = REFUSAL in one.out and REFUSAL.split()[-1] in one.kept
+    if one.status == 0 and not one.err and is_drawn:
+        return REFUSED
     return judge_plain(wanted, one)
+
+
+def without_memory(number, paragraph):
+    """What `lsr decode` prints of a packet or of line NUMBER that there was no memory to read."""
+    head, newline, _ = paragraph.partition(b"\n")
+    return head + newline + REFUSAL.rstrip() if head.startswith(b"packet") else b"line %d: " % number + REFUSAL.rstrip()
+
+
+def judge_decode(wanted, one):
+    """Of `lsr decode`, which refuses one message for want of memory and goes on."""
+    parts = wanted.out.split(b"\n\n")
+    refused = [
+        b"\n\n".join([*parts[:place], without_memory(place + 1, part), *parts[place + 1 :]]) for place, part in enumerate(parts[:-1])
+    ]
+    is_refused = (one.err == wanted.err and one.out in refused) or (one.err == REFUSAL and not one.out)
+    return REFUSED if one.status == 1 and is_refused else judge_plain(wanted, one)
 
 
 def decode_jobs(room):
     """`lsr decode` of a message, of lines, and of captures."""
     lines = write_lines(room, [FIRST_MESSAGE, "00", "xyz", FIRST_MESSAGE])
-    words = [[FIRST_MESSAGE], ["00"], *([f"./{name}"] for name in CAPTURES)]
-    cases = [plain_case(room, "decode", *it, *more) for it in words for more in ([], ["--fields"])]
-    return jobs_of(room, *cases, plain_case(room, "decode", "-", given=lines))
+    asks = [([FIRST_MESSAGE], os.devnull), (["00"], os.devnull), (["-"], lines), *(([f"./{name}"], os.devnull) for name in CAPTURES)]
+    return jobs_of(
+        room,
+        *(
+            plain_case(room, "decode", *words, *more, given=given, judge=judge_decode)
+            for words, given in asks
+            for more in ([], ["--fields"])
+        ),
+    )
 
 
 def explain_jobs(room):
@@ -607,7 +630,7 @@ CONSOLE = [
 UNDONE = b"memory\n  nothing was done: write the line again\n"
 UNTOLD = b"memory\n  it was answered: show recent has the reply\n"
 # What it tells that ends for want of memory, or had none for a piece of its journal.
-UNSERVED = (*STARVED, b"segment 1: not kept\n")
+UNSERVED = (b"memory\n", b"config Memory\n", b"segment 1: not kept\n")
 # The router: where it listens, and where it sends to.
 CONSOLE_CONFIG = """router = "10.0.0.1"
 refresh_ms = 1000000
@@ -687,7 +710,7 @@ def judge_console(process, was_short, strange):
     out, err = process.communicate()
     is_whole = re.fullmatch(rb"the run ends\nreconciled [0-9]+ entries\n", out)
     if process.returncode == 0 and is_whole and not strange and not err:
-        return (AGAIN if was_short else SAME), out, err
+        return (REFUSED if was_short else SAME), out, err
     is_told = process.returncode == 1 and err.startswith(UNSERVED)
     return (ENDED if is_told else DIFFERS), strange + out, err
 
