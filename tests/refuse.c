@@ -156,12 +156,11 @@ void *malloc(size_t size) { return has_no_memory() ? 0 : __libc_malloc(size); }
 void *calloc(size_t count, size_t size) { return has_no_memory() ? 0 : __libc_calloc(count, size); }
 void *realloc(void *old, size_t size) { return has_no_memory() ? 0 : __libc_realloc(old, size); }
 
-/* Whether a call that moves so many bytes fails here, with the error in `errno`. */
+/* Whether a read or a write fails here, with the error in `errno`. */
 static int fails(void) {
-    errno = EIO;
-    if (refuses(FAILS)) return 1;
-    errno = EINTR;
-    return refuses(INTERRUPTED);
+    int found = refuses(FAILS) ? EIO : refuses(INTERRUPTED) ? EINTR : 0;
+    if (found) errno = found;
+    return found != 0;
 }
 
 /* The next of the lines. */

@@ -40,7 +40,7 @@ from typing import Callable, NamedTuple
 
 TOP = pathlib.Path(__file__).resolve().parent.parent
 PROVED = TOP / "crates" / "lsr" / "out" / "lsr"
-FOLDERS = [TOP / "crates" / "lsr_cases" / "data", TOP / "tests" / "data" / "lines", TOP / "tests" / "data" / "refuse", TOP / "examples"]
+FOLDERS = [TOP / "crates" / "lsr_cases" / "data", TOP / "tests" / "data" / "lines", TOP / "tests" / "data" / "refuse"]
 SOURCE = TOP / "tests" / "refuse.c"
 PROCESSORS = os.cpu_count()
 # One run that takes longer hangs.
@@ -504,7 +504,7 @@ def read_jobs(room, name):
 # Others.
 
 FIRST_MESSAGE = "1005b988ff000030001001070a000004000000010a000001000c03010a00000100000001000c0b070a00000100000001"
-CAPTURES = ["first-path.pcap", "first-path.pcapng"]
+CAPTURES = ["captures/first-path.pcap", "captures/first-path.pcapng"]
 
 
 def judge_chart(wanted, one):
@@ -589,7 +589,7 @@ def stream_jobs(room):
         (["step", "--live"], "reserve.step"),
         (["step", "--config", "repair-row16.toml"], "repair-row16.step"),
         (["decode", FIRST_MESSAGE], os.devnull),
-        (["decode", "./first-path.pcap"], os.devnull),
+        (["decode", "./captures/first-path.pcap"], os.devnull),
         (["config"], os.devnull),
         (["config", "growth-middle.toml"], os.devnull),
         (["check", journal], os.devnull),
