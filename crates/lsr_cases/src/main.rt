@@ -1,5 +1,5 @@
 //! Worked cases that no line of `lsr` asks, and measures. Without a word all cases are run: calls of the libraries that read and write
-//! bytes and reserve bandwidth (`rows`), threads that feed a router (`worker_cases`), a short run of the measures (`lsr_bench`), and calls
+//! bytes and reserve bandwidth (`rows`), captured packets (`captures`), threads that feed a router (`worker_cases`), a short run of the measures (`lsr_bench`), and calls
 //! that may find no memory (`growth_cases`). What they print stands in the file `stdout`.
 //!
 //! With the word `growths` these alone are run, or the part that the next word names, and the error stream is marked where calls take no
@@ -7,6 +7,7 @@
 #![tactic(auto)]
 
 mod bandwidth;
+mod captures;
 mod changes;
 mod pieces;
 mod rows;
@@ -42,6 +43,7 @@ fn run_all<R: Net + Threads + Wait + Clone + Send + Sync + Drop>(
     handles: &R,
 ) -> Result<u8> {
     rows::run(rt)?;
+    captures::run(rt)?;
     worker_cases::run_cases(rt, handles, rt.alloc())?;
     lsr_bench::run(rt, handles, &[])?;
     run_growths(rt, handles, &[], false)
