@@ -8,18 +8,25 @@ use std::alloc::{AllocError, Global};
 /// The bytes of a message's common header (RFC 2205, 3.1.1).
 const HEADER_LEN: usize = 8;
 
-/// How the bytes are read as a frame, as `labelled/2 message` for a message under two labels.
-fn outcome(alloc: Global, bytes: &[u8]) -> Result<String, AllocError> {
-    match read_frame(alloc, bytes) {
-        Ok(ReceivedFrame::Hop(Reading::Whole(_))) => format!(in alloc; "whole"),
-        Ok(ReceivedFrame::Hop(Reading::Unknown(..))) => format!(in alloc; "unknown"),
-        Ok(ReceivedFrame::Labelled(stack, ReceivedPayload::Bytes(_))) => {
+/// What the frame is, as `labelled/2 message` for a message under two labels.
+fn kind_of(alloc: Global, frame: &ReceivedFrame) -> Result<String, AllocError> {
+    match frame {
+        ReceivedFrame::Hop(Reading::Whole(_)) => format!(in alloc; "whole"),
+        ReceivedFrame::Hop(Reading::Unknown(..)) => format!(in alloc; "unknown"),
+        ReceivedFrame::Labelled(stack, ReceivedPayload::Bytes(_)) => {
             format!(in alloc; "labelled/{} bytes", stack.as_slice().len())
         }
-        Ok(ReceivedFrame::Labelled(stack, ReceivedPayload::Message(_))) => {
+        ReceivedFrame::Labelled(stack, ReceivedPayload::Message(_)) => {
             format!(in alloc; "labelled/{} message", stack.as_slice().len())
         }
-        Ok(ReceivedFrame::Routed { .. }) => format!(in alloc; "routed"),
+        ReceivedFrame::Routed { .. } => format!(in alloc; "routed"),
+    }
+}
+
+/// How the bytes are read as a frame.
+fn outcome(alloc: Global, bytes: &[u8]) -> Result<String, AllocError> {
+    match read_frame(alloc, bytes) {
+        Ok(frame) => kind_of(alloc, &frame),
         Err(fault) => format!(in alloc; "{fault:?}"),
     }
 }
@@ -32,8 +39,9 @@ impl Runs {
     /// Counts how the bytes are read.
     fn follow(&mut self, alloc: Global, bytes: &[u8]) -> Result<(), AllocError> {
         let outcome = outcome(alloc, bytes)?;
-        if let Some((last, count)) = self.0.last_mut() {
-            if *last == outcome {
+        let last = self.0.len().saturating_sub(1);
+        for (seen, count) in self.0.iter_mut().skip(last) {
+            if *seen == outcome {
                 *count = count.saturating_add(1);
                 return Ok(());
             }
