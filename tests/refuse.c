@@ -169,7 +169,7 @@ static ssize_t give_line(void *bytes, size_t size) {
     size_t length = (newline ? newline + 1 : lines_end) - next_line;
     if (length > size) length = size;
     memcpy(bytes, next_line, length);
-    if (!is_refused) tell("line", &printed, 1);
+    if (!is_refused && length) tell("line", &printed, 1);
     last_line = next_line;
     next_line += length;
     return length;
