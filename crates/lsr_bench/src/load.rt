@@ -1,324 +1,333 @@
-//! How many datagrams a router takes over sockets, and how many frames it forwards; and what threads take that do nothing with them.
-ghost use Rattle.std.specs.Prelude.{◌≡◌, ◌<◌, ◌^◌, ◌-◌, false};
+//! How many datagrams a router takes over sockets, and how many frames it forwards.
+ghost use Rattle.std.specs.Prelude.{◌≡◌};
 
-use crate::measuring::{per_second, percent, tell, whole};
-use crate::neighbours::{
-    CountedWire, Load, Sender, Taker, Traffic, counted_wires, free_links, open_senders, send_all,
-};
-use crate::playing::{PORTS, Play, with_router};
-use lsr_config::BUILT_IN;
-use lsr_serve::{LinkWire, UdpWire, link_workers, run_worker};
+use crate::bare::{run_bare, tell_bare};
+use crate::four_links::{LINKS, Load, Traffic, four_links, open_senders};
+use crate::measuring::per_second;
+use crate::neighbours::{Neighbours, counted, new_counts, send_all, sum_of, wires};
+use crate::sending::CountedWire;
+use crate::sockets::free_links;
+use lsr_config::Config;
+use lsr_serve::{LinkSockets, LinkWire, UdpWire, Worker, link_workers, run_worker};
+use sorted_rows::Table;
 use std::alloc::{AllocError, Global};
+use std::marker::Brand;
 use std::net::Net;
 use std::sync::Wait;
-use std::sync::atomic::{AtomicU64, Ordering};
+use std::sync::ledger::Blank;
 use std::thread;
 use std::thread::Threads;
-use std::time::{Duration, Instant};
-use worker_cases::{CoreName, Fault, Left, OUT_LINK, OpenGate, Opened, Wire};
+use std::time::{Clock, Duration, Instant};
+use worker_cases::{
+    Core, CoreName, CoreReader, Fault, Left, OpenGate, Opened, Port, Wire, Work, open_router,
+    read_config,
+};
 
-/// The links that the built-in router hasn't. Its link 2 leads on to where its Path goes.
-const MORE_LINKS: &str = r#"
-[[link]]
-number = 3
-address = "10.3.0.2"
-peer = "10.3.0.5"
-peer_router = "10.0.0.5"
-limit = 1250000
-
-[[link]]
-number = 4
-address = "10.4.0.2"
-peer = "10.4.0.7"
-peer_router = "10.0.0.7"
-limit = 1250000
-"#;
-
-/// How many turns a thread makes beyond those in which it takes a datagram: it waits 100 milliseconds in each for one that is late.
+/// How many turns a worker makes beyond those in which it takes a frame: it waits 100 milliseconds in each for one that is late.
 const SPARE_TURNS: u32 = 600;
-/// The most bytes of a datagram.
-const BUFFER_LEN: usize = 65_536;
 
-/// Whether the wire failed as often as can be counted.
-fn is_spent<W: Wire>(wire: &W) -> bool
-    ensures { result ≡ false → (W.history wire.now).failed < 2 ^ 64 - 1 }
-{
-    wire.failures() == u64::MAX
-}
-
-/// Asks the wire for a datagram once, and sends it on as it came, where frames are forwarded. A fault is the wire's to count.
-fn take_once<W: Wire>(wire: &mut W, traffic: Traffic, buffer: &mut [u8])
-    requires { (W.history wire.old).failed < 2 ^ 64 - 1 }
-{
-    let came = wire.receive(buffer);
-    let Ok(Some(len)) = came else {
-        return;
-    };
-    if matches!(traffic, Traffic::Frames) && !is_spent(wire) {
-        let _sent = wire.send(OUT_LINK, &buffer[..len]);
-    }
-}
-
-/// Asks the wire of a link for a datagram so many times. It ends before where the wire failed as often as can be counted. The only error is
-/// out of memory.
-fn take_bare<W: Wire + Drop>(
+/// The workers of the links, whose wires count what they took for these neighbours. The only error is out of memory.
+fn counted_workers<'a, L: CoreName, W: Wire + Drop>(
     alloc: Global,
-    link: LinkWire<W>,
-    traffic: Traffic,
-    turns: u32,
-) -> Result<(), AllocError> {
-    let LinkWire {
-        number: _,
-        mut wire,
-    } = link;
-    let mut buffer = vec![in alloc; 0_u8; BUFFER_LEN]?;
-    for _turn in 0..turns {
-        if is_spent(&wire) {
-            return Ok(());
-        }
-        take_once(&mut wire, traffic, &mut buffer);
-    }
-    Ok(())
+    ports: Vec<Port<L>>,
+    readers: Vec<CoreReader<L>>,
+    wires: Vec<LinkWire<W>>,
+    neighbours: &Neighbours<'a>,
+) -> Result<Vec<Worker<L, CountedWire<'a, W>>>, AllocError> {
+    let wires = counted(alloc, wires, neighbours.counts, neighbours.load)?;
+    link_workers(alloc, ports, readers, wires)
 }
 
-/// What came of a load.
-#[derive(Clone, Copy)]
+/// What the threads of a run leave, how many datagrams they took, and how long that was.
+#[derive(Drop)]
 struct Loaded {
-    /// How many datagrams were taken.
+    left: Left,
     taken: u64,
-    /// How many messages have receipts, and how many segments their journal has.
-    messages: u64,
-    segments: u64,
-    /// Whether these are one run.
-    is_one_run: bool,
-    /// How many frames were forwarded.
-    forwarded: u64,
     took: Duration,
 }
 
-/// Wires, and the neighbours that send what comes on them.
-#[derive(Drop)]
-struct Serving<'a> {
-    rt: &'a HostRuntime,
-    wires: Vec<LinkWire<CountedWire<'a, UdpWire<'a>>>>,
-    senders: Vec<Sender<'a>>,
-    /// How many datagrams each wire took.
-    counts: &'a [AtomicU64],
-    turns: u32,
-}
-
-impl<'a, R: Threads + Wait + Send + Sync + Drop> Play<R> for Serving<'a> {
-    type Left = Loaded;
-
-    /// The workers of the router serve the wires beside the neighbours.
-    fn play<L: CoreName + Send + Sync>(
-        self,
-        handles: &R,
-        opened: Opened<L, R>,
-    ) -> Result<Loaded, Fault> {
-        let Serving {
-            rt,
-            wires,
-            senders,
-            counts,
-            turns,
-        } = self;
-        let Opened {
-            core,
-            ports,
-            readers,
-        } = opened;
-        let alloc = rt.alloc();
-        let shared = &core;
-        let start = Instant::now(rt)?;
-        let workers = link_workers(alloc, ports, readers, wires)?;
-        let (works, is_sent) = thread::join(
-            handles,
-            || thread::map_vec(
-                handles,
-                workers,
-                &|worker| run_worker(handles, alloc, shared, &OpenGate, turns, worker).work,
-            ),
-            || send_all(rt, handles, senders),
-        );
-        let took = start.elapsed(rt)?;
-        is_sent?;
-        let left = Left::gathered(handles, alloc, core, works?)?;
-        Ok(Loaded {
-            taken: sum_of(counts),
-            messages: left.receipts.len() as u64,
-            segments: left.segments.len() as u64,
-            is_one_run: left.is_one_run(),
-            forwarded: left.forwarded,
-            took,
-        })
+/// Puts together what threads left that took so many datagrams in this time. The fault is out of memory.
+fn put_together<L: CoreName, R: Wait + Drop>(
+    rt: &R,
+    alloc: Global,
+    core: Core<L, R>,
+    works: Vec<Result<Work, AllocError>>,
+    taken: u64,
+    took: Duration,
+) -> Result<Loaded, Fault> {
+    match Left::gathered(rt, alloc, core, works) {
+        Ok(left) => Ok(Loaded { left, taken, took }),
+        Err(_) => Err(Fault::Memory),
     }
 }
 
-/// Threads without a router take what comes on the wires beside the neighbours.
-fn serve_bare<R: Threads + Sync>(
-    handles: &R,
-    serving: Serving<'_>,
-    traffic: Traffic,
+/// Runs the workers beside the neighbours: what they leave, and how long it took since this moment. The fault is that a neighbour gave
+/// up, or that memory ran out.
+fn run_since<
+    L: CoreName + Send + Sync,
+    R: Threads + Wait + Clock + Send + Sync + Drop,
+    W: Wire + Send + Drop,
+>(
+    rt: &R,
+    alloc: Global,
+    core: Core<L, R>,
+    workers: Vec<Worker<L, W>>,
+    neighbours: Neighbours<'_>,
+    start: Instant,
 ) -> Result<Loaded, Fault> {
-    let Serving {
-        rt,
-        wires,
+    let Neighbours {
         senders,
         counts,
-        turns,
-    } = serving;
-    let start = Instant::now(rt)?;
-    let (all, is_sent) = thread::join(
-        handles,
+        load,
+    } = neighbours;
+    let turns = load.count.saturating_add(SPARE_TURNS);
+    let shared = &core;
+    let (works, is_sent) = thread::join(
+        rt,
         || thread::map_vec(
-            handles,
-            wires,
-            &|link| take_bare(rt.alloc(), link, traffic, turns),
+            rt,
+            workers,
+            &|worker| run_worker(rt, alloc, shared, &OpenGate, turns, worker).work,
         ),
-        || send_all(rt, handles, senders),
+        || send_all(rt, senders),
     );
     let took = start.elapsed(rt)?;
-    is_sent?;
-    for one in all? {
-        one?;
+    if !is_sent? {
+        return Err(Fault::NotSent);
     }
-    Ok(Loaded {
-        taken: sum_of(counts),
-        messages: 0,
-        segments: 0,
-        is_one_run: true,
-        forwarded: 0,
-        took,
-    })
+    put_together(rt, alloc, core, works?, sum_of(counts), took)
 }
 
-/// Has this load taken over sockets.
-fn take_load<R: Net + Threads + Wait + Clone + Send + Sync + Drop>(
-    rt: &HostRuntime,
-    handles: &R,
+/// Serves the neighbours by these ports and readers of a router: what its threads leave, and how long they took.
+fn serve_by<
+    L: CoreName + Send + Sync,
+    R: Threads + Wait + Clock + Send + Sync + Drop,
+    W: Wire + Send + Drop,
+>(
+    rt: &R,
+    alloc: Global,
+    core: Core<L, R>,
+    ports: Vec<Port<L>>,
+    readers: Vec<CoreReader<L>>,
+    wires: Vec<LinkWire<W>>,
+    neighbours: Neighbours<'_>,
+) -> Result<Loaded, Fault> {
+    let start = Instant::now(rt)?;
+    match counted_workers(alloc, ports, readers, wires, &neighbours) {
+        Ok(workers) => run_since(rt, alloc, core, workers, neighbours, start),
+        Err(_) => Err(Fault::Memory),
+    }
+}
+
+/// Serves the neighbours by a router of this name.
+fn serve_named<
+    L: CoreName + Send + Sync,
+    R: Threads + Wait + Clock + Clone + Send + Sync + Drop,
+    W: Wire + Send + Drop,
+>(
+    rt: &R,
+    alloc: Global,
+    blank: Blank,
+    config: Config,
+    wires: Vec<LinkWire<W>>,
+    neighbours: Neighbours<'_>,
+) -> Result<Loaded, Fault>
+    requires name { blank.name ≡ L.name }
+    requires parts { blank.parts ≡ L.parts }
+    requires config { config ≡ L.config }
+    requires four { blank.parts ≡ LINKS }
+{
+    match open_router::<L, R>(alloc, rt.clone()?, blank, config, LINKS) {
+        Ok(
+            Opened {
+                core,
+                ports,
+                readers,
+            },
+        ) => serve_by(rt, alloc, core, ports, readers, wires, neighbours),
+        Err(fault) => Err(fault),
+    }
+}
+
+/// Serves these neighbours over these sockets.
+fn serve_neighbours<R: Net + Threads + Wait + Clock + Clone + Send + Sync + Drop>(
+    rt: &R,
+    alloc: Global,
+    links: &Table<u16, LinkSockets>,
+    neighbours: Neighbours<'_>,
+) -> Result<Loaded, Fault> {
+    let blank = Blank::new(u64::from(LINKS));
+    let text = four_links(alloc)?;
+    let config = read_config(alloc, text.as_str())?;
+    match wires(rt, alloc, links) {
+        Ok(wires) => serve_named::<Brand, R, UdpWire<'_>>(
+            rt, alloc, blank, config, wires, neighbours,
+        ),
+        Err(fault) => Err(fault),
+    }
+}
+
+/// Serves neighbours that send this over these sockets.
+fn serve<R: Net + Threads + Wait + Clock + Clone + Send + Sync + Drop>(
+    rt: &R,
+    alloc: Global,
+    links: &Table<u16, LinkSockets>,
     load: Load,
 ) -> Result<Loaded, Fault> {
-    let alloc = rt.alloc();
-    let links = free_links(handles, alloc)?;
-    let counts = new_counts(alloc)?;
-    let counts = counts.as_slice();
-    let serving = Serving {
-        rt,
-        wires: counted_wires(handles, alloc, &links, load, counts)?,
-        senders: open_senders(handles, alloc, &links, load, counts)?,
-        counts,
-        turns: load.count.saturating_add(SPARE_TURNS),
-    };
-    if matches!(load.taker, Taker::Bare) {
-        return serve_bare(handles, serving, load.traffic);
+    let all = new_counts(alloc)?;
+    let counts = all.as_slice();
+    match open_senders(rt, alloc, links, &load, counts) {
+        Ok(senders) => serve_neighbours(
+            rt,
+            alloc,
+            links,
+            Neighbours {
+                senders,
+                counts,
+                load,
+            },
+        ),
+        Err(fault) => Err(fault),
     }
-    let text = format!(in alloc; "{BUILT_IN}{MORE_LINKS}")?;
-    with_router(handles, alloc, text.as_str(), serving)
 }
 
-/// Counts of what each wire took, all 0 at first.
-fn new_counts(alloc: Global) -> Result<Vec<AtomicU64>, AllocError> {
-    let mut counts = Vec::new(alloc);
-    for _ in 0..PORTS {
-        counts.push(AtomicU64::new(0))?;
+/// Serves neighbours that send this.
+fn run<R: Net + Threads + Wait + Clock + Clone + Send + Sync + Drop>(
+    rt: &R,
+    alloc: Global,
+    load: Load,
+) -> Result<Loaded, Fault> {
+    match free_links(rt, alloc, LINKS) {
+        Ok(links) => serve(rt, alloc, &links, load),
+        Err(fault) => Err(fault),
     }
-    Ok(counts)
 }
 
-/// How many datagrams were taken.
-fn sum_of(counts: &[AtomicU64]) -> u64 {
-    let mut sum = 0_u64;
-    for count in counts {
-        sum = sum.saturating_add(count.load(Ordering::SeqCst));
-    }
-    sum
-}
-
-/// Whether these are one run, in words.
-fn judgement(loaded: Loaded) -> &'static str {
-    if loaded.is_one_run {
+/// Prints whether what the threads were told is one run.
+fn tell_run<R: Print>(rt: &R, left: &Left) -> Result<(), Fault> {
+    let run = if left.is_one_run() {
         "reconciled"
     } else {
         "not one run"
-    }
+    };
+    let entries = left.receipts.len();
+    let segments = left.segments.len();
+    println!(rt; "{run}: {entries} receipts, {segments} segments of the journal")?;
+    Ok(())
 }
 
-/// Has this load taken, and prints what came of it: how many datagrams were taken a second.
-fn measure_taken<R: Net + Threads + Wait + Clone + Send + Sync + Drop>(
-    rt: &HostRuntime,
-    handles: &R,
-    load: Load,
-    words: &str,
-) -> Result<u64, Fault> {
-    let loaded = take_load(rt, handles, load)?;
-    let rate = per_second(loaded.taken, loaded.took);
-    let millis = whole(loaded.took.as_millis());
-    let numbers = [u64::from(load.neighbours), loaded.taken, millis, rate];
-    let line = "neighbours #, @: # datagrams taken in # ms: # a second";
-    tell(rt, line, words, &numbers)?;
-    if !matches!(load.taker, Taker::Bare) {
-        let frames = per_second(loaded.forwarded, loaded.took);
-        let numbers = [loaded.messages, loaded.segments, loaded.forwarded, frames];
-        let line = "@: # receipts, # segments of the journal; # frames forwarded, # a second";
-        tell(rt, line, judgement(loaded), &numbers)?;
-    }
+/// Prints how many messages were taken of so many, and in which time. Gives how many that is a second.
+fn tell_datagrams<R: Print>(rt: &R, load: Load, loaded: &Loaded) -> Result<u64, Fault> {
+    let taken = loaded.left.receipts.len();
+    let rate = per_second(taken as u64, loaded.took);
+    let millis = loaded.took.as_millis();
+    let count = load.total();
+    let senders = load.senders();
+    let manner = load.manner();
+    println!(rt;
+        "datagrams of {senders}, {manner}: {taken} of {count} taken in {millis} ms: {rate} a second"
+    )?;
+    tell_run(rt, &loaded.left)?;
     Ok(rate)
 }
 
-/// Measures how many datagrams workers take a second of so many in all, or how many frames they forward, one worker and then four: one by
-/// one, then as they came together, and then what is taken without a router.
-pub(crate) fn measure_load<R: Net + Threads + Wait + Clone + Send + Sync + Drop>(
-    rt: &HostRuntime,
-    handles: &R,
-    traffic: Traffic,
-    total: u32,
+/// Prints how many labelled frames were forwarded beside messages, and in which time. Gives how many datagrams that is a second.
+fn tell_forwarding<R: Print>(rt: &R, load: Load, loaded: &Loaded) -> Result<u64, Fault> {
+    let forwarded = loaded.left.forwarded;
+    let messages = loaded.left.receipts.len();
+    let rate = per_second(forwarded, loaded.took);
+    let millis = loaded.took.as_millis();
+    let senders = load.senders();
+    println!(rt;
+        "frames of {senders}: {forwarded} forwarded in {millis} ms, beside {messages} messages: {rate} a second"
+    )?;
+    tell_run(rt, &loaded.left)?;
+    Ok(per_second(loaded.taken, loaded.took))
+}
+
+/// Prints how many datagrams were taken of so many, and whether what the threads were told is one run.
+fn tell_counts<R: Print>(
+    rt: &R,
+    of: &str,
+    load: Load,
+    taken: u64,
+    left: &Left,
 ) -> Result<(), Fault> {
-    for neighbours in [1, PORTS] {
-        let mut load = Load {
-            traffic,
-            neighbours,
-            count: total / u32::from(neighbours.max(1)),
-            taker: Taker::OneByOne,
+    let run = if left.is_one_run() {
+        "reconciled"
+    } else {
+        "not one run"
+    };
+    let count = load.total();
+    println!(rt; "{of}: {taken} of {count} taken by {LINKS} workers; {run}")?;
+    Ok(())
+}
+
+/// This traffic, so many frames in all, from so many neighbours; a worker is shown what came together.
+fn load_of(traffic: Traffic, neighbours: u16, total: u32) -> Load {
+    Load {
+        traffic,
+        neighbours,
+        count: total / u32::from(neighbours.max(1)),
+        is_shown_more: true,
+    }
+}
+
+/// Measures how many messages workers take a second of so many in all, one worker and then four: one message by one, then what came
+/// together, and then what is taken without a router; and prints what came. The fault says what to do.
+pub(crate) fn measure_datagrams<
+    R: Net + Threads + Wait + Clock + Print + Clone + Send + Sync + Drop,
+>(rt: &R, alloc: Global, count: u32) -> Result<(), Fault> {
+    for neighbours in [1, LINKS] {
+        let load = load_of(Traffic::Paths, neighbours, count);
+        let single = Load {
+            is_shown_more: false,
+            ..load
         };
-        measure_taken(rt, handles, load, "one by one")?;
-        load.taker = Taker::Together;
-        let rate = measure_taken(rt, handles, load, "together")?;
-        load.taker = Taker::Bare;
-        let most = measure_taken(rt, handles, load, "without a router")?;
-        let line = "neighbours #, together: #% of what is taken without a router";
-        tell(rt, line, "", &[u64::from(neighbours), percent(rate, most)])?;
+        tell_datagrams(rt, single, &run(rt, alloc, single)?)?;
+        let rate = tell_datagrams(rt, load, &run(rt, alloc, load)?)?;
+        let bare = run_bare(rt, alloc, load)?;
+        tell_bare(rt, bare, rate)?;
     }
     Ok(())
 }
 
-/// Prints how many messages four workers take of so many in all, and how many are taken without a router; or how many labelled frames and
-/// messages the workers take.
-pub(crate) fn count_load<R: Net + Threads + Wait + Clone + Send + Sync + Drop>(
-    rt: &HostRuntime,
-    handles: &R,
-    traffic: Traffic,
-    total: u32,
-) -> Result<(), Fault> {
-    let mut load = Load {
-        traffic,
-        neighbours: PORTS,
-        count: total / u32::from(PORTS),
-        taker: Taker::Together,
-    };
-    let loaded = take_load(rt, handles, load)?;
-    let (line, taken) = match traffic {
-        Traffic::Paths => ("datagrams: # of # taken by # workers; @", loaded.messages),
-        Traffic::Frames => ("forwarding: # of # taken by # workers; @", loaded.taken),
-    };
-    let total = u64::from(total);
-    let numbers = [taken, total, u64::from(PORTS)];
-    tell(rt, line, judgement(loaded), &numbers)?;
-    if matches!(traffic, Traffic::Paths) {
-        load.taker = Taker::Bare;
-        let numbers = [take_load(rt, handles, load)?.taken, total];
-        let line = "datagrams: # of # taken without a router";
-        tell(rt, line, "", &numbers)?;
+/// Measures how many labelled frames workers forward a second while messages come, of so many datagrams in all, one worker and then four,
+/// and what is taken and sent on without a router; and prints what came. The fault says what to do.
+pub(crate) fn measure_forwarding<
+    R: Net + Threads + Wait + Clock + Print + Clone + Send + Sync + Drop,
+>(rt: &R, alloc: Global, count: u32) -> Result<(), Fault> {
+    for neighbours in [1, LINKS] {
+        let load = load_of(Traffic::Frames, neighbours, count);
+        let loaded = run(rt, alloc, load)?;
+        let rate = tell_forwarding(rt, load, &loaded)?;
+        let bare = run_bare(rt, alloc, load)?;
+        tell_bare(rt, bare, rate)?;
     }
     Ok(())
+}
+
+/// Prints how many messages four workers take of so many in all, and how many are taken without a router. The fault says what to do.
+pub(crate) fn count_datagrams<R: Net + Threads + Wait + Clock + Print + Clone + Send + Sync + Drop>(
+    rt: &R,
+    alloc: Global,
+    count: u32,
+) -> Result<(), Fault> {
+    let load = load_of(Traffic::Paths, LINKS, count);
+    let loaded = run(rt, alloc, load)?;
+    let taken = loaded.left.receipts.len() as u64;
+    tell_counts(rt, "datagrams", load, taken, &loaded.left)?;
+    let bare = run_bare(rt, alloc, load)?;
+    let taken = bare.taken;
+    println!(rt; "datagrams: {taken} of {count} taken without a router")?;
+    Ok(())
+}
+
+/// Prints how many labelled frames and messages four workers take of so many in all. The fault says what to do.
+pub(crate) fn count_forwarding<
+    R: Net + Threads + Wait + Clock + Print + Clone + Send + Sync + Drop,
+>(rt: &R, alloc: Global, count: u32) -> Result<(), Fault> {
+    let load = load_of(Traffic::Frames, LINKS, count);
+    let loaded = run(rt, alloc, load)?;
+    tell_counts(rt, "forwarding", load, loaded.taken, &loaded.left)
 }

@@ -1,19 +1,26 @@
 //! Frames that are forwarded while the entry of their label comes and goes.
+ghost use Rattle.std.specs.Prelude.{◌≡◌};
 
-use crate::measuring::{per_second, tell, whole};
-use crate::playing::{Play, with_router};
-use lsr_config::BUILT_IN;
+use crate::measuring::per_second;
+use lsr_config::{BUILT_IN, Config};
 use lsr_facts::Refusal;
 use std::alloc::Global;
+use std::marker::Brand;
 use std::sync::Wait;
 use std::sync::atomic::{AtomicBool, Ordering};
+use std::sync::ledger::Blank;
 use std::thread;
 use std::thread::Threads;
-use std::time::{Duration, Instant};
+use std::time::{Clock, Duration, Instant};
 use worker_cases::{
-    Core, CoreName, Fate, Fault, Follower, IN_LINK, LABELLED_FRAME, OUT_LINK, Opened, PATH_FRAME,
-    RESV_FRAME, TEAR_FRAME, followers,
+    Core, CoreName, CoreReader, Fate, Fault, Follower, IN_LINK, LABELLED_FRAME, OUT_LINK, Opened,
+    PATH_FRAME, Port, RESV_FRAME, TEAR_FRAME, followers, open_router, read_config,
 };
+
+/// How many ports and readers the router has: one that signals, and three that forward.
+const PORTS: u16 = 4;
+/// The port that signals.
+const SIGNALLER: u16 = 1;
 
 /// The labels of the built-in router.
 const ITS_LABELS: &str = "[16, 4111]";
@@ -21,24 +28,64 @@ const ITS_LABELS: &str = "[16, 4111]";
 const ONE_LABEL: &str = "[16, 16]";
 
 /// How many frames were forwarded, refused for their label, or neither.
-type Fates = [u64; 3];
+#[derive(Clone, Copy)]
+struct Fates {
+    forwarded: u64,
+    refused: u64,
+    other: u64,
+}
 
-/// One frame more met this fate.
-fn count(fates: &mut Fates, fate: Fate) {
-    match fate {
-        Fate::Forwarded(OUT_LINK) => fates[0] = fates[0].saturating_add(1),
-        Fate::Refused(Refusal::NoLabel) => fates[1] = fates[1].saturating_add(1),
-        _ => fates[2] = fates[2].saturating_add(1),
+impl Fates {
+    /// None yet.
+    const NONE: Fates = Fates {
+        forwarded: 0,
+        refused: 0,
+        other: 0,
+    };
+
+    /// One more.
+    fn count(&mut self, fate: Fate) {
+        match fate {
+            Fate::Forwarded(OUT_LINK) => self.forwarded = self.forwarded.saturating_add(1),
+            Fate::Refused(Refusal::NoLabel) => self.refused = self.refused.saturating_add(1),
+            _ => self.other = self.other.saturating_add(1),
+        }
+    }
+
+    /// These and others.
+    fn and(self, more: Fates) -> Fates {
+        Fates {
+            forwarded: self.forwarded.saturating_add(more.forwarded),
+            refused: self.refused.saturating_add(more.refused),
+            other: self.other.saturating_add(more.other),
+        }
     }
 }
 
-/// What became of frames after each Resv, after each PathTear, and of those that came beside them; and how long that took.
+/// What threads saw: the fates of frames after each Resv, after each PathTear, and of those that came beside them.
 #[derive(Clone, Copy)]
 struct Seen {
     after_resv: Fates,
     after_tear: Fates,
     beside: Fates,
-    took: Duration,
+}
+
+impl Seen {
+    /// Nothing yet.
+    const NOTHING: Seen = Seen {
+        after_resv: Fates::NONE,
+        after_tear: Fates::NONE,
+        beside: Fates::NONE,
+    };
+
+    /// This and more.
+    fn and(self, more: Seen) -> Seen {
+        Seen {
+            after_resv: self.after_resv.and(more.after_resv),
+            after_tear: self.after_tear.and(more.after_tear),
+            beside: self.beside.and(more.beside),
+        }
+    }
 }
 
 /// What becomes of a labelled frame that comes once the messages before it were taken.
@@ -56,148 +103,176 @@ fn forward_after<L: CoreName, R: Wait + Drop>(
 }
 
 /// In each round a Path, its Resv and its PathTear come, and after the Resv and the PathTear a labelled frame, each looked up once
-/// the receipt of the message before is learnt: the fates of those after the Resvs, and of those after the PathTears.
+/// the receipt of the message before is learnt.
 fn signal<L: CoreName, R: Wait + Drop>(
-    handles: &R,
+    rt: &R,
     alloc: Global,
     core: &Core<L, R>,
     follower: &mut Follower<L>,
     rounds: u32,
-) -> (Fates, Fates) {
-    let mut after_resv = [0; 3];
-    let mut after_tear = [0; 3];
+) -> Seen {
+    let mut seen = Seen::NOTHING;
     for _round in 0..rounds {
-        let is_there = follower.feed(handles, alloc, core, IN_LINK, PATH_FRAME)
-            && follower.feed(handles, alloc, core, OUT_LINK, RESV_FRAME);
-        count(
-            &mut after_resv,
-            forward_after(alloc, core, follower, is_there),
-        );
-        let is_gone = follower.feed(handles, alloc, core, IN_LINK, TEAR_FRAME);
-        count(
-            &mut after_tear,
-            forward_after(alloc, core, follower, is_gone),
-        );
+        let is_there = follower.feed(rt, alloc, core, IN_LINK, PATH_FRAME)
+            && follower.feed(rt, alloc, core, OUT_LINK, RESV_FRAME);
+        seen.after_resv
+            .count(forward_after(alloc, core, follower, is_there));
+        let is_gone = follower.feed(rt, alloc, core, IN_LINK, TEAR_FRAME);
+        seen.after_tear
+            .count(forward_after(alloc, core, follower, is_gone));
     }
-    (after_resv, after_tear)
+    seen
 }
 
 /// Labelled frames come until it is done. The reader learns of no entry.
 fn forward_until<L: CoreName, R: Wait + Drop>(
     alloc: Global,
     core: &Core<L, R>,
-    follower: Follower<L>,
+    follower: &mut Follower<L>,
     is_done: &AtomicBool,
-) -> Fates {
-    let mut follower = follower;
-    let mut fates = [0; 3];
-    for _frame in 0..u64::MAX {
+) -> Seen {
+    let mut seen = Seen::NOTHING;
+    for _frame in 0..u32::MAX {
         if is_done.load(Ordering::SeqCst) {
             break;
         }
-        count(
-            &mut fates,
-            follower.forward(alloc, core.router(), IN_LINK, LABELLED_FRAME),
-        );
+        seen.beside.count(follower.forward(alloc, core.router(), IN_LINK, LABELLED_FRAME));
     }
-    fates
+    seen
 }
 
-/// The sum of fates.
-fn sum_of(all: &[Fates]) -> Fates {
-    let mut sum = [0_u64; 3];
-    for fates in all {
-        for (place, more) in sum.iter_mut().zip(fates) {
-            *place = place.saturating_add(*more);
-        }
+/// A thread: the first port signals, and the others forward until that is done.
+fn play<L: CoreName, R: Wait + Drop>(
+    rt: &R,
+    alloc: Global,
+    core: &Core<L, R>,
+    follower: Follower<L>,
+    rounds: u32,
+    is_done: &AtomicBool,
+) -> Seen {
+    let mut follower = follower;
+    if follower.mark().port != SIGNALLER {
+        return forward_until(alloc, core, &mut follower, is_done);
+    }
+    let seen = signal(rt, alloc, core, &mut follower, rounds);
+    is_done.store(true, Ordering::SeqCst);
+    seen
+}
+
+/// What all saw together.
+fn sum_of(all: &[Seen]) -> Seen {
+    let mut sum = Seen::NOTHING;
+    for seen in all {
+        sum = sum.and(*seen);
     }
     sum
 }
 
-/// An LSP comes and goes so many times.
-#[derive(Drop)]
-struct Withdrawing<'a> {
-    rt: &'a HostRuntime,
+/// A thread for each port: what all saw. The fault is out of memory.
+fn play_all<L: CoreName + Send + Sync, R: Threads + Wait + Send + Sync + Drop>(
+    rt: &R,
+    alloc: Global,
+    core: &Core<L, R>,
+    ports: Vec<Port<L>>,
+    readers: Vec<CoreReader<L>>,
     rounds: u32,
-}
-
-impl<'a, R: Threads + Wait + Send + Sync + Drop> Play<R> for Withdrawing<'a> {
-    type Left = Seen;
-
-    /// One thread signals by one port, and the others forward by the readers of the others until that is done.
-    fn play<L: CoreName + Send + Sync>(
-        self,
-        handles: &R,
-        opened: Opened<L, R>,
-    ) -> Result<Seen, Fault> {
-        let Withdrawing { rt, rounds } = self;
-        let Opened {
-            core,
-            ports,
-            readers,
-        } = opened;
-        let alloc = rt.alloc();
-        let core = &core;
-        let mut others = followers(alloc, ports, readers)?;
-        let Some(mut signaller) = others.pop() else {
-            return Err(Fault::Reader);
-        };
-        let is_done = AtomicBool::new(false);
-        let start = Instant::now(rt)?;
-        let (beside, (after_resv, after_tear)) = thread::join(
-            handles,
-            || thread::map_vec(
-                handles,
-                others,
-                &|follower| forward_until(alloc, core, follower, &is_done),
-            ),
-            || {
-                let seen = signal(handles, alloc, core, &mut signaller, rounds);
-                is_done.store(true, Ordering::SeqCst);
-                seen
-            },
-        );
-        let took = start.elapsed(rt)?;
-        Ok(Seen {
-            after_resv,
-            after_tear,
-            beside: sum_of(beside?.as_slice()),
-            took,
-        })
-    }
-}
-
-/// An LSP of the built-in router, where it has one label to give out, comes and goes so many times, while three threads forward frames under
-/// its label. Prints what becomes of frames that come once the receipt of its Resv is learnt, and once that of its PathTear is; and where
-/// that is asked for, how many frames the three threads forward or refuse a second.
-pub(crate) fn measure_withdrawals<R: Threads + Wait + Clone + Send + Sync + Drop>(
-    rt: &HostRuntime,
-    handles: &R,
-    rounds: u32,
-    is_timed: bool,
-) -> Result<(), Fault> {
-    let text = BUILT_IN.replace(rt.alloc(), ITS_LABELS, ONE_LABEL)?;
-    let seen = with_router(
-        handles,
-        rt.alloc(),
-        text.as_str(),
-        Withdrawing { rt, rounds },
+) -> Result<Seen, Fault> {
+    let is_done = AtomicBool::new(false);
+    let all = followers(alloc, ports, readers)?;
+    let seen = thread::map_vec(
+        rt,
+        all,
+        &|follower| play(rt, alloc, core, follower, rounds, &is_done),
     )?;
-    let line = "withdrawals: @: # forwarded, # refused for their label, # otherwise";
-    tell(rt, line, "once the Resv is learnt", &seen.after_resv)?;
-    tell(rt, line, "once the PathTear is learnt", &seen.after_tear)?;
-    if is_timed {
-        let [forwarded, refused, _] = seen.beside;
-        let rate = per_second(forwarded.saturating_add(refused), seen.took);
-        tell(
-            rt,
-            line,
-            "by three workers beside it, which learn of nothing",
-            &seen.beside,
-        )?;
-        let numbers = [u64::from(rounds), whole(seen.took.as_millis()), rate];
-        let line = "withdrawals: # rounds in # ms, beside # frames a second";
-        tell(rt, line, "", &numbers)?;
+    Ok(sum_of(seen.as_slice()))
+}
+
+/// The run of a router of this name.
+fn run_named<L: CoreName + Send + Sync, R: Threads + Wait + Clone + Send + Sync + Drop>(
+    rt: &R,
+    alloc: Global,
+    blank: Blank,
+    config: Config,
+    rounds: u32,
+) -> Result<Seen, Fault>
+    requires name { blank.name ≡ L.name }
+    requires parts { blank.parts ≡ L.parts }
+    requires config { config ≡ L.config }
+    requires four { blank.parts ≡ PORTS }
+{
+    match open_router::<L, R>(alloc, rt.clone()?, blank, config, PORTS) {
+        Ok(
+            Opened {
+                core,
+                ports,
+                readers,
+            },
+        ) => play_all(rt, alloc, &core, ports, readers, rounds),
+        Err(fault) => Err(fault),
     }
+}
+
+/// So many rounds of the built-in router, where it has one label to give out.
+fn run_rounds<R: Threads + Wait + Clone + Send + Sync + Drop>(
+    rt: &R,
+    alloc: Global,
+    rounds: u32,
+) -> Result<Seen, Fault> {
+    let text = BUILT_IN.replace(alloc, ITS_LABELS, ONE_LABEL)?;
+    let config = read_config(alloc, text.as_str())?;
+    run_named::<Brand, R>(rt, alloc, Blank::new(u64::from(PORTS)), config, rounds)
+}
+
+/// Prints what became of frames.
+fn tell_fates<R: Print>(rt: &R, of: &str, fates: Fates) -> Result<(), Fault> {
+    let forwarded = fates.forwarded;
+    let refused = fates.refused;
+    let other = fates.other;
+    println!(rt;
+        "withdrawals: {of}: {forwarded} forwarded, {refused} refused for their label, {other} otherwise"
+    )?;
     Ok(())
+}
+
+/// Prints what became of the frames that came once a receipt was learnt.
+fn tell_learnt<R: Print>(rt: &R, seen: Seen) -> Result<(), Fault> {
+    tell_fates(rt, "once the Resv is learnt", seen.after_resv)?;
+    tell_fates(rt, "once the PathTear is learnt", seen.after_tear)
+}
+
+/// Prints how many frames a second were forwarded or refused beside so many rounds.
+fn tell_rate<R: Print>(rt: &R, rounds: u32, beside: Fates, took: Duration) -> Result<(), Fault> {
+    let rate = per_second(beside.forwarded.saturating_add(beside.refused), took);
+    let millis = took.as_millis();
+    println!(rt; "withdrawals: {rounds} rounds in {millis} ms, beside {rate} frames a second")?;
+    Ok(())
+}
+
+/// An LSP comes and goes so many times, while three threads forward frames under its label: prints what becomes of frames that come
+/// once the receipt of its Resv is learnt, and once that of its PathTear is. The fault says what to do.
+pub(crate) fn count_withdrawals<R: Threads + Wait + Print + Clone + Send + Sync + Drop>(
+    rt: &R,
+    alloc: Global,
+    count: u32,
+) -> Result<(), Fault> {
+    tell_learnt(rt, run_rounds(rt, alloc, count)?)
+}
+
+/// Measures how many frames three workers forward or refuse a second while an LSP comes and goes so many times, and prints that too. The
+/// fault says what to do.
+pub(crate) fn measure_withdrawals<R: Threads + Wait + Clock + Print + Clone + Send + Sync + Drop>(
+    rt: &R,
+    alloc: Global,
+    count: u32,
+) -> Result<(), Fault> {
+    let start = Instant::now(rt)?;
+    let seen = run_rounds(rt, alloc, count)?;
+    let took = start.elapsed(rt)?;
+    tell_learnt(rt, seen)?;
+    tell_fates(
+        rt,
+        "by three workers beside it, which learn of nothing",
+        seen.beside,
+    )?;
+    tell_rate(rt, count, seen.beside, took)
 }

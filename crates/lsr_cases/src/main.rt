@@ -18,6 +18,7 @@ use std::net::Net;
 use std::process::ExitCode;
 use std::sync::Wait;
 use std::thread::Threads;
+use std::time::Clock;
 
 /// The word for the cases of calls that may find no memory.
 const GROWTHS: &str = "growths";
@@ -38,7 +39,7 @@ fn run_growths<R: Wait + Clone + Drop>(
 }
 
 /// Runs all cases, one kind after the other.
-fn run_all<R: Net + Threads + Wait + Clone + Send + Sync + Drop>(
+fn run_all<R: Net + Threads + Wait + Clock + Print + Clone + Send + Sync + Drop>(
     rt: &HostRuntime,
     handles: &R,
 ) -> Result<u8> {
@@ -50,7 +51,7 @@ fn run_all<R: Net + Threads + Wait + Clone + Send + Sync + Drop>(
 }
 
 /// Does what the words ask for, and gives the status.
-fn run<R: Net + Threads + Wait + Clone + Send + Sync + Drop>(
+fn run<R: Net + Threads + Wait + Clock + Print + Clone + Send + Sync + Drop>(
     rt: &HostRuntime,
     handles: &R,
 ) -> Result<u8> {
