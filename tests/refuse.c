@@ -12,8 +12,10 @@
  * With ONLY the call of that number is refused in this process, which may have threads, and nothing is reported but the end. With MARKS
  * no request for memory is met between `no memory` and `memory`, which the program writes on standard error. */
 #define _GNU_SOURCE
+#include <dlfcn.h>
 #include <errno.h>
 #include <fcntl.h>
+#include <pthread.h>
 #include <stdio.h>
 #include <stdlib.h>
 #include <string.h>
@@ -151,7 +153,25 @@ static int refuses(char asked) {
     return call >= first && (call - first) % step == 0 && is_new();
 }
 
-static int has_no_memory(void) { return is_gone || refuses(MEMORY); }
+/* Whether this thread starts another. What the C library asks for then is none of the program's requests. */
+static __thread int starts_thread;
+
+int pthread_create(pthread_t *thread, const pthread_attr_t *attributes, void *(*run)(void *), void *given) {
+    int (*create)(pthread_t *, const pthread_attr_t *, void *(*)(void *), void *) = dlsym(RTLD_NEXT, "pthread_create");
+    int status;
+    starts_thread = 1;
+    status = create(thread, attributes, run, given);
+    starts_thread = 0;
+    return status;
+}
+
+/* Whether a request for memory is refused. */
+static int has_no_memory(void) {
+    if (starts_thread || (!is_gone && !refuses(MEMORY))) return 0;
+    errno = ENOMEM;
+    return 1;
+}
+
 void *malloc(size_t size) { return has_no_memory() ? 0 : __libc_malloc(size); }
 void *calloc(size_t count, size_t size) { return has_no_memory() ? 0 : __libc_calloc(count, size); }
 void *realloc(void *old, size_t size) { return has_no_memory() ? 0 : __libc_realloc(old, size); }

@@ -90,7 +90,7 @@ def config_jobs(room):
 # Others.
 
 FIRST_MESSAGE = "1005b988ff000030001001070a000004000000010a000001000c03010a00000100000001000c0b070a00000100000001"
-CAPTURES = ["captures/first-path.pcap", "captures/first-path.pcapng"]
+CAPTURES = ["examples/first-path.pcap", "examples/first-path.pcapng"]
 # What is told of a capture of which a part found no memory.
 CUT_SHORT = re.compile(rb"damaged\n  .*, byte [0-9]+: there is no memory .*\n")
 
@@ -179,7 +179,7 @@ def stream_jobs(room):
         (["step", "--live"], "reserve.step"),
         (["step", "--config", "repair-row16.toml"], "repair-row16.step"),
         (["decode", FIRST_MESSAGE], os.devnull),
-        (["decode", "./captures/first-path.pcap"], os.devnull),
+        (["decode", "./examples/first-path.pcap"], os.devnull),
         (["config"], os.devnull),
         (["config", "growth-middle.toml"], os.devnull),
         (["check", journal], os.devnull),
@@ -279,6 +279,7 @@ def make_room(folder, words):
     """The room: the files of the cases, and the library."""
     for name in FOLDERS:
         shutil.copytree(name, folder, dirs_exist_ok=True)
+    shutil.copytree(TOP / "examples", folder / "examples", dirs_exist_ok=True)
     library = folder / "refuse.so"
     subprocess.run(["cc", "-shared", "-fPIC", "-O2", "-o", library, SOURCE], check=True)
     lsr = words.lsr or (PROVED if PROVED.exists() else LAUNCHER)
