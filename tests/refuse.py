@@ -196,11 +196,16 @@ def stream_jobs(room):
 # The program of what no line of `lsr` reaches.
 
 
+def judge_case(wanted, one):
+    """Of a run of the small program: the error stream has its marks alone, as many as calls are made."""
+    return SAME if (one.status, one.out) == (wanted.status, wanted.out) else None
+
+
 def case_jobs(room):
     """Its parts: what a refused call had to leave is compared there, and the call made again, so all prints the same."""
     asks = [Ask((room.cases, "growths", part)) for part in ("workers", "worlds", "copies")]
     cases = [Case(f"growths {ask.words[-1]}", ask, MEMORY, run(room, ask), None) for ask in asks]
-    cases = [case._replace(judge=functools.partial(judge_moving, case.wanted)) for case in cases]
+    cases = [case._replace(judge=functools.partial(judge_case, case.wanted)) for case in cases]
     return [*jobs_of(room, *cases), functools.partial(run_without, room)]
 
 
