@@ -1,0 +1,210 @@
+"""The router that runs as a child, with its lines and answers; and a socket at which operators ask it."""
+import collections
+import errno
+import os
+import re
+import selectors
+import socket
+import stat
+import subprocess
+import sys
+import time
+from collections.abc import Callable
+
+import machine
+from machine import Trouble
+
+MARK, LINES_AFTER_MARK = ".", 2         # a line that is no line stands after each line: `bad line N`, and so many lines, end the answer
+END_SECONDS, ANSWER_SECONDS = 20, 15
+MOST_OPERATORS, MOST_LINE, MOST_ANSWER, READ_BYTES = 32, 4096, 1 << 22, 1 << 16
+SO_SNDBUFFORCE = 32
+AT_ONCE = 16                    # so many datagrams of a socket are taken before the others have their turn
+Take = Callable[[list[str] | None], None]       # what takes an answer; None: the router ended before it answered
+
+
+class Loop(selectors.DefaultSelector):
+    """What is done as files become ready to be read."""
+
+    def on(self, file, do: Callable[[], object]) -> None:
+        """Does this whenever the file is ready."""
+        self.register(file, selectors.EVENT_READ, do)
+
+    def turn(self, seconds: float) -> None:
+        """Waits at most so long, and does what there is to do."""
+        for key, _ in self.select(max(0.0, seconds)):
+            if self.get_map().get(key.fd) is key:       # what was done for another file may have taken this one away
+                key.data()
+
+
+def datagrams(file: socket.socket) -> list[bytes]:
+    """Some of the datagrams that wait at a socket; none where it fails, as when its interface went."""
+    found = []
+    try:
+        while len(found) < AT_ONCE:
+            found.append(file.recv(READ_BYTES, socket.MSG_DONTWAIT))
+    except OSError:
+        pass
+    return found
+
+
+class Child:
+    """`lsr serve FILE --console` in a network namespace of its own."""
+
+    def __init__(self, words: list[str], addresses: list[tuple[str, int]], lock: socket.socket, namespaces: list[int]):
+        """Starts it, with sockets at these addresses of its namespace for the adapter; it holds the lock, too. Trouble: it doesn't start."""
+        ours, theirs = socket.socketpair()
+        with ours, theirs:
+            try:
+                self.process = subprocess.Popen(words, stdin=subprocess.PIPE, stdout=subprocess.PIPE, bufsize=0, pass_fds=[lock.fileno()],
+                                                start_new_session=True, preexec_fn=lambda: machine.own_namespace(addresses, theirs, namespaces))
+            except OSError as fault:
+                raise Trouble(f"{words[0]} doesn't start: {fault.strerror}: name the program lsr by --lsr") from None
+            except subprocess.SubprocessError:
+                why = ours.recv(READ_BYTES).decode(errors="replace")
+                raise Trouble(f"{why}: run as root, or let users make namespaces (sysctl user.max_user_namespaces)") from None
+            self.sockets = [socket.socket(fileno=it) for it in socket.recv_fds(ours, READ_BYTES, len(addresses))[1]]
+        os.set_blocking(self.process.stdin.fileno(), False)
+        os.set_blocking(self.process.stdout.fileno(), False)
+        self.waiting: collections.deque[tuple[int, float, Take]] = collections.deque()  # the line that ends the answer, since when, who takes it
+        self.lines, self.skip, self.unsent, self.rest, self.answer, self.answered = 0, 0, b"", b"", [], False
+
+    def ask(self, line: str, take: Take = lambda answer: None) -> None:
+        """Writes a line; its answer is taken when it is there."""
+        self.lines += 2
+        self.waiting.append((self.lines, time.monotonic(), take))
+        self.unsent += f"{line}\n{MARK}\n".encode()
+        self.flush()
+
+    def flush(self) -> None:
+        """Writes what the router takes now."""
+        try:
+            while self.unsent and (count := self.process.stdin.write(self.unsent)):
+                self.unsent = self.unsent[count:]
+        except OSError:
+            self.unsent = b""   # it ended, as the end of its output tells
+
+    def silent(self) -> float:
+        """For how many seconds the oldest line has waited for its answer."""
+        return time.monotonic() - self.waiting[0][1] if self.waiting else 0.0
+
+    def ready(self) -> bool:
+        """Reads what it answered; False where it ended."""
+        data = self.process.stdout.read(READ_BYTES)
+        *lines, self.rest = (self.rest + (data or b"")).split(b"\n")
+        for line in lines:
+            if self.skip:
+                self.skip -= 1
+            elif self.waiting and line == b"bad line %d" % self.waiting[0][0]:
+                self.skip, self.answered, answer, self.answer = LINES_AFTER_MARK, True, self.answer, []
+                self.waiting.popleft()[2](answer)
+            else:
+                self.answer.append(line.decode(errors="replace"))
+        return data != b""
+
+    def end(self) -> str:
+        """Ends it by the end of its input, so that its journal is whole, and waits so long at most; how it ended. Who waits is told."""
+        last, said, late = time.monotonic() + END_SECONDS, b"", ""
+        self.process.stdin.close()
+        with Loop() as waiting:
+            waiting.on(self.process.stdout, lambda: None)
+            while waiting.select(max(0.0, last - time.monotonic())) and (data := self.process.stdout.read(READ_BYTES)):
+                said = (said + data)[-READ_BYTES:]
+        try:
+            self.process.wait(max(0.1, last - time.monotonic()))
+        except subprocess.TimeoutExpired:
+            self.process.kill()
+            late = f": it was killed, since it didn't end in {END_SECONDS} s, and its journal lacks its last entries"
+        for _, _, take in self.waiting:
+            take(None)
+        for file in [*self.sockets, self.process.stdout]:
+            file.close()
+        found = re.findall(rb"^(?:reconciled|mismatch) .*$", said, re.MULTILINE)
+        return f"ended with status {self.process.wait()}{late}" + (f": {found[-1].decode()}" if found else "")
+
+
+class Desk:
+    """The socket at which operators ask: a packet with a line, and one with its answer."""
+
+    def __init__(self, path: str, loop: Loop, question: Callable[[str, Take], None]):
+        """Opens it, in place of one that a killed run left. Trouble: the path can't be had."""
+        self.path, self.loop, self.question, self.operators = path, loop, question, set()
+        self.socket = socket.socket(socket.AF_UNIX, socket.SOCK_SEQPACKET)
+        try:
+            if os.path.lexists(path) and self.socket.connect_ex(path) == errno.ECONNREFUSED and stat.S_ISSOCK(os.lstat(path).st_mode):
+                os.unlink(path)
+            self.socket = socket.socket(socket.AF_UNIX, socket.SOCK_SEQPACKET)
+            self.socket.bind(path)
+            os.chmod(path, 0o660)
+        except OSError as fault:
+            raise Trouble(f"--socket {path}: {fault.strerror or fault}: name a path in a folder that is there, which nobody has") from None
+        self.socket.listen(MOST_OPERATORS)
+        loop.on(self.socket, self.ready)
+
+    def ready(self) -> None:
+        """An operator comes."""
+        try:
+            operator, _ = self.socket.accept()
+        except OSError:
+            return              # it went already, or there are too many files
+        operator.setblocking(False)
+        operator.setsockopt(socket.SOL_SOCKET, SO_SNDBUFFORCE, MOST_ANSWER)
+        self.operators.add(operator)
+        self.loop.on(operator, lambda: self.heard(operator))
+        if len(self.operators) > MOST_OPERATORS:
+            self.leave(operator)
+
+    def heard(self, operator: socket.socket) -> None:
+        """A line of an operator, who goes where it is none."""
+        try:
+            line = operator.recv(MOST_LINE + 1)
+        except OSError:
+            line = b""
+        if not line:
+            self.leave(operator)
+        elif line.strip() == b"quit":
+            self.reply(operator, ["the router is ended with lsrnet: by SIGTERM, or by Ctrl-C where it runs"])
+        elif len(line) > MOST_LINE or not line.decode(errors="surrogateescape").isprintable():
+            self.reply(operator, [f"bad line: it has more than {MOST_LINE} bytes, or some that can't be printed"])
+        else:
+            self.question(line.decode(), lambda answer: self.reply(operator, answer))
+
+    def reply(self, operator: socket.socket, answer: list[str] | None) -> None:
+        """Sends an answer. Who doesn't read goes."""
+        answer = ["the router ended before it answered: ask again"] if answer is None else answer
+        try:
+            if operator in self.operators:
+                operator.send("".join(f"{it}\n" for it in answer or [""]).encode())
+        except OSError:
+            self.leave(operator)
+
+    def leave(self, operator: socket.socket) -> None:
+        """An operator goes."""
+        self.operators.discard(operator)
+        self.loop.unregister(operator)
+        operator.close()
+
+    def close(self) -> None:
+        """The path goes."""
+        self.socket.close()
+        os.unlink(self.path)
+
+
+def ask(path: str, lines: list[str]) -> int:
+    """Asks the lines at a socket and prints the answers; the status: 1 where one was refused. Trouble: it isn't answered."""
+    status = 0
+    try:
+        with socket.socket(socket.AF_UNIX, socket.SOCK_SEQPACKET) as asked:
+            asked.settimeout(ANSWER_SECONDS)
+            asked.connect(path)
+            for line in filter(str.strip, lines):
+                asked.send(os.fsencode(line))
+                answer = asked.recv(MOST_ANSWER).decode(errors="replace")
+                if not answer:
+                    raise OSError(0, "it was closed")
+                sys.stdout.write(answer.lstrip("\n"))
+                status |= answer.startswith(("refused ", "bad line", "error ", "the router "))
+    except TimeoutError:
+        raise Trouble(f"no answer for {ANSWER_SECONDS} s: the router hangs; read its log, and end lsrnet where it stays so") from None
+    except OSError as fault:
+        raise Trouble(f"{path}: {fault.strerror or fault}: is lsrnet run with --socket {path}, and may you write to it?") from None
+    return status

@@ -1,0 +1,172 @@
+"""Routing netlink (RFC 3549), as much of it as a label switching router needs."""
+import errno
+import os
+import socket
+import struct
+from collections.abc import Iterable, Iterator
+from typing import NamedTuple
+
+GETLINK, GETADDR, NEWROUTE, DELROUTE, GETROUTE = 18, 22, 24, 25, 26
+NEWNEIGH, DELNEIGH, GETNEIGH, NEWRULE, DELRULE, GETRULE = 28, 29, 30, 32, 33, 34
+ERROR, DONE = 2, 3
+REQUEST, ACK, REPLACE, EXCLUSIVE, DUMP, CREATE = 0x1, 0x4, 0x100, 0x200, 0x300, 0x400
+AF_INET, AF_MPLS = socket.AF_INET, 28
+NEWS = 0x1 | 0x4 | 0x10         # groups that tell of links, neighbours and IPv4 addresses
+OURS = 246                      # who made an entry: all that is ours says so (`ip route show table all proto 246`), and goes by it
+LOOPBACK = 1                    # the index of lo
+NEIGHBOUR_TO, NEIGHBOUR_HARDWARE, NEIGHBOUR_OWNER, NEIGHBOUR_FLAGS = 1, 2, 12, 15       # attributes
+TO, INTERFACE, GATEWAY, METRICS, TABLE, VIA, NEW_LABELS, ENCAP_TYPE, ENCAP = 1, 4, 5, 8, 15, 18, 19, 21, 22
+RULE_INTERFACE, RULE_PRIORITY, RULE_MARK, RULE_TABLE, RULE_MASK, RULE_OWNER, RULE_PROTOCOL = 3, 6, 10, 15, 16, 21, 22
+METRIC_MTU, ENCAP_MPLS, ENCAP_LABELS, UNICAST, LOCAL, ONLINK, HERE = 2, 1, 1, 1, 2, 4, 254
+PERMANENT, MANAGED = 0x80, 1    # a neighbour's state and flag
+AT_ONCE = 128                   # changes are sent so many at a time, so that the kernel's answers fit the socket's buffer
+ROUTE, NEIGHBOUR = struct.Struct("=BBBBBBBBI"), struct.Struct("=BBHiHBB")       # headers; a rule's is a route's
+Request = tuple[int, int, bytes]        # a change that is asked for: the message's type, its flags, its body
+
+
+class Entry(NamedTuple):
+    """Where packets go: labels pushed (the top first), the interface's index, the neighbour's address (none: this machine), the MTU (0: any)."""
+    labels: tuple[int, ...]
+    index: int
+    peer: str | None
+    mtu: int = 0
+
+
+def attribute(kind: int, value: bytes | int) -> bytes:
+    """An attribute, padded to four bytes; a number has 32 bits."""
+    body = struct.pack("=I", value) if isinstance(value, int) else value
+    return struct.pack("=HH", 4 + len(body), kind) + body + bytes(-len(body) % 4)
+
+
+def attributes(data: bytes) -> dict[int, bytes]:
+    """The attributes in these bytes, by their kinds."""
+    found = {}
+    while len(data) >= 4 and (size := struct.unpack_from("=H", data)[0]) >= 4:
+        found[struct.unpack_from("=H", data, 2)[0] & 0x3fff] = data[4:size]
+        data = data[(size + 3) & ~3:]
+    return found
+
+
+def as_number(body: bytes | None) -> int:
+    """The value of an attribute of 32 bits; 0 where it isn't there."""
+    return struct.unpack("=I", body)[0] if body else 0
+
+
+def labels_bytes(labels: tuple[int, ...]) -> bytes:
+    """A label stack as netlink has it: the bottom bit in the last entry alone."""
+    return struct.pack(f"!{len(labels)}I", *(it << 12 | (0x100 if at == len(labels) else 0) for at, it in enumerate(labels, 1)))
+
+
+class Netlink:
+    """A socket of routing netlink."""
+
+    def __init__(self, groups: int = 0):
+        self.socket = socket.socket(socket.AF_NETLINK, socket.SOCK_RAW, socket.NETLINK_ROUTE)
+        self.socket.setsockopt(socket.SOL_SOCKET, socket.SO_RCVBUF, 1 << 22)
+        self.socket.bind((0, groups))
+        self.sequence, self.room = 0, bytearray(1 << 18)        # one buffer: an allocation for each answer costs more than the kernel's work
+
+    def read(self, flags: int = 0) -> Iterator[tuple[int, int, bytes]]:
+        """The messages of one datagram: type, sequence number, body."""
+        data = bytes(self.room[:self.socket.recv_into(self.room, 0, flags)])
+        while len(data) >= 16:
+            size, kind, _, sequence, _ = struct.unpack_from("=IHHII", data)
+            yield kind, sequence, data[16:size]
+            data = data[(size + 3) & ~3:]
+
+    def message(self, request: Request, more: int = 0) -> bytes:
+        """A request's bytes with these flags more, and with the next sequence number."""
+        kind, flags, body = request
+        self.sequence += 1
+        return struct.pack("=IHHII", 16 + len(body), kind, flags | more | REQUEST, self.sequence, 0) + body + bytes(-len(body) % 4)
+
+    def dump(self, kind: int, body: bytes) -> list[bytes]:
+        """All of a kind that the kernel has. OSError where it has no such kind."""
+        self.socket.send(self.message((kind, DUMP, body)))
+        found: list[bytes] = []
+        while True:
+            for told, sequence, data in self.read():
+                if sequence == self.sequence and told == ERROR:
+                    raise OSError(-struct.unpack_from("=i", data)[0], "the kernel doesn't tell what it has")
+                if sequence == self.sequence and told == DONE:
+                    return found
+                found += [data] if sequence == self.sequence else []
+
+    def change(self, requests: list[Request]) -> list[int]:
+        """Makes the changes, and gives the error number of each, 0 where it was made. Of a part the last is acknowledged alone."""
+        errors: list[int] = []
+        for start in range(0, len(requests), AT_ONCE):
+            part = requests[start:start + AT_ONCE]
+            first, last = self.sequence + 1, self.sequence + len(part)
+            self.socket.send(b"".join(self.message(it, ACK if self.sequence + 1 == last else 0) for it in part))
+            told: dict[int, int] = {}
+            while last not in told:
+                told |= {at: -struct.unpack_from("=i", data)[0] for kind, at, data in self.read() if kind == ERROR}
+            errors += [told.get(first + at, 0) for at in range(len(part))]
+        return errors
+
+    def routes(self, family: int) -> Iterator[tuple[int, Entry]]:
+        """Our routes of a family: a label, or the table of a default route, and where it leads."""
+        for data in self.dump(GETROUTE, ROUTE.pack(family, 0, 0, 0, 0, 0, 0, 0, 0)):
+            found = attributes(data[ROUTE.size:])
+            if data[5] != OURS or data[0] != family:
+                continue
+            if family == AF_MPLS:
+                key, peer, pushed = struct.unpack("!I", found[TO])[0] >> 12, found.get(VIA, b"")[2:6], found.get(NEW_LABELS, b"")
+            else:
+                key, peer, pushed = as_number(found[TABLE]), found.get(GATEWAY), attributes(found.get(ENCAP, b"")).get(ENCAP_LABELS, b"")
+            labels, mtu = tuple(it >> 12 for it, in struct.iter_unpack("!I", pushed)), attributes(found.get(METRICS, b"")).get(METRIC_MTU)
+            yield key, Entry(labels, as_number(found.get(INTERFACE)), socket.inet_ntoa(peer) if peer else None, as_number(mtu))
+
+    def left(self) -> list[Request]:
+        """What takes away all that is ours but routes: rules and neighbours."""
+        made = [(DELRULE, 0, it) for it in self.dump(GETRULE, ROUTE.pack(AF_INET, 0, 0, 0, 0, 0, 0, 0, 0))
+                if attributes(it[ROUTE.size:]).get(RULE_OWNER) == bytes([OURS])]
+        for data in self.dump(GETNEIGH, NEIGHBOUR.pack(AF_INET, 0, 0, 0, 0, 0, 0)):
+            found = attributes(data[NEIGHBOUR.size:])
+            if found.get(NEIGHBOUR_OWNER) == bytes([OURS]):
+                made.append((DELNEIGH, 0, data[:NEIGHBOUR.size] + attribute(NEIGHBOUR_TO, found[NEIGHBOUR_TO])))
+        return made
+
+
+def label_route(label: int, entry: Entry | None) -> Request:
+    """`ip -f mpls route replace LABEL [as OUT..] via inet PEER dev IF`; with no peer, to this machine; with no entry, it goes."""
+    body = ROUTE.pack(AF_MPLS, 20, 0, 0, HERE, OURS, 0, UNICAST, 0) + attribute(TO, labels_bytes((label,)))
+    if entry is None:
+        return DELROUTE, 0, body
+    body += attribute(NEW_LABELS, labels_bytes(entry.labels)) if entry.labels else b""
+    body += attribute(VIA, struct.pack("=H", AF_INET) + socket.inet_aton(entry.peer)) if entry.peer else b""
+    return NEWROUTE, CREATE | REPLACE, body + attribute(INTERFACE, entry.index)
+
+
+def default_route(table: int, entry: Entry | None) -> Request:
+    """The default route of a table, by a neighbour and under labels; with no peer, to this machine; with no entry, it goes. The kernel takes
+    the labels off the MTU."""
+    if entry is None:
+        return DELROUTE, 0, ROUTE.pack(AF_INET, 0, 0, 0, 0, OURS, 255, 0, 0) + attribute(TABLE, table)
+    scope, kind, flags = (0, UNICAST, ONLINK) if entry.peer else (HERE, LOCAL, 0)
+    body = ROUTE.pack(AF_INET, 0, 0, 0, 0, OURS, scope, kind, flags) + attribute(TABLE, table) + attribute(INTERFACE, entry.index)
+    if entry.labels:
+        body += attribute(ENCAP_TYPE, struct.pack("=H", ENCAP_MPLS)) + attribute(ENCAP, attribute(ENCAP_LABELS, labels_bytes(entry.labels)))
+    body += attribute(GATEWAY, socket.inet_aton(entry.peer)) if entry.peer else b""
+    body += attribute(METRICS, attribute(METRIC_MTU, entry.mtu)) if entry.mtu else b""
+    return NEWROUTE, CREATE | REPLACE, body
+
+
+def rule(new: bool, table: int, priority: int, *conditions: tuple[int, bytes | int]) -> Request:
+    """`ip rule add priority P .. lookup TABLE` with these attributes as its conditions; or, where it isn't `new`, it goes."""
+    body = ROUTE.pack(AF_INET, 0, 0, 0, 0, 0, 0, UNICAST, 0) + attribute(RULE_TABLE, table) + attribute(RULE_PRIORITY, priority)
+    body += attribute(RULE_OWNER, bytes([OURS])) + b"".join(attribute(*it) for it in conditions)
+    return (NEWRULE, CREATE | EXCLUSIVE, body) if new else (DELRULE, 0, body)
+
+
+def neighbour(index: int, peer: str, hardware: bytes = b"") -> Request:
+    """A neighbour with this hardware address; without one, the kernel looks for it and keeps it known, so a repair waits for no ARP (Linux 5.16)."""
+    body = NEIGHBOUR.pack(AF_INET, 0, 0, index, PERMANENT if hardware else 0, 0, 0) + attribute(NEIGHBOUR_TO, socket.inet_aton(peer))
+    body += attribute(NEIGHBOUR_HARDWARE, hardware) if hardware else attribute(NEIGHBOUR_FLAGS, MANAGED)
+    return NEWNEIGH, CREATE | REPLACE, body + attribute(NEIGHBOUR_OWNER, bytes([OURS]))
+
+
+def said(errors: Iterable[int]) -> str:
+    """The names of errors, each once; no text where there are none."""
+    return ", ".join(f"{errno.errorcode.get(it, it)} {os.strerror(it)}" for it in sorted(set(errors)) if it)

@@ -1,0 +1,99 @@
+"""RSVP as it goes over IP (RFC 2205, 3.3), and as `lsr serve` frames it (docs/WIRE.md, Frames)."""
+import itertools
+import socket
+import struct
+from typing import NamedTuple
+
+from integrity import checksum
+
+RSVP = 46                       # the IP protocol; then the types of messages (RFC 2205, 3.1.1; RFC 3209, 5.1)
+PATH, RESV, PATH_ERR, RESV_ERR, PATH_TEAR, RESV_TEAR, HELLO = 1, 2, 3, 4, 5, 6, 20
+DOWNSTREAM, UPSTREAM = {PATH, PATH_TEAR, RESV_ERR}, {RESV, PATH_ERR, RESV_TEAR}
+MESSAGE_BYTES, OBJECT_BYTES, IP_BYTES = 8, 4, 20        # of the headers of a message, of an object and of an IPv4 packet
+SESSION, FILTER_SPEC, SENDER_TEMPLATE = 1, 10, 11       # classes of objects (RFC 2205, A)
+HOP, LABELLED, ROUTED = 1, 2, 3                         # kinds of frames
+ROUTED_BYTES = 6                # of a Routed frame before its message: its kind, an address, a limit of hops
+MESSAGE = 1                     # the kind of a Labelled frame's payload that is a message
+ALERT = b"\x94\x04\x00\x00"     # the router alert option (RFC 2113), which each fragment keeps
+CONTROL_CLASS, TTL = 0xc0, 255  # the DSCP CS6 (RFC 2474), as routers mark RSVP; and the TTL, which is also the message's Send_TTL
+MORE_FRAGMENTS, BOTTOM, IMPLICIT_NULL = 0x2000, 0x100, 3        # RFC 791, 3.1; RFC 3032, 2.1
+IPV4, MPLS = 0x0800, 0x8847     # EtherTypes
+packet_numbers = itertools.count(1)
+
+
+class Packet(NamedTuple):
+    """A message, and what the header of its IP packet says."""
+    source: str
+    to: str
+    ttl: int
+    message: bytes
+    alert: bool = False
+
+
+def first_object(message: bytes, wanted: int) -> bytes:
+    """The body of the first object of a class (RFC 2205, 3.1.2); no bytes where there is none."""
+    at = MESSAGE_BYTES
+    while at + OBJECT_BYTES <= len(message):
+        size, found = struct.unpack_from("!HB", message, at)
+        if found == wanted:
+            return message[at + OBJECT_BYTES:at + size]
+        at += max(size, OBJECT_BYTES)
+    return b""
+
+
+def along_the_tunnel(message: bytes) -> Packet:
+    """The packet of a Path or PathTear, or of a ResvErr under labels: from the LSP's sender to its endpoint, with router alert (RFC 2205, 3.1.3)."""
+    sender = first_object(message, SENDER_TEMPLATE) or first_object(message, FILTER_SPEC)
+    return Packet(socket.inet_ntoa(sender[:4]), socket.inet_ntoa(first_object(message, SESSION)[:4]), TTL, message, alert=True)
+
+
+def outgoing(frame: bytes, address: str, peer: str) -> tuple[bytes, Packet | bytes]:
+    """What a frame of the router is on a link with this address and this neighbour: the bytes of a label stack, if it has one, and the packet
+    of a message or, under labels, other bytes. ValueError, OSError: it is no frame."""
+    kind, end = frame[0] if frame else 0, 2 + 4 * int.from_bytes(frame[1:2], "big")
+    if kind == HOP and len(frame) > MESSAGE_BYTES:
+        return b"", along_the_tunnel(frame[1:]) if frame[2] in (PATH, PATH_TEAR) else Packet(address, peer, TTL, frame[1:])
+    if kind == ROUTED and len(frame) >= ROUTED_BYTES + MESSAGE_BYTES:
+        return b"", Packet(address, socket.inet_ntoa(frame[1:5]), frame[5], frame[ROUTED_BYTES:])
+    if kind == LABELLED and 2 < end < len(frame):
+        return frame[2:end], along_the_tunnel(frame[end + 1:]) if frame[end] == MESSAGE else frame[end + 1:]
+    raise ValueError("no frame of docs/WIRE.md: take an lsr that belongs to this lsrnet")
+
+
+def is_resv(frame: bytes) -> bool:
+    """Whether a frame of the router is a Resv."""
+    at = {HOP: 1, ROUTED: ROUTED_BYTES}.get(frame[0], len(frame)) if frame else 0
+    return frame[at + 1:at + 2] == bytes([RESV])
+
+
+def read_packet(data: bytes) -> Packet | None:
+    """The message of an IPv4 packet that the kernel took; none where it is shorter than a message's header."""
+    start = (data[0] & 15) * 4 if data else 0
+    message = data[start:int.from_bytes(data[2:4], "big")]
+    if start < IP_BYTES or len(message) < MESSAGE_BYTES:
+        return None
+    return Packet(socket.inet_ntoa(data[12:16]), socket.inet_ntoa(data[16:20]), data[8], message)
+
+
+def frame_of(packet: Packet, address: str, from_labels: bool) -> bytes | None:
+    """The frame of a packet that came over the link with this address, or out of labels; none of a type that the router doesn't read."""
+    kind = packet.message[1]
+    if kind in DOWNSTREAM and from_labels:
+        return bytes([LABELLED, 0, MESSAGE]) + packet.message
+    if kind in UPSTREAM and packet.to != address:
+        return bytes([ROUTED]) + socket.inet_aton(packet.to) + bytes([packet.ttl]) + packet.message
+    return bytes([HOP]) + packet.message if kind in DOWNSTREAM | UPSTREAM else None
+
+
+def ip_packets(packet: Packet, mtu: int) -> list[bytes]:
+    """The packet as IPv4 packets of at most `mtu` bytes each (RFC 791, 3.2), for where the kernel doesn't write the header."""
+    options = ALERT if packet.alert else b""
+    size, number, made = IP_BYTES + len(options), next(packet_numbers) & 0xffff, []
+    part = max(8, (mtu - size) // 8 * 8)
+    for at in range(0, len(packet.message), part):
+        body = packet.message[at:at + part]
+        place = at // 8 | (MORE_FRAGMENTS if at + part < len(packet.message) else 0)
+        head = struct.pack("!BBHHHBBH", 0x40 + size // 4, CONTROL_CLASS, size + len(body), number, place, packet.ttl, RSVP, 0)
+        head += socket.inet_aton(packet.source) + socket.inet_aton(packet.to) + options
+        made.append(head[:10] + struct.pack("!H", checksum(head)) + head[12:] + body)
+    return made

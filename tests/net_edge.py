@@ -1,0 +1,465 @@
+#!/usr/bin/env python3
+"""The edge of a router on a real network: INTEGRITY (net/lsrnet/integrity.py), Hello (net/lsrnet/hello.py), and what net/same finds in
+captures and journals; without sockets or root. Of net/lab and what stands beside it only their words are asked.
+
+Digests are those of RFC 2202, and of whole messages as another program (openssl) computed them; captures are read by tshark, where it is
+installed (else that case is told as left out, and counts for nothing).
+"""
+
+import functools
+import pathlib
+import random
+import re
+import shutil
+import struct
+import subprocess
+import sys
+import tempfile
+
+import asked
+
+NET = asked.TOP / "net"
+sys.path.insert(0, str(NET / "lsrnet"))
+import hello  # noqa: E402
+import integrity  # noqa: E402
+
+# A PathTear of 48 bytes, as `lsr decode --help` shows it.
+PATH_TEAR = bytes.fromhex("1005b988ff000030001001070a000004000000010a000001000c03010a00000100000001000c0b070a00000100000001")
+# RFC 2202, sections 2 and 3: key, data, digest.
+LONG_DATA = b"Test Using Larger Than Block-Size Key and Larger Than One Block-Size Data"
+VECTORS = {
+    "hmac-md5": [
+        (b"\x0b" * 16, b"Hi There", "9294727a3638bb1c13f48ef8158bfc9d"),
+        (b"Jefe", b"what do ya want for nothing?", "750c783e6ab0b503eaa86e310a5db738"),
+        (b"\xaa" * 16, b"\xdd" * 50, "56be34521d144c88dbb8c733f0e8b3f6"),
+        (bytes(range(1, 26)), b"\xcd" * 50, "697eaf0aca3a3aea3a75164746ffaa79"),
+        (b"\x0c" * 16, b"Test With Truncation", "56461ef2342edc00f9bab995690efd4c"),
+        (b"\xaa" * 80, b"Test Using Larger Than Block-Size Key - Hash Key First", "6b1ab7fe4bd7bf8f0b62e6ce61b9d0cd"),
+        (b"\xaa" * 80, LONG_DATA, "6f630fad67cda0ee1fb1f562db3aa53e"),
+    ],
+    "hmac-sha1": [
+        (b"\x0b" * 20, b"Hi There", "b617318655057264e28bc0b6fb378c8ef146be00"),
+        (b"Jefe", b"what do ya want for nothing?", "effcdf6ae5eb2fa2d27416d5f184df9c259a7c79"),
+        (b"\xaa" * 20, b"\xdd" * 50, "125d7342b9ac11cd91a39af48aa17b4f63f175d3"),
+        (bytes(range(1, 26)), b"\xcd" * 50, "4c9007f4026250c6bc8414f9bf50c86c2d7235da"),
+        (b"\x0c" * 20, b"Test With Truncation", "4c1a03424b55e07fe7f27be1d58bb9324a9a5a04"),
+        (b"\xaa" * 80, b"Test Using Larger Than Block-Size Key - Hash Key First", "aa4ae5e15272d00e95705637ce8a3b55ed402112"),
+        (b"\xaa" * 80, LONG_DATA, "e8e99d0f45237d786d6bbaa7965c7808bbff1a91"),
+    ],
+}
+# PATH_TEAR under these keys and numbers: the digests that `openssl dgst -mac HMAC` gives.
+MD5_KEY = integrity.Key(7, "hmac-md5", b"\x0b" * 16)
+SHA1_KEY = integrity.Key(8, "hmac-sha1", b"Jefe")
+SIGNED = [(MD5_KEY, 0x102, "5707b7e2a1c33f43a9592ee02c3a4bdb"), (SHA1_KEY, 0x103, "19f7c81bee04c138cef78b0c89006a7841f3c97f")]
+INTERFACE, OTHER_INTERFACE, SOURCE = "eth1", "eth2", "10.1.0.1"
+# Ethernet and IPv4 of a packet in a capture: link type 1, protocol 46.
+PCAP = struct.Struct("=IHHiIII")
+PCAP_MAGIC, RSVP = 0xA1B2C3D4, 46
+SECOND = 1.0
+
+
+def different(what, wanted, came):
+    """A line, where the two differ."""
+    return "" if wanted == came else f"{what}: {wanted!r} wanted, {came!r} came\n"
+
+
+def keys(*of_interface, number=1):
+    """The keys of INTERFACE; what they send first has this number."""
+    return integrity.Keys({INTERFACE: list(of_interface)}, clock=lambda: number)
+
+
+def refusal(of_keys, message, interface=INTERFACE):
+    """Why the message is refused; no text where it is taken."""
+    try:
+        of_keys.verify(interface, SOURCE, message)
+    except integrity.Refused as refused:
+        return str(refused)
+    return ""
+
+
+def refused_for(reason, of_keys, message):
+    """What differs where the message is to be refused for this reason."""
+    why = refusal(of_keys, message)
+    return "" if reason in why else f"a refusal with `{reason}` wanted, `{why}` came\n"
+
+
+def vector(name, secret, data, digest):
+    return different(name, digest, integrity.Key(0, name, secret).digest(data).hex())
+
+
+def signed(key, number, digest):
+    """A message under a key, byte for byte, and back."""
+    came = keys(key, number=number).protect(INTERFACE, PATH_TEAR)
+    digest = bytes.fromhex(digest)
+    head = struct.pack("!HBBHHIQ", 20 + len(digest), 4, 1, 0, 0, key.identifier, number)
+    plain = PATH_TEAR[:2] + b"\0\0\xff\0" + struct.pack("!H", len(PATH_TEAR) + 20 + len(digest)) + head + digest + PATH_TEAR[8:]
+    words = struct.unpack(f"!{len(plain) // 2}H", plain)
+    total = sum(words) % 0xFFFF                          # one's complement sum, another way than the module's
+    wanted = plain[:2] + struct.pack("!H", 0xFFFF - total) + plain[4:]
+    return different("message", wanted.hex(), came.hex()) + different(
+        "taken off", PATH_TEAR.hex(), keys(key).verify(INTERFACE, SOURCE, came).hex())
+
+
+def without_keys():
+    """An interface without a key sends and takes what there is, an INTEGRITY object too: the router refuses that."""
+    under = keys(MD5_KEY).protect(INTERFACE, PATH_TEAR)
+    of_keys = keys(MD5_KEY)
+    return "".join(different("message", it, done) for it in (PATH_TEAR, under, b"")
+                   for done in (of_keys.protect(OTHER_INTERFACE, it), of_keys.verify(OTHER_INTERFACE, SOURCE, it)))
+
+
+def replayed():
+    """A number isn't taken twice, nor a lower one, whatever the source; a refused message moves nothing; each key has its own."""
+    sender, receiver = keys(MD5_KEY), keys(MD5_KEY, SHA1_KEY)
+    first, second, third = (sender.protect(INTERFACE, PATH_TEAR) for _ in range(3))
+    forged = second[:-1] + bytes([second[-1] ^ 1])
+    text = different("first", "", refusal(receiver, first)) + refused_for("replay", receiver, first)
+    text += refused_for("wrong", receiver, integrity.sealed(forged)) + different("third", "", refusal(receiver, third))
+    text += refused_for("replay", receiver, second)
+    other = keys(SHA1_KEY).protect(INTERFACE, PATH_TEAR)
+    return text + different("other key", "", refusal(receiver, other)) + refused_for("replay", receiver, third)
+
+
+def two_senders():
+    """Numbers are kept for each sender by its RSVP_HOP, and for messages without one."""
+    receiver, text = keys(MD5_KEY), ""
+    other = PATH_TEAR.replace(bytes.fromhex("000c03010a000001"), bytes.fromhex("000c03010a000009"))
+    without = PATH_TEAR.replace(bytes.fromhex("000c0301"), bytes.fromhex("000c8001"))
+    for message, number in ((PATH_TEAR, 500), (other, 300), (without, 100)):
+        under = keys(MD5_KEY, number=number).protect(INTERFACE, message)
+        text += different("first", "", refusal(receiver, under)) + refused_for("replay", receiver, under)
+    return text
+
+
+def restarted():
+    """A sender that starts again goes on above what it sent, by the clock; one that stands still counts on."""
+    receiver = keys(MD5_KEY)
+    old, new = keys(MD5_KEY, number=1000), keys(MD5_KEY, number=2000)
+    sent = [old.protect(INTERFACE, PATH_TEAR) for _ in range(3)] + [new.protect(INTERFACE, PATH_TEAR)]
+    numbers = [struct.unpack("!Q", it[20:28])[0] for it in sent]
+    return different("numbers", [1000, 1001, 1002, 2000], numbers) + "".join(refusal(receiver, it) for it in sent)
+
+
+def rolled_over():
+    """The first key is sent, each is taken."""
+    old_first, new_first = keys(MD5_KEY, SHA1_KEY), keys(SHA1_KEY, MD5_KEY)
+    both = [it.protect(INTERFACE, PATH_TEAR) for it in (old_first, new_first)]
+    return different("lengths", [84, 88], [len(it) for it in both]) + "".join(refusal(old_first, it) for it in both)
+
+
+def not_taken():
+    """What is refused, and for what."""
+    good = keys(MD5_KEY).protect(INTERFACE, PATH_TEAR)
+    again = integrity.sealed
+    rows = [
+        ("no RSVP message", b""), ("no RSVP message", good[:7]), ("no RSVP message", b"\x20" + good[1:]),
+        ("length field", good + b"\0\0\0\0"), ("length field", good[:-4]),
+        ("checksum", good[:2] + b"\x01\x02" + good[4:]),
+        ("doesn't begin with", PATH_TEAR), ("doesn't begin with", again(PATH_TEAR[:8])), ("doesn't begin with", again(good[:27])),
+        ("doesn't begin with", again(PATH_TEAR[:24] + good[8:44] + PATH_TEAR[24:])),
+        ("isn't in the file", again(good[:19] + b"\x09" + good[20:])),
+        ("isn't one of", again(good[:11] + b"\x02" + good[12:])), ("isn't one of", again(good[:9] + b"\x28" + good[10:])),
+        ("isn't one of", again(good[:40])), ("isn't one of", again(good[:9] + b"\0" + good[10:])),
+        ("digest is wrong", again(good[:12] + b"\x80" + good[13:])), ("digest is wrong", again(good[:-4])),
+        ("digest is wrong", again(good[:27] + b"\x09" + good[28:])), ("digest is wrong", again(good[:1] + b"\x01" + good[2:])),
+    ]
+    return "".join(refused_for(reason, keys(MD5_KEY), message) for reason, message in rows)
+
+
+def changed_by_chance():
+    """Of messages with changed, cut or added bytes none is taken, and each is refused in words."""
+    chance, good = random.Random(2747), keys(MD5_KEY).protect(INTERFACE, PATH_TEAR)
+    for _ in range(5000):
+        message = bytearray(good)
+        for _ in range(chance.randint(1, 3)):
+            message[chance.randrange(len(message))] ^= chance.randint(1, 255)
+        message = bytes(message[:chance.randint(0, len(message))] if chance.random() < 0.3 else message)
+        if chance.random() < 0.7 and len(message) >= 8:
+            message = integrity.sealed(message)
+        same = message[:2] + message[4:] == good[:2] + good[4:]         # the checksum alone isn't under the digest
+        if not refusal(keys(MD5_KEY), message) and not same:
+            return f"taken: {message.hex()}\n"
+    return ""
+
+
+def read_keys(text, mode=0o600):
+    """The keys of a file of this text, or what is told of it."""
+    with tempfile.TemporaryDirectory() as room:
+        path = pathlib.Path(room, "keys")
+        path.write_bytes(text if isinstance(text, bytes) else text.encode())
+        path.chmod(mode)
+        try:
+            return integrity.Keys.read(str(path)).keys
+        except integrity.BadKeys as bad:
+            return str(bad).replace(room + "/", "")
+
+
+def file_of_keys():
+    """The example of the module's own text, and what is wrong with others; no secret is told."""
+    lines = integrity.__doc__.split("INTERFACE IDENTIFIER DIGEST SECRET\n")[1].split("\n\n")[0]
+    wanted = {"eth1": [integrity.Key(1, "hmac-md5", b"correct-horse-battery"), integrity.Key(2, "hmac-sha1", b"\x0b" * 20)]}
+    text = different("example", wanted, read_keys("# ours\n\n" + lines)) + different("empty", {}, read_keys(""))
+    rows = [
+        ("keys, line 1: write INTERFACE", "eth1 1 hmac-md5 sesame\n"), ("keys, line 2: write", "\neth1 1 hmac-md5 hex:123\n"),
+        ("write INTERFACE", "eth1 1 hmac-md5 text:\n"), ("write INTERFACE", "eth1 -1 hmac-md5 text:sesame\n"),
+        ("write INTERFACE", "eth1 1 hmac-md5 text:se same\n"), ("hmac-sha2 is no digest", "eth1 1 hmac-sha2 text:sesame\n"),
+        ("more than 48 bits", f"eth1 {1 << 48} hmac-md5 text:sesame\n"), ("UTF-8", b"eth1 1 hmac-md5 text:sesame\xff\n"),
+        ("has identifier 1 already", "eth1 1 hmac-md5 text:sesame\neth1 1 hmac-sha1 text:sesame\n"),
+    ]
+    for reason, given in rows:
+        told = str(read_keys(given))
+        text += "" if reason in told and "sesame" not in told else f"`{reason}` wanted, without the secret; `{told}` came\n"
+    return text + different("mode", "keys: others may read these secrets; run chmod 600 keys", read_keys("", 0o640))
+
+
+def told(neighbour):
+    """All that a neighbour's state machine tells."""
+    return list(iter(neighbour.event, None))
+
+
+class Pair:
+    """Two nodes, each with the other as its neighbour, and a wire between them that may be cut."""
+
+    def __init__(self):
+        self.now, self.is_cut = 0.0, False
+        self.nodes = [hello.Neighbour(100, SECOND), hello.Neighbour(200, SECOND)]
+        self.told = [[], []]
+        self.requests = 0
+
+    def carry(self, to, message):
+        while message and not self.is_cut:
+            message = self.nodes[to].receive(self.now, message)
+            to = 1 - to
+
+    def run(self, seconds):
+        """Moments of a tenth of a second."""
+        for _ in range(round(seconds * 10)):
+            self.now += 0.1
+            for own in range(2):
+                message = self.nodes[own].tick(self.now)
+                self.requests += message is not None
+                self.carry(1 - own, message)
+            for own in range(2):
+                self.told[own] += [(round(self.now, 1), it) for it in told(self.nodes[own])]
+
+
+def hello_bytes():
+    """A REQUEST and its ACK, byte for byte: header, then length 12, class 22, C-Type, both instances."""
+    one = hello.Neighbour(1, SECOND)
+    wanted = "1014d8c901000014" "000c1601" "0000000100000000"
+    answer = hello.Neighbour(2, SECOND).receive(0.0, bytes.fromhex(wanted))
+    return different("REQUEST", wanted, (one.tick(0.0) or b"").hex()) + different(
+        "ACK", "1014d8c601000014" "000c1602" "0000000200000001", (answer or b"").hex())
+
+
+def quiet_neighbours():
+    """Two that are there tell nothing, and one REQUEST an interval goes between them."""
+    pair = Pair()
+    pair.run(20)
+    text = different("told", [[], []], pair.told)
+    return text + ("" if 18 <= pair.requests <= 22 else f"{pair.requests} REQUESTs in 20 intervals\n")
+
+
+def silent_neighbour():
+    """A cut is told 3.5 intervals after the last word, once; what comes after it as `up` at both ends, under new instances."""
+    pair = Pair()
+    pair.run(5)
+    pair.is_cut = True
+    pair.run(10)
+    text = different("told", [["down"], ["down"]], [[it for _, it in own] for own in pair.told])
+    late = [moment - 5 for (moment, _), in pair.told]
+    text += "" if all(2.4 <= it <= 3.6 for it in late) else f"told after {late} intervals\n"
+    pair.is_cut = False
+    pair.run(3)
+    text += different("told", [["down", "up"]] * 2, [[it for _, it in own] for own in pair.told])
+    return text + different("instances", [101, 201], [it.own for it in pair.nodes])
+
+
+def restarted_neighbour():
+    """Another instance is a loss at once, and then the neighbour is there again; the one that restarted tells nothing."""
+    pair = Pair()
+    pair.run(5)
+    pair.nodes[1] = hello.Neighbour(700, SECOND)
+    pair.run(3)
+    return different("told", [["down", "up"], []], [[it for _, it in own] for own in pair.told]) + different(
+        "known", [700, 101], [it.other for it in pair.nodes])
+
+
+def never_heard():
+    """Of a neighbour that never spoke nothing is told, and it is asked each interval."""
+    one = hello.Neighbour(1, SECOND)
+    sent = [one.tick(moment / 10) for moment in range(100)]
+    return different("told", [], told(one)) + different("asked", 10, sum(it is not None for it in sent))
+
+
+def met():
+    """A node that knows its neighbour, whose instance is 9."""
+    one = hello.Neighbour(1, SECOND)
+    one.receive(0.0, hello.hello(hello.ACK, 9, 1))
+    return one
+
+
+def wrong_instances():
+    """A wrong reflection in an ACK is a loss at once, in REQUESTs the third time; 0 in a REQUEST is none; Src_Instance 0 is one."""
+    rows = [([(hello.ACK, 9, 5)], 1), ([(hello.REQUEST, 9, 5)] * 2, 0), ([(hello.REQUEST, 9, 5)] * 3, 1),
+            ([(hello.REQUEST, 9, 5)] * 2 + [(hello.REQUEST, 9, 1)] + [(hello.REQUEST, 9, 5)] * 2, 0),
+            ([(hello.REQUEST, 9, 0)] * 5, 0), ([(hello.ACK, 0, 1)], 1), ([(hello.ACK, 9, 5)] * 4, 1)]
+    text = ""
+    for messages, losses in rows:
+        one = met()
+        for words in messages:
+            one.receive(0.1, hello.hello(*words))
+        text += different(f"losses after {messages}", losses, told(one).count("down"))
+    return text
+
+
+def no_hellos():
+    """What is no Hello is no sign of life: cut, of a wrong length, checksum or class, or another message."""
+    good = hello.hello(hello.ACK, 9, 1)
+    again = integrity.sealed
+    junk = [b"", good[:7], good[:19], good[:2] + b"\x01\x02" + good[4:], again(good[:8]), again(good[:10] + b"\x15" + good[11:]),
+            again(good[:11] + b"\x03" + good[12:]), again(good[:1] + b"\x05" + good[2:]), again(good[:8] + b"\0\0" + good[10:]), PATH_TEAR,
+            *(random.Random(3209).randbytes(length) for length in range(64))]
+    one = met()
+    answers = [one.receive(3.0, it) for it in junk]
+    one.tick(3.4)
+    text = different("answers", [None] * len(junk), answers) + different("told", [], told(one))
+    one.tick(3.5)
+    return text + different("told", ["down"], told(one))
+
+
+def last_instance():
+    """After the last instance comes 1: 0 says that there is none."""
+    one = hello.Neighbour(hello.LAST_INSTANCE, SECOND)
+    one.receive(0.0, hello.hello(hello.ACK, 9, hello.LAST_INSTANCE))
+    one.tick(4.0)
+    return different("instance", 1, one.own)
+
+
+def capture(messages):
+    """A capture file's bytes: each message in an IPv4 packet of protocol 46, over Ethernet."""
+    out = PCAP.pack(PCAP_MAGIC, 2, 4, 0, 0, 65535, 1)
+    for message in messages:
+        head = struct.pack("!BBHHHBBH4s4s", 0x45, 0xC0, 20 + len(message), 0, 0, message[4], RSVP, 0, bytes([10, 1, 0, 1]), bytes([10, 1, 0, 2]))
+        head = head[:10] + struct.pack("!H", integrity.checksum(head)) + head[12:]
+        frame = b"\x02\0\0\0\0\x02\x02\0\0\0\0\x01\x08\0" + head + message
+        out += struct.pack("=IIII", 1, 0, len(frame), len(frame)) + frame
+    return out
+
+
+def read_by_tshark():
+    """tshark finds the objects, the fields and right checksums, and complains of nothing."""
+    messages = [keys(key, number=number).protect(INTERFACE, message) for message in (PATH_TEAR, hello.hello(hello.REQUEST, 1, 0))
+                for key, number, _ in SIGNED] + [hello.hello(hello.ACK, 0x1234, 0x5678)]
+    with tempfile.TemporaryDirectory() as room:
+        path = pathlib.Path(room, "edge.pcap")
+        path.write_bytes(capture(messages))
+        words = ["tshark", "-V", "-o", "ip.check_checksum:TRUE", "-r", str(path)]
+        said = subprocess.run(words, capture_output=True, text=True, timeout=asked.MOST_SECONDS, check=True).stdout
+    text = "".join(f"tshark: {line}\n" for line in said.splitlines() if re.search(r"(?i)malformed|expert info .(warn|error)|unknown|incorrect|bad ", line))
+    counts = {"    INTEGRITY\n": 4, "Message Checksum: 0x.* \\[correct\\]": 5, "Sequence Number: 258": 2,
+              "HELLO Request/Ack: REQUEST": 2, "HELLO Request/Ack: ACK": 1, "Source Instance: 0x00001234": 1, "Destination Instance: 0x00005678": 1}
+    return text + "".join(different(it, count, len(re.findall(it, said))) for it, count in counts.items())
+
+
+class Carried:
+    """A Path of examples/serve-head.toml and the Resv that answers it, in the journals of both routers and in captures."""
+
+    def __init__(self, room):
+        self.room = pathlib.Path(room)
+        self.path, = self.step("head", "tick 1\n")
+        self.resv, = self.step("tail", f"rx 1 {self.path.hex()}\n")
+        self.journals = [str(self.room / name) for name in ("head", "tail")]
+
+    def step(self, name, lines):
+        """What a router sends, whose journal has that name."""
+        words = ["step", "--config", str(asked.TOP / "examples" / f"serve-{name}.toml"), "--journal", str(self.room / name)]
+        said = asked.ask(*words, given=lines.encode()).out.decode()
+        return [bytes.fromhex(it) for it in re.findall(r"^tx \d+ ([0-9a-f]+)$", said, re.MULTILINE)]
+
+    def same(self, data, *journals):
+        """What net/same says of a capture of these bytes: its status, and both streams."""
+        name = self.room / "link.pcap"
+        name.write_bytes(data)
+        words = [str(NET / "same"), "--lsr", asked.program(), str(name), *(journals or self.journals)]
+        done = subprocess.run(words, capture_output=True, text=True, timeout=asked.MOST_SECONDS, check=False)
+        return done.returncode, done.stdout.strip(), done.stderr.strip()
+
+
+def found_same():
+    """What two routers sent is found, under labels too; a changed byte, a message of no journal, and one that was never captured are told."""
+    with tempfile.TemporaryDirectory() as room:
+        it = Carried(room)
+        good = capture([it.path, it.resv])
+        labelled = good[:PCAP.size] + b"".join(relabelled(good))
+        wrong = it.resv[:-1] + bytes([it.resv[-1] ^ 1])
+        rows = [
+            (good, (), 0, "2 messages captured, 0 of them sent by no router; 1 taken by routers, 0 of them not captured"),
+            (labelled, (), 0, "2 messages captured, 0 of them sent by no router; 1 taken by routers, 0 of them not captured"),
+            (capture([it.path, wrong]), (), 1, "2 messages captured, 1 of them sent by no router; 1 taken by routers, 0 of them not captured"),
+            (good, it.journals[1:], 1, "2 messages captured, 1 of them sent by no router; 1 taken by routers, 0 of them not captured"),
+            (capture([it.resv]), (), 1, "1 messages captured, 0 of them sent by no router; 1 taken by routers, 1 of them not captured"),
+            (capture([]), (), 1, "0 messages captured, 0 of them sent by no router; 1 taken by routers, 1 of them not captured"),
+            (capture([it.path, it.resv, hello.hello(hello.ACK, 1, 2), keys(MD5_KEY).protect(INTERFACE, it.resv)]), (), 0,
+             "2 messages captured, 0 of them sent by no router; 1 taken by routers, 0 of them not captured\nnot compared: 1 Hellos, 1 with INTEGRITY"),
+            (good[:-3], (), 0, "1 messages captured, 0 of them sent by no router; 1 taken by routers, 0 of them not captured"),
+        ]
+        text = "".join(different("same", (status, said, ""), it.same(data, *journals)) for data, journals, status, said in rows)
+        status, said, told = it.same(b"no capture")
+        return text + ("" if (status, said) == (2, "") and "neither a pcap file nor a journal" in told else f"{status} {said} {told}\n")
+
+
+def relabelled(data):
+    """The packets of a capture, each under two labels (RFC 3032)."""
+    at = PCAP.size
+    while at < len(data):
+        size = struct.unpack_from("=I", data, at + 8)[0]
+        frame = data[at + 16:at + 16 + size]
+        frame = frame[:12] + b"\x88\x47" + bytes.fromhex("0006403f000c813f") + frame[14:]
+        yield struct.pack("=IIII", 1, 0, len(frame), len(frame)) + frame
+        at += 16 + size
+
+
+def other_words():
+    """Words that the commands of the lab don't take are told, with status 2 (the guest's is 125), and nothing is done."""
+    rows = [("same", []), ("flood", []), ("flood", ["10.1.0.1", "10.1.0.2"]), ("bare", ["0"]), ("bare", ["1025"]), ("bare", ["x"]),
+            ("lab", ["--lsps", "0"]), ("lab", ["--lsps", "251"]), ("lab", ["--seconds", "1"]), ("lab", ["--plane", "none"]), ("lab", ["x"]),
+            ("lab", ["--lsr", "/no/such/lsr"]), ("guest", []), ("guest", ["--memory", "x", "true"]), ("guest", ["--writable", "/no/such", "true"])]
+    text = ""
+    for name, words in rows:
+        came = subprocess.run([str(NET / name), *words], stdin=subprocess.DEVNULL, capture_output=True, text=True, timeout=asked.MOST_SECONDS, check=False)
+        wanted = 125 if name == "guest" else 2
+        text += "" if came.returncode == wanted and came.stderr and not came.stdout and "Traceback" not in came.stderr else f"{name} {words}: {came}\n"
+    return text
+
+
+CASES = [
+    *[(f"RFC 2202: {name} {number}", functools.partial(vector, name, *row))
+      for name, rows in VECTORS.items() for number, row in enumerate(rows, 1)],
+    *[(f"a message under {row[0].digest_name}", functools.partial(signed, *row)) for row in SIGNED],
+    ("without keys", without_keys),
+    ("replay", replayed),
+    ("two senders", two_senders),
+    ("a sender restarts", restarted),
+    ("two keys", rolled_over),
+    ("refusals", not_taken),
+    ("changed by chance", changed_by_chance),
+    ("a file of keys", file_of_keys),
+    ("Hello, byte for byte", hello_bytes),
+    ("neighbours that are there", quiet_neighbours),
+    ("a silent neighbour", silent_neighbour),
+    ("a neighbour restarts", restarted_neighbour),
+    ("a neighbour that never spoke", never_heard),
+    ("wrong instances", wrong_instances),
+    ("no Hello", no_hellos),
+    ("the last instance", last_instance),
+    ("net/same", found_same),
+    ("other words", other_words),
+]
+
+if __name__ == "__main__":
+    if shutil.which("tshark"):
+        CASES.append(("tshark", read_by_tshark))
+    else:
+        print("tshark isn't installed: that it reads these messages is left out")
+    sys.exit(asked.count(CASES))
