@@ -68,7 +68,7 @@ pub(crate) fn wires<'a, R: Net>(
 ) -> Result<Vec<LinkWire<UdpWire<'a>>>, Fault> {
     match open_wires(net, alloc, links) {
         Ok(wires) => Ok(wires),
-        Err(ServeFault::Socket(link)) => Err(Fault::Socket(link)),
+        Err(ServeFault::Socket { link, .. }) => Err(Fault::Socket(link)),
         // (no segment is kept where wires are opened)
         Err(ServeFault::Memory | ServeFault::Unkept(_)) => Err(Fault::Memory),
     }

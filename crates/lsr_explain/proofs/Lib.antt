@@ -2,3 +2,4 @@ mod Values
 mod TopicLaws
 mod Printing
 mod Nearness
+mod AskingLaws

@@ -5,7 +5,7 @@ use Rattle.std.specs.Option.{MatchOption}
 use Rattle.std.specs.Str.{IsUtf8}
 use Rattle.std.specs.Io.KnownBytes.{Appends}
 use Rattle.line_streams.specs.Cuts.{lines_of}
-use Rattle.lsr_explain.specs.Topics.{found, is_asked_by, is_indented, is_one_of, is_sought, longer_first, words_of}
+use Rattle.lsr_explain.specs.Topics.{found, is_asked_by, is_indented, is_one_of, is_same, is_sought, longer_first, words_of}
 use Rattle.lsr_explain.specs.declared.topics.Kind.{Kind}
 use Rattle.lsr_explain.specs.Answers.{explained}
 
@@ -24,34 +24,35 @@ no_words [] h = refl
 no_words (b ∷ line) h = word_more b line (h 0 (omega arith)) ∙ ap (longer_first b) (no_words line (λ i l. h (suc i) (omega arith)))
 
 -- what a word asks for is still among the lines that are left
-pub record IsSought (kind : Kind) (word : List ℕ) (text rest : List ℕ) : Type 0 where
-  pub same : found kind word (lines_of text) ≡ found kind word (lines_of rest)
+pub record IsSought (any_case : Bool) (kind : Kind) (word : List ℕ) (text rest : List ℕ) : Type 0 where
+  pub same : found any_case kind word (lines_of text) ≡ found any_case kind word (lines_of rest)
   pub utf8 : IsUtf8 rest
 
-pub found_first : (kind : Kind) (word line : List ℕ) (lines : List (List ℕ)) → is_sought kind word line ≡ true → found kind word (line ∷ lines) ≡ Some (line ∷ lines)
+pub found_first : (any_case : Bool) (kind : Kind) (word line : List ℕ) (lines : List (List ℕ)) → is_sought any_case kind word line ≡ true → found any_case kind word (line ∷ lines) ≡ Some (line ∷ lines)
 unfolding found
-found_first kind word line lines h = rw h refl
+found_first any_case kind word line lines h = rw h refl
 
-pub found_behind : (kind : Kind) (word line : List ℕ) (lines : List (List ℕ)) → is_sought kind word line ≡ false → found kind word (line ∷ lines) ≡ found kind word lines
+pub found_behind : (any_case : Bool) (kind : Kind) (word line : List ℕ) (lines : List (List ℕ)) → is_sought any_case kind word line ≡ false → found any_case kind word (line ∷ lines) ≡ found any_case kind word lines
 unfolding found
-found_behind kind word line lines h = rw h refl
+found_behind any_case kind word line lines h = rw h refl
 
-pub found_none : (kind : Kind) (word : List ℕ) → found kind word [] ≡ None
+pub found_none : (any_case : Bool) (kind : Kind) (word : List ℕ) → found any_case kind word [] ≡ None
 unfolding found
-found_none kind word = refl
+found_none any_case kind word = refl
 
 pub no_lines : lines_of [] ≡ []
 unfolding lines_of
 no_lines = refl
 
 -- a heading's first word is the word that was asked for, or it is its name, or neither is
-pub asked_first : (named : Bool) (word heading first name : List ℕ) (q : Bool) → words_of heading ≡ Some (first, name) → q ≡ bytes_eq first word → q ≡ true → true ≡ is_asked_by named word heading
-asked_first named word heading first name q e h t = sym (ap (λ b. b || (if named then bytes_eq name word else false)) (sym h ∙ t)) ∙ sym (ap (is_one_of named word heading) e)
+pub asked_first : (any_case named : Bool) (word heading first name : List ℕ) (q : Bool) → words_of heading ≡ Some (first, name) → q ≡ is_same any_case first word → q ≡ true → true ≡ is_asked_by any_case named word heading
+asked_first any_case named word heading first name q e h t =
+    sym (ap (λ b. b || (if named then is_same any_case name word else false)) (sym h ∙ t)) ∙ sym (ap (is_one_of any_case named word heading) e)
 
-pub asked_name : (named : Bool) (word heading first name : List ℕ) (q r : Bool) → words_of heading ≡ Some (first, name) → q ≡ bytes_eq first word → q ≡ false → r ≡ (if named then bytes_eq name word else false)
-    → r ≡ is_asked_by named word heading
-asked_name named word heading first name q r e h t g =
-    g ∙ sym (ap (λ b. b || (if named then bytes_eq name word else false)) (sym h ∙ t)) ∙ sym (ap (is_one_of named word heading) e)
+pub asked_name : (any_case named : Bool) (word heading first name : List ℕ) (q r : Bool) → words_of heading ≡ Some (first, name) → q ≡ is_same any_case first word → q ≡ false → r ≡ (if named then is_same any_case name word else false)
+    → r ≡ is_asked_by any_case named word heading
+asked_name any_case named word heading first name q r e h t g =
+    g ∙ sym (ap (λ b. b || (if named then is_same any_case name word else false)) (sym h ∙ t)) ∙ sym (ap (is_one_of any_case named word heading) e)
 
 pub none_by : {X : Type 0} (r : Option X) → ((x : X) → r ≡ Some x → ⊥) → IsNone r
 none_by None h = search rules

@@ -1,7 +1,7 @@
 -- What is explained, and which word asks for what.
 use Rattle.std.specs.Prelude.{◌≡◌, ◌≢◌, ◌≤◌, ◌<◌, ◌^◌, ◌==◌, ◌||◌, ◌⊎◌, if◌then◌else◌, ℕ, List, [], ◌∷◌, ◌++◌, Bool, true, false, Option, Some, None, codes, length, bytes_eq}
 use Rattle.std.specs.Option.{option_or}
-use Rattle.std.specs.Str.{all_ascii_digits}
+use Rattle.std.specs.Str.{all_ascii_digits, str_eq_ignore_ascii_case}
 use Rattle.std.specs.Str.Parse.{digits_value}
 use Rattle.line_streams.specs.Cuts.{lines_of}
 use Rattle.lsr_explain.specs.declared.topics.Kind.{Kind}
@@ -44,24 +44,28 @@ unfoldable pub words_of : List ℕ → Option (List ℕ × List ℕ)
 words_of [] = None
 words_of (byte ∷ rest) = if byte == 32 then Some ([], rest) else longer_first byte (words_of rest)
 
+-- whether a word is one of a heading: in any case, whether they differ at most in capitals
+unfoldable pub is_same : Bool → List ℕ → List ℕ → Bool
+is_same any_case told word = if any_case then str_eq_ignore_ascii_case told word else bytes_eq told word
+
 -- whether a word is a heading's first word, which is the whole heading where it has no space; or the name after that, where
 -- headings have names
-abbrev pub is_one_of : Bool → List ℕ → List ℕ → Option (List ℕ × List ℕ) → Bool
-is_one_of named word heading None = bytes_eq heading word
-is_one_of named word heading (Some words) = bytes_eq words.0 word || (if named then bytes_eq words.1 word else false)
+abbrev pub is_one_of : Bool → Bool → List ℕ → List ℕ → Option (List ℕ × List ℕ) → Bool
+is_one_of any_case named word heading None = is_same any_case heading word
+is_one_of any_case named word heading (Some words) = is_same any_case words.0 word || (if named then is_same any_case words.1 word else false)
 
 -- whether a word asks for what a heading stands over
-abbrev pub is_asked_by : Bool → List ℕ → List ℕ → Bool
-is_asked_by named word heading = is_one_of named word heading (words_of heading)
+abbrev pub is_asked_by : Bool → Bool → List ℕ → List ℕ → Bool
+is_asked_by any_case named word heading = is_one_of any_case named word heading (words_of heading)
 
 -- whether a line is a heading of a kind, which a word asks for
-abbrev pub is_sought : Kind → List ℕ → List ℕ → Bool
-is_sought kind word line = if is_indented line then false else is_asked_by (has_names kind) word line
+abbrev pub is_sought : Bool → Kind → List ℕ → List ℕ → Bool
+is_sought any_case kind word line = if is_indented line then false else is_asked_by any_case (has_names kind) word line
 
 -- the lines from the first heading of a kind on that a word asks for
-unfoldable pub found : Kind → List ℕ → List (List ℕ) → Option (List (List ℕ))
-found kind word [] = None
-found kind word (line ∷ lines) = if is_sought kind word line then Some (line ∷ lines) else found kind word lines
+unfoldable pub found : Bool → Kind → List ℕ → List (List ℕ) → Option (List (List ℕ))
+found any_case kind word [] = None
+found any_case kind word (line ∷ lines) = if is_sought any_case kind word line then Some (line ∷ lines) else found any_case kind word lines
 
 -- the lines from a topic's heading on
 abbrev pub lines_from : Topic → List (List ℕ)
@@ -77,14 +81,23 @@ of_kind kind None = None
 of_kind kind (Some lines) = Some (kind, lines)
 
 -- what a word asks for among the topics of a kind
-abbrev pub found_in : Kind → List ℕ → Option (Kind × List (List ℕ))
-found_in kind word = of_kind kind (found kind word (lines_of (text_of kind)))
+abbrev pub found_in : Bool → Kind → List ℕ → Option (Kind × List (List ℕ))
+found_in any_case kind word = of_kind kind (found any_case kind word (lines_of (text_of kind)))
 
 -- the topic that a word asks for: of refusals, else of errors, else of faults of a configuration, else of those of a recorded run, else of what ends a run
+unfoldable pub topic_by : Bool → List ℕ → Option (Kind × List (List ℕ))
+topic_by any_case word =
+    option_or (found_in any_case kinds.Refusal word)
+    (option_or (found_in any_case kinds.RsvpError word)
+    (option_or (found_in any_case kinds.ConfigFault word) (option_or (found_in any_case kinds.RunFault word) (found_in any_case kinds.Ending word))))
+
+-- the topic that a word asks for as it is told
 abbrev pub topic_of : List ℕ → Option (Kind × List (List ℕ))
-topic_of word =
-    option_or (found_in kinds.Refusal word)
-    (option_or (found_in kinds.RsvpError word) (option_or (found_in kinds.ConfigFault word) (option_or (found_in kinds.RunFault word) (found_in kinds.Ending word))))
+topic_of word = topic_by false word
+
+-- the topic that a word asks for: as it is told, else in any case
+abbrev pub topic_named : List ℕ → Option (Kind × List (List ℕ))
+topic_named word = option_or (topic_of word) (topic_by true word)
 
 -- The digits are decimal, leading zeros taken, and their value fits 16 bits.
 pub record ValueOf (digits : List ℕ) (value : ℕ) : Type 0 where
@@ -111,7 +124,7 @@ IsObjectError word topic value =
 -- What a word is answered: what it asks for by number or name; else the list, where it is `list`; else an error about an
 -- object, where it names one; else it is unknown.
 abbrev pub Explains : List ℕ → Answer → Type 0
-Explains word (answers.Topic topic) = topic_of word ≡ Some (seen topic)
-Explains word (answers.Object topic value) = (topic_of word ≡ None) × (word ≢ codes "list") × IsObjectError word topic value
-Explains word answers.List = (topic_of word ≡ None) × (word ≡ codes "list")
-Explains word answers.Unknown = (topic_of word ≡ None) × (word ≢ codes "list") × ((topic : Topic) (value : ℕ) → IsObjectError word topic value → ⊥)
+Explains word (answers.Topic topic) = topic_named word ≡ Some (seen topic)
+Explains word (answers.Object topic value) = (topic_named word ≡ None) × (word ≢ codes "list") × IsObjectError word topic value
+Explains word answers.List = (topic_named word ≡ None) × (word ≡ codes "list")
+Explains word answers.Unknown = (topic_named word ≡ None) × (word ≢ codes "list") × ((topic : Topic) (value : ℕ) → IsObjectError word topic value → ⊥)

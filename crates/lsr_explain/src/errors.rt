@@ -64,7 +64,7 @@ pub const ERRORS: &str = "\
   The message has an object of a class that isn't known here and that mustn't be
   ignored. N is 256 times its class, plus its C-Type.
   What to do: turn off at its sender the feature that the object belongs to; class 63 is the
-  BYPASS_TUNNEL of one-to-one backup.
+  DETOUR of one-to-one backup.
   See: RFC 2205, B (code 13) and 3.10; RFC 4090, 4.2
 14/N UnknownCType
   The message has an object of a known class with a C-Type that isn't known here. N is 256
@@ -132,9 +132,11 @@ pub const ERRORS: &str = "\
   What to do: the neighbour that gave the label is at fault.
   See: RFC 3209, 7.3 and 4.1; RFC 3032, 2.1
 24/7 RoutingLoop
-  The record of the Path has an address of this router: the path has been here before.
-  What to do: look for a loop in the static routes, or give the tunnel an explicit route.
-  See: RFC 3209, 7.3 and 4.4.4
+  The record of the Path has an address of this router: the path has been here before, or two
+  routers have the same `router`, the router's own address, in their configurations.
+  What to do: see that each router on the way has a `router` of its own. Then look for a loop in
+  the static routes, or give the tunnel an explicit route.
+  See: RFC 3209, 7.3 and 4.4.4; docs/CONFIGURATION.md (The router)
 24/8 NonRsvpRouter
   A router that doesn't speak RSVP stands in the path. This router never says so; it
   passes it on.
@@ -154,8 +156,8 @@ pub const ERRORS: &str = "\
   See: RFC 3209, 7.3 and 4.2.4
 25/1 RecordTooLong
   Notify: the record of the Path has no room for one more address, so the Path goes on
-  without its record. This router tells the tunnel's head so, and answers the Path `done`: this is
-  news and no failure.
+  without its record. This router tells the tunnel's head so, and answers the Path `done`. This is
+  informational, not an error.
   What to do: nothing; turn off the recording of routes where the tunnel begins if it isn't needed.
   See: RFC 3209, 7.3 and 4.4.3
 25/2 RecordNotified
@@ -165,9 +167,9 @@ pub const ERRORS: &str = "\
   See: RFC 3209, 7.3 and 4.4.3
 25/3 LocallyRepaired
   Notify: a link or router on the way failed, and the tunnel goes round it over a bypass.
-  This is news and no failure: the tunnel works. This router says so to the routers that an
-  LSP's Paths came from when it moves the LSP onto a bypass; what another router says it passes
-  on, and where the tunnel begins here `show tunnels` tells it.
+  This is informational, not an error: the tunnel works. This router says so to the routers that
+  an LSP's Paths came from when it moves the LSP onto a bypass. What another router says it passes
+  on; where the tunnel begins here, `show tunnels` tells it.
   What to do: route the tunnel anew while the bypass carries it: where it begins,
   `change N RATE ROUTE..` sets up the new way before it leaves the old one.
   See: RFC 3209, 7.3; RFC 4090, 6.5.1; docs/ROUTER.md (Bypasses and local repair)

@@ -4,7 +4,7 @@ ghost use Rattle.std.specs.Option.{MatchOption};
 ghost use Rattle.lsr_explain.specs.declared.topics.Topic.{Topic};
 ghost use Rattle.lsr_explain.specs.Topics.{Explains, NamesError, NamesValue, ValueOf};
 
-use crate::topics::{Topic, find_topic};
+use crate::topics::{Topic, find_named, find_topic};
 
 /// The word that asks for all that can be asked.
 const LIST: &str = "list";
@@ -68,12 +68,12 @@ fn find_error(code: &str, all: &str, word: &str) -> Option<(Topic, u16)>
     }
 }
 
-/// What the word asks for: a refusal or an error by number or name, a fault by name, an error about an object by its
-/// value, or with `list` all that can be asked.
+/// What the word asks for: a refusal or an error by number or name, a fault by name, in any case; an error about an object by
+/// its value; or with `list` all that can be asked.
 pub fn explain(word: &str) -> Answer
     ensures { Explains word.now result }
 {
-    if let Some(topic) = find_topic(word) {
+    if let Some(topic) = find_named(word) {
         return Answer::Topic(topic);
     }
     if word == LIST {

@@ -91,18 +91,21 @@ Output
 pub const ENDINGS: &str = "\
 bad line N
   Line N has none of the forms that `lsr step --help` tells, or of `lsr play` that `lsr play
-  --help` does. It stands after that, and the form of lines that begin as it does. It ended the
-  run; what the lines before it asked for is done. With --live the run goes on.
-  What to do: fix the line, and run the whole again; with --live, write it again.
-  See: README.md (A short tour)
+  --help` does; or it isn't taken there: with --journal only `show recent` of the shows is, and at
+  a console no rx, frame or tick. It stands after that, and the form of lines that begin as it
+  does; and a blank too many, which isn't seen. It ended the run; what the lines before it asked
+  for is done. With --live and at a console the run goes on.
+  What to do: fix the line, and run the whole again; with --live or at a console, write it again.
+  See: docs/PROGRAM.md (`lsr step`: echo, and what goes wrong)
 unreadable
   The file or the input isn't there, is a folder, can't be opened or read, isn't UTF-8 where it
   has to be text, or has more than 16777216 bytes; which of them it is and why stands after that,
   and from which byte on it isn't UTF-8. Of `lsr decode -`: the input broke, is a folder, or a
   line has more than 16777216 bytes; the lines before that are answered, and so they are by
   `lsr step --live`.
-  What to do: look at its name and its permissions; give it as text.
-  See: docs/CONFIGURATION.md (Faults); docs/PROGRAM.md (`lsr decode`: what messages are made of)
+  What to do: check its name, which counts from the folder where lsr runs, and its permissions;
+  give text in UTF-8.
+  See: docs/PROGRAM.md (`lsr step`: echo, and what goes wrong); docs/CONFIGURATION.md (Faults)
 world FAULT
   The routers and wires of the file that `lsr play` was given make no world. Routers: there is no
   router, or there are more than 16. Joint I: wire I, counted from 1, names a link that its router
@@ -120,25 +123,35 @@ memory
   What to do: free some memory and try again.
   See: README.md (What is promised)
 link L: socket
-  Of `lsr serve`: the sockets of link L can't be had. Another program has one of its addresses;
-  or one isn't a loopback address of this machine, such as 127.0.0.1, or isn't of the family (IPv4
-  or IPv6) of the first link's. Of L 0 it is the socket from which the clock's port sends.
-  What to do: end the other program, or write other ports into the configuration.
+  Of `lsr serve`: link L can't have its socket. Another program, or another router of yours, has the
+  address and port of its `listen`; or its `listen` or `send` isn't a loopback address of this
+  machine, such as 127.0.0.1, or isn't of the family (IPv4 or IPv6) of the first link's. L is 0 for
+  the socket from which the clock's port sends. Nothing was started.
+  What to do: `ss -ulpn` lists the programs that have sockets, by their ports. End the other
+  program, or write other ports into the configuration.
+  See: docs/PROGRAM.md (`lsr serve`: a router over sockets)
+segment N: not kept
+  Of `lsr serve --journal`: there was no memory for file N of the journal. The files end with the
+  one before it.
+  What to do: free some memory and run it again under another PREFIX.
   See: docs/PROGRAM.md (`lsr serve`: a router over sockets)
 mismatch PORT PLACE
   Of `lsr serve`: what its threads were told and the journal aren't one run of the router: they
-  differ first at the PLACEth entry of the port PORT. It is a fault of this program.
-  What to do: keep the journal's files and report it.
+  differ first at the PLACEth entry of the port PORT. Of PORT 0, PLACE is the number of the first
+  piece of the journal that doesn't go on from the one before, and 1 also where the run isn't one
+  of this configuration. It is a fault of this program or of the machine. At a console nothing is
+  served from then on.
+  What to do: end the program, keep the configuration and the journal's files, and report it.
   See: docs/PROGRAM.md (`lsr serve`: a router over sockets)
 clock
   Of `lsr serve --console`: the system's clock, by which its moments go, can't be read.
   What to do: see that the system lets the program read its clock, and run it again.
   See: docs/PROGRAM.md (`lsr serve`: a router over sockets)
 unwritable
-  The output or the error stream can't be written: its reader has gone, or a disk is full; then it
+  The output or the error stream can't be written: its reader has gone, or a disk is full. That
   ended the run. Or a file of --journal or --chart can't, and a line after it says which and why:
   its folder isn't there, permissions or the disk don't allow it, its name is that of a folder, a
   device, a pipe or a link, or PREFIX.1 of `lsr serve` is there already.
   What to do: look at where the output goes, or give the file another name, and run the whole again.
-  See: docs/DECISIONS.md (The program)
+  See: docs/PROGRAM.md (`lsr step`: echo, and what goes wrong)
 ";

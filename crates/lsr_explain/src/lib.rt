@@ -1,6 +1,7 @@
 //! `lsr explain`: what each refusal, error and fault that an operator sees means, and what to do about it.
 #![tactic(auto)]
 
+mod asking;
 mod errors;
 mod explaining;
 mod faults;

@@ -5,7 +5,7 @@ pub const REFUSALS: &str = "\
 1 Short
   The message has fewer than the 8 bytes of its header, or the frame ends before its
   message or payload begins.
-  What to do: see that no bytes were lost where they were captured or copied.
+  What to do: check that the message was captured and copied completely.
   See: RFC 2205, 3.1.1; docs/WIRE.md (Frames)
 2 Version
   The message's first four bits aren't 1: it is of another version of RSVP, or no
@@ -54,9 +54,10 @@ pub const REFUSALS: &str = "\
   What to do: shorten the route, or turn off the recording of routes where the tunnel begins.
   See: docs/WIRE.md (Limits); docs/WIRE.md (Frames)
 10 NoMatch
-  Nothing here is what the message speaks of, or no route leads to the router that a Routed
-  frame is for. A PathTear and a ResvErr have to come from the hop that their path comes from,
-  over the same link; a PathErr, a Resv and a ResvTear over the link that their path leaves by.
+  The message names a path or reservation that this router doesn't have, or no route leads to the
+  router that a Routed frame is for. A PathTear and a ResvErr have to come from the hop that their
+  path comes from, over the same link; a PathErr, a Resv and a ResvTear over the link that their
+  path leaves by.
   Through labels that end here a PathTear and a ResvErr have to name the sender of a backup path
   that joined a path here. In a Routed frame for this router a Resv, a PathErr and a ResvTear
   have to name an LSP that runs over a bypass of this router, by the address that this router has
@@ -92,8 +93,8 @@ pub const REFUSALS: &str = "\
   compare the label with `show table`, and with the one in the Resv that the neighbour got.
   See: RFC 3031, 3.18; docs/PROGRAM.md (`lsr step`: whole frames)
 20 UnknownTunnel
-  No tunnel that begins here has the number that the command names. Of `unbypass`: no bypass
-  has it.
+  No tunnel that begins here has the number that the command names. Of `unbypass N` it speaks of a
+  bypass: there is no bypass N.
   What to do: name one that there is; `show tunnels` lists the tunnels, `show bypasses` the
   bypasses. The tunnel that a bypass is to run in has to be there first: add it with `tunnel`.
   See: docs/ROUTER.md (A command comes)
@@ -153,11 +154,11 @@ pub const REFUSALS: &str = "\
   their heads.
   See: docs/ROUTER.md (A command comes; Bypasses and local repair)
 29 Late
-  The moment is below the last one that the router was told.
-  What to do: go on from that moment: time doesn't run backwards. The same moment may come again.
+  The time is before the last one that the router was told.
+  What to do: go on from that time: it doesn't run backwards. The same time may come again.
   See: docs/ROUTER.md (A moment comes)
 30 BadMoment
-  The moment is above 4611686018427387904 (2^62) milliseconds.
+  The time is above 4611686018427387904 (2^62) milliseconds.
   What to do: give the milliseconds since the router was opened, and not a date.
   See: docs/ROUTER.md (A moment comes)
 31 BadCapacity
@@ -180,10 +181,11 @@ pub const REFUSALS: &str = "\
   before, and doesn't say so.
   What to do: record fewer lines in a run; of a router that you embed, rotate the journal and try
   again.
-  See: docs/PROGRAM.md (`lsr step`: echo, and what goes wrong); docs/CRATES.md (To embed the router)
+  See: docs/PROGRAM.md (`lsr step --journal`: a run that others can check); docs/CRATES.md (To
+  embed the router)
 42 IsCold
-  The router was restarted, and lost what messages had set up in it. Until it is started it
-  takes no message, no moment, no command, and no link that comes up or goes down.
+  The router was restarted, lost what messages had set up in it, and is stopped. Until `start` it
+  takes no message, no tick, no command, and no link that comes up or goes down.
   What to do: start it: `start`. `show` and labelled frames are answered all the same, but for
   messages whose labels end here.
   See: docs/ROUTER.md (A restart)

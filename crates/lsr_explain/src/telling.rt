@@ -3,9 +3,11 @@ ghost use Rattle.std.specs.Prelude.{◌≡◌, ◌++◌, ℕ, List, codes, IfOk,
 ghost use Rattle.std.specs.Io.KnownBytes.{Appends};
 ghost use Rattle.line_streams.specs.Cuts.{lines_of};
 ghost use Rattle.lsr_explain.specs.declared.explaining.Answer.{Answer};
+ghost use Rattle.lsr_explain.specs.Asking.{asked_by};
 ghost use Rattle.lsr_explain.specs.Topics.{Explains};
 ghost use Rattle.lsr_explain.specs.Answers.{IsTold, answer_status, answers_text, explained, faults_text, heading_line, headings_text, near_text, nearest_text, object_line, section_text, shown_text, told_word, topic_text, topics_text, unknown_text};
 
+use crate::asking::asked_word;
 use crate::explaining::{Answer, explain};
 use crate::nearest::{Near, rank};
 use crate::topics::{Kind, Topic, is_indented};
@@ -219,19 +221,20 @@ fn tell_answer<W: Write, E: Write>(
     }
 }
 
-/// `lsr explain WHAT`: prints what the refusal, the error or the fault means that the word asks for, or tells on the error
-/// stream which three come closest to it, and gives the status: 0, or 2 for a word that asks for nothing. The error is that a
+/// `lsr explain WHAT..`: prints what the refusal, the error or the fault means that the texts ask for, or tells on the error
+/// stream which three come closest to it, and gives the status: 0, or 2 where they ask for nothing. The error is that a
 /// stream could not be written, or that memory ran out.
 pub fn run_explain<W: Write, E: Write>(
     alloc: Global,
-    word: &str,
+    texts: &[&str],
     output: &mut W,
     error: &mut E,
 ) -> io::Result<u8>
-    ensures { IfOk result (λ status. (answer : Answer) × (told : List ℕ) × Explains word.now answer × (status ≡ answer_status answer)
+    ensures { IfOk result (λ status. (answer : Answer) × (told : List ℕ) × Explains (asked_by texts.now) answer × (status ≡ answer_status answer)
         × Appends (W.contents output.old) (W.contents output.new) (shown_text answer)
-        × IsTold word.now answer told × Appends (E.contents error.old) (E.contents error.new) told) }
+        × IsTold (asked_by texts.now) answer told × Appends (E.contents error.old) (E.contents error.new) told) }
 {
-    let answer = explain(word);
-    tell_answer(alloc, word, &answer, output, error)
+    let word = asked_word(alloc, texts)?;
+    let answer = explain(word.as_str());
+    tell_answer(alloc, word.as_str(), &answer, output, error)
 }

@@ -1,6 +1,6 @@
 //! Topics: what is explained, and which words ask for it.
 ghost use Rattle.std.specs.Prelude.{◌≡◌, option_map};
-ghost use Rattle.lsr_explain.specs.Topics.{found_in, has_names, is_asked_by, is_indented, is_sought, seen, text_of, topic_of};
+ghost use Rattle.lsr_explain.specs.Topics.{found_in, has_names, is_asked_by, is_indented, is_same, is_sought, seen, text_of, topic_by, topic_named, topic_of};
 
 use crate::errors::ERRORS;
 use crate::faults::{CONFIG_FAULTS, ENDINGS, RUN_FAULTS};
@@ -66,39 +66,55 @@ pub(crate) fn is_indented(line: &str) -> bool
     matches!(line.as_bytes(), [b' ', ..])
 }
 
+/// Whether the word is this one of a heading: as it is told, or in any case, where they differ at most in capitals.
+#[tactic(auto, unfolding(crate::specs::Topics::is_same))]
+pub(crate) fn is_same(any_case: bool, told: &str, word: &str) -> bool
+    ensures { result ≡ is_same any_case told.now word.now }
+{
+    if any_case {
+        told.eq_ignore_ascii_case(word)
+    } else {
+        told == word
+    }
+}
+
 /// Whether the word asks for what this heading stands over: it is the heading's first word, or the name after that, where
 /// headings have names.
-fn is_asked_by(named: bool, word: &str, heading: &str) -> bool
-    ensures { result ≡ is_asked_by named word.now heading.now }
+fn is_asked_by(any_case: bool, named: bool, word: &str, heading: &str) -> bool
+    ensures { result ≡ is_asked_by any_case named word.now heading.now }
 {
     match heading.split_once(' ') {
         Some((first, name)) => {
-            if first == word {
+            if is_same(any_case, first, word) {
                 return true;
             }
-            if named { name == word } else { false }
+            if named {
+                is_same(any_case, name, word)
+            } else {
+                false
+            }
         }
-        None => heading == word,
+        None => is_same(any_case, heading, word),
     }
 }
 
 /// Whether the line is a heading of this kind that the word asks for.
-fn is_sought(kind: Kind, word: &str, line: &str) -> bool
-    ensures { result ≡ is_sought kind word.now line.now }
+fn is_sought(any_case: bool, kind: Kind, word: &str, line: &str) -> bool
+    ensures { result ≡ is_sought any_case kind word.now line.now }
 {
     if is_indented(line) {
         return false;
     }
-    is_asked_by(kind.has_names(), word, line)
+    is_asked_by(any_case, kind.has_names(), word, line)
 }
 
 /// The first topic of this kind that the word asks for.
-fn find_in(kind: Kind, word: &str) -> Option<Topic>
-    ensures { option_map seen result ≡ found_in kind word.now }
+fn find_in(any_case: bool, kind: Kind, word: &str) -> Option<Topic>
+    ensures { option_map seen result ≡ found_in any_case kind word.now }
 {
     let mut rest = kind.text();
     while let Some((line, behind)) = next_line(rest) {
-        if is_sought(kind, word, line) {
+        if is_sought(any_case, kind, word, line) {
             return Some(Topic {
                 kind,
                 heading: line,
@@ -110,21 +126,39 @@ fn find_in(kind: Kind, word: &str) -> Option<Topic>
     None
 }
 
-/// The topic that the word asks for by number or name.
+/// The topic that the word asks for by number or name: as it is told, or in any case.
+#[tactic(auto, unfolding(crate::specs::Topics::topic_by))]
+fn find_by(any_case: bool, word: &str) -> Option<Topic>
+    ensures { option_map seen result ≡ topic_by any_case word.now }
+{
+    if let Some(topic) = find_in(any_case, Kind::Refusal, word) {
+        return Some(topic);
+    }
+    if let Some(topic) = find_in(any_case, Kind::RsvpError, word) {
+        return Some(topic);
+    }
+    if let Some(topic) = find_in(any_case, Kind::ConfigFault, word) {
+        return Some(topic);
+    }
+    if let Some(topic) = find_in(any_case, Kind::RunFault, word) {
+        return Some(topic);
+    }
+    find_in(any_case, Kind::Ending, word)
+}
+
+/// The topic that the word asks for by number or name, as it is told.
 pub fn find_topic(word: &str) -> Option<Topic>
     ensures { option_map seen result ≡ topic_of word.now }
 {
-    if let Some(topic) = find_in(Kind::Refusal, word) {
+    find_by(false, word)
+}
+
+/// The topic that the word asks for by number or name: as it is told, else in any case.
+pub(crate) fn find_named(word: &str) -> Option<Topic>
+    ensures { option_map seen result ≡ topic_named word.now }
+{
+    if let Some(topic) = find_by(false, word) {
         return Some(topic);
     }
-    if let Some(topic) = find_in(Kind::RsvpError, word) {
-        return Some(topic);
-    }
-    if let Some(topic) = find_in(Kind::ConfigFault, word) {
-        return Some(topic);
-    }
-    if let Some(topic) = find_in(Kind::RunFault, word) {
-        return Some(topic);
-    }
-    find_in(Kind::Ending, word)
+    find_by(true, word)
 }

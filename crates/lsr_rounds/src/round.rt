@@ -82,7 +82,8 @@ fn serve_seats<
     })
 }
 
-/// Feeds the clock's next moment, if it has come, and does what is done after it; else attends to the operator until it comes.
+/// Feeds the clock's next moment, if it has come, and does what is done after it; else waits until it comes. Attends to the operator meanwhile, and
+/// also where moments are late.
 fn serve_turn<
     L: CoreName,
     R: Wait + Drop,
@@ -105,12 +106,11 @@ fn serve_turn<
     ensures asked { IsGrown L.config asked.old asked.new }
 {
     let within_ms = pace.wait_ms(desk.rt);
-    if within_ms > 0 {
-        operator.attend(desk, &mut seats.operator, &mut seats.wire, asked, within_ms);
-        return;
+    if within_ms == 0 {
+        feed_moment(desk, seats, clock, pace.pass());
+        operator.after_moment(desk);
     }
-    feed_moment(desk, seats, clock, pace.pass());
-    operator.after_moment(desk);
+    operator.attend(desk, &mut seats.operator, &mut seats.wire, asked, within_ms);
 }
 
 /// Feeds a moment by the clock's port.

@@ -27,4 +27,4 @@ pub use playing::{run_lab_of, run_play_of};
 pub use recording::{run_recorded, run_recorded_of};
 pub use session::{misconfigured, read_config_text, run_step, run_step_of, said};
 pub use showing::run_show_journal_of;
-pub use written::{OutputFault, WritesFiles, tell_output_fault};
+pub use written::{OutputFault, Unwritten, WritesFiles, segment_name, tell_output_fault};

@@ -8,7 +8,7 @@ const GOES_ON: u64 = 0;
 const OVER: u64 = 1;
 
 /// Whether a round of a run is over, as all threads that serve in it see it. Whoever has done enough in the round ends it for all.
-#[derive(Debug, Drop)]
+#[derive(Drop)]
 pub struct RoundFlag {
     word: AtomicU64,
 }

@@ -24,7 +24,7 @@ use std::time::{Clock, Duration};
 pub const TICK_MS: u64 = 100;
 
 /// How much a port did.
-#[derive(Clone, Copy, Debug, PartialEq, Eq)]
+#[derive(Clone, Copy, PartialEq, Eq)]
 pub struct PortCount {
     /// How many receipts it has.
     pub receipts: usize,
@@ -33,7 +33,6 @@ pub struct PortCount {
 }
 
 /// What a run leaves.
-#[derive(Debug)]
 pub struct RunReport {
     /// How much each port did, in the order of the ports.
     pub ports: Vec<PortCount>,

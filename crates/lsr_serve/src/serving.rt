@@ -8,17 +8,17 @@ use crate::run::{BesideClock, PortCount, RunReport, serve_on};
 use crate::udp_wire::{LinkWire, ServeFault, UdpWire, open_clock_wire, open_wires};
 use interface_workers::{KeepSegments, OpenGate, Segment};
 use log::sink::Writer;
-use log::{Log, info};
+use log::{Log, info, warn};
 use lsr_config::{Config, LinkSockets};
 use run_reconciler::{Mismatch, judge};
 use sorted_rows::{Table, TryCopy};
 use std::alloc::{AllocError, Global};
-use std::io;
 use std::io::Write;
 use std::net::Net;
 use std::sync::Wait;
 use std::thread::Threads;
 use std::time::Clock;
+use std::{fmt, io};
 
 /// The status of a run that is one run.
 const DONE: u8 = 0;
@@ -38,15 +38,61 @@ pub fn copy_config(alloc: Global, config: &Config) -> Result<Config, AllocError>
     })
 }
 
-/// Logs how much each port did, the first of which has the number 1. A line that can't be written is left out.
-pub fn tell_ports<L: Log>(log: &L, ports: &[PortCount]) {
+/// Whose port one is.
+#[derive(Clone, Copy)]
+enum PortName {
+    /// That of the link of this number.
+    Link(u16),
+    /// That of the clock.
+    Clock,
+    /// That of the operator.
+    Console,
+}
+
+impl PortName {
+    /// Whose port is the one after so many: those of these links come first, then the clock's, then the operator's.
+    fn after(before: usize, links: &Table<u16, LinkSockets>) -> PortName {
+        match links.as_slice().get(before) {
+            Some(link) => PortName::Link(link.0),
+            None if before == links.as_slice().len() => PortName::Clock,
+            None => PortName::Console,
+        }
+    }
+}
+
+impl fmt::Display for PortName {
+    fn fmt<W: fmt::Write>(&self, f: &mut fmt::Formatter<W>) -> fmt::Result {
+        match self {
+            PortName::Link(link) => write!(f, "link {link}"),
+            PortName::Clock => f.write_str("clock"),
+            PortName::Console => f.write_str("console"),
+        }
+    }
+}
+
+/// Logs how much each port did: those of these links in their order, the clock's, and the operator's if there is one. A line that can't be
+/// written is left out.
+pub fn tell_ports<L: Log>(log: &L, links: &Table<u16, LinkSockets>, ports: &[PortCount]) {
     for (before, count) in ports.iter().enumerate() {
-        let port = before.saturating_add(1);
+        let name = PortName::after(before, links);
         let tally = count.tally;
-        info!(log; "port {port}: {} receipts", count.receipts);
-        info!(log; "port {port}: {} datagrams: {} dropped, {} passed, {} fed, {} refused",
-            tally.datagrams, tally.dropped, tally.passed, tally.fed, tally.refused);
-        info!(log; "port {port}: {} frames lost, {} faults of the wire", tally.lost, tally.faults);
+        info!(log; target: "", "{name}: {} received: {} processed, {} forwarded, {} dropped, {} refused; {} frames not sent, {} socket errors",
+            tally.datagrams, tally.fed, tally.passed, tally.dropped, tally.refused, tally.lost, tally.faults);
+    }
+}
+
+/// Logs of each port how many datagrams were dropped or refused, how many frames weren't sent, and how often its socket failed, where any were,
+/// or it did. A line that can't be written is left out.
+pub fn tell_lost<L: Log>(log: &L, links: &Table<u16, LinkSockets>, ports: &[PortCount]) {
+    for (before, count) in ports.iter().enumerate() {
+        let name = PortName::after(before, links);
+        let tally = count.tally;
+        if tally.dropped > 0 || tally.refused > 0 {
+            warn!(log; target: "", "{name}: of {} received {} dropped, {} refused", tally.datagrams, tally.dropped, tally.refused);
+        }
+        if tally.lost > 0 || tally.faults > 0 {
+            warn!(log; target: "", "{name}: {} frames not sent, {} socket errors", tally.lost, tally.faults);
+        }
     }
 }
 
@@ -57,7 +103,7 @@ pub fn tell_end<L: Log>(log: &L, last: Option<&Segment>) {
         let paths = state.facts.paths.as_slice().len();
         let resvs = state.resvs.as_slice().len();
         let repairs = state.repairs.as_slice().len();
-        info!(log; "router: {paths} paths, {resvs} reservations, {repairs} repairs");
+        info!(log; target: "", "router: {paths} paths, {resvs} reservations, {repairs} repairs");
     }
 }
 
@@ -140,6 +186,7 @@ fn served<
 /// Logs what a run left, and prints whether it is one run of the router of this configuration, with its status, as [`tell_run`] does.
 fn tell_served<W: Write, E: Write>(
     config: &Config,
+    links: &Table<u16, LinkSockets>,
     served: &RunReport,
     output: &mut W,
     error: &mut E,
@@ -147,7 +194,7 @@ fn tell_served<W: Write, E: Write>(
     ensures { IfOk result (Serves config.now (length served.now.ports.items) (W.contents output.old) (W.contents output.new)) }
 {
     let log = Writer::new(error);
-    tell_ports(&log, served.ports.as_slice());
+    tell_ports(&log, links, served.ports.as_slice());
     tell_end(&log, served.segments.as_slice().last());
     tell_run(config, served, output)
 }
@@ -181,7 +228,7 @@ pub fn serve_links<
 {
     let fault = match copy_config(alloc, &config) {
         Ok(opened) => match served(rt, alloc, opened, links, turns, keeper, beside) {
-            Ok((served, _keeper)) => return tell_served(&config, &served, output, error),
+            Ok((served, _keeper)) => return tell_served(&config, links, &served, output, error),
             Err(fault) => fault,
         },
         Err(_) => ServeFault::Memory,

@@ -1,5 +1,5 @@
 //! Wires over UDP sockets of this machine.
-ghost use Rattle.std.specs.Prelude.{◌≡◌, ◌+◌, ◌-◌, ◌^◌, ◌<◌, ◌≤◌, ◌↔◌, length, map, take, IfOk, IfSome, IsTrue, OnOk};
+ghost use Rattle.std.specs.Prelude.{◌≡◌, ◌+◌, ◌-◌, ◌^◌, ◌<◌, ◌≤◌, ◌↔◌, length, map, take, IfNone, IfOk, IfSome, IsTrue, OnOk};
 ghost use Rattle.lsr_serve.specs.Local.{AreLinkLocal, AreLocal, IsLocal};
 
 use crate::read_ahead::{MOST_AHEAD, ReadAhead};
@@ -14,19 +14,54 @@ use std::net::{IpAddr, Ipv4Addr, Ipv6Addr, Net, SocketAddr, UdpSocket};
 use std::time::Duration;
 use thiserror::Error;
 
-/// How long a wire waits for a frame, in milliseconds.
-const RECEIVE_MS: u64 = 100;
-/// The port of a socket that stands for any that the system has.
+/// How long a wire waits for a frame before it looks whether its round is over, in milliseconds.
+const RECEIVE_MS: u64 = 10;
+/// How often it waits so for a frame: 100 milliseconds in all.
+const RECEIVES: u32 = 10;
+/// The port that stands for any that the system has, to which no neighbour can send.
 const ANY_PORT: u16 = 0;
 /// The number that stands for the clock's wire, which is no link's.
 const CLOCK: u16 = 0;
 
+/// Why a link can't have an address.
+#[derive(Clone, Copy, Debug, PartialEq, Eq, Error)]
+pub enum SocketFault {
+    /// It isn't this machine's alone.
+    #[error("is no loopback address: routers of this program are neighbours on one machine; give 127.0.0.1 or [::1]")]
+    NotLocal,
+    /// It is of another family than the first link's.
+    #[error("isn't of the family of the first link's listen: give all links IPv4 addresses, or all IPv6 addresses")]
+    OtherFamily,
+    /// It has no port.
+    #[error("has port 0, to which no neighbour can send: give a port from 1 to 65535")]
+    NoPort,
+    /// The link would send to itself.
+    #[error("is send and listen of one link, which would send to itself: give the neighbour's listen as send")]
+    Itself,
+    /// Another program, router or link has it.
+    #[error("is in use: end the router or program that has it, or give a port that no other link has")]
+    Taken,
+    /// Permissions don't allow it.
+    #[error("isn't allowed: give a port from 1024 on, or look at this user's rights")]
+    Forbidden,
+    /// The system doesn't open it.
+    #[error("can't be opened: see whether this machine has the address, and how many sockets are open")]
+    Unopened,
+}
+
 /// Why links aren't served.
 #[derive(Clone, Copy, Debug, PartialEq, Eq, Error)]
 pub enum ServeFault {
-    /// The sockets of the link of this number can't be had, or, of number 0, the one from which the clock's port sends.
-    #[error("link {0}: socket\n  its sockets can't be had: another program has an address of it, one isn't a loopback address, or one isn't of the first link's family (IPv4 or IPv6); look at its listen and send in the file")]
-    Socket(u16),
+    /// A link can't have this address; of link 0, the port of the clock can't have one from which it sends.
+    #[error("link {link}: socket\n  {address} {fault}")]
+    Socket {
+        /// The link's number.
+        link: u16,
+        /// The address.
+        address: SocketAddr,
+        /// Why.
+        fault: SocketFault,
+    },
     /// There is no memory.
     #[error("memory")]
     Memory,
@@ -150,6 +185,25 @@ impl<'a> UdpWire<'a> {
         }
     }
 
+    /// The next frame that comes, or none where none comes in time, or the round is over. The error is the system's.
+    fn await_frame(&mut self, buffer: &mut [u8]) -> io::Result<Option<usize>>
+        ensures length { IfOk result (λ got. IfSome got (λ n. n ≤ length buffer.new)) }
+        ensures failures { self.new.failures ≡ self.old.failures }
+    {
+        self.wait(true)?;
+        for _ in 0..RECEIVES {
+            if self.is_over() {
+                return Ok(None);
+            }
+            match self.socket.recv_from(buffer) {
+                Ok((len, _)) => return Ok(Some(len)),
+                Err(fault) if is_silence(fault.kind()) => {}
+                Err(fault) => return Err(fault),
+            }
+        }
+        Ok(None)
+    }
+
     /// One more failure.
     fn fail(&mut self) -> WireFault
         requires { self.old.failures < 2 ^ 64 - 1 }
@@ -184,12 +238,8 @@ impl<'a> Wire for UdpWire<'a> {
         if let Some(len) = self.take_ahead(buffer) {
             return Ok(Some(len));
         }
-        if self.wait(true).is_err() {
-            return Err(self.fail());
-        }
-        match self.socket.recv_from(buffer) {
-            Ok((len, _)) => Ok(Some(len)),
-            Err(fault) if is_silence(fault.kind()) => Ok(None),
+        match self.await_frame(buffer) {
+            Ok(len) => Ok(len),
             Err(_) => Err(self.fail()),
         }
     }
@@ -242,27 +292,76 @@ fn is_local(address: SocketAddr, like: SocketAddr) -> bool
     address.ip().is_loopback() && address.is_ipv4() == like.is_ipv4()
 }
 
+/// Why a link can't have the address, where it can't.
+fn address_fault(address: SocketAddr, like: SocketAddr) -> Option<SocketFault>
+    ensures { IfNone result (IsLocal like address) }
+{
+    if !address.ip().is_loopback() {
+        return Some(SocketFault::NotLocal);
+    }
+    if !is_local(address, like) {
+        return Some(SocketFault::OtherFamily);
+    }
+    if address.port() == ANY_PORT {
+        return Some(SocketFault::NoPort);
+    }
+    None
+}
+
+/// Which address a link can't have, and why, where it can't have one of its two.
+fn link_fault(sockets: LinkSockets, like: SocketAddr) -> Option<(SocketAddr, SocketFault)>
+    ensures { IfNone result (AreLinkLocal like sockets) }
+{
+    if let Some(fault) = address_fault(sockets.listen, like) {
+        return Some((sockets.listen, fault));
+    }
+    if let Some(fault) = address_fault(sockets.send, like) {
+        return Some((sockets.send, fault));
+    }
+    if sockets.send == sockets.listen {
+        return Some((sockets.send, SocketFault::Itself));
+    }
+    None
+}
+
+/// Why the system doesn't open a socket, by the kind of its error.
+fn system_fault(kind: ErrorKind) -> SocketFault {
+    match kind {
+        ErrorKind::AddrInUse => SocketFault::Taken,
+        ErrorKind::PermissionDenied => SocketFault::Forbidden,
+        _ => SocketFault::Unopened,
+    }
+}
+
 /// The wire of a link. The fault is that its sockets can't be had, or that there is no memory.
 fn open_wire<'a, R: Net>(
     net: &R,
     alloc: Global,
     links: &'a Table<u16, LinkSockets>,
     like: SocketAddr,
-    number: u16,
+    link: u16,
     sockets: LinkSockets,
 ) -> Result<LinkWire<UdpWire<'a>>, ServeFault>
-    ensures number { IfOk result (λ opened. opened.number ≡ number) }
+    ensures number { IfOk result (λ opened. opened.number ≡ link) }
     ensures local { OnOk result (AreLinkLocal like sockets) }
 {
-    if !is_local(sockets.listen, like) || !is_local(sockets.send, like) {
-        return Err(ServeFault::Socket(number));
+    if let Some((address, fault)) = link_fault(sockets, like) {
+        return Err(ServeFault::Socket {
+            link,
+            address,
+            fault,
+        });
     }
     let Ok(ahead) = ReadAhead::new(alloc) else {
         return Err(ServeFault::Memory);
     };
     match UdpWire::bind(net, sockets.listen, links, Some(ahead)) {
-        Ok(wire) => Ok(LinkWire { number, wire }),
-        Err(_) => Err(ServeFault::Socket(number)),
+        Ok(wire) => Ok(LinkWire { number: link, wire }),
+        Err(error) => Err(ServeFault::Socket {
+            link,
+            address: sockets.listen,
+            fault: system_fault(error.kind()),
+        }),
     }
 }
 
@@ -271,9 +370,14 @@ pub fn open_clock_wire<'a, R: Net>(
     net: &R,
     links: &'a Table<u16, LinkSockets>,
 ) -> Result<UdpWire<'a>, ServeFault> {
-    match UdpWire::bind(net, any_address(links), links, None) {
+    let address = any_address(links);
+    match UdpWire::bind(net, address, links, None) {
         Ok(wire) => Ok(wire),
-        Err(_) => Err(ServeFault::Socket(CLOCK)),
+        Err(error) => Err(ServeFault::Socket {
+            link: CLOCK,
+            address,
+            fault: system_fault(error.kind()),
+        }),
     }
 }
 

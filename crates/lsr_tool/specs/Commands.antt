@@ -6,6 +6,7 @@ use Rattle.clap.specs.Words.{IsAmong, fault_of}
 use Rattle.clap.specs.declared.error.kind.ErrorKind.{ErrorKind}
 use Rattle.clap.specs.declared.error.kind.ErrorKind.TheVariants as kinds
 use Rattle.lsr_explain.specs.Answers.{IsTold, answer_status, shown_text}
+use Rattle.lsr_explain.specs.Asking.{asked_by}
 use Rattle.lsr_explain.specs.Topics.{Explains}
 use Rattle.lsr_explain.specs.declared.explaining.Answer.{Answer}
 use Rattle.line_streams.specs.Texts.{Stream}
@@ -33,8 +34,8 @@ abbrev pub AreStrange : Stream → Stream → Option (List ℕ) → Option (List
 AreStrange input left output printed status = (left ≡ input) × (printed ≡ output) × (status ≡ 2)
 
 -- What was asked for is done, with this status: a run on the router of the file that is named, or without a name on
--- the built-in router, which answers lines as they come, or once all have come; or the configuration of such a router is printed; or a word, the lines of the input or a capture file are decoded; or a
--- word is explained. What is printed and told stands after what the streams held. The input was the first stream, and is the other now: to
+-- the built-in router, which answers lines as they come, or once all have come; or the configuration of such a router is printed; or a word, the lines of the input or a capture file are decoded; or what
+-- words name, or a line among them tells, is explained. What is printed and told stands after what the streams held. The input was the first stream, and is the other now: to
 -- print a configuration and to explain a word it isn't read.
 -- A run of lines may be recorded or drawn in a file: `holds` says which bytes a file of a name holds that was written.
 -- Or the links of the router of the file that is named are served: the input isn't read, and 0 is the status of one run of that router alone, of
@@ -59,9 +60,9 @@ Does opens fails stream holds (asked.Step file echo false (Some journal) (Some c
 Does opens fails stream holds (asked.Config file) input left output printed error told status =
     (left ≡ input) × Configures opens fails stream (option_map (λ f. f.now) file) output printed error told status
 Does opens fails stream holds (asked.Decode word fields) input left output printed error told status = DecodesAny opens fails stream fields word.now input left output printed error told status
-Does opens fails stream holds (asked.Explain word) input left output printed error told status =
-    (answer : Answer) × (text : List ℕ) × Explains word.now answer × (status ≡ answer_status answer) × (left ≡ input)
-    × Appends output printed (shown_text answer) × IsTold word.now answer text × Appends error told text
+Does opens fails stream holds (asked.Explain words) input left output printed error told status =
+    (answer : Answer) × (text : List ℕ) × Explains (asked_by words.items) answer × (status ≡ answer_status answer) × (left ≡ input)
+    × Appends output printed (shown_text answer) × IsTold (asked_by words.items) answer text × Appends error told text
 Does opens fails stream holds (asked.Serve file turns journal false false None) input left output printed error told status =
     (left ≡ input) × ServesFile opens stream file.now (option_map (λ w. w.now) turns) output printed status
 Does opens fails stream holds (asked.Serve file turns journal false false (Some level)) input left output printed error told status = AreStrange input left output printed status

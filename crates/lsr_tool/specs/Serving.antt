@@ -1,6 +1,5 @@
 -- What `lsr serve` on a file says.
-use Rattle.std.specs.Fmt.{decimal}
-use Rattle.std.specs.Prelude.{◌≡◌, ◌+◌, ◌++◌, ℕ, List, Option, Ok, codes, length}
+use Rattle.std.specs.Prelude.{◌≡◌, ◌+◌, ℕ, List, Option, Ok, length}
 use Rattle.line_streams.specs.Texts.{Stream}
 use Rattle.lsr_config.specs.Configs.{Setup}
 use Rattle.lsr_config.specs.Reading.{IsRead}
@@ -14,10 +13,6 @@ use Rattle.lsr_runs.specs.Playing.{IsFileText}
 pub record SaysRun (text : List ℕ) (config : Setup) (links : List (ℕ × LinkSockets)) : Type 0 where
   pub read : IsRead text (Ok config)
   pub given : GivesSockets text links
-
--- the name of the file of a segment: the prefix, a dot, and its number
-abbrev pub segment_name : List ℕ → ℕ → List ℕ
-segment_name prefix number = prefix ++ (codes "." ++ decimal number)
 
 -- The router that is served is that of the text, by a port for each of its links and one for the clock.
 pub record ServesText (text : List ℕ) (output printed : Option (List ℕ)) (status : ℕ) : Type 0 where

@@ -2,7 +2,7 @@
 ghost use Rattle.std.specs.Prelude.{◌≡◌, ◌≢◌, IfOk, OnErr, OnOk, map};
 ghost use Rattle.std.specs.Io.KnownBytes.{Appends};
 ghost use Rattle.std.specs.IoError.{error_kind};
-ghost use Rattle.std.specs.declared.io.ErrorKind.TheVariants.{OutOfMemory};
+ghost use Rattle.std.specs.declared.io.ErrorKind.TheVariants.{BrokenPipe, OutOfMemory};
 ghost use Rattle.clap.specs.Words.{kind_of};
 ghost use Rattle.lsr_words.specs.declared.words.Asked.TheVariants.{Play, Serve, Step};
 ghost use Rattle.lsr_tool.specs.Commands.{Does, Runs, words_status};
@@ -21,7 +21,7 @@ use lsr_runs::{
 };
 use lsr_text::OUT_OF_MEMORY;
 use lsr_words::{Asked, read_words};
-use std::alloc::Global;
+use std::alloc::{Alloc, Global};
 use std::convert::AsStr;
 use std::io;
 use std::io::Write;
@@ -208,7 +208,7 @@ pub fn run_asked<
         Asked::Decode { word, fields } => {
             run_decode_on(files, alloc, fields, word, input, output, error)
         }
-        Asked::Explain(word) => run_explain(alloc, word, output, error),
+        Asked::Explain(words) => run_explain(alloc, words.as_slice(), output, error),
         Asked::Serve {
             file,
             turns,
@@ -260,7 +260,7 @@ fn run_words<
 /// words. Files that they name are opened, and links are served, by `rt`. The error is that a stream could not be written, or
 /// that memory ran out.
 pub fn run<
-    F: Files + Net + Threads + Wait + Clock + Clone + Send + Sync + Drop,
+    F: Files + Alloc + Net + Threads + Wait + Clock + Clone + Send + Sync + Drop,
     S: AsStr,
     R: ByteStream + Send,
     W: Write,
@@ -280,15 +280,17 @@ pub fn run<
     run_words(&files, rt, alloc, words, input, output, error)
 }
 
-/// Tells of a run that an error of this kind ended. The error is the stream's.
+/// Tells of a run that an error of this kind ended; of a reader that went away, as `head` does when it has enough, nothing is told. The error is
+/// the stream's.
 fn tell_failure<E: Write>(kind: io::ErrorKind, error: &mut E) -> io::Result<()>
     ensures memory { kind ≡ OutOfMemory → OnOk result (Appends (E.contents error.old) (E.contents error.new) memory_text) }
-    ensures unwritable { kind ≢ OutOfMemory → OnOk result (Appends (E.contents error.old) (E.contents error.new) unwritable_text) }
+    ensures quiet { kind ≡ BrokenPipe → error.new ≡ error.old }
+    ensures unwritable { kind ≢ OutOfMemory → kind ≢ BrokenPipe → OnOk result (Appends (E.contents error.old) (E.contents error.new) unwritable_text) }
 {
-    if kind == io::ErrorKind::OutOfMemory {
-        write!(error, "{OUT_OF_MEMORY}\n")
-    } else {
-        error.write_all(UNWRITABLE.as_bytes())
+    match kind {
+        io::ErrorKind::OutOfMemory => write!(error, "{OUT_OF_MEMORY}\n"),
+        io::ErrorKind::BrokenPipe => Ok(()),
+        _ => error.write_all(UNWRITABLE.as_bytes()),
     }
 }
 

@@ -4,17 +4,18 @@ ghost use Rattle.lsr_config.specs.Configs.{Setup};
 ghost use Rattle.lsr_tool.specs.Attended.{AttendsFile, AttendsRun, AttendsText, EndsSoFar, IsAttended};
 
 use crate::attending::{Attendant, Teller};
-use crate::keeping::{SegmentFiles, SegmentKeeper, SegmentWriter};
-use crate::serving::{configured, may_keep, read_served, tell_written};
+use crate::keeping::{HandOver, Handed, Journaling, SegmentKeeper, SegmentWriter, Wanted};
+use crate::lasting::Lasting;
+use crate::serving::{claims, configured, read_served, tell_written};
 use crossbeam_channel::Receiver;
 use line_streams::{ByteStream, tell_input_fault};
-use log::LevelFilter;
 use log::sink::Writer;
+use log::{Level, LevelFilter};
 use lsr_config::Config;
 use lsr_console::{Console, ConsoleEnding, Heard, listen, open_lines};
 use lsr_rounds::{OpenLinks, RunEnd, RunFault, open_links, serve_links_until, tell_reconciled};
 use lsr_runs::{BAD_WORDS, DONE, FAILED, FilesByName, WritesFiles, status_of, tell_ending};
-use lsr_serve::{BesideClock, ClockAlone, LinkSockets, RoundFlag, tell_end, tell_ports};
+use lsr_serve::{LinkSockets, RoundFlag, tell_end, tell_ports};
 use run_reconciler::Mismatch;
 use sorted_rows::Table;
 use std::alloc::Global;
@@ -84,15 +85,16 @@ fn tell_fault<W: Write, E: Write>(fault: RunFault, output: &mut W, error: &mut E
 /// stream's.
 fn tell_end_of<W: Write, E: Write>(
     ended: &RunEnd,
+    links: &Table<u16, LinkSockets>,
     level: LevelFilter,
     output: &mut W,
     error: &mut E,
 ) -> io::Result<u8>
     ensures { IfOk result (λ status. (status ≡ 0) × EndsSoFar ended.now.run (W.contents output.new)) }
 {
-    if level.allows(log::Level::Info) {
+    if level.allows(Level::Info) {
         let log = Writer::new(error);
-        tell_ports(&log, ended.run.ports.as_slice());
+        tell_ports(&log, links, ended.run.ports.as_slice());
         tell_end(&log, ended.run.last.as_ref());
     }
     tell_reconciled(&ended.run, output)?;
@@ -102,6 +104,7 @@ fn tell_end_of<W: Write, E: Write>(
 /// Tells of a run that ended as it was told to, as [`tell_end_of`] does, and gives the status; 1 where it ended otherwise. The error is a stream's.
 fn tell_attended<W: Write, E: Write>(
     attended: Attended,
+    links: &Table<u16, LinkSockets>,
     level: LevelFilter,
     output: &mut W,
     error: &mut E,
@@ -110,7 +113,7 @@ fn tell_attended<W: Write, E: Write>(
 {
     match attended {
         Attended::Ended(ended, status) => {
-            tell_end_of(&ended, level, output, error)?;
+            tell_end_of(&ended, links, level, output, error)?;
             Ok(status)
         }
         Attended::Failed => Ok(FAILED),
@@ -132,20 +135,21 @@ fn end_console<E: Write>(ending: Option<ConsoleEnding>, error: &mut E, status: u
     }
 }
 
-/// The run of a router whose sockets are open, until its operator ends it; after each moment what is beside it is done, and what the run left
-/// is told. What keeps its journal is given to it. Gives how it ended. The error is that a stream could not be written, or that memory ran out.
-fn attend_beside<
+/// The run of a router whose sockets are open, until its operator ends it; what is handed over of its journal is written meanwhile, and what the
+/// run left is told. Gives how it ended. The error is that a stream could not be written, or that memory ran out.
+fn attend_written<
     N: Threads + Wait + Clock + Clone + Send + Sync + Drop,
-    B: BesideClock,
+    B: Journaling,
     W: Write,
     E: Write,
 >(
     rt: &N,
     alloc: Global,
     config: &Config,
+    links: &Table<u16, LinkSockets>,
     text: &str,
     opened: OpenLinks<'_>,
-    kept: Option<&SegmentFiles>,
+    handed: &HandOver,
     beside: &mut B,
     asked: Attending<'_>,
     lines: Receiver<Heard>,
@@ -155,14 +159,21 @@ fn attend_beside<
     requires { length opened.links.items < 62 }
     ensures { IfOk result (IsAttended config.now (length opened.entry.links.items + 2)) }
 {
-    let keeper = SegmentKeeper::new(rt, alloc, kept, text);
-    let mut attendant = Attendant {
-        console: Console::new(alloc, lines, &mut *output, asked.echo)?,
-        beside,
-        teller: Teller::new(&mut *error, asked.level),
+    let wanted = Wanted {
+        files: asked.journal.is_some(),
+        errors: asked.level.allows(Level::Warn),
     };
-    attendant.teller.tell_start(&config.router);
+    let keeper = SegmentKeeper::new(rt, alloc, handed, wanted, text);
+    let mut attendant = Attendant {
+        console: Console::new(alloc, lines, Lasting::new(&mut *output), asked.echo)?,
+        beside,
+        teller: Teller::new(alloc, &mut *error, asked.level, config, links)?,
+    };
+    attendant
+        .teller
+        .tell_start(rt, &config.router, asked.journal);
     let ended = serve_links_until(rt, alloc, config, opened, keeper, &mut attendant);
+    attendant.tell_journal();
     let ending = attendant.into_ending();
     let status = end_console(ending, error, DONE);
     match ended {
@@ -187,6 +198,7 @@ fn attend_run<
     rt: &N,
     alloc: Global,
     config: &Config,
+    links: &Table<u16, LinkSockets>,
     text: &str,
     opened: OpenLinks<'_>,
     asked: Attending<'_>,
@@ -197,22 +209,16 @@ fn attend_run<
     requires { length opened.links.items < 62 }
     ensures { IfOk result (IsAttended config.now (length opened.entry.links.items + 2)) }
 {
-    let Some(prefix) = asked.journal else {
-        let beside = &mut ClockAlone;
-        return attend_beside(
-            rt, alloc, config, text, opened, None, beside, asked, lines, output, error,
-        );
-    };
-    let kept = Mutex::new(Vec::new(alloc));
-    let mut writer = SegmentWriter::new(files, rt, alloc, prefix, &kept);
-    let keeps = Some(&kept);
-    let attended = attend_beside(
+    let handed = Mutex::new(Handed::new(alloc));
+    let mut writer = SegmentWriter::new(files, rt, alloc, asked.journal, &handed);
+    let attended = attend_written(
         rt,
         alloc,
         config,
+        links,
         text,
         opened,
-        keeps,
+        &handed,
         &mut writer,
         asked,
         lines,
@@ -265,6 +271,9 @@ fn attend_links<
         }
     };
     let (heard, lines) = open_lines(alloc)?;
+    if !claims(files, alloc, asked.journal, error)? {
+        return Ok(FAILED);
+    }
     let (_, attended) = thread::join(
         rt,
         || listen(rt, alloc, input, heard),
@@ -272,11 +281,11 @@ fn attend_links<
             requires { length opened.links.items < 62 }
         {
             attend_run(
-                files, rt, alloc, config, text, opened, asked, lines, output, error,
+                files, rt, alloc, config, links, text, opened, asked, lines, output, error,
             )
         },
     );
-    tell_attended(attended?, asked.level, output, error)
+    tell_attended(attended?, links, asked.level, output, error)
 }
 
 /// Serves the links of the router that a text says, until its operator ends it.
@@ -299,9 +308,6 @@ fn attend_text<
 ) -> io::Result<u8>
     ensures { IfOk result (λ status. status ≡ 0 → AttendsText text.now (W.contents output.new)) }
 {
-    if !may_keep(files, alloc, asked.journal, error)? {
-        return Ok(FAILED);
-    }
     match configured(alloc, text) {
         Ok((config, links)) => attend_links(
             files, rt, alloc, &config, &links, text, asked, input, output, error,

@@ -6,7 +6,10 @@ mod command;
 mod configuring;
 mod console;
 mod keeping;
+mod lasting;
 mod serving;
+mod telling;
+mod waiting;
 
 pub use command::{end, run, run_asked, tell_unread_words};
 pub use configuring::run_config_of;

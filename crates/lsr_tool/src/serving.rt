@@ -5,15 +5,15 @@ ghost use Rattle.lsr_runs.specs.Endings.{status_of};
 ghost use Rattle.lsr_runs.specs.Playing.{IsFileText};
 ghost use Rattle.lsr_tool.specs.Serving.{SaysRun, ServesFile, ServesText};
 
-use crate::keeping::{SegmentFiles, SegmentKeeper, SegmentWriter, Unwritten, may_begin};
+use crate::keeping::{HandOver, Handed, SegmentKeeper, SegmentWriter, Wanted};
 use config_text::link_without;
 use line_streams::read_text;
 use lsr_config::Config;
 use lsr_runs::{
-    BAD_WORDS, FAILED, FilesByName, RunEnding, Source, WritesFiles, misconfigured, status_of,
-    tell_ending, tell_output_fault,
+    BAD_WORDS, FAILED, FilesByName, RunEnding, Source, Unwritten, WritesFiles, misconfigured,
+    status_of, tell_ending, tell_output_fault,
 };
-use lsr_serve::{BesideClock, ClockAlone, LinkSockets, read_sockets, read_turns, serve_links};
+use lsr_serve::{BesideClock, LinkSockets, read_sockets, read_turns, serve_links};
 use sorted_rows::Table;
 use std::alloc::Global;
 use std::io;
@@ -80,7 +80,8 @@ fn serve_text<
     file: &str,
     text: &str,
     turns: u32,
-    kept: Option<&SegmentFiles>,
+    handed: &HandOver,
+    wanted: Wanted,
     beside: &mut B,
     output: &mut W,
     error: &mut E,
@@ -89,7 +90,7 @@ fn serve_text<
 {
     match configured(alloc, text) {
         Ok((config, links)) => {
-            let keeper = SegmentKeeper::new(rt, alloc, kept, text);
+            let keeper = SegmentKeeper::new(rt, alloc, handed, wanted, text);
             serve_links(
                 rt, alloc, config, &links, turns, keeper, beside, output, error,
             )
@@ -119,8 +120,8 @@ pub(crate) fn tell_written<E: Write>(
     }
 }
 
-/// Whether the files of a journal can be begun, where a prefix of their names is given; tells why not. The error is the stream's.
-pub(crate) fn may_keep<F: WritesFiles, E: Write>(
+/// Whether the names of a journal's files are claimed, where a prefix of them is given; tells why not. The error is the stream's.
+pub(crate) fn claims<F: WritesFiles, E: Write>(
     files: &F,
     alloc: Global,
     journal: Option<&str>,
@@ -129,7 +130,7 @@ pub(crate) fn may_keep<F: WritesFiles, E: Write>(
     let Some(prefix) = journal else {
         return Ok(true);
     };
-    match may_begin(files, alloc, prefix) {
+    match files.claim(alloc, prefix) {
         Ok(()) => Ok(true),
         Err(unwritten) => {
             tell_output_fault(error, unwritten.name.as_str(), unwritten.fault)?;
@@ -157,23 +158,23 @@ fn serve_kept<
 ) -> io::Result<u8>
     ensures { IfOk result (λ status. status ≡ 0 → ServesText text.now (W.contents output.old) (W.contents output.new) status) }
 {
-    if !may_keep(files, alloc, journal, error)? {
+    if !claims(files, alloc, journal, error)? {
         return Ok(FAILED);
     }
-    let Some(prefix) = journal else {
-        let beside = &mut ClockAlone;
-        return serve_text(rt, alloc, file, text, turns, None, beside, output, error);
+    let wanted = Wanted {
+        files: journal.is_some(),
+        errors: false,
     };
-    let kept = Mutex::new(Vec::new(alloc));
-    let mut writer = SegmentWriter::new(files, rt, alloc, prefix, &kept);
-    let keeps = Some(&kept);
+    let handed = Mutex::new(Handed::new(alloc));
+    let mut writer = SegmentWriter::new(files, rt, alloc, journal, &handed);
     let status = serve_text(
         rt,
         alloc,
         file,
         text,
         turns,
-        keeps,
+        &handed,
+        wanted,
         &mut writer,
         output,
         error,

@@ -1,5 +1,5 @@
 -- What is told of LSPs: which came up, went down, or run over another way than before.
-use Rattle.std.specs.Prelude.{ℕ, Bool, true, false, not, ◌==◌, ◌&&◌, ◌||◌, List, [], ◌++◌, codes, flat_map, is_some, if◌then◌else◌}
+use Rattle.std.specs.Prelude.{ℕ, Bool, true, false, not, ◌==◌, ◌&&◌, ◌||◌, ◌*◌, ◌-◌, ◌^◌, min, List, [], ◌++◌, Option, Some, None, codes, flat_map, is_some, if◌then◌else◌}
 use Rattle.std.specs.FinMap.Entries.{find}
 use Rattle.std.specs.Fmt.{decimal}
 use Rattle.std.specs.Option.{option_map_or}
@@ -13,7 +13,6 @@ use Rattle.lsr_facts.specs.declared.path_fact.Role.TheVariants as roles
 use Rattle.lsr_facts.specs.declared.repair.Repair.{Repair}
 use Rattle.lsr_facts.specs.declared.resv_fact.ResvFact.{ResvFact}
 use Rattle.lsr_facts.specs.declared.state.State.{State}
-use Rattle.lsr_text.specs.Lsps.{rate_number}
 use Rattle.lsr_text.specs.Shown.{key_text}
 
 -- the LSP is reserved on the link to its next hop
@@ -42,33 +41,46 @@ ends_here s key = option_map_or (λ path. is_tail path.role) (find key_cmp key s
 unfoldable pub is_up : State → Key → Bool
 is_up s key = is_reserved s key || (is_repaired s key || ends_here s key)
 
--- ` link N rate R`: the link that is reserved, and the rate in bytes per second
-unfoldable pub reserved_words : ResvFact → List ℕ
-reserved_words fact = codes " link " ++ (decimal fact.link ++ (codes " rate " ++ (rate_number (result_ok (flowspec_rate fact.flowspec)) ++ codes "\n")))
+-- so many bytes are so many bits, as far as 64 bits hold the number
+abbrev pub bits_of : ℕ → ℕ
+bits_of bytes = min (bytes * 8) (2 ^ 64 - 1)
 
--- `KEY link N rate R`
+-- `R (B bit/s)`: a rate in bytes per second, and in bits; or `none`
+abbrev pub rate_words : Option ℕ → List ℕ
+rate_words None = codes "none"
+rate_words (Some rate) = decimal rate ++ (codes " (" ++ (decimal (bits_of rate) ++ codes " bit/s)"))
+
+-- ` link N rate R (B bit/s)`: the link that is reserved, and the rate
+unfoldable pub reserved_words : ResvFact → List ℕ
+reserved_words fact = codes " link " ++ (decimal fact.link ++ (codes " rate " ++ (rate_words (result_ok (flowspec_rate fact.flowspec)) ++ codes "\n")))
+
+-- `KEY link N rate R (B bit/s)`
 unfoldable pub way_words : Key × ResvFact → List ℕ
 way_words row = key_text row.0 ++ reserved_words row.1
 
--- `lsp up: KEY link N rate R`
+-- `lsp up: KEY link N rate R (B bit/s)`
 abbrev pub up_line : Key × ResvFact → List ℕ
 up_line row = codes "lsp up: " ++ way_words row
 
--- `lsp back on its own path: KEY link N rate R`
+-- `lsp restored to its own path: KEY link N rate R (B bit/s)`
 abbrev pub back_line : Key × ResvFact → List ℕ
-back_line row = codes "lsp back on its own path: " ++ way_words row
+back_line row = codes "lsp restored to its own path: " ++ way_words row
 
 -- of an LSP that is reserved: that it is now, or that it is again and was repaired
 abbrev pub reserved_line : State → Key × ResvFact → List ℕ
 reserved_line before row = if is_reserved before row.0 then [] else if is_repaired before row.0 then back_line row else up_line row
 
--- `KEY ends here`
+-- `KEY (egress here)`
 unfoldable pub ending_words : Key → List ℕ
-ending_words key = key_text key ++ codes " ends here\n"
+ending_words key = key_text key ++ codes " (egress here)\n"
 
--- `lsp up: KEY ends here`
+-- `path received: KEY (egress here)`
 abbrev pub tail_line : Key → List ℕ
-tail_line key = codes "lsp up: " ++ ending_words key
+tail_line key = codes "path received: " ++ ending_words key
+
+-- `path removed: KEY (egress here)`
+abbrev pub gone_line : Key → List ℕ
+gone_line key = codes "path removed: " ++ ending_words key
 
 -- of a path: that the LSP ends here now
 abbrev pub ending_line : State → Key × PathFact → List ℕ
@@ -86,9 +98,9 @@ down_line key = codes "lsp down: " ++ key_words key
 abbrev pub lost_line : State → Key → List ℕ
 lost_line after key = if is_up after key then [] else down_line key
 
--- of a path: that an LSP which ended here isn't up any more
+-- of a path that ended here: that it doesn't any more, where its LSP isn't up in another way either
 abbrev pub lost_tail_line : State → Key × PathFact → List ℕ
-lost_tail_line after row = if is_tail row.1.role then lost_line after row.0 else []
+lost_tail_line after row = if is_tail row.1.role && not (is_up after row.0) then gone_line row.0 else []
 
 -- `lsp repaired over bypass N: KEY`
 abbrev pub repair_line : Key → ℕ → List ℕ

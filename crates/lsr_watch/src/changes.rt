@@ -63,10 +63,12 @@ fn push_lsps(text: &mut String, before: &State, after: &State) -> Result<(), All
 /// is told:
 ///
 /// - `link N down` or `link N up`;
-/// - `lsp up: KEY link N rate R`: an LSP is reserved now (R in bytes per second), and `lsp up: KEY ends here`: an LSP ends here
-///   now, which needs no reservation. KEY is `ENDPOINT/TUNNEL/EXTENDED SENDER/LSP` (RFC 3209, 4.6);
-/// - `lsp back on its own path: KEY link N rate R`: it is reserved now, and was repaired;
-/// - `lsp down: KEY`: it was reserved or repaired or ended here, and does none of these now;
+/// - `lsp up: KEY link N rate R (B bit/s)`: an LSP is reserved now, for R bytes per second. KEY is `ENDPOINT/TUNNEL/EXTENDED SENDER/LSP`
+///   (RFC 3209, 4.6);
+/// - `path received: KEY (egress here)`: a Path of an LSP came whose egress this router is, and it asks for the reservation; and
+///   `path removed: KEY (egress here)`: it is there no more;
+/// - `lsp restored to its own path: KEY link N rate R (B bit/s)`: it is reserved now, and was repaired;
+/// - `lsp down: KEY`: it was reserved or repaired, and isn't now;
 /// - `lsp repaired over bypass N: KEY`: it is repaired now, or over another bypass than before (RFC 4090, 6.4);
 /// - `tunnel N dropped`, and `tunnel N configured: "NAME" to ENDPOINT`, of a tunnel that begins here;
 /// - `tunnel N switched from lsp A to lsp B`: another LSP carries its traffic (RFC 3209, 2.5);

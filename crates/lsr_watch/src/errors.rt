@@ -35,9 +35,14 @@ fn push_name_in(text: &mut String, heading: &str) -> Result<(), AllocError>
     }
 }
 
-/// Appends the name of an error after a space, if it has one.
+/// Appends the name of an error after a space, if it has one, by which `lsr explain` knows it. The only error is that memory ran out.
 #[tactic(auto, unfolding(crate::specs::Errors::error_name))]
-fn push_error_name(alloc: Global, text: &mut String, code: u8, value: u16) -> Result<(), AllocError>
+pub fn push_error_name(
+    alloc: Global,
+    text: &mut String,
+    code: u8,
+    value: u16,
+) -> Result<(), AllocError>
     ensures { OnOk result (string_bytes text.new ≡ string_bytes text.old ++ error_name code value) }
 {
     match error_topic(alloc, code, value)? {

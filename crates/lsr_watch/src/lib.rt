@@ -8,3 +8,5 @@ mod near;
 mod tunnels;
 
 pub use changes::changes_text;
+pub use errors::push_error_name;
+pub use lsps::is_up;

@@ -3,8 +3,7 @@
 //! Most looks find the same LSPs as before, each at the same place of its table. So a table is walked place by place, and a row is
 //! looked for at that place of the other table first.
 ghost use Rattle.std.specs.Prelude.{◌≡◌, ◌++◌, OnOk, flat_map, string_bytes};
-ghost use Rattle.lsr_text.specs.Lsps.{rate_number};
-ghost use Rattle.lsr_watch.specs.Lsps.{back_line, came_lines, down_line, ending_line, ending_words, ends_here, is_over, is_tail, is_up, key_words, lost_held, lost_line, lost_lines, lost_tail_line, repair_line, repaired_line, repaired_lines, reserved_line, reserved_words, tail_line, up_line, way_words};
+ghost use Rattle.lsr_watch.specs.Lsps.{back_line, came_lines, down_line, ending_line, ending_words, ends_here, gone_line, is_over, is_tail, is_up, key_words, lost_held, lost_line, lost_lines, lost_tail_line, rate_words, repair_line, repaired_line, repaired_lines, reserved_line, reserved_words, tail_line, up_line, way_words};
 
 use crate::near::get_near;
 use lsr_facts::{Key, PathFact, Repair, ResvFact, Role, State};
@@ -43,7 +42,7 @@ fn is_up_near(state: &State, place: usize, key: &Key) -> bool
 }
 
 /// Whether the LSP is reserved, is repaired, or ends here.
-pub(crate) fn is_up(state: &State, key: &Key) -> bool
+pub fn is_up(state: &State, key: &Key) -> bool
     ensures { result ≡ is_up state.now key.now }
 {
     is_up_near(state, 0, key)
@@ -59,12 +58,18 @@ fn is_over(state: &State, place: usize, key: &Key, bypass: u16) -> bool
     }
 }
 
-/// Appends a rate in bytes per second, or that there is none.
+/// How many bits a byte has.
+const BITS: u64 = 8;
+
+/// Appends a rate in bytes and in bits per second, or that there is none.
 fn push_rate(text: &mut String, rate: Option<u64>) -> Result<(), AllocError>
-    ensures { OnOk result (string_bytes text.new ≡ string_bytes text.old ++ rate_number rate) }
+    ensures { OnOk result (string_bytes text.new ≡ string_bytes text.old ++ rate_words rate) }
 {
     match rate {
-        Some(rate) => write!(text, "{rate}"),
+        Some(rate) => {
+            let bits = rate.saturating_mul(BITS);
+            write!(text, "{rate} ({bits} bit/s)")
+        }
         None => text.push_str("none"),
     }
 }
@@ -101,7 +106,7 @@ fn push_up(text: &mut String, row: &(Key, ResvFact)) -> Result<(), AllocError>
 fn push_back(text: &mut String, row: &(Key, ResvFact)) -> Result<(), AllocError>
     ensures { OnOk result (string_bytes text.new ≡ string_bytes text.old ++ back_line row.now) }
 {
-    text.push_str("lsp back on its own path: ")?;
+    text.push_str("lsp restored to its own path: ")?;
     push_way(text, row)
 }
 
@@ -124,24 +129,32 @@ fn push_if_reserved(
     }
 }
 
-/// Appends which LSP ends here, and ends the line.
+/// Appends of which LSP this router is the egress, and ends the line.
 #[tactic(auto, unfolding(crate::specs::Lsps::ending_words))]
 fn push_ending(text: &mut String, key: &Key) -> Result<(), AllocError>
     ensures { OnOk result (string_bytes text.new ≡ string_bytes text.old ++ ending_words key.now) }
 {
     push_key(text, key)?;
-    text.push_str(" ends here\n")
+    text.push_str(" (egress here)\n")
 }
 
-/// Appends that an LSP ends here.
+/// Appends that a path came that ends here.
 fn push_tail(text: &mut String, key: &Key) -> Result<(), AllocError>
     ensures { OnOk result (string_bytes text.new ≡ string_bytes text.old ++ tail_line key.now) }
 {
-    text.push_str("lsp up: ")?;
+    text.push_str("path received: ")?;
     push_ending(text, key)
 }
 
-/// Appends that the LSP of a path ends here, if it does and didn't.
+/// Appends that a path went that ended here.
+fn push_gone(text: &mut String, key: &Key) -> Result<(), AllocError>
+    ensures { OnOk result (string_bytes text.new ≡ string_bytes text.old ++ gone_line key.now) }
+{
+    text.push_str("path removed: ")?;
+    push_ending(text, key)
+}
+
+/// Appends that a path came, if it ends here and didn't.
 fn push_if_ending(
     text: &mut String,
     before: &State,
@@ -183,7 +196,7 @@ fn push_if_lost(text: &mut String, after: &State, place: usize, key: &Key) -> Re
     push_down(text, key)
 }
 
-/// Appends that the LSP of a path went down, if it ended here and isn't up any more.
+/// Appends that a path went, if it ended here and its LSP isn't up any more.
 fn push_if_lost_tail(
     text: &mut String,
     after: &State,
@@ -192,8 +205,8 @@ fn push_if_lost_tail(
 ) -> Result<(), AllocError>
     ensures { OnOk result (string_bytes text.new ≡ string_bytes text.old ++ lost_tail_line after.now row.now) }
 {
-    if is_tail(row.1.role) {
-        return push_if_lost(text, after, place, &row.0);
+    if is_tail(row.1.role) && !is_up_near(after, place, &row.0) {
+        return push_gone(text, &row.0);
     }
     Ok(())
 }

@@ -76,8 +76,8 @@ lacks command word given (asked.Step file echo live journal chart) needs none (i
 lacks command word given (asked.Config file) needs none (is, text) = let t : needed_by (codes "config") ≡ Some word = ap needed_by (sym is) ∙ needs in cc
 lacks command word given (asked.Decode digits fields) needs none (is, text, said) =
     let t = sym none ∙ ap (λ w. first_of w given) (sym (word_is command _ word _ is needs refl)) ∙ text in cc
-lacks command word given (asked.Explain topic) needs none (is, text) =
-    let t = sym none ∙ ap (λ w. first_of w given) (sym (word_is command _ word _ is needs refl)) ∙ text in cc
+lacks command word given (asked.Explain words) needs none (is, text, some) =
+    has_first (codes "WHAT") given words.items text some (ap (λ w. first_of w given) (word_is command _ word _ is needs refl) ∙ none)
 lacks command word given (asked.Serve file turns journal console echo log) needs none (is, text, count, recorded, attended, echoed, told) =
     let t = sym none ∙ ap (λ w. first_of w given) (sym (word_is command _ word _ is needs refl)) ∙ text in cc
 lacks command word given (asked.Play file lab chart) needs none (is, text, said, drawn) =

@@ -54,13 +54,13 @@ fields_word = record (new_rule (codes "fields")) { long = Some (codes "fields");
 abbrev pub decode_words : App
 decode_words = with_rule (with_rule (new_app (codes "decode")) digits_word) fields_word
 
--- `WHAT`
-abbrev pub topic_word : Rule
-topic_word = record (new_rule (codes "WHAT")) { required = true }
+-- `WHAT..`, one word or more
+abbrev pub topic_words : Rule
+topic_words = record (new_rule (codes "WHAT")) { required = true; action = Some Append }
 
--- `explain WHAT`
+-- `explain WHAT..`
 abbrev pub explain_words : App
-explain_words = with_rule (new_app (codes "explain")) topic_word
+explain_words = with_rule (new_app (codes "explain")) topic_words
 
 -- `FILE`
 abbrev pub served_word : Rule
@@ -140,7 +140,8 @@ Asks command given (asked.Step file echo live journal chart) =
 Asks command given (asked.Config file) = (command ≡ codes "config") × (option_map (λ f. f.now) file ≡ first_of (codes "FILE") given)
 Asks command given (asked.Decode word fields) =
     (command ≡ codes "decode") × (first_of (codes "HEX") given ≡ Some word.now) × (fields ≡ is_given (first_of (codes "fields") given))
-Asks command given (asked.Explain word) = (command ≡ codes "explain") × (first_of (codes "WHAT") given ≡ Some word.now)
+Asks command given (asked.Explain words) =
+    (command ≡ codes "explain") × (all_of (codes "WHAT") given ≡ Some (map (λ w. w.now) words.items)) × (words.items ≢ [])
 Asks command given (asked.Serve file turns journal console echo log) =
     (command ≡ codes "serve") × (first_of (codes "FILE") given ≡ Some file.now) × (option_map (λ n. n.now) turns ≡ first_of (codes "turns") given)
     × (option_map (λ p. p.now) journal ≡ first_of (codes "journal") given) × (console ≡ is_given (first_of (codes "console") given))

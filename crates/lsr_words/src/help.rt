@@ -2,9 +2,9 @@
 ghost use Rattle.std.specs.Prelude.{◌≡◌, ◌∷◌, [], Ok, Some, true, false, IfOk};
 ghost use Rattle.clap.specs.Built.{AddsSubcommand};
 ghost use Rattle.clap.specs.Words.{app_of, new_app, new_rule, rule_of};
-ghost use Rattle.clap.specs.declared.builder.action.ArgAction.TheVariants.{SetTrue};
+ghost use Rattle.clap.specs.declared.builder.action.ArgAction.TheVariants.{Append, SetTrue};
 ghost use Rattle.clap.specs.declared.builder.command.Command.{Command, out-Command};
-ghost use Rattle.lsr_words.specs.Words.{answered_words, chart_words, check_words, checked_words, config_words, console_word, counted_words, decode_words, digits_word, echo_word, explain_words, fields_word, file_words, journal_words, lab_word, live_word, log_words, lsr_words, play_words, played_word, printed_word, program_words, serve_words, served_word, show_journal_words, shown_word, step_words, topic_word, turns_words, with_commands};
+ghost use Rattle.lsr_words.specs.Words.{answered_words, check_words, config_words, counted_words, decode_words, explain_words, lsr_words, play_words, printed_word, program_words, serve_words, show_journal_words, step_words, with_commands};
 
 use clap::{Arg, ArgAction, Command};
 use std::alloc::{AllocError, Global};
@@ -17,15 +17,15 @@ const VERSION: &str = "\
   That is said of the sources: `./lsr --prove` proves them and builds the program from them,
   and a program that `./lsr` built without it checks itself as it runs";
 
-const ABOUT: &str = "The control plane of an MPLS label switching router, in an operator's hands.";
+const ABOUT: &str = "An RSVP-TE control plane for MPLS: run it, inspect it, check what it did.";
 
 const HELP: &str = "\
-Where to go on:
+More help:
   lsr step --help     the lines that a router takes, and what it prints for them
   lsr config --help   a router's configuration, checked and printed whole
   lsr decode --help   what messages are made of
   lsr explain --help  what a refusal, an error or a fault means, and what to do about it
-  lsr serve --help    a router over sockets, which an operator may ask and tell things as it runs
+  lsr serve --help    a router over sockets; with --console it takes an operator's lines
   lsr play --help     many routers, joined by wires that lose, repeat and reorder
   lsr check --help    whether recorded runs are what such a router does
   lsr show-journal --help
@@ -36,29 +36,30 @@ Example: the router refuses to tear down a path that it doesn't know.
   echo rx 1 1005b988ff000030001001070a000004000000010a000001000c03010a00000100000001\
 000c0b070a00000100000001 | lsr step
 
-The status is, of each command:
+Exit status of every command:
   0                   what was asked for is done, or help was. A line of `step` or a move of
                       `play` that the router refuses, or says is an error, is answered: that
-                      is 0, too
+                      is 0, too, but for `refused 41 JournalFull` of --journal
   1                   a file, the input, a line of `step` or `play` or a message to decode wasn't
                       taken; routers and wires make no world; a capture is damaged; a socket
                       can't be had, or what `serve` was told isn't one run; a recorded run that
                       `check` is given isn't one; the output can't be written; or memory ran out
   2                   the words after `lsr` aren't taken, and nothing was done: too few, too
-                      many or unknown ones, HEX that isn't hexadecimal digits, WHAT that asks
-                      for nothing, N that isn't a number of turns, LEVEL that is none, or words
+                      many or unknown ones, HEX that isn't hexadecimal digits, WHAT that names
+                      nothing, N that isn't a number of turns, LEVEL that is none, or words
                       that don't go together: --journal and --live, --chart and either of them,
                       --chart and --lab of `play`, --turns and --console, --echo or --log of
                       `serve` without --console
-Why it isn't 0 is said on standard error, and by `decode` of lines or a file in its answers too.
-The first line says what it is, and `lsr explain` knows its first word, or of `config FAULT KEY`
-and `entry N: FAULT` the FAULT; lines after it that begin with two spaces say where it is and what
-to do. A line that begins with `error:` is about the words themselves, and one that begins with
-`byte N:` says at which byte a journal's file breaks: explain has neither.
+What went wrong stands on standard error. Among the answers stand `mismatch` of serve, `entry N:
+FAULT` of check, `refused 41 JournalFull` of step --journal, and what `decode` says of lines or a
+file. The first line says what it is; lines after it that begin with two spaces say where it is and
+what to do. `lsr explain` takes the first line as it is: `lsr explain config BadValue limit`. Two
+kinds of lines it doesn't know: `error: ..` is about the words after `lsr`, and `byte N: ..` says at
+which byte a journal file breaks.
 ";
 
 const STEP_ABOUT: &str = "\
-Serves messages, frames, moments, links that come up and go down, commands and restarts, a
+Serves messages, frames, the clock, links that come up and go down, commands and restarts, a
 line each from standard input, and prints what the router answers and sends";
 
 const STEP_HELP: &str = "\
@@ -70,12 +71,12 @@ line. Each line is one of these:
   frame LINK HEX    a whole frame came over link LINK: its first byte is 01 before a message,
                     02 before a payload under labels, 03 before the address of the router that a
                     message is for, its limit, which each router lowers, and the message
-  tick N            moment N came, in milliseconds, 0 to 18446744073709551615; the router is
-                    opened at moment 0, and refuses N above 4611686018427387904
+  tick N            the clock is at N milliseconds, 0 to 18446744073709551615; the router is
+                    opened at 0, and refuses N above 4611686018427387904
   up LINK           link LINK came up
   down LINK         link LINK went down
-  restart           the router lost what messages had set up in it, and is cold
-  start             a cold router is started; a running one goes on as it is. The router is
+  restart           the router lost what messages had set up in it, and is stopped until `start`
+  start             a stopped router is started; a running one goes on as it is. The router is
                     opened running
   tunnel N ENDPOINT RATE SETUP HOLD FLAGS NAME [ROUTE..]
                     tunnel N, 0 to 65535, is to begin here and to end at the address ENDPOINT.
@@ -84,8 +85,8 @@ line. Each line is one of these:
                     are its priorities, 0 (best) to 7; FLAGS are two hexadecimal digits: 01
                     asks for protection, 02 for recorded labels, 04 for shared reservations;
                     with 01, 08 asks for protected bandwidth, and 10 for a protected next
-                    router; NAME has 1 to 255 bytes. Each ROUTE is a step of its route from here on, as
-                    10.0.0.3/32, or ~10.0.0.3/32 where it is loose
+                    router; NAME has 1 to 255 bytes. Each ROUTE is a step of its route from here
+                    on, as 10.0.0.3/32, or ~10.0.0.3/32 where it is loose
   change N RATE [ROUTE..]
                     tunnel N is to carry this rate over this route: its new LSP is set up beside
                     the old one, and takes its place once it is reserved
@@ -126,14 +127,15 @@ most 16777216 bytes. `./lsr step` adds --live where standard input is a terminal
 
 With --journal the run is recorded in FILE: the configuration, and each event with its labels, its
 reply and what was sent. Keep FILE: `lsr check FILE` says later, anywhere, whether that is what
-such a router does, and `lsr show-journal FILE` prints it. It isn't taken beside --live.
+such a router does, and `lsr show-journal FILE` prints it. Of the `show` lines only `show recent`
+is taken then. It isn't taken beside --live.
 
 With --chart the run is drawn in FILE, once it has ended, as a sequence chart that a browser shows.
 The router is its first column, and each of its links one, by its number and its neighbour's
 address. What comes over a link is an arrow to the router, what is sent an arrow from it, each with
 its message and LSP as TUNNEL/LSP; thick ones are of an LSP that is repaired. Beside the router
-stands what it answered, unless that is `done`. Commands, moments and restarts stand above what came
-of them; moments of which nothing came, and `show`, aren't drawn. A bad line ends the chart. It has
+stands what it answered, unless that is `done`. Commands, ticks and restarts stand above what came
+of them; ticks of which nothing came, and `show`, aren't drawn. A bad line ends the chart. It has
 4096 rows at most, and isn't taken beside --journal or --live.
 
 What is printed for each of them but `show`:
@@ -149,7 +151,7 @@ What is printed for a frame under labels, in place of these:
   deliver HEX       its labels end here; HEX is its payload
   refused N NAME    it was dropped
 
-What to do next:
+If a line is refused:
   refused 1 to 9           the message can't be read: `lsr decode HEX` tells the same of `rx`,
                            and of `frame` with what stands after its first byte, 01
   refused 10 NoMatch       `show paths` and `show resvs` have what a message can speak of
@@ -160,14 +162,14 @@ What to do next:
   refused 20 to 23, 27     `show tunnels` has the tunnels; `lsr explain N` says what is wrong
   refused 24 UnknownLink   name a link of the configuration: `show links` has them
   refused 25, 26, 28       `show bypasses` has the bypasses; `lsr explain N` says what is wrong
-  refused 29 Late          a moment below the last one: go on from that
-  refused 30 BadMoment     a moment above 4611686018427387904 (2^62)
+  refused 29 Late          a time before the last one: go on from that
+  refused 30 BadMoment     a time above 4611686018427387904 (2^62) milliseconds
   refused 31 BadCapacity   more than the tunnel carries: `show bypasses` has the capacities
   refused 40 NoMemory      there was no memory, and nothing changed: try again
   refused 41 JournalFull   the file of --journal has 4096 entries, and is written: go on without it
-  refused 42 IsCold        the router was restarted: `start` it first
-`lsr explain N`, `lsr explain NAME` and `lsr explain CODE/VALUE` say more of each; CODE/VALUE
-is one word, as 24/5 for `error 24 5`.
+  refused 42 IsCold        the router was restarted and is stopped: `start` it first
+`lsr explain` says more of each: give it the line, as `lsr explain refused 24 UnknownLink`, or a
+number, a name, or CODE/VALUE, as 24/5 for `error 24 5`.
 
 What is printed for `show recent`, the oldest reply first: `done`, `error CODE VALUE` or
 `refused N NAME`, without what was sent. A frame that went on or was delivered has no reply.
@@ -213,14 +215,16 @@ The router is the one that FILE says (docs/CONFIGURATION.md has the keys; begin 
 of examples/middle.toml), or without it the built-in one: 10.0.0.2, link 1 to 10.0.0.1, link
 2 to 10.0.0.3, and 10.0.0.4 beyond link 2. FILE is read whole before the first line.
 
-The status is 0 where each line was answered, whatever the answers are; 1 with one of these on
-standard error, or with --live with some of them; 2 where the words of the command aren't taken:
+The status is 0 where each line was answered, whatever the answers are but `refused 41
+JournalFull`, which ends a run with --journal; 1 then, or with one of these on standard error, or
+with --live with some of them; 2 where the words of the command aren't taken:
   bad line N        line N, counted from 1, has none of the forms above, and ends the run;
                     what the lines before it asked for is done. The line and the form of its
                     first word follow. Fix it, and run the whole again; with --live the run
                     goes on: write the line again
   config FAULT KEY  the first fault of FILE, and the key that it is about (none for Text
-                    and Memory); fix that, and run again for the next. docs/CONFIGURATION.md says what each FAULT is
+                    and Memory); fix that, and run again for the next. docs/CONFIGURATION.md says
+                    what each FAULT is
   unreadable        FILE or the input can't be opened or read, isn't UTF-8, or has more than
                     16777216 bytes; the line after it says which of them it is, and why
   memory            there is no memory; what was printed before is done
@@ -361,29 +365,34 @@ const EXPLAIN_ABOUT: &str = "\
 Says what a refusal, an error or a fault means, what to do about it, and where its rule stands";
 
 const EXPLAIN_HELP: &str = "\
-WHAT is one word, in upper and lower case as it was told:
+WHAT is the line that was told, whole or a part of it, as one word or as many: `lsr explain refused
+24 UnknownLink`. Capitals and small letters are alike. Words are parted by exactly one space. What
+stands after the first `refused`, `error`, `config` or `entry N:` is explained, and else the first
+word. That is one of these:
   N or NAME         a refusal: of `refused 24 UnknownLink` 24 or UnknownLink
-  CODE/VALUE        an error of RSVP, as one word with a slash and no blanks: of `error 24 5`
-                    24/5. Errors have names too, as NoRoute
+  CODE/VALUE        an error of RSVP, as one word with a slash or, after `error`, as two words: of
+                    `error 24 5` 24/5. Errors have names too, as NoRoute
   13/VALUE          an error about an object, and so is 14/VALUE; VALUE, 0 to 65535, is 256
                     times the object's class, plus its C-Type, and both are told. 13/N and
                     14/N tell of all such errors
   FAULT             a fault of a configuration: of `config BadValue limit` BadValue; or of a
                     recorded run: of `entry 7: Choice` Choice
-  bad               of `bad line N`; unreadable, damaged, memory and unwritable, too: what
-                    else ends a run
+  bad               of `bad line N`; unreadable, damaged, memory, unwritable, world, link,
+                    segment, mismatch and clock, too: what else ends a run
   list              all that can be asked
 
-The status is 0; 2 for any other word, which prints the three that come closest to it on standard
-error, and for more words than one; 1 where the output can't be written.
+The status is 0; 2 for what names nothing, which prints the three that come closest to it on
+standard error; 1 where the output can't be written, or memory ran out.
 
-Example: what to do about `error 24 5`.
-  lsr explain 24/5
+Example: what to do about the line `error 24 5`.
+  lsr explain error 24 5
+Example: what to do about a line of the log.
+  lsr explain tunnel 1 error 24/5 NoRoute from 10.0.0.3
 ";
 
 const SERVE_ABOUT: &str = "\
-Serves the links of a configuration over UDP sockets of this machine, and says at the end whether
-what was told of each event is one run";
+Serves the links of a configuration over UDP sockets of this machine, and checks at exit that all
+threads saw the same sequence of events";
 
 const SERVE_HELP: &str = "\
 Each link of FILE has `listen`, the socket address at which its frames come in, and `send`, to
@@ -393,13 +402,14 @@ examples/serve-tail.toml.
 
 Each link has a port of its own, 1, 2 and so on in the order of the links' numbers, and makes N
 turns, in each of which it waits 100 milliseconds at most for one frame and serves it. The last
-port is the clock's: N times it waits 100 milliseconds, and feeds the moment 100, 200 and so on.
-So a run lasts N tenths of a second at least, unless a link has a frame waiting in each turn.
+port is the clock's: N times it waits 100 milliseconds, and feeds a tick at 100, 200 and so on.
+So a run lasts N tenths of a second at least. A link that took N frames sooner takes no more in
+it.
 
 With --journal the run is recorded in files named PREFIX.1, PREFIX.2 and so on: one for each 4096
-events, written while the run goes on, and one at its end. Keep them: `lsr check $(ls -v PREFIX.*)`,
-which names them by their numbers, says later, anywhere, whether that is what such a router does,
-and `lsr show-journal PREFIX.1` prints the first.
+events, written while the run goes on, and one at its end. Keep them: `lsr check $(ls -v
+PREFIX.*[0-9])`, which names them by their numbers, says later, anywhere, whether that is what such
+a router does, and `lsr show-journal PREFIX.1` prints the first.
 
 With --console the router runs until it is told to end, and answers the lines of its input: those
 of `lsr step` for operators (tunnel, change, cancel, drop, bypass, unbypass, route, unroute, up,
@@ -418,7 +428,7 @@ On standard error, in lines of a log, three for each port, and one for the route
   port P: M receipts
                            how many events it fed
   port P: N datagrams: A dropped, B passed, C fed, D refused
-                           how many datagrams came, or moments of the clock, and what became of
+                           how many datagrams came, or ticks of the clock, and what became of
                            them: dropped for a fault or for want of a way, passed on or delivered
                            by their labels, fed as events, and refused with one of 40 to 43
   port P: I frames lost, J faults of the wire
@@ -432,12 +442,17 @@ command aren't taken, or N isn't 1 to 1000000:
                     or isn't of the family of the first link's. Nothing was started
   config FAULT KEY  the first fault of FILE, and the key that it is about, as `lsr step` tells it;
                     `config Missing listen` and `config Missing send` come after all others
-  unreadable        FILE can't be opened or read, isn't UTF-8, or has more than 16777216 bytes
+  unreadable        FILE can't be opened or read, isn't UTF-8, or has more than 16777216 bytes; or
+                    the input of a console broke, or had a line of more bytes than that
   memory            there is no memory
+  clock             with --console: the clock couldn't be read
+  segment N: not kept
+                    there was no memory for file N of the journal: the files end with the one
+                    before it
   unwritable        the output or the error stream can't be written, or a file of the journal. Where
                     PREFIX.1 is there already, or has no folder, nothing was started
 
-Example: in two terminals, two routers that set up an LSP from the first to the second.
+Example: in two terminals, two routers that set up an LSP from the second to the first.
   lsr serve examples/serve-tail.toml --turns 100
   lsr serve examples/serve-head.toml --turns 100
 Example: a router that runs until `quit`.
@@ -458,7 +473,7 @@ FILE is a text, read whole before its first line is taken. First come its router
 and then moves, one in each line:
   deliver I         frame I, 1 to 18446744073709551615, arrives at the other end of its link
   repeat I          it arrives there once more. A frame that is never delivered is lost
-  tick NAME N       moment N comes at the router, in milliseconds; it is opened at moment 0
+  tick NAME N       the router's clock is at N milliseconds; it is opened at 0
   up NAME LINK      link LINK of the router comes up
   down NAME LINK    link LINK of the router goes down; its other end is a link of its own, and goes
                     down by a line of its own
@@ -491,16 +506,16 @@ With --lab these lines are taken, too:
   run               frames that weren't delivered yet are, in the order of their numbers, and what
                     is sent then, too, until none is left or 65536 were: their moves are answered
                     as any are. Frames over links that no wire joins are passed over
-  seed N MOVES      so many moves of chance, the same for the same N, both 0 to
+  seed N MOVES      so many random moves, reproducible with the same seed N; both are 0 to
                     18446744073709551615. Most deliver the next frame; some lose it, repeat one,
-                    bring one early, take a link down or up, or bring a later moment. Each but a
-                    loss is printed before its answer, as `> deliver 7`, and can be played again
-                    without --lab
+                    bring one early, take a link down or up, or let time go on. Each but a loss is
+                    printed before its answer, as `> deliver 7`, and can be played again without
+                    --lab
 
-With --chart the run is drawn in a file, once it has ended, as a sequence chart that a browser shows:
+With --chart the run is drawn in a file once it has ended, as a sequence chart that a browser shows:
 routers are columns, and the line of each move stands above what came of it. Each frame is an arrow,
 drawn where it is sent, to the router at the other end of its wire: with its number, its message and
-LSP as TUNNEL/LSP, and its labels. It arrives where a line `deliver I` says so. Thick ones go through
+LSP as TUNNEL/LSP, and its labels. It arrives where a line `deliver I` says so. Thick ones go over
 a bypass, or tell of a repair. Beside a router stands what it answered, unless that is `done`. A
 chart has 4096 rows at most. There is none where routers and wires make no world, or memory ran out.
 
@@ -557,7 +572,7 @@ error; 2 where the words of the command aren't taken:
   unwritable        the output or the error stream can't be written
 
 Example: a night in three files.
-  lsr check $(ls -v night.*)
+  lsr check $(ls -v night.*[0-9])
 ";
 
 const SHOW_JOURNAL_ABOUT: &str = "\
@@ -581,8 +596,8 @@ each line of standard input, which is read to its end; or the name of a capture 
 `.` or `/` in it";
 
 const WHAT_HELP: &str = "\
-A refusal's number or name; an error's code and value as one word, as 24/5, or its name; a
-fault's name; or `list`";
+A line that was told, as one word or as many; or a refusal's number or name, an error's code and
+value, as 24/5, or its name, a fault's name; or `list`";
 
 const PRINTED_FILE_HELP: &str =
     "The file of a router's configuration (TOML); without it the built-in router's is printed";
@@ -713,76 +728,12 @@ fn required_word<'a>(alloc: Global, name: &'a str, help: &'a str) -> Arg<'a>
     Arg::new(alloc, name).required(true).help(help)
 }
 
-/// `--config FILE`.
-fn config_option<'a>(alloc: Global) -> Arg<'a>
-    ensures rule { rule_of result ≡ file_words }
+/// A word of which one has to be there, and more may be.
+fn required_words<'a>(alloc: Global, name: &'a str, help: &'a str) -> Arg<'a>
+    ensures rule { rule_of result ≡ record (new_rule name.entry.now) { required = true; action = Some Append } }
     ensures local { result.global ≡ false }
 {
-    option(alloc, CONFIG_OPTION, FILE, CONFIG_OPTION_HELP)
-}
-
-/// `--echo`.
-fn echo_option<'a>(alloc: Global) -> Arg<'a>
-    ensures rule { rule_of result ≡ echo_word }
-    ensures local { result.global ≡ false }
-{
-    switch(alloc, ECHO, ECHO_HELP)
-}
-
-/// `--live`.
-fn live_option<'a>(alloc: Global) -> Arg<'a>
-    ensures rule { rule_of result ≡ live_word }
-    ensures local { result.global ≡ false }
-{
-    switch(alloc, LIVE, LIVE_HELP)
-}
-
-/// `--journal FILE`.
-fn step_journal_option<'a>(alloc: Global) -> Arg<'a>
-    ensures rule { rule_of result ≡ journal_words }
-    ensures local { result.global ≡ false }
-{
-    option(alloc, JOURNAL, FILE, STEP_JOURNAL_HELP)
-}
-
-/// `--chart FILE` of `step`.
-fn step_chart_option<'a>(alloc: Global) -> Arg<'a>
-    ensures rule { rule_of result ≡ chart_words }
-    ensures local { result.global ≡ false }
-{
-    option(alloc, CHART, FILE, STEP_CHART_HELP)
-}
-
-/// `--journal PREFIX`.
-fn serve_journal_option<'a>(alloc: Global) -> Arg<'a>
-    ensures rule { rule_of result ≡ journal_words }
-    ensures local { result.global ≡ false }
-{
-    option(alloc, JOURNAL, "PREFIX", SERVE_JOURNAL_HELP)
-}
-
-/// `--console`.
-fn console_option<'a>(alloc: Global) -> Arg<'a>
-    ensures rule { rule_of result ≡ console_word }
-    ensures local { result.global ≡ false }
-{
-    switch(alloc, CONSOLE, CONSOLE_HELP)
-}
-
-/// `--echo` of `serve`.
-fn serve_echo_option<'a>(alloc: Global) -> Arg<'a>
-    ensures rule { rule_of result ≡ echo_word }
-    ensures local { result.global ≡ false }
-{
-    switch(alloc, ECHO, SERVE_ECHO_HELP)
-}
-
-/// `--log LEVEL`.
-fn log_option<'a>(alloc: Global) -> Arg<'a>
-    ensures rule { rule_of result ≡ log_words }
-    ensures local { result.global ≡ false }
-{
-    option(alloc, LOG, "LEVEL", LOG_HELP)
+    required_word(alloc, name, help).action(ArgAction::Append)
 }
 
 /// `FILE`, which may be left out.
@@ -791,86 +742,6 @@ fn printed_file<'a>(alloc: Global) -> Arg<'a>
     ensures local { result.global ≡ false }
 {
     Arg::new(alloc, FILE).help(PRINTED_FILE_HELP)
-}
-
-/// `HEX`.
-fn hex_word<'a>(alloc: Global) -> Arg<'a>
-    ensures rule { rule_of result ≡ digits_word }
-    ensures local { result.global ≡ false }
-{
-    required_word(alloc, HEX, HEX_HELP)
-}
-
-/// `--fields`.
-fn fields_option<'a>(alloc: Global) -> Arg<'a>
-    ensures rule { rule_of result ≡ fields_word }
-    ensures local { result.global ≡ false }
-{
-    switch(alloc, FIELDS, FIELDS_HELP)
-}
-
-/// `WHAT`.
-fn topic_word<'a>(alloc: Global) -> Arg<'a>
-    ensures rule { rule_of result ≡ topic_word }
-    ensures local { result.global ≡ false }
-{
-    required_word(alloc, WHAT, WHAT_HELP)
-}
-
-/// `FILE`.
-fn served_file<'a>(alloc: Global) -> Arg<'a>
-    ensures rule { rule_of result ≡ served_word }
-    ensures local { result.global ≡ false }
-{
-    required_word(alloc, FILE, FILE_HELP)
-}
-
-/// `FILE` of a world.
-fn played_file<'a>(alloc: Global) -> Arg<'a>
-    ensures rule { rule_of result ≡ played_word }
-    ensures local { result.global ≡ false }
-{
-    required_word(alloc, FILE, PLAYED_FILE_HELP)
-}
-
-/// `--lab`.
-fn lab_option<'a>(alloc: Global) -> Arg<'a>
-    ensures rule { rule_of result ≡ lab_word }
-    ensures local { result.global ≡ false }
-{
-    switch(alloc, LAB, LAB_HELP)
-}
-
-/// `--chart FILE` of `play`.
-fn chart_option<'a>(alloc: Global) -> Arg<'a>
-    ensures rule { rule_of result ≡ chart_words }
-    ensures local { result.global ≡ false }
-{
-    option(alloc, CHART, FILE, CHART_HELP)
-}
-
-/// `--turns N`.
-fn turns_option<'a>(alloc: Global) -> Arg<'a>
-    ensures rule { rule_of result ≡ turns_words }
-    ensures local { result.global ≡ false }
-{
-    option(alloc, TURNS, "N", TURNS_HELP)
-}
-
-/// `FILE..`, one or more.
-fn checked_files<'a>(alloc: Global) -> Arg<'a>
-    ensures rule { rule_of result ≡ checked_words }
-    ensures local { result.global ≡ false }
-{
-    required_word(alloc, FILE, CHECKED_FILES_HELP).action(ArgAction::Append)
-}
-
-/// `FILE` of a recorded run.
-fn shown_file<'a>(alloc: Global) -> Arg<'a>
-    ensures rule { rule_of result ≡ shown_word }
-    ensures local { result.global ≡ false }
-{
-    required_word(alloc, FILE, SHOWN_FILE_HELP)
 }
 
 /// A command without words of its own, with its help.
@@ -886,9 +757,14 @@ fn answered_command<'a>(alloc: Global) -> Result<Command<'a>, AllocError>
     ensures words { IfOk result (λ command. app_of command ≡ answered_words) }
     ensures local { IfOk result (λ command. (out-Command command).has_globals ≡ false) }
 {
-    let config = bare_command(alloc, STEP, STEP_ABOUT, STEP_HELP).arg(config_option(alloc))?;
-    let echo = config.arg(echo_option(alloc))?;
-    echo.arg(live_option(alloc))
+    let config = bare_command(alloc, STEP, STEP_ABOUT, STEP_HELP).arg(option(
+        alloc,
+        CONFIG_OPTION,
+        FILE,
+        CONFIG_OPTION_HELP,
+    ))?;
+    let echo = config.arg(switch(alloc, ECHO, ECHO_HELP))?;
+    echo.arg(switch(alloc, LIVE, LIVE_HELP))
 }
 
 /// `step [--config FILE] [--echo] [--live] [--journal FILE] [--chart FILE]`. The only error is that memory ran out.
@@ -896,8 +772,8 @@ fn step_command<'a>(alloc: Global) -> Result<Command<'a>, AllocError>
     ensures words { IfOk result (λ command. app_of command ≡ step_words) }
     ensures local { IfOk result (λ command. (out-Command command).has_globals ≡ false) }
 {
-    let journal = answered_command(alloc)?.arg(step_journal_option(alloc))?;
-    journal.arg(step_chart_option(alloc))
+    let journal = answered_command(alloc)?.arg(option(alloc, JOURNAL, FILE, STEP_JOURNAL_HELP))?;
+    journal.arg(option(alloc, CHART, FILE, STEP_CHART_HELP))
 }
 
 /// `config [FILE]`. The only error is that memory ran out.
@@ -913,16 +789,20 @@ fn decode_command<'a>(alloc: Global) -> Result<Command<'a>, AllocError>
     ensures words { IfOk result (λ command. app_of command ≡ decode_words) }
     ensures local { IfOk result (λ command. (out-Command command).has_globals ≡ false) }
 {
-    let hex = bare_command(alloc, DECODE, DECODE_ABOUT, DECODE_HELP).arg(hex_word(alloc))?;
-    hex.arg(fields_option(alloc))
+    let hex = bare_command(alloc, DECODE, DECODE_ABOUT, DECODE_HELP).arg(required_word(
+        alloc, HEX, HEX_HELP,
+    ))?;
+    hex.arg(switch(alloc, FIELDS, FIELDS_HELP))
 }
 
-/// `explain WHAT`. The only error is that memory ran out.
+/// `explain WHAT..`. The only error is that memory ran out.
 fn explain_command<'a>(alloc: Global) -> Result<Command<'a>, AllocError>
     ensures words { IfOk result (λ command. app_of command ≡ explain_words) }
     ensures local { IfOk result (λ command. (out-Command command).has_globals ≡ false) }
 {
-    bare_command(alloc, EXPLAIN, EXPLAIN_ABOUT, EXPLAIN_HELP).arg(topic_word(alloc))
+    bare_command(alloc, EXPLAIN, EXPLAIN_ABOUT, EXPLAIN_HELP).arg(required_words(
+        alloc, WHAT, WHAT_HELP,
+    ))
 }
 
 /// `serve FILE [--turns N] [--journal PREFIX]`, and what a run with a console takes more is left out. The only error is that memory ran out.
@@ -930,9 +810,11 @@ fn counted_command<'a>(alloc: Global) -> Result<Command<'a>, AllocError>
     ensures words { IfOk result (λ command. app_of command ≡ counted_words) }
     ensures local { IfOk result (λ command. (out-Command command).has_globals ≡ false) }
 {
-    let file = bare_command(alloc, SERVE, SERVE_ABOUT, SERVE_HELP).arg(served_file(alloc))?;
-    let turns = file.arg(turns_option(alloc))?;
-    turns.arg(serve_journal_option(alloc))
+    let file = bare_command(alloc, SERVE, SERVE_ABOUT, SERVE_HELP).arg(required_word(
+        alloc, FILE, FILE_HELP,
+    ))?;
+    let turns = file.arg(option(alloc, TURNS, "N", TURNS_HELP))?;
+    turns.arg(option(alloc, JOURNAL, "PREFIX", SERVE_JOURNAL_HELP))
 }
 
 /// `serve FILE [--turns N] [--journal PREFIX] [--console] [--echo] [--log LEVEL]`. The only error is that memory ran out.
@@ -940,9 +822,9 @@ fn serve_command<'a>(alloc: Global) -> Result<Command<'a>, AllocError>
     ensures words { IfOk result (λ command. app_of command ≡ serve_words) }
     ensures local { IfOk result (λ command. (out-Command command).has_globals ≡ false) }
 {
-    let console = counted_command(alloc)?.arg(console_option(alloc))?;
-    let echo = console.arg(serve_echo_option(alloc))?;
-    echo.arg(log_option(alloc))
+    let console = counted_command(alloc)?.arg(switch(alloc, CONSOLE, CONSOLE_HELP))?;
+    let echo = console.arg(switch(alloc, ECHO, SERVE_ECHO_HELP))?;
+    echo.arg(option(alloc, LOG, "LEVEL", LOG_HELP))
 }
 
 /// `play FILE [--lab] [--chart FILE]`. The only error is that memory ran out.
@@ -950,9 +832,13 @@ fn play_command<'a>(alloc: Global) -> Result<Command<'a>, AllocError>
     ensures words { IfOk result (λ command. app_of command ≡ play_words) }
     ensures local { IfOk result (λ command. (out-Command command).has_globals ≡ false) }
 {
-    let file = bare_command(alloc, PLAY, PLAY_ABOUT, PLAY_HELP).arg(played_file(alloc))?;
-    let lab = file.arg(lab_option(alloc))?;
-    lab.arg(chart_option(alloc))
+    let file = bare_command(alloc, PLAY, PLAY_ABOUT, PLAY_HELP).arg(required_word(
+        alloc,
+        FILE,
+        PLAYED_FILE_HELP,
+    ))?;
+    let lab = file.arg(switch(alloc, LAB, LAB_HELP))?;
+    lab.arg(option(alloc, CHART, FILE, CHART_HELP))
 }
 
 /// `check FILE..`. The only error is that memory ran out.
@@ -960,7 +846,11 @@ fn check_command<'a>(alloc: Global) -> Result<Command<'a>, AllocError>
     ensures words { IfOk result (λ command. app_of command ≡ check_words) }
     ensures local { IfOk result (λ command. (out-Command command).has_globals ≡ false) }
 {
-    bare_command(alloc, CHECK, CHECK_ABOUT, CHECK_HELP).arg(checked_files(alloc))
+    bare_command(alloc, CHECK, CHECK_ABOUT, CHECK_HELP).arg(required_words(
+        alloc,
+        FILE,
+        CHECKED_FILES_HELP,
+    ))
 }
 
 /// `show-journal FILE`. The only error is that memory ran out.
@@ -968,7 +858,11 @@ fn show_journal_command<'a>(alloc: Global) -> Result<Command<'a>, AllocError>
     ensures words { IfOk result (λ command. app_of command ≡ show_journal_words) }
     ensures local { IfOk result (λ command. (out-Command command).has_globals ≡ false) }
 {
-    bare_command(alloc, SHOW_JOURNAL, SHOW_JOURNAL_ABOUT, SHOW_JOURNAL_HELP).arg(shown_file(alloc))
+    bare_command(alloc, SHOW_JOURNAL, SHOW_JOURNAL_ABOUT, SHOW_JOURNAL_HELP).arg(required_word(
+        alloc,
+        FILE,
+        SHOWN_FILE_HELP,
+    ))
 }
 
 /// The program's name, with the help of all.
@@ -1043,7 +937,7 @@ fn program_with_check<'a>(alloc: Global) -> Result<Command<'a>, AllocError>
 }
 
 /// The words that `lsr` takes: `--version`, `step [--config FILE] [--echo] [--live] [--journal FILE] [--chart FILE]`, `config [FILE]`, `decode HEX [--fields]`,
-/// `explain WHAT`, `serve FILE [--turns N] [--journal PREFIX] [--console] [--echo] [--log LEVEL]`, `play FILE [--lab] [--chart FILE]`, `check FILE..` and `show-journal FILE`. The only error is
+/// `explain WHAT..`, `serve FILE [--turns N] [--journal PREFIX] [--console] [--echo] [--log LEVEL]`, `play FILE [--lab] [--chart FILE]`, `check FILE..` and `show-journal FILE`. The only error is
 /// that memory ran out.
 pub(crate) fn command<'a>(alloc: Global) -> Result<Command<'a>, AllocError>
     ensures { IfOk result (λ command. app_of command ≡ lsr_words) }

@@ -41,8 +41,8 @@ pub enum Asked<'a> {
         /// Whether the fields of each object are printed by name, too.
         fields: bool,
     },
-    /// `explain WHAT`: what this word names is explained.
-    Explain(&'a str),
+    /// `explain WHAT..`: what these words name, or a line in which it is told, is explained. There is one word at least.
+    Explain(Vec<&'a str>),
     /// `serve FILE`: the router of the file of this name serves its links over sockets.
     Serve {
         /// The file's name.
@@ -114,15 +114,15 @@ fn decode_asked<'a>(given: &ArgMatches<'a>) -> Option<Asked<'a>>
     }
 }
 
-/// What `explain` asks for; none without its word.
-fn explain_asked<'a>(given: &ArgMatches<'a>) -> Option<Asked<'a>>
-    ensures { MatchOption result
+/// What `explain` asks for; none without words. The only error is that memory ran out.
+fn explain_asked<'a>(alloc: Global, given: &ArgMatches<'a>) -> Result<Option<Asked<'a>>, AllocError>
+    ensures { IfOk result (λ asked. MatchOption asked
         (first_of (codes "WHAT") (rows_of (found_of given.now)) ≡ None)
-        (Asks (codes "explain") (rows_of (found_of given.now))) }
+        (Asks (codes "explain") (rows_of (found_of given.now)))) }
 {
-    match given.get_str(WHAT) {
-        Some(topic) => Some(Asked::Explain(topic)),
-        None => None,
+    match given.get_strs(WHAT) {
+        Some(words) if !words.is_empty() => Ok(Some(Asked::Explain(words.to_vec(alloc)?))),
+        _ => Ok(None),
     }
 }
 
@@ -195,7 +195,7 @@ fn asked_in<'a>(alloc: Global, matches: &ArgMatches<'a>) -> Result<Option<Asked<
         Some((STEP, given)) => Ok(Some(step_asked(given))),
         Some((CONFIG, given)) => Ok(Some(Asked::Config(given.get_str(FILE)))),
         Some((DECODE, given)) => Ok(decode_asked(given)),
-        Some((EXPLAIN, given)) => Ok(explain_asked(given)),
+        Some((EXPLAIN, given)) => explain_asked(alloc, given),
         Some((SERVE, given)) => Ok(serve_asked(given)),
         Some((PLAY, given)) => Ok(play_asked(given)),
         Some((CHECK, given)) => check_asked(alloc, given),

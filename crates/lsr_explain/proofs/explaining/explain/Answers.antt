@@ -6,7 +6,7 @@ use Rattle.lsr_explain.proofs.explaining.explain.Goals as goal
 
 pub returns : goal.returns
 returns c = (
-  sym c.find_topic.ensures ∙ none_of seen c.find_topic.result c.in_default.not-Some,
+  sym c.find_named.ensures ∙ none_of seen c.find_named.result c.in_default.not-Some,
   search rules,
   λ topic value.
       neither (no_error _ _ c.find_error.result c.in_default-find_error.not-Some c.find_error.ensures topic value)

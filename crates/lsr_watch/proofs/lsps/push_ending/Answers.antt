@@ -9,6 +9,6 @@ use Rattle.lsr_watch.proofs.lsps.push_ending.Goals as goal
 pub returns : goal.returns
 unfolding ending_words
 returns c =
-    grown_on c.push_str.result (string_bytes c.args.text.now) (string_bytes c.push_key.new.text) (string_bytes c.push_str.new.self) (key_text c.args.key.now) (codes " ends here\n")
+    grown_on c.push_str.result (string_bytes c.args.text.now) (string_bytes c.push_key.new.text) (string_bytes c.push_str.new.self) (key_text c.args.key.now) (codes " (egress here)\n")
     c.in_ok-push_key.ensures
-    (grown_where_ok c.push_str.result (string_bytes c.push_str.new.self) (string_bytes c.push_key.new.text ++ codes " ends here\n") (string_bytes c.push_key.new.text) c.push_str.ensures.bytes)
+    (grown_where_ok c.push_str.result (string_bytes c.push_str.new.self) (string_bytes c.push_key.new.text ++ codes " (egress here)\n") (string_bytes c.push_key.new.text) c.push_str.ensures.bytes)

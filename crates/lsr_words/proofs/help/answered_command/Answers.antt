@@ -9,6 +9,6 @@ use Rattle.lsr_words.proofs.help.answered_command.Goals as goal
 pub returns-clause-words : goal.returns-clause-words
 returns-clause-words c =
     let one : App = with_rule (new_app (codes "step")) file_words in
-    let first : app_of c.in_ok-config.config ≡ one = adds_word _ _ c.in_ok-config.config (new_app (codes "step")) file_words c.in_ok-config.ensures c.config_option.ensures.rule c.config_option.ensures.local (search rules) in
-    let second : app_of c.in_ok-echo.echo ≡ with_rule one echo_word = adds_word _ _ c.in_ok-echo.echo one echo_word c.in_ok-echo.ensures c.echo_option.ensures.rule c.echo_option.ensures.local first in
-    IfOk-weaker c.arg-3.result _ _ (λ new a. adds_word _ _ new (with_rule one echo_word) live_word a c.live_option.ensures.rule c.live_option.ensures.local second) c.arg-3.ensures
+    let first : app_of c.in_ok-config.config ≡ one = adds_word _ _ c.in_ok-config.config (new_app (codes "step")) file_words c.in_ok-config.ensures c.option.ensures.rule c.option.ensures.local (search rules) in
+    let second : app_of c.in_ok-echo.echo ≡ with_rule one echo_word = adds_word _ _ c.in_ok-echo.echo one echo_word c.in_ok-echo.ensures c.switch.ensures.rule c.switch.ensures.local first in
+    IfOk-weaker c.arg-3.result _ _ (λ new a. adds_word _ _ new (with_rule one echo_word) live_word a c.switch-2.ensures.rule c.switch-2.ensures.local second) c.arg-3.ensures

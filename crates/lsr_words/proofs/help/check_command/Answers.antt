@@ -7,4 +7,4 @@ use Rattle.lsr_words.proofs.WordLaws.{adds_word}
 use Rattle.lsr_words.proofs.help.check_command.Goals as goal
 
 pub returns-clause-words : goal.returns-clause-words
-returns-clause-words c = IfOk-weaker c.arg.result _ _ (λ new a. adds_word _ _ new (new_app (codes "check")) checked_words a c.checked_files.ensures.rule c.checked_files.ensures.local (search rules)) c.arg.ensures
+returns-clause-words c = IfOk-weaker c.arg.result _ _ (λ new a. adds_word _ _ new (new_app (codes "check")) checked_words a c.required_words.ensures.rule c.required_words.ensures.local (search rules)) c.arg.ensures

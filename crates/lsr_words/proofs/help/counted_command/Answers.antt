@@ -9,6 +9,6 @@ use Rattle.lsr_words.proofs.help.counted_command.Goals as goal
 pub returns-clause-words : goal.returns-clause-words
 returns-clause-words c =
     let one : App = with_rule (new_app (codes "serve")) served_word in
-    let first : app_of c.in_ok-file.file ≡ one = adds_word _ _ c.in_ok-file.file (new_app (codes "serve")) served_word c.in_ok-file.ensures c.served_file.ensures.rule c.served_file.ensures.local (search rules) in
-    let second : app_of c.in_ok-turns.turns ≡ with_rule one turns_words = adds_word _ _ c.in_ok-turns.turns one turns_words c.in_ok-turns.ensures c.turns_option.ensures.rule c.turns_option.ensures.local first in
-    IfOk-weaker c.arg-3.result _ _ (λ new a. adds_word _ _ new (with_rule one turns_words) journal_words a c.serve_journal_option.ensures.rule c.serve_journal_option.ensures.local second) c.arg-3.ensures
+    let first : app_of c.in_ok-file.file ≡ one = adds_word _ _ c.in_ok-file.file (new_app (codes "serve")) served_word c.in_ok-file.ensures c.required_word.ensures.rule c.required_word.ensures.local (search rules) in
+    let second : app_of c.in_ok-turns.turns ≡ with_rule one turns_words = adds_word _ _ c.in_ok-turns.turns one turns_words c.in_ok-turns.ensures c.option.ensures.rule c.option.ensures.local first in
+    IfOk-weaker c.arg-3.result _ _ (λ new a. adds_word _ _ new (with_rule one turns_words) journal_words a c.option-2.ensures.rule c.option-2.ensures.local second) c.arg-3.ensures

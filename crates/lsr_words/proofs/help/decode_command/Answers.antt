@@ -8,5 +8,5 @@ use Rattle.lsr_words.proofs.help.decode_command.Goals as goal
 
 pub returns-clause-words : goal.returns-clause-words
 returns-clause-words c =
-    let first : app_of c.in_ok-hex.hex ≡ with_rule (new_app (codes "decode")) digits_word = adds_word _ _ c.in_ok-hex.hex (new_app (codes "decode")) digits_word c.in_ok-hex.ensures c.hex_word.ensures.rule c.hex_word.ensures.local (search rules) in
-    IfOk-weaker c.arg-2.result _ _ (λ new a. adds_word _ _ new (with_rule (new_app (codes "decode")) digits_word) fields_word a c.fields_option.ensures.rule c.fields_option.ensures.local first) c.arg-2.ensures
+    let first : app_of c.in_ok-hex.hex ≡ with_rule (new_app (codes "decode")) digits_word = adds_word _ _ c.in_ok-hex.hex (new_app (codes "decode")) digits_word c.in_ok-hex.ensures c.required_word.ensures.rule c.required_word.ensures.local (search rules) in
+    IfOk-weaker c.arg-2.result _ _ (λ new a. adds_word _ _ new (with_rule (new_app (codes "decode")) digits_word) fields_word a c.switch.ensures.rule c.switch.ensures.local first) c.arg-2.ensures

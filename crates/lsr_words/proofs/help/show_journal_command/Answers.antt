@@ -7,4 +7,4 @@ use Rattle.lsr_words.proofs.WordLaws.{adds_word}
 use Rattle.lsr_words.proofs.help.show_journal_command.Goals as goal
 
 pub returns-clause-words : goal.returns-clause-words
-returns-clause-words c = IfOk-weaker c.arg.result _ _ (λ new a. adds_word _ _ new (new_app (codes "show-journal")) shown_word a c.shown_file.ensures.rule c.shown_file.ensures.local (search rules)) c.arg.ensures
+returns-clause-words c = IfOk-weaker c.arg.result _ _ (λ new a. adds_word _ _ new (new_app (codes "show-journal")) shown_word a c.required_word.ensures.rule c.required_word.ensures.local (search rules)) c.arg.ensures

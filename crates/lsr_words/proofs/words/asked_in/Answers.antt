@@ -19,3 +19,10 @@ returns-in-Some-check-default c =
     let values = rows_of (found_of found.given.now) in
     let is = found_is c.args.matches.now found.field-0-0.now values found.ensures.name found.ensures.rows in
     IfOk-weaker c.check_asked.result _ _ (λ asked. asked_or asked _ (codes "check") found.field-0-0.now _ values is (search rules) refl) c.check_asked.ensures
+
+pub returns-in-Some-explain-default : goal.returns-in-Some-explain-default
+returns-in-Some-explain-default c =
+    let found = c.in-Some-explain-default in
+    let values = rows_of (found_of found.given.now) in
+    let is = found_is c.args.matches.now found.field-0-0.now values found.ensures.name found.ensures.rows in
+    IfOk-weaker c.explain_asked.result _ _ (λ asked. asked_or asked _ (codes "explain") found.field-0-0.now _ values is (search rules) refl) c.explain_asked.ensures
