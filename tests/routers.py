@@ -20,15 +20,15 @@ import asked
 MOST_SECONDS = 100
 # How long it takes until something is looked at again, in seconds.
 PAUSE = 0.02
-# How long a console is given to tell what changed, in seconds: it does so each tenth of a second.
-LOOK_SECONDS = 0.3
 # The most bytes of a datagram over IPv4.
 MOST_BYTES = 65507
 # What is typed behind a line, so that its answer has an end: it is told as a bad line, and after that stand so many lines.
 MARK = "="
 LINES_AFTER_MARK = 2
-# A line of the log: how grave it is, who tells it, at a console since when, and what is told.
-LOGGED = re.compile(r"\[[A-Z]+ +[\w:]+\] (?:\d+\.\d s: )?(.*)")
+# A line of the log: how grave it is, at a console since when, and what is told.
+LOGGED = re.compile(r"\[[A-Z]+ *\] (?:\d+\.\d s: )?(.*)")
+# What is told of the time of day.
+DATED = re.compile(r"0\.0 s is \w{3}, \d\d \w{3} \d{4} \d\d:\d\d:\d\d GMT")
 # The sockets of this machine: in each line their own address is the second word, and the fifth what waits to be sent and read.
 SOCKETS = "/proc/net/udp"
 # A number for each group of addresses.
@@ -175,25 +175,6 @@ class Router:
             self.log.append(said_by(self.next_line(self.told, text)))
         self.log.remove(text)
 
-    def is_told(self, text):
-        """Whether this is told within some moments. What was told before is left out."""
-        with contextlib.suppress(queue.Empty):
-            while said_by(self.told.get(timeout=LOOK_SECONDS) or "") != text:
-                pass
-            return True
-        return False
-
-    def wait_watched(self, link):
-        """Waits until what changes is told, which is from the first moment on: the link goes down and up until that is told."""
-        deadline = time.monotonic() + MOST_SECONDS
-        for state in itertools.cycle(["down", "up"]):
-            self.answer(f"{state} {link}")
-            is_told = self.is_told(f"link {link} {state}")
-            if is_told and state == "up":
-                return
-            if time.monotonic() > deadline:
-                raise TimeoutError(f"nothing tells that link {link} is {state}")
-
     def end(self):
         """Waits until the router ended: what it left."""
         self.process.stdin.close()
@@ -235,5 +216,8 @@ def attend(text):
     """A router of this configuration with a console, which runs."""
     with serve(text, "--console") as router:
         name = re.search(r'^router = "(.*)"', text, re.MULTILINE)[1]
-        router.wait_log(f"router {name} runs: write help to see which lines it takes, and quit to end it")
+        router.wait_log(f"router {name} is running: type help for its commands, quit to stop it")
+        date = said_by(router.next_line(router.told, "the time of day"))
+        if not DATED.fullmatch(date):
+            raise ValueError(f"no time of day: {date}")
         yield router

@@ -7,10 +7,13 @@ Routers are served over UDP on addresses of this machine, lines are typed at the
 import contextlib
 import dataclasses
 import functools
+import os
 import pathlib
 import re
+import subprocess
 import sys
 import tempfile
+import time
 from typing import NamedTuple
 
 import asked
@@ -29,15 +32,26 @@ INDENT = "    "
 LOGGED = "["
 # The last line that is typed at a console.
 QUIT = "quit"
-# What is told where the sockets of a link can't be had.
-NO_SOCKET = (
-    "link {}: socket\n"
-    "  its sockets can't be had: another program has an address of it, one isn't a loopback address, or one isn't of the first "
-    "link's family (IPv4 or IPv6); look at its listen and send in the file\n"
-)
-# Addresses that are none of this machine, or not of IPv4; and any port of this machine.
-OTHER_ADDRESSES = ["10.0.0.1:5701", "[::1]:5701"]
-ANY = "127.0.0.1:0"
+# What is told where a link can't have an address.
+NO_SOCKET = "link {}: socket\n  {} {}\n"
+NOT_LOCAL = "is no loopback address: routers of this program are neighbours on one machine; give 127.0.0.1 or [::1]"
+OTHER_FAMILY = "isn't of the family of the first link's listen: give all links IPv4 addresses, or all IPv6 addresses"
+NO_PORT = "has port 0, to which no neighbour can send: give a port from 1 to 65535"
+TAKEN = "is in use: end the router or program that has it, or give a port that no other link has"
+ITSELF = "is send and listen of one link, which would send to itself: give the neighbour's listen as send"
+# Addresses that a link can't have, and why; and one that it can send to, at which nobody listens.
+OTHER_ADDRESSES = [("10.0.0.1:5701", NOT_LOCAL), ("[::1]:5701", OTHER_FAMILY), ("127.0.0.1:0", NO_PORT)]
+NOBODY = "127.0.0.1:9"
+# One to which the system sends nothing: that of all of this machine.
+UNSENDABLE = "127.255.255.255:9"
+# What a log of warnings tells of a datagram that is no frame, and of a Path whose hop isn't the link's peer.
+QUIET_LOG = [
+    "link 1: of 2 received 1 dropped, 0 refused",
+    "link 1: a neighbour calls itself 10.0.0.1, and the link's peer is 10.1.0.1",
+]
+# How many pairs of routers start at once; and how long a reservation takes at most to be refused, in seconds.
+PAIRS = 6
+SETTLING_SECONDS = 1
 # Words that name no number of turns, and what is told of them.
 NO_TURNS = ["0", "+5", "", "1000001", "99999999999"]
 NO_TURNS_TOLD = b"error: N is a number from 1 to 1000000; see lsr serve --help\n"
@@ -79,13 +93,13 @@ def lacks(wanted, log):
     return "".join(f"the log lacks: {line}\n" for line in wanted if line not in log)
 
 
-def port_lines(port, dropped=0, passed=0, fed=0):
-    """The log's lines of a port at the end of a run."""
-    return [
-        f"port {port}: {fed} receipts",
-        f"port {port}: {dropped + passed + fed} datagrams: {dropped} dropped, {passed} passed, {fed} fed, 0 refused",
-        f"port {port}: 0 frames lost, 0 faults of the wire",
-    ]
+def port_line(port, dropped=0, passed=0, fed=0, refused=0):
+    """The log's line of a port at the end of a run."""
+    received = dropped + passed + fed + refused
+    return (
+        f"{port}: {received} received: {fed} processed, {passed} forwarded, {dropped} dropped, {refused} refused; "
+        "0 frames not sent, 0 socket errors"
+    )
 
 
 def end_line(paths, reservations):
@@ -95,7 +109,7 @@ def end_line(paths, reservations):
 
 def ends_well(ended, printed=("the run ends",)):
     """What differs at the end of a run: this is printed, and that it is one run, of as many entries as its ports have receipts."""
-    receipts = sum(int(found[1]) for found in re.finditer(r"port \d+: (\d+) receipts", "\n".join(ended.log)))
+    receipts = sum(int(found[1]) for found in re.finditer(r"received: (\d+) processed", "\n".join(ended.log)))
     text = differs("the end", [*printed, f"reconciled {receipts} entries"], ended.printed)
     return text + ("" if ended.status == 0 else f"status {ended.status}\n")
 
@@ -124,7 +138,7 @@ def acts_of(block):
     acts = []
     before = []
     for line in block:
-        typed = re.fullmatch(r"(head|tail)> (.*)", line)
+        typed = re.fullmatch(r"(\w+)> (.*)", line)
         if typed:
             acts.append(Act(typed[1], typed[2], [] if acts else before))
         elif line.startswith(LOGGED):
@@ -147,7 +161,7 @@ def transcript(text):
 
 def uncounted(line):
     """The line, without how many messages, moments and lines came: these are other numbers in each run."""
-    return re.sub(r"\d+(?= receipts| datagrams| fed)", "N", line)
+    return re.sub(r"\d+(?= received: | processed)", "N", line)
 
 
 def quit_differs(router, act):
@@ -179,8 +193,6 @@ def two_consoles():
     tail = example("console-tail.toml", [far1, near1, far2, near2])
     with routers.attend(head) as at_head, routers.attend(tail) as at_tail:
         sides = {"head": at_head, "tail": at_tail}
-        for router in sides.values():
-            router.wait_watched(2)
         acts = transcript((EXAMPLES / "console.md").read_text(encoding="utf-8"))
         for act in acts:
             text = act_differs(sides[act.side], act)
@@ -189,7 +201,27 @@ def two_consoles():
     return differs("consoles that ended", list(sides), [act.side for act in acts if act.line == QUIT])
 
 
+def three_consoles():
+    """The lines of docs/OPERATE.md are typed at three consoles. A `show` is asked again until it is answered as written."""
+    texts = {name: (EXAMPLES / "three" / f"{name}.toml").read_text(encoding="utf-8") for name in ("east", "middle", "west")}
+    documented = sorted({it for text in texts.values() for it in re.findall(r'^listen = "(.*)"$', text, re.MULTILINE)})
+    moved = dict(zip(documented, routers.free_addresses(len(documented))))
+    with contextlib.ExitStack() as stack:
+        consoles = {}
+        for name, text in texts.items():
+            places = [moved[it] for it in re.findall(r'^(?:listen|send) = "(.*)"$', text, re.MULTILINE)]
+            consoles[name] = stack.enter_context(routers.attend(routers.at_addresses(text, places)))
+        acts = transcript((asked.TOP / "docs" / "OPERATE.md").read_text(encoding="utf-8"))
+        text = "".join(act_differs(consoles[act.side], act) for act in acts)
+        text += "" if acts else "docs/OPERATE.md has no transcript\n"
+        return text + "".join(ends_well(router.quit()) for router in consoles.values())
+
+
 # A tunnel between two routers.
+
+
+# The log's line of a link whose frames were all sent.
+LINK_1_ALL_SENT = r"link 1: .*; 0 frames not sent, 0 socket errors"
 
 
 def tunnel_ends(refresh_ms):
@@ -201,8 +233,8 @@ def tunnel_ends(refresh_ms):
 
 def turns_differ(ended, paths, reservations):
     """What differs at the end of a router that was served for some turns."""
-    wanted = ["port 1: 0 frames lost, 0 faults of the wire", end_line(paths, reservations)]
-    return lacks(wanted, ended.log) + ends_well(ended, [])
+    text = "" if any(re.fullmatch(LINK_1_ALL_SENT, line) for line in ended.log) else f"the log has {ended.log}\n"
+    return text + lacks([end_line(paths, reservations)], ended.log) + ends_well(ended, [])
 
 
 def two_routers_by_turns():
@@ -244,7 +276,7 @@ def killed_neighbour():
         at_head.wait_log("tunnel 1 down")
         text += differs("show table", [], at_head.answer("show table"))
         with routers.attend(tail) as at_tail:
-            at_head.wait_log(f"lsp up: {LSP} link 1 rate 125000")
+            at_head.wait_log(f"lsp up: {LSP} link 1 rate 125000 (1000000 bit/s)")
             at_head.wait_log("tunnel 1 up on lsp 1")
             text += shows(at_head, "show table", ["tunnel 1 push 16 1"]) + shows(at_tail, "show table", ["16 pop"])
             return text + ends_well(at_tail.quit()) + ends_well(at_head.quit())
@@ -317,7 +349,7 @@ def frames_go_on():
                 text += frame_differs(frame, line.receive(link))
         ended = line.router.quit()
         text += "" if line.is_silent() else "another frame came\n"
-    wanted = port_lines(1, dropped=2, passed=1, fed=3) + port_lines(2, fed=1) + [end_line(1, 0)]
+    wanted = [port_line("link 1", dropped=2, passed=1, fed=3), port_line("link 2", fed=1), end_line(1, 0)]
     return text + lacks(wanted, ended.log) + ends_well(ended)
 
 
@@ -328,7 +360,7 @@ def any_sender():
         line.send(1, came, stranger)
         text = frame_differs(left, line.receive(2))
         ended = line.router.quit()
-    return text + lacks(port_lines(1, fed=1) + [end_line(1, 0)], ended.log) + ends_well(ended)
+    return text + lacks([port_line("link 1", fed=1), end_line(1, 0)], ended.log) + ends_well(ended)
 
 
 def junk(path):
@@ -360,8 +392,8 @@ def junk_is_dropped():
         text = frame_differs(left, line.receive(2))
         ended = line.router.quit()
     count = len(dropped)
-    told = [f"port 1: {count} of {count + 1} datagrams dropped, 0 refused"]
-    wanted = told + port_lines(1, dropped=count, fed=1) + [end_line(1, 0)]
+    told = f"link 1: of {count + 1} received {count} dropped, 0 refused"
+    wanted = [told, port_line("link 1", dropped=count, fed=1), end_line(1, 0)]
     return text + lacks(wanted, ended.log) + ends_well(ended)
 
 
@@ -374,23 +406,24 @@ def cold_router_refuses():
         routers.wait_until(lambda: routers.waiting_bytes(line.listen[1]) == NONE_WAIT, "the Path isn't read")
         ended = line.router.quit()
         text += "" if line.is_silent() else "a frame came\n"
-    wanted = ["port 1: 0 of 1 datagrams dropped, 1 refused", "port 1: 1 datagrams: 0 dropped, 0 passed, 0 fed, 1 refused"]
-    return text + lacks(wanted + [end_line(0, 0)], ended.log) + ends_well(ended)
+    wanted = ["link 1: of 1 received 0 dropped, 1 refused", port_line("link 1", refused=1), end_line(0, 0)]
+    return text + lacks(wanted, ended.log) + ends_well(ended)
 
 
 def lost_frame():
-    """A frame that the socket doesn't take, for a port that there isn't, is told as lost; what came is served."""
+    """A frame that the socket doesn't take, for an address of all, is told as lost; what came is served."""
     came, _ = path_frames()
     with routers.open_socket(routers.fresh_host()) as neighbour:
         listen = routers.free_addresses(2)
-        addresses = [listen[0], routers.address_of(neighbour), listen[1], ANY]
+        addresses = [listen[0], routers.address_of(neighbour), listen[1], UNSENDABLE]
         with routers.attend(routers.at_addresses(MIDDLE, addresses)) as router:
             Line(router, {1: neighbour}, {1: listen[0]}).send(1, came)
             text = shows(router, "show paths", ["path 10.0.0.4/1/10.0.0.1 10.0.0.1/1 transit 2 1"])
             ended = router.quit()
-    lost = "port 1: 1 frames lost, 0 faults of the wire"
+    lost = "1 frames not sent, 0 socket errors"
     # It is told when the round is over, and among the counts at the end.
-    return text + differs("losses", [lost, lost], [line for line in ended.log if line == lost]) + ends_well(ended)
+    wanted = [f"link 1: {lost}", f"link 1: 1 received: 1 processed, 0 forwarded, 0 dropped, 0 refused; {lost}"]
+    return text + differs("losses", wanted, [line for line in ended.log if line.endswith(lost)]) + ends_well(ended)
 
 
 def echoed():
@@ -416,23 +449,32 @@ def quiet_log(level, wanted):
 # Sockets that can't be had, and turns.
 
 
-def refused_link(addresses):
-    """A link at these addresses isn't served."""
-    with routers.file_of(routers.at_addresses(ONE_LINK, addresses)) as file:
+def refused_link(listen, send, address, why):
+    """A link at these addresses isn't served, which is told of one of them."""
+    with routers.file_of(routers.at_addresses(ONE_LINK, [listen, send])) as file:
         came = asked.ask("serve", file, "--turns", "1")
-    return asked.differs(Answer(1, err=NO_SOCKET.format(3).encode()), came)
+    return asked.differs(Answer(1, err=NO_SOCKET.format(3, address, why).encode()), came)
 
 
 def taken_address():
     """An address that another program has can't be had."""
     with routers.open_socket(routers.fresh_host()) as taken:
-        return refused_link([routers.address_of(taken), ANY])
+        address = routers.address_of(taken)
+        return refused_link(address, NOBODY, address, TAKEN)
+
+
+def one_address_twice():
+    """Two links can't have one address, and a link can't be its own neighbour."""
+    first, second = routers.free_addresses(2)
+    with routers.file_of(routers.at_addresses(MIDDLE, [first, second, first, NOBODY])) as file:
+        came = asked.ask("serve", file, "--turns", "1")
+    return asked.differs(Answer(1, err=NO_SOCKET.format(2, first, TAKEN).encode()), came) + refused_link(first, first, first, ITSELF)
 
 
 def two_families():
     """Links of both families: the first by its number, whose addresses are of two, is told."""
     came = asked.ask("serve", DATA / "two-links.toml", "--turns", "1")
-    return asked.differs(Answer(1, err=NO_SOCKET.format(2).encode()), came)
+    return asked.differs(Answer(1, err=NO_SOCKET.format(2, "127.0.0.1:5702", OTHER_FAMILY).encode()), came)
 
 
 def sockets_by_number():
@@ -458,8 +500,8 @@ def no_turns(word):
 
 def silent_links(word, turns):
     """Two links on which nothing comes, for so many turns: the whole log, in its order."""
-    lines = port_lines(1) + port_lines(2) + port_lines(3, fed=turns) + [end_line(0, 0)]
-    told = "".join(f"[INFO  lsr_serve::serving] {line}\n" for line in lines)
+    lines = [port_line("link 1"), port_line("link 2"), port_line("clock", fed=turns), end_line(0, 0)]
+    told = "".join(f"[INFO ] {line}\n" for line in lines)
     with routers.file_of(routers.at_addresses(MIDDLE, routers.free_addresses(4))) as file:
         came = asked.ask("serve", file, "--turns", word)
     return asked.differs(Answer(0, f"reconciled {turns} entries\n".encode(), told.encode()), came)
@@ -538,13 +580,9 @@ def journal_differs(room, ran):
 def again_differs(room):
     """What differs where a second run has the same prefix: it is refused, and each file is as it was."""
     before = {file.name: file.read_bytes() for file in journal_files(room)}
-    came = many_lines(room)
-    told = (
-        b"unwritable\n  night.1 is there already, and is kept: give another name, or move it away with those that belong to it, and "
-        b"run it again\n"
-    )
+    text = again_refused(room, r"night\.\d+", "give another name, or move it away with those that belong to it")
     after = {file.name: file.read_bytes() for file in journal_files(room)}
-    return asked.differs(Answer(1, err=told), came) + ("" if before == after else "the files aren't as they were\n")
+    return text + ("" if before == after else "the files aren't as they were\n")
 
 
 def journal_of_pieces():
@@ -553,16 +591,130 @@ def journal_of_pieces():
         return journal_differs(room, many_lines(room)) + again_differs(room)
 
 
+@contextlib.contextmanager
+def journal_router(room, *words):
+    """A router of one link with a console, whose journal goes into the room."""
+    router = routers.Router(["serve", str(room / "router.toml"), "--console", "--journal", str(room / "night"), *words])
+    try:
+        yield router
+    finally:
+        router.process.kill()
+        router.process.wait()
+
+
+def feed_lines(router):
+    """Types as many lines as fill more than a file of the journal, the answers to which are waited for."""
+    for _ in range(LINES):
+        router.type("start")
+    router.answer("show links")
+
+
+def wait_waiting(router, told):
+    """Waits until this is told of a file, with how many wait."""
+    told = re.compile(rf"{re.escape(told)}; \d+ files wait in memory, and are tried again with the next")
+    while not told.fullmatch(routers.said_by(router.next_line(router.told, told.pattern))):
+        pass
+
+
 def later_file_unwritable():
-    """Where a later file can't be written none after it is; the run goes on, and says so at its end."""
+    """A file that can't be written is told at once, waits, and is written when there is room again: nothing is lost."""
+    with room_for_journal() as room, journal_router(room) as router:
+        router.answer("start")
+        (room / "night.1").mkdir()
+        feed_lines(router)
+        wait_waiting(router, f"journal: {room}/night.1 is no regular file, and is not replaced: give another name")
+        (room / "night.1").rmdir()
+        feed_lines(router)
+        router.wait_log("journal: all files that waited are written")
+        ended = router.quit()
+        files = journal_files(room)
+        text = "" if ended.status == 0 and is_run(files, room) else f"status {ended.status}, files {files}\n"
+        return text + ("" if sum(counts_of(checked(files, room))) > 2 * LINES else "entries are lost\n")
+
+
+def file_unwritable_at_the_end():
+    """A file that is still not written at the end is told, with status 1."""
+    with room_for_journal() as room, journal_router(room) as router:
+        router.answer("start")
+        (room / "night.1").mkdir()
+        ended = router.quit()
+        told = [f"  {room}/night.1 is no regular file, and is not replaced: give another name, and run it again"]
+        return lacks(["unwritable", *told], ended.log) + ("" if ended.status == 1 else f"status {ended.status}\n")
+
+
+def one_prefix_twice():
+    """A second router with the prefix of one that runs doesn't begin, before the first file is there and after it."""
+    with room_for_journal() as room, journal_router(room) as router:
+        router.answer("start")
+        text = again_refused(room, r"night\.1\.part", "another router writes this journal, or one was killed while it did")
+        feed_lines(router)
+        routers.wait_until((room / "night.1").exists, "night.1 isn't written")
+        text += again_refused(room, r"night\.\d+", "give another name, or move it away with those that belong to it")
+        ended = router.quit()
+        return text + ("" if ended.status == 0 and is_run(journal_files(room), room) else f"status {ended.status}\n")
+
+
+def again_refused(room, file, why):
+    """What differs where a second router is to keep its journal under the same prefix: such a file is named, and it is told why."""
+    other = room / "other.toml"
+    other.write_text(routers.at_addresses(MIDDLE, routers.free_addresses(4)), encoding="utf-8")
+    came = asked.ask("serve", other.name, "--console", "--journal", "night", cwd=room)
+    told = re.fullmatch(rf"unwritable\n  {file} is there already.*{re.escape(why)}.*, and run it again\n", came.err.decode())
+    return "" if came.status == 1 and told else f"status {came.status}, told: {came.err.decode()}"
+
+
+def nothing_left_behind():
+    """A run that doesn't begin leaves no claim, nor does one that was told of a folder alone."""
     with room_for_journal() as room:
-        (room / "night.2").mkdir()
-        ran = many_lines(room)
-        text = answers_differ(ran, ran.out.decode().splitlines()[-1])
-        text += differs("files", ["night.1", "night.2"], [file.name for file in journal_files(room)])
-        if ran.status != 1 or b"unwritable\n  night.2 is no regular file, and is not replaced" not in ran.err:
-            text += f"status {ran.status}, told: {ran.err.decode()}"
-        return text + ("" if is_run([room / "night.1"], room) else "night.1 is no run\n")
+        (room / "bad.toml").write_text("router = 1\n", encoding="utf-8")
+        asked.ask("serve", "bad.toml", "--console", "--journal", "night", cwd=room)
+        asked.ask("serve", "bad.toml", "--turns", "1", "--journal", "night", cwd=room)
+        came = asked.ask("serve", "router.toml", "--console", "--journal", f"{room}/", cwd=room)
+        told = f"unwritable\n  {room}/ is the name of a folder: give the files a name in it, and run it again\n"
+        left = sorted(file.name for file in room.iterdir())
+        return asked.differs(Answer(1, err=told.encode()), came) + differs("files", ["bad.toml", "router.toml"], left)
+
+
+def refusals_told():
+    """A reservation that finds no bandwidth is told by the router that refuses it, and by the egress; both have told the Path before."""
+    head, tail = tunnel_ends(LONG_REFRESH_MS)
+    head = re.sub("limit = .*", "limit = 1000", head)
+    session = "10.0.0.2/1/10.0.0.1"
+    with routers.attend(tail) as at_tail, routers.attend(head) as at_head:
+        at_tail.wait_log(f"path received: {LSP} (egress here)")
+        time.sleep(SETTLING_SECONDS)
+        text = shows(at_head, "show resvs", [])
+        near, far = at_head.quit(), at_tail.quit()
+        text += lacks([f"Resv for {session} over link 1 refused: error 1/2 NoBandwidth"], near.log)
+        text += lacks([f"ResvErr for {session} over link 1 received: error 1/2 NoBandwidth from 10.0.0.1"], far.log)
+        return text + ends_well(near) + ends_well(far)
+
+
+def first_events_told():
+    """What happens from a router's first moment on is told, however many start at once."""
+    with contextlib.ExitStack() as stack:
+        pairs = [[stack.enter_context(routers.serve(text, "--console")) for text in tunnel_ends(LONG_REFRESH_MS)] for _ in range(PAIRS)]
+        for at_head, at_tail in pairs:
+            at_tail.wait_log(f"path received: {LSP} (egress here)")
+            at_head.wait_log("tunnel 1 up on lsp 1")
+        return "".join(ends_well(router.quit()) for pair in pairs for router in pair)
+
+
+def readers_gone():
+    """A command whose reader has enough ends without a word; a router goes on when its reader has."""
+    program = asked.program()
+    came = subprocess.run(["bash", "-c", '"$0" explain list | head -n 1', program], capture_output=True, check=False)
+    text = "" if came.stderr == b"" and came.stdout.count(b"\n") == 1 else f"told: {came.stderr}\n"
+    with room_for_journal() as room:
+        reader, writer = os.pipe()
+        words = [program, "serve", "router.toml", "--console", "--journal", "night"]
+        with subprocess.Popen(words, stdin=subprocess.PIPE, stdout=writer, stderr=subprocess.PIPE, cwd=room) as router:
+            os.close(reader)
+            os.close(writer)
+            _, told = router.communicate(b"start\n" * LINES + b"quit\n", routers.MOST_SECONDS)
+        files = journal_files(room)
+        entries = sum(counts_of(checked(files, room)))
+        return text + ("" if is_run(files, room) and entries > LINES and b"unwritable" not in told else f"{entries} entries, told: {told}\n")
 
 
 def killed_run():
@@ -582,12 +734,19 @@ def killed_run():
 # Those that take longest stand first.
 CASES = [
     ("two consoles", two_consoles),
+    ("three consoles", three_consoles),
     ("a killed neighbour", killed_neighbour),
     ("two routers, by turns", two_routers_by_turns),
     *[(f"turns `{word}`", functools.partial(silent_links, word, turns)) for word, turns in TURNS],
     ("a journal of pieces", journal_of_pieces),
-    ("a later file that can't be written", later_file_unwritable),
+    ("a file that can't be written for a while", later_file_unwritable),
+    ("a file that can't be written at the end", file_unwritable_at_the_end),
+    ("one prefix twice", one_prefix_twice),
+    ("nothing is left behind", nothing_left_behind),
     ("a run that is killed", killed_run),
+    ("refusals are told", refusals_told),
+    ("first events are told", first_events_told),
+    ("readers that go away", readers_gone),
     ("two routers, at consoles", two_routers_at_consoles),
     ("frames go on", frames_go_on),
     ("any sender", any_sender),
@@ -595,13 +754,15 @@ CASES = [
     ("a cold router refuses", cold_router_refuses),
     ("a frame that is lost", lost_frame),
     ("echo", echoed),
-    ("a log of warnings", functools.partial(quiet_log, "warn", ["port 1: 1 of 2 datagrams dropped, 0 refused"])),
+    ("a log of warnings", functools.partial(quiet_log, "warn", QUIET_LOG)),
     ("no log", functools.partial(quiet_log, "off", [])),
     (f"turns `{MOST_TURNS}`", most_turns),
     *[(f"turns `{word}`", functools.partial(no_turns, word)) for word in NO_TURNS],
     ("an address that is taken", taken_address),
-    *[(f"to {address}", functools.partial(refused_link, [ANY, address])) for address in OTHER_ADDRESSES],
-    *[(f"at {address}", functools.partial(refused_link, [address, ANY])) for address in OTHER_ADDRESSES],
+    ("an address of two links, and of both ends", one_address_twice),
+    *[(f"to {it}", functools.partial(refused_link, "127.0.0.1:5701", it, it, why)) for it, why in OTHER_ADDRESSES],
+    *[(f"at {it}", functools.partial(refused_link, it, NOBODY, it, why)) for it, why in OTHER_ADDRESSES if why != OTHER_FAMILY],
+    ("at an address of IPv6", functools.partial(refused_link, "[::1]:5701", NOBODY, NOBODY, OTHER_FAMILY)),
     ("two families", two_families),
     ("sockets by number", sockets_by_number),
 ]

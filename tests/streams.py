@@ -139,7 +139,7 @@ def to_closed_pipe(words):
     ours, theirs = os.pipe()
     os.close(ours)
     try:
-        return differs(Answer(1, b"", TOLD_UNWRITABLE), ask(*words, given=LINES, stdout=theirs))
+        return differs(Answer(1), ask(*words, given=LINES, stdout=theirs))
     finally:
         os.close(theirs)
 
