@@ -714,7 +714,7 @@ def readers_gone():
             _, told = router.communicate(b"start\n" * LINES + b"quit\n", routers.MOST_SECONDS)
         files = journal_files(room)
         entries = sum(counts_of(checked(files, room)))
-        return text + ("" if is_run(files, room) and entries > LINES and b"unwritable" not in told else f"{entries} entries, told: {told}\n")
+        return text + ("" if is_run(files, room) and entries >= LINES and b"unwritable" not in told else f"{entries} entries, told: {told}\n")
 
 
 def killed_run():
