@@ -39,6 +39,8 @@ UNDONE = b"memory\n  nothing was done: write the line again\n"
 UNTOLD = b"memory\n  it was answered: show recent has the reply\n"
 # What it tells that ends for want of memory, or had none for a piece of its journal.
 UNSERVED = (b"memory\n", b"config Memory\n", b"segment 1: not kept\n")
+# It had none to let a piece of its journal wait until it is written.
+LET_GO = b"was let go with what came after it"
 # The router: where it listens, and where it sends to.
 CONSOLE_CONFIG = """router = "10.0.0.1"
 refresh_ms = 1000000
@@ -125,13 +127,16 @@ def judge_console(process, was_short, strange):
     is_whole = re.fullmatch(rb"(the run ends\n|" + re.escape(UNDONE) + rb")reconciled [0-9]+ entries\n", out)
     if process.returncode == 0 and is_whole and not strange and not err:
         return (REFUSED if was_short else SAME), out, err
-    is_told = process.returncode == 1 and err.startswith(UNSERVED)
+    is_told = process.returncode == 1 and (err.startswith(UNSERVED) or LET_GO in err)
     return (ENDED if is_told else DIFFERS), strange + out, err
 
 
 def serve_once(room, call):
     """Runs a router with a console, one call of which is refused: what came of that, how many calls there were, and what it printed."""
-    file, prefix = new_name(room), new_name(room)
+    file, folder = new_name(room), pathlib.Path(new_name(room))
+    # A folder of its own: the program looks at each name in it, and asks for memory each time.
+    folder.mkdir()
+    prefix = str(folder / "night")
     pathlib.Path(file).write_text(CONSOLE_CONFIG.format(free_port(), free_port()), encoding="utf-8")
     words = (room.lsr, "serve", file, "--console", "--log", "off", "--journal", prefix)
     pipes = {stream: subprocess.PIPE for stream in ("stdin", "stdout", "stderr")}
@@ -146,7 +151,7 @@ def serve_once(room, call):
         is_unheard = not out and not err and next(unheard) <= MOST_UNHEARD
         return UNHEARD if is_unheard else DIFFERS, call, out, err + b"(killed, after %d s or by itself)" % CONSOLE_SECONDS
     calls = int(ends[1])
-    files = sorted(map(str, room.folder.glob(f"{pathlib.Path(prefix).name}.*")))
+    files = sorted(map(str, folder.glob("night.*[0-9]")))
     if files and ask_lsr(room, "check", *files).status:
         return DIFFERS, calls, out, b"lsr check fails of the journal's files"
     return word, calls, out, err
