@@ -10,6 +10,7 @@ the user plane, so the kernel needs no MPLS. It needs root and iproute2: where t
 
 import contextlib
 import ctypes
+import errno
 import os
 import pathlib
 import re
@@ -28,7 +29,11 @@ import asked
 
 LSRNET = asked.TOP / "net" / "lsrnet"
 sys.path.insert(0, str(LSRNET))
+import hello  # noqa: E402
 import wire  # noqa: E402
+from links import Interfaces, Link  # noqa: E402
+from machine import SO_NETNS_COOKIE  # noqa: E402
+from plane import KernelPlane, Row, Tunnel  # noqa: E402
 
 # A Path that comes over link 1 of the built-in router, which sends it on over link 2.
 PATH = bytes.fromhex((asked.TOP / "examples" / "first-path.step").read_text(encoding="ascii").split()[2])
@@ -36,6 +41,29 @@ PATH = bytes.fromhex((asked.TOP / "examples" / "first-path.step").read_text(enco
 LINKS = [("10.1.0.2", "10.1.0.1", "a-b", "b-a"), ("10.2.0.2", "10.2.0.3", "a-c", "c-a")]
 SETTINGS = ["ipv4/conf/all/rp_filter", "ipv4/conf/lo/rp_filter", "ipv4/conf/lo/accept_local"]
 SETTINGS += [f"ipv4/conf/{it[2]}/{name}" for it in LINKS for name in ("rp_filter", "accept_local")]
+# A message that the adapter takes for a Resv.
+RESV = PATH[:1] + bytes([wire.RESV]) + PATH[2:]
+# A router that answers as MODE says, sends a Resv over link 1 once that is up, and keeps a file `given` once it gave a table.
+FAKE_ROUTER = """
+import os, pathlib, socket, sys
+wire, tables, room = socket.socket(socket.AF_INET, socket.SOCK_DGRAM), 0, pathlib.Path(sys.argv[1])
+wire.bind(("127.0.0.1", 5001))
+for number, line in enumerate(map(str.strip, sys.stdin), 1):
+    if line == ".":
+        print(f"bad line {number}", line, "no line", sep="\\n", flush=True)
+    elif line == "up 1" and not (room / "sent").exists():
+        (room / "sent").touch()
+        wire.sendto(b"\\1" + bytes.fromhex(sys.argv[3]), ("127.0.0.1", 5000))
+    elif line == "show table" and (room / "sent").exists():
+        tables += 1
+        if sys.argv[2] == "ends" and tables == 1:
+            os._exit(7)
+        if tables > 3:
+            (room / "given").touch()
+            print("16 swap 100 1", flush=True)
+        else:
+            print("memory", flush=True)
+"""
 # What doesn't come in so many seconds doesn't come: the machine may be busy, and the unproved program slow.
 MOST_SECONDS = 180
 PAUSE = 0.1
@@ -165,6 +193,13 @@ class Adapter:
         with open(self.log, "w", encoding="utf-8") as out:
             self.process = place.start(place.words("--socket", self.path, *more, lsr=lsr), out, prefix)
         place.running = self
+
+    @classmethod
+    def of(cls, place, process):
+        """One that runs already, and whose log is elsewhere."""
+        adapter = cls.__new__(cls)
+        adapter.place, adapter.path, adapter.log, adapter.process = place, place.room / "ask.sock", place.write("log", ""), process
+        return adapter
 
     def said(self):
         """Its log."""
@@ -309,7 +344,9 @@ def starts(place):
     """It starts: in place of a socket that a killed run left, and of a state that is none."""
     with socket.socket(socket.AF_UNIX, socket.SOCK_SEQPACKET) as stale:
         stale.bind(str(place.room / "ask.sock"))
-    (place.room / "state" / f"{os.stat('/run/netns/' + place.here).st_ino}.json").write_text('{"starts": []', encoding="ascii")
+    with inside(place.here), socket.socket(socket.AF_UNIX, socket.SOCK_DGRAM) as one:
+        number = int.from_bytes(one.getsockopt(socket.SOL_SOCKET, SO_NETNS_COOKIE, 8), sys.byteorder)
+    (place.room / "state" / f"{number}.json").write_text('{"starts": []', encoding="ascii")
     adapter = Adapter(place, "--journal", place.room / "j")
     adapter.wait_answer("show links", "link 1 up.*\nlink 2 up")
     mode = stat.S_IMODE(os.stat(adapter.path).st_mode)
@@ -455,7 +492,7 @@ def refused_lines(place):
 
 
 def many_operators(place):
-    """Operators who come and say nothing, or don't read; others are answered all the same."""
+    """Operators who come and say nothing, or don't read; others are answered all the same, and before what these asked for next."""
     with contextlib.ExitStack() as stack:
         for _ in range(40):
             sleeper = stack.enter_context(socket.socket(socket.AF_UNIX, socket.SOCK_SEQPACKET))
@@ -479,12 +516,12 @@ def child_killed(place):
 
 def child_hangs(place):
     """The router is stopped: operators are told, and it goes on when it does."""
-    child = place.running.child()
+    child, before = place.running.child(), place.running.said().count("has been silent for 10 s")      # as on a machine that is busy
     os.kill(child, signal.SIGSTOP)
     try:
         asking = threading.Thread(target=place.running.ask, args=["show links"])
         asking.start()
-        place.running.wait_said("has been silent for 10 s")
+        place.running.wait_said("has been silent for 10 s", before + 1)
         text = lacks("silent for", place.running.ask("show links")) + lacks("router_silent_seconds 1", place.running.ask("metrics"))
     finally:
         os.kill(child, signal.SIGCONT)
@@ -539,6 +576,211 @@ def never_ends(place):
     return lacks("it was killed, since it didn't end in 20 s", adapter.said()) + ("" if status == 0 else f"status {status}\n") + place.left()
 
 
+def no_reader(place):
+    """Who reads its log goes: it goes on, and leaves nothing behind at its end."""
+    reading, writing = os.pipe()
+    process = place.start(place.words("--socket", place.room / "ask.sock"), writing)
+    os.close(writing)
+    with open(reading, encoding="utf-8", errors="replace") as log:
+        while "runs with the labels" not in log.readline():
+            pass
+    place.running = Adapter.of(place, process)
+    flap(place)
+    status = place.running.end()
+    return ("" if status == 0 else f"status {status}\n") + place.left()
+
+
+def waiting_resv(place, mode):
+    """An adapter whose router sent a Resv and gives no table; what came to the neighbour of link 1 since."""
+    for name in ("sent", "given"):
+        (place.room / name).unlink(missing_ok=True)
+    place.write("fake.py", FAKE_ROUTER)
+    serve = f"exec {sys.executable} {place.room}/fake.py {place.room} {mode} {RESV.hex()}"
+    with inside(place.there):
+        heard = socket.socket(socket.AF_INET, socket.SOCK_RAW, wire.RSVP)
+    heard.settimeout(PAUSE)
+    return Adapter(place, lsr=program(place, "fake.sh", serve)), heard
+
+
+def came(heard):
+    """The messages that came."""
+    with contextlib.suppress(TimeoutError):
+        return [wire.read_packet(heard.recv(1 << 16)).message] + came(heard)
+    return []
+
+
+def no_table(place):
+    """The router has no memory for its table: a Resv waits until it gives one."""
+    adapter, heard = waiting_resv(place, "waits")
+    with heard:
+        adapter.wait_said("show table says ..memory")
+        text = "".join("a Resv came before the table\n" for it in came(heard) if it == RESV and not (place.room / "given").exists())
+        wait_until(lambda: RESV in came(heard), "the Resv doesn't come")
+    adapter.end()
+    return text + place.left()
+
+
+def ends_before_table(place):
+    """The router ends between a Resv and its table: the Resv, whose label nobody has, doesn't leave, and counts as lost."""
+    adapter, heard = waiting_resv(place, "ends")
+    with heard:
+        adapter.wait_said("runs with the labels", 2)
+        adapter.wait_said("link 1 up", 2)
+        text = "the Resv left\n" if RESV in came(heard) else ""
+    text += "" if adapter.count("lost") else "it isn't counted\n"
+    adapter.end()
+    return text + place.left()
+
+
+def program_goes(place):
+    """The router's program isn't there for a while, as in an update: it is started again when it is, with the other half of the labels."""
+    path = program(place, "comes.sh", f'exec "{asked.program()}" "$@"')
+    adapter = Adapter(place, lsr=path)
+    adapter.wait_answer("show links", "link 1 up")
+    path.rename(place.room / "away.sh")
+    os.kill(adapter.child(), signal.SIGKILL)
+    adapter.wait_said("doesn't start again: .*comes.sh")
+    time.sleep(2.5)
+    (place.room / "away.sh").rename(path)
+    adapter.wait_said(r"runs with the labels", 2)
+    halves = re.findall(r"runs with the labels (\d+) to (\d+)", adapter.said())
+    adapter.wait_answer("show links", "link 1 up")
+    status = adapter.end()
+    return ("" if status == 0 and halves[0] != halves[1] else f"status {status}, labels {halves}\n") + place.left()
+
+
+def rules_go(place):
+    """Somebody takes the adapter's rules, routes and neighbours away, as systemd-networkd does: they are there again within ten seconds."""
+    adapter = Adapter(place)
+    adapter.wait_answer("show links", "link 1 up.*\nlink 2 up")
+    had = place.kernel()
+    lines = ["rule flush", "rule add pref 0 lookup local", "rule add pref 32766 lookup main", "rule add pref 32767 lookup default"]
+    for words in [*lines, f"route flush table {0x2e000001}", "neigh flush dev a-b"]:
+        ip(f"-n {place.here} -4 {words}")
+    adapter.wait_said("weren't as they were written; put right")
+    now = place.kernel()
+    lacking = [it for it in had if it not in now and "lladdr" not in it]       # a neighbour's state is another
+    adapter.end()
+    return "".join(f"not put right: {it}\n" for it in lacking)
+
+
+class Speaker(threading.Thread):
+    """A neighbour of link 1 that speaks Hello until its socket is closed."""
+
+    def __init__(self, place):
+        super().__init__(daemon=True)
+        with inside(place.there):
+            self.socket = socket.socket(socket.AF_INET, socket.SOCK_RAW, wire.RSVP)
+        self.socket.setsockopt(socket.SOL_SOCKET, socket.SO_BINDTODEVICE, b"b-a\0")
+        self.neighbour, self.is_ended = hello.Neighbour(77, 0.3), False
+
+    def run(self):
+        self.socket.settimeout(PAUSE)
+        while not self.is_ended:
+            with contextlib.suppress(OSError):
+                packet = wire.read_packet(self.socket.recv(1 << 16))
+                answer = self.neighbour.receive(time.monotonic(), packet.message)
+                if answer:
+                    self.socket.sendto(answer, ("10.1.0.2", 0))
+        self.socket.close()
+
+
+def hello_waits(place):
+    """With Hello a link whose carrier comes back is told to be up once, when its neighbour is heard; a Hello of somebody else counts for nothing."""
+    adapter, speaker = Adapter(place, "--hello", "0.3"), Speaker(place)
+    adapter.wait_answer("show links", "link 1 up")
+    speaker.start()
+    wait_until(lambda: speaker.neighbour.is_there, "no Hello comes")
+    stranger = wire.ip_packets(wire.Packet("10.1.0.9", "10.1.0.2", 1, hello.hello(hello.REQUEST, 999, 1)), 1500)
+    ignored = adapter.count("ignored")
+    send_frames(place, stranger, wire.IPV4)
+    wait_until(lambda: adapter.count("ignored") > ignored, "it isn't ignored")
+    ip(f"-n {place.there} link set b-a down")
+    adapter.wait_answer("show links", "link 1 down")
+    adapter.wait_said("Hello says that the neighbour is down")
+    ip(f"-n {place.there} link set b-a up")
+    adapter.wait_answer("show links", "link 1 up")
+    time.sleep(2)
+    told = re.findall(r"^lsrnet.*: link 1 (up|down)$", adapter.said(), re.MULTILINE)
+    speaker.is_ended = True
+    adapter.end()
+    return ("" if told == ["up", "down", "up"] else f"link 1: {told}\n") + place.left()
+
+
+class Settings:
+    """The settings of a run that has none."""
+
+    def put(self, *_, **__):
+        """Nothing."""
+
+
+def link_of_test(place):
+    """Link 1 over its interface, and the interfaces."""
+    with inside(place.here):
+        interfaces, link = Interfaces(), Link(1, *LINKS[0][:2])
+        link.attach(interfaces.at(link.address), 0)
+        link.carrier = link.face.up
+    return interfaces, link
+
+
+def stale_route(place):
+    """An interface that loses its carrier alone keeps its routes: a tunnel that is down has none all the same; one that is up again has its own."""
+    interfaces, link = link_of_test(place)
+    with inside(place.here):
+        plane = KernelPlane({1: link}, Settings(), lambda *_: None)
+    route = f"-n {place.here} -4 route show table 4600005"
+    plane.keep({Tunnel(5): Row((), 1)})
+    text = lacks("default via 10.1.0.1 dev a-b", ip(route))
+    ip(f"-n {place.there} link set b-a down")
+    interfaces.hear()
+    link.face, link.carrier = interfaces.at(link.address), False
+    plane.doubt(link.face.index)
+    plane.keep(plane.rows)
+    left = subprocess.run(["ip", *route.split()], capture_output=True, text=True, check=False).stdout
+    text += f"the route stays: {left}" if left else ""
+    ip(f"-n {place.there} link set b-a up")
+    link.carrier = True
+    plane.keep(plane.rows)
+    text += lacks("default via 10.1.0.1 dev a-b", ip(route)) + ("" if plane.audit() == 0 else "it isn't as it was written\n")
+    plane.close()
+    link.detach()
+    return text + place.left()
+
+
+def never_blocked(place):
+    """What can't leave now is lost, and nothing waits for it; what an interface said when it was down doesn't lose what is sent later."""
+    interfaces, link = link_of_test(place)
+    link.raw.setsockopt(socket.SOL_SOCKET, socket.SO_SNDBUF, 1)
+    began, full = time.monotonic(), 0
+    for _ in range(300):
+        try:
+            link.send(wire.Packet("10.1.0.2", "10.1.0.77", 1, PATH))      # nobody has this address
+        except OSError as fault:
+            full += fault.errno in (errno.EAGAIN, errno.ENOBUFS)
+    took = time.monotonic() - began
+    text = "" if took < 2 and full else f"{took:.1f} s, {full} times full\n"
+    for state in ("down", "up"):
+        ip(f"-n {place.here} link set a-b {state}")
+    link.hardware = b"\2\0\0\0\0\1"
+    link.send_frame(wire.MPLS, bytes(40))
+    link.detach()
+    return text + ("" if interfaces.neighbour(interfaces.at(link.address), "10.1.0.99") == (0, b"") else "a neighbour that nobody knows\n")
+
+
+def broken_pipe(place):
+    """Who reads the answers of `ask` goes."""
+    adapter = Adapter(place)
+    adapter.wait_answer("show links", "link 1 up")
+    reading, writing = os.pipe()
+    os.close(reading)
+    words = [sys.executable, LSRNET / "lsrnet", "ask", str(adapter.path), "help"]
+    with inside(place.here), subprocess.Popen(words, stdout=writing, stderr=subprocess.PIPE, text=True) as process:
+        os.close(writing)
+        said = process.communicate(timeout=MOST_SECONDS)[1]
+    adapter.end()
+    return "" if process.returncode == 1 and not said else f"status {process.returncode}, it says {said}"
+
+
 def no_integrity(place):
     """A message without INTEGRITY, where the interface has a key, is refused and counted."""
     adapter = Adapter(place, "--keys", place.write("good.keys", "a-b 1 hmac-md5 text:secret\n", 0o600), "--hello", "0.5")
@@ -564,7 +806,8 @@ def cases(place):
         made.append((case.__doc__, lambda case=case: case(place)))
     for number in (signal.SIGTERM, signal.SIGINT, signal.SIGHUP):
         made.append((f"it ends by {number.name}", lambda number=number: ends_well(number)(place)))
-    return made + [(case.__doc__, lambda case=case: case(place)) for case in (journals, killed, never_ends, no_integrity)]
+    return made + [(case.__doc__, lambda case=case: case(place)) for case in (journals, killed, never_ends, no_integrity, no_reader, no_table, ends_before_table, program_goes,
+                                                                                 rules_go, hello_waits, stale_route, never_blocked, broken_pipe)]
 
 
 def main():

@@ -11,17 +11,24 @@ import pathlib
 import random
 import re
 import shutil
+import socket
 import struct
 import subprocess
 import sys
 import tempfile
+import time
 
 import asked
 
 NET = asked.TOP / "net"
 sys.path.insert(0, str(NET / "lsrnet"))
+import console  # noqa: E402
 import hello  # noqa: E402
 import integrity  # noqa: E402
+import metrics  # noqa: E402
+import netlink  # noqa: E402
+import plane  # noqa: E402
+import wire  # noqa: E402
 
 # A PathTear of 48 bytes, as `lsr decode --help` shows it.
 PATH_TEAR = bytes.fromhex("1005b988ff000030001001070a000004000000010a000001000c03010a00000100000001000c0b070a00000100000001")
@@ -72,7 +79,7 @@ def refusal(of_keys, message, interface=INTERFACE):
     """Why the message is refused; no text where it is taken."""
     try:
         of_keys.verify(interface, SOURCE, message)
-    except integrity.Refused as refused:
+    except wire.Refused as refused:
         return str(refused)
     return ""
 
@@ -114,7 +121,7 @@ def replayed():
     first, second, third = (sender.protect(INTERFACE, PATH_TEAR) for _ in range(3))
     forged = second[:-1] + bytes([second[-1] ^ 1])
     text = different("first", "", refusal(receiver, first)) + refused_for("replay", receiver, first)
-    text += refused_for("wrong", receiver, integrity.sealed(forged)) + different("third", "", refusal(receiver, third))
+    text += refused_for("wrong", receiver, wire.sealed(forged)) + different("third", "", refusal(receiver, third))
     text += refused_for("replay", receiver, second)
     other = keys(SHA1_KEY).protect(INTERFACE, PATH_TEAR)
     return text + different("other key", "", refusal(receiver, other)) + refused_for("replay", receiver, third)
@@ -150,7 +157,7 @@ def rolled_over():
 def not_taken():
     """What is refused, and for what."""
     good = keys(MD5_KEY).protect(INTERFACE, PATH_TEAR)
-    again = integrity.sealed
+    again = wire.sealed
     rows = [
         ("no RSVP message", b""), ("no RSVP message", good[:7]), ("no RSVP message", b"\x20" + good[1:]),
         ("length field", good + b"\0\0\0\0"), ("length field", good[:-4]),
@@ -175,7 +182,7 @@ def changed_by_chance():
             message[chance.randrange(len(message))] ^= chance.randint(1, 255)
         message = bytes(message[:chance.randint(0, len(message))] if chance.random() < 0.3 else message)
         if chance.random() < 0.7 and len(message) >= 8:
-            message = integrity.sealed(message)
+            message = wire.sealed(message)
         same = message[:2] + message[4:] == good[:2] + good[4:]         # the checksum alone isn't under the digest
         if not refusal(keys(MD5_KEY), message) and not same:
             return f"taken: {message.hex()}\n"
@@ -212,9 +219,100 @@ def file_of_keys():
     return text + different("mode", "keys: others may read these secrets; run chmod 600 keys", read_keys("", 0o640))
 
 
+def too_long():
+    """A message that has no room for the object isn't sent."""
+    longest = wire.MOST_BYTES - MD5_KEY.object_bytes
+    for length, reason in ((longest, ""), (longest + 1, "more than 65535 bytes")):
+        try:
+            keys(MD5_KEY).protect(INTERFACE, PATH_TEAR[:8] + bytes(length - 8))
+            why = ""
+        except ValueError as fault:
+            why = str(fault)
+        if bool(reason) != bool(why) or reason not in why:
+            return f"of {length} bytes: `{why}`\n"
+    return ""
+
+
+def what_is_counted():
+    """Of a summary what it counts; nothing of lines that are none, as where the router had no memory for it."""
+    good = ["links 2 up of 2", "paths 7 of 1024 near", "link 3 reserved 5 of 1000", "bypass 4 assigned 6 of 2000"]
+    wanted = {"lsr_links 2", "lsr_paths 7", 'lsr_link_reserved_bytes{link="3"} 5', 'lsr_link_limit_bytes{link="3"} 1000',
+              'lsr_bypass_assigned_bytes{bypass="4"} 6', 'lsr_bypass_capacity_bytes{bypass="4"} 2000'}
+    came = {it for it in metrics.metrics(good, [], {}) if not it.startswith("#")}
+    return different("metrics", wanted, came) + different("metrics", [], metrics.metrics(["memory", "", "link", "mismatch 1 2", "link 3 reserved"], [], {}))
+
+
+class Kernel(netlink.Netlink):
+    """Netlink whose kernel answers what it is given: lists of messages, each with its type, its flags and its body."""
+
+    def __init__(self, *answers):
+        self.sequence, self.answers, self.socket = 0, list(answers), self
+
+    def send(self, data):
+        """A request: its answer is the next."""
+
+    def read(self, flags=0):
+        return [(kind, of_message, self.sequence, body) for kind, of_message, body in self.answers.pop(0)]
+
+
+def changed_dump():
+    """What the kernel tells while it changes is asked for anew, at last taken as it is; an error is one."""
+    done, changed = (netlink.DONE, 0, bytes(4)), (netlink.DONE, netlink.CHANGED, bytes(4))
+    text = different("got", [b"b"], Kernel([(24, 2, b"a"), changed], [(24, 2, b"b"), done]).get(26, b""))
+    text += different("got", [b"b"], Kernel([(24, 2 | netlink.CHANGED, b"a"), done], [(24, 2, b"b"), done]).get(26, b""))
+    text += different("got", [b"a"], Kernel(*[[(24, 2, b"a"), changed]] * netlink.DUMPS).get(26, b""))
+    try:
+        Kernel([(netlink.ERROR, 0, struct.pack("=i", -95))]).get(26, b"")
+        return text + "no error\n"
+    except OSError as fault:
+        return text + different("errno", 95, fault.errno)
+
+
+def wrong_tables():
+    """What is no label table of a router with links 1 and 2 is refused, and the rest is read."""
+    rows = {16: plane.Row((100,), 2), 17: plane.Row((200, 100), 1), 18: plane.Row((), 0), 19: plane.Row((), 2), plane.Tunnel(5): plane.Row((7,), 1)}
+    text = different("rows", rows, plane.rows_of(["16 swap 100 2", "17 swappush 100 200 1", "18 pop", "19 swap 3 2", "tunnel 5 push 7 1"], {1, 2}))
+    for line in ("memory", "", "16", "16 swap x 1", "16 swap 100 3", "tunnel", "tunnel 1", "tunnel 1 drop 3", "mismatch 1 2"):
+        try:
+            text += f"`{line}` is read as {plane.rows_of([line], {1, 2})}\n"
+        except (ValueError, IndexError):
+            pass
+    return text
+
+
+def endless_router():
+    """A router that prints without end, and doesn't end with its input, is killed when its time is over."""
+    child = console.Child.__new__(console.Child)
+    child.process = subprocess.Popen(["yes"], stdin=subprocess.PIPE, stdout=subprocess.PIPE, bufsize=0)
+    child.waiting, child.sockets, whole, console.END_SECONDS = [], [], console.END_SECONDS, 1
+    began = time.monotonic()
+    try:
+        said = child.end()
+    finally:
+        console.END_SECONDS = whole
+        child.process.kill()
+    took = time.monotonic() - began
+    return "" if "it was killed, since it didn't end in 1 s" in said and took < 60 else f"{took:.1f} s, {said}\n"
+
+
+def short_frames():
+    """A frame that has no room for a packet enters no tunnel."""
+    here, there = socket.socketpair(socket.AF_UNIX, socket.SOCK_DGRAM)
+    with here, there:
+        here.setblocking(False)
+        one, sent = plane.UserPlane.__new__(plane.UserPlane), []
+        one.tap, one.rows, one.send = here.fileno(), {plane.Tunnel(5): plane.Row((7,), 1)}, lambda *words: sent.append(words)
+        head = plane.HARDWARE.pack(b"\x02\0\0\0", 5) + bytes(6) + b"\x08\0"
+        for frame in (b"\0", head, head + bytes(8), head + bytes(20), head[:12] + b"\x86\xdd" + bytes(40)):
+            there.send(frame)
+        one.enter()
+    return different("sent", [(plane.Row((7,), 1), bytes(20), 0, True)], sent)
+
+
 def told(neighbour):
     """All that a neighbour's state machine tells."""
-    return list(iter(neighbour.event, None))
+    events, neighbour.events = neighbour.events, []
+    return events
 
 
 class Pair:
@@ -316,7 +414,7 @@ def wrong_instances():
 def no_hellos():
     """What is no Hello is no sign of life: cut, of a wrong length, checksum or class, or another message."""
     good = hello.hello(hello.ACK, 9, 1)
-    again = integrity.sealed
+    again = wire.sealed
     junk = [b"", good[:7], good[:19], good[:2] + b"\x01\x02" + good[4:], again(good[:8]), again(good[:10] + b"\x15" + good[11:]),
             again(good[:11] + b"\x03" + good[12:]), again(good[:1] + b"\x05" + good[2:]), again(good[:8] + b"\0\0" + good[10:]), PATH_TEAR,
             *(random.Random(3209).randbytes(length) for length in range(64))]
@@ -341,7 +439,7 @@ def capture(messages):
     out = PCAP.pack(PCAP_MAGIC, 2, 4, 0, 0, 65535, 1)
     for message in messages:
         head = struct.pack("!BBHHHBBH4s4s", 0x45, 0xC0, 20 + len(message), 0, 0, message[4], RSVP, 0, bytes([10, 1, 0, 1]), bytes([10, 1, 0, 2]))
-        head = head[:10] + struct.pack("!H", integrity.checksum(head)) + head[12:]
+        head = head[:10] + struct.pack("!H", wire.checksum(head)) + head[12:]
         frame = b"\x02\0\0\0\0\x02\x02\0\0\0\0\x01\x08\0" + head + message
         out += struct.pack("=IIII", 1, 0, len(frame), len(frame)) + frame
     return out
@@ -445,6 +543,12 @@ CASES = [
     ("refusals", not_taken),
     ("changed by chance", changed_by_chance),
     ("a file of keys", file_of_keys),
+    ("too long for INTEGRITY", too_long),
+    ("metrics", what_is_counted),
+    ("netlink that changes", changed_dump),
+    ("label tables", wrong_tables),
+    ("short frames", short_frames),
+    ("a router that prints without end", endless_router),
     ("Hello, byte for byte", hello_bytes),
     ("neighbours that are there", quiet_neighbours),
     ("a silent neighbour", silent_neighbour),

@@ -1,4 +1,6 @@
 """The adapter: it stands at both sides of `lsr serve FILE --console`, and carries packets, the label table and news of links."""
+import contextlib
+import errno
 import itertools
 import os
 import re
@@ -13,18 +15,18 @@ import integrity
 import netlink
 import wire
 from console import Child, Desk, Loop, Take, datagrams
-from kernel_plane import TUNNELS, KernelPlane, Rows, rows_of
 from links import MARKS, NOWHERE, RECEIVE_BYTES, SO_RCVBUFFORCE, Interface, Interfaces, Link, raw_socket
 from machine import State, Trouble, has_mpls, namespaces_of
 from metrics import metrics
-from netlink import AF_INET, AF_MPLS, LOOPBACK, RULE_INTERFACE, RULE_MARK, RULE_PROTOCOL, Entry, Netlink, Request
-from user_plane import UserPlane
+from netlink import AF_INET, AF_MPLS, CREATE, EXCLUSIVE, LOOPBACK, RULE_INTERFACE, RULE_MARK, RULE_PROTOCOL, Entry, Netlink, Request
+from plane import TUNNELS, KernelPlane, Rows, Tunnel, UserPlane, rows_of
 
 LOCAL_TABLE = MARKS             # everything is local in it: RSVP packets that come in are looked up there, whatever their destination
 RULE_OF_MARKS, RULE_OF_LOCAL = 45, 46   # priorities
 # In seconds: after a message, and at the latest, the table is asked for; it is read back, and the summary asked for, so often; a router that
-# is silent for so long is told, and one that ended starts again after so long; the same fault isn't told again for so long.
-AFTER_MESSAGE, ASK, AUDIT, SUMMARY, SILENT, START_AGAIN, TOLD_AGAIN = 0.02, 1.0, 10.0, 5.0, 10.0, 1.0, 10.0
+# is silent for so long is told, and one that ended starts again after so long; the same fault isn't told again for so long, and what the
+# kernel refuses is done again after so long.
+AFTER_MESSAGE, ASK, AUDIT, SUMMARY, SILENT, START_AGAIN, TOLD_AGAIN, REFUSED_AGAIN = 0.02, 1.0, 10.0, 5.0, 10.0, 1.0, 10.0, 0.1
 LIFETIME = 21 / 4               # what isn't refreshed expires after so many refresh periods (RFC 2205, 3.7, K = 3)
 UNDER_LABELS = "lo"             # whose key is put on messages under labels
 TICKS = 4                       # Hello looks at its neighbours so often in an interval
@@ -63,11 +65,12 @@ class Adapter:
         self.repair, self.put_right, self.starts = 0.0, 0, 0
 
     def tell(self, text: str, about: str = "") -> None:
-        """Says it on standard error; what is about the same fault not again for a while."""
+        """Says it on standard error, where somebody reads that; what is about the same fault not again for a while."""
         now = time.monotonic()
         if not about or now - self.told.get(about, -TOLD_AGAIN) >= TOLD_AGAIN:
             self.told[about] = now
-            print(f"lsrnet {now - self.start:.3f}: {text}", file=sys.stderr, flush=True)
+            with contextlib.suppress(OSError):
+                print(f"lsrnet {now - self.start:.3f}: {text}", file=sys.stderr, flush=True)
 
     # From the start to the end.
 
@@ -82,8 +85,12 @@ class Adapter:
         try:
             self.open()
             while self.status is None:
-                self.loop.turn(min(filter(None, (self.ask_at, self.start_at, self.hello_at)), default=0.0) - time.monotonic())
-                self.pass_time(time.monotonic())
+                try:
+                    self.loop.turn(min(filter(None, (self.ask_at, self.start_at, self.hello_at)), default=0.0) - time.monotonic())
+                    self.pass_time(time.monotonic())
+                except OSError as fault:        # as for want of memory: what was left undone the next audit does
+                    self.tell(f"{fault.filename or 'the kernel'}: {fault.strerror or fault}: tried again", "kernel")
+                    time.sleep(REFUSED_AGAIN)
         except OSError as fault:
             raise Trouble(f"{fault.filename or 'the kernel'}: {fault.strerror or fault}: lsrnet check {self.words.file} tells what is wanted") from None
         finally:
@@ -96,7 +103,7 @@ class Adapter:
         for name, value in (("all/rp_filter", 0), ("lo/rp_filter", 0), ("lo/accept_local", 1)):
             self.state.put("ipv4/conf/" + name, value)
         self.plane.open(self.tables["labels"][1])
-        self.change([local_rule(True, self.plane.exits), netlink.default_route(LOCAL_TABLE, Entry((), LOOPBACK, None))])
+        self.change(self.requests())
         popped = raw_socket(self.plane.exits)
         self.loop.on(popped, lambda: self.came(None, popped))
         self.loop.on(self.interfaces.news.socket, self.settle)
@@ -117,37 +124,68 @@ class Adapter:
             except Exception as fault:          # whatever it is: the other steps are still made
                 self.tell(f"not all could be taken away: {fault}: the next start does it")
 
+    # The kernel, beside the table.
+
     def sweep(self, entries: bool) -> None:
         """Takes away what is ours in the kernel: with or without labels and tunnels."""
         gone = [netlink.default_route(it, None) for it, _ in self.netlink.routes(AF_INET) if entries or not TUNNELS <= it < MARKS]
         gone += [netlink.label_route(it, None) for it, _ in self.netlink.routes(AF_MPLS)] if entries and has_mpls() else []
         self.netlink.change(self.netlink.left() + gone)
 
+    def requests(self) -> list[Request]:
+        """What is to be in the kernel for RSVP out of labels, which is local, and for all links."""
+        return [local_rule(self.plane.exits), netlink.default_route(LOCAL_TABLE, Entry((), LOOPBACK, None)),
+                *itertools.chain.from_iterable(map(self.requests_of, self.links.values()))]
+
+    def requests_of(self, link: Link) -> list[Request]:
+        """What is to be in the kernel for a link: RSVP that comes in over its interface is local, and what leaves by it goes to the neighbour,
+        whose hardware address the kernel is to know."""
+        mark, index = MARKS + link.number, link.face.index
+        made = [local_rule(link.face.name), netlink.rule(mark, RULE_OF_MARKS, (RULE_MARK, mark), (netlink.RULE_MASK, 0xffffffff))] if link.raw else []
+        made += [netlink.default_route(mark, Entry((), index, link.peer))] if link.carrier else []
+        is_fixed = self.interfaces.neighbour(link.face, link.peer)[0] & netlink.PERMANENT
+        return made + ([netlink.neighbour(index, link.peer)] if link.carrier and not is_fixed else [])
+
     def change(self, requests: list[Request]) -> None:
-        """Changes the kernel, and tells what it refuses."""
-        if refused := netlink.said(self.netlink.change(requests)):
+        """Changes the kernel, and tells what it refuses, but for rules that are there already."""
+        if refused := netlink.said(set(self.netlink.change(requests)) - {errno.EEXIST}):
             self.tell(f"the kernel refuses a rule or a route: {refused}", "refused rules")
+
+    def audit(self) -> None:
+        """Reads back what is in the kernel, and puts right what isn't as it was written."""
+        self.interfaces.read()
+        self.settle()
+        made = self.netlink.change([(kind, CREATE | EXCLUSIVE, body) for kind, _, body in self.requests()]).count(0)
+        if wrong := self.plane.audit() + made:
+            self.put_right += wrong
+            self.tell(f"{wrong} entries of the kernel weren't as they were written; put right")
 
     # The router.
 
     def start_router(self) -> None:
         """Starts the router with the other half of the labels: what the run before gave stands until it would have expired, and no label means two things."""
-        self.state.starts, self.starts, self.start_at = self.state.starts + 1, self.starts + 1, 0.0
-        self.state.save()
+        self.state.starts, self.start_at = self.state.starts + 1, 0.0
         first, last = self.tables["labels"]
         middle, lifetime = (first + last) // 2, LIFETIME * self.tables["refresh_ms"] / 1000
         own = range(first, middle + 1) if self.state.starts % 2 or middle == last else range(middle + 1, last + 1)
-        self.spared = {key: row for key, row in (self.spared | self.rows).items() if key not in own}
-        self.spared_until, self.rows = time.monotonic() + lifetime, {}
+        addresses = [(HOST, FIRST_PORT + 2 * at) for at in range(len(self.links))]
+        path = self.state.path + ".toml"
+        try:
+            self.state.save()
+            with open(path, "w", encoding="utf-8") as file:
+                file.write(own_text(self.text, own))
+            journal = ["--journal", free_prefix(self.words.journal)] if self.words.journal else []
+            self.child = Child([self.words.lsr, "serve", path, "--console", *journal], addresses, self.state.lock, self.namespaces)
+        except (Trouble, OSError) as fault:
+            if not self.starts:
+                raise
+            self.state.starts, self.start_at = self.state.starts - 1, time.monotonic() + START_AGAIN
+            return self.tell(f"the router doesn't start again: {fault}", "start")
+        self.spared = {key: row for key, row in (self.spared | self.rows).items() if isinstance(key, Tunnel) or key not in own}
+        self.spared_until, self.rows, self.starts = time.monotonic() + lifetime, {}, self.starts + 1
         self.plane.keep(self.spared)
         if self.spared:
             self.tell(f"{len(self.spared)} entries of the run before stand for {lifetime:.1f} s")
-        addresses = [(HOST, FIRST_PORT + 2 * at) for at in range(len(self.links))]
-        path = self.state.path + ".toml"
-        with open(path, "w", encoding="utf-8") as file:
-            file.write(own_text(self.text, own))
-        journal = ["--journal", free_prefix(self.words.journal)] if self.words.journal else []
-        self.child = Child([self.words.lsr, "serve", path, "--console", *journal], addresses, self.state.lock, self.namespaces)
         self.namespaces = self.namespaces or namespaces_of(self.child.process.pid)
         self.loop.on(self.child.process.stdout, self.child_speaks)
         for link, made in zip(self.links.values(), self.child.sockets):
@@ -165,11 +203,13 @@ class Adapter:
             self.start_at = time.monotonic() + START_AGAIN
 
     def end_router(self) -> None:
-        """The router ends, or ended."""
+        """The router ends, or ended; what it still had to send doesn't leave."""
         child, self.child = self.child, None
         for file in [child.process.stdout, *child.sockets]:
             self.loop.unregister(file)
         self.tell(f"the router {child.end()}" + ("" if child.answered else " before it answered a line: what it said stands above"))
+        for link, _ in self.held:
+            link.counts["lost"] += 1
         self.held, self.asked, self.again, self.silent = [], False, False, False
 
     def question(self, line: str, take: Take) -> None:
@@ -228,27 +268,28 @@ class Adapter:
         self.ask_at = min(self.ask_at, time.monotonic() + AFTER_MESSAGE)
 
     def frame(self, link: Link, packet: wire.Packet, from_labels: bool) -> bytes | None:
-        """The frame of a packet, without its INTEGRITY object; none where it is refused, or is a Hello, which is answered."""
+        """The frame of a packet, without its INTEGRITY object; none where it is refused, or is a Hello of the neighbour, which is answered."""
         neighbour, message = self.neighbours.get(link.number), packet.message
         try:
             message = self.keys.verify(UNDER_LABELS if from_labels else link.face.name, packet.source, message)
-        except integrity.Refused as refusal:
+        except wire.Refused as refusal:
             link.counts["refused"] += 1
             return self.tell(f"link {link.number}: {refusal}", f"refused {link.number}")
-        if neighbour and message[1] == wire.HELLO and not from_labels:
+        if neighbour and message[1] == wire.HELLO and packet.source == link.peer and not from_labels:
             return self.say_hello(link, neighbour.receive(time.monotonic(), message))
         return wire.frame_of(packet._replace(message=message), link.address, from_labels)
 
     def say_hello(self, link: Link, message: bytes | None) -> None:
         """Sends a Hello, if there is one, and takes what the neighbour's state became (RFC 3209, 5)."""
         try:
-            if message:
+            if message and link.carrier:
                 link.send(wire.Packet(link.address, link.peer, hello.HELLO_TTL, self.keys.protect(link.face.name, message)))
         except OSError:
             link.counts["lost"] += 1
-        while event := self.neighbours[link.number].event():
-            self.tell(f"link {link.number}: Hello says that the neighbour is {event}")
-            link.heard = event == "up"
+        events = self.neighbours[link.number].events
+        while events:
+            self.tell(f"link {link.number}: Hello says that the neighbour is {events[0]}")
+            link.heard = events.pop(0) == "up"
         self.tell_links()
 
     # Links.
@@ -263,17 +304,15 @@ class Adapter:
                 if face.index:
                     self.take(link, face)
             link.face = face if link.raw else NOWHERE
-            state, link.hardware = self.interfaces.neighbour(face, link.peer)
+            link.hardware = self.interfaces.neighbour(face, link.peer)[1]
             if link.face.up != link.carrier:
                 link.carrier = link.face.up
-                self.plane.forget(face.index)
-                if link.carrier:        # packets go to the neighbour, whose hardware address the kernel is to know
-                    self.change([netlink.default_route(MARKS + link.number, Entry((), face.index, link.peer))] +
-                                ([] if state & netlink.PERMANENT else [netlink.neighbour(face.index, link.peer)]))
+                self.plane.doubt(face.index)
+                self.change(self.requests_of(link))
         self.tell_links()
 
     def take(self, link: Link, face: Interface) -> None:
-        """An interface has the link's address now: RSVP that comes in over it is local here, and what leaves goes to the neighbour."""
+        """An interface has the link's address now."""
         try:
             link.attach(face, self.plane.hears)
             for name, value in (("rp_filter", 0), ("accept_local", 1)):
@@ -283,7 +322,7 @@ class Adapter:
         except OSError as fault:
             link.detach()
             return self.tell(f"link {link.number}: {face.name} can't be used: {fault.strerror}", f"interface {link.number}")
-        self.change(link_rules(True, link))
+        self.change(self.requests_of(link))
         self.loop.on(link.raw, lambda raw=link.raw: self.came(link, raw))
         if self.plane.hears:
             self.loop.on(link.packets, lambda packets=link.packets: self.plane.hear(packets))
@@ -295,8 +334,8 @@ class Adapter:
         """The link's interface went."""
         if link.raw:
             self.tell(f"link {link.number}: {link.face.name} went, or lost the address {link.address}")
-            self.netlink.change(link_rules(False, link))
-            self.plane.forget(link.face.index)
+            self.netlink.change(netlink.undone(self.requests_of(link)))
+            self.plane.doubt(link.face.index)
             for file in (link.raw, link.packets)[:2 if self.plane.hears else 1]:
                 self.loop.unregister(file)
             link.detach()
@@ -321,12 +360,14 @@ class Adapter:
             self.child.ask("show table", self.shown)
 
     def shown(self, answer: list[str] | None) -> None:
-        """The table is there: the kernel's is made equal, and frames that waited for it go."""
+        """The table is there: the kernel's is made equal, and frames that waited for it go. Without one they wait on."""
         self.asked = False
+        if answer is None:
+            return                  # the router ended
         try:
-            self.rows = self.rows if answer is None else rows_of(answer)
+            self.rows = rows_of(answer, self.links)
         except (ValueError, IndexError):
-            self.tell(f"show table says {answer[:1]}: take an lsr that belongs to this lsrnet", "table")
+            return self.tell(f"show table says {answer[:1]}: take an lsr that belongs to this lsrnet", "table")
         count, late = self.plane.keep(self.spared | self.rows), self.down_at
         self.down_at = late if self.again and not count else None       # the table may have been asked for before the link went down
         if count and late is not None:
@@ -347,15 +388,12 @@ class Adapter:
         if self.neighbours and now >= self.hello_at:
             self.hello_at = now + self.words.hello / TICKS
             for number, neighbour in self.neighbours.items():
-                if self.links[number].carrier:
-                    self.say_hello(self.links[number], neighbour.tick(now))
+                self.say_hello(self.links[number], neighbour.tick(now))
         if now >= self.spared_until:
             self.spared = {}
         if now >= self.audit_at:
             self.audit_at = now + AUDIT
-            if wrong := self.plane.audit():
-                self.put_right += wrong
-                self.tell(f"{wrong} entries of the kernel weren't as they were written; put right")
+            self.audit()
         if self.child:
             self.child.flush()
             was, self.silent = self.silent, self.child.silent() > SILENT
@@ -379,12 +417,6 @@ def free_prefix(prefix: str) -> str:
     return next(it for it in prefixes if not os.path.exists(f"{it}.1") and not os.path.exists(f"{it}.1.part"))
 
 
-def local_rule(new: bool, interface: str) -> Request:
+def local_rule(interface: str) -> Request:
     """RSVP that comes in over an interface is local here, whatever its destination."""
-    return netlink.rule(new, LOCAL_TABLE, RULE_OF_LOCAL, (RULE_INTERFACE, os.fsencode(interface) + b"\0"), (RULE_PROTOCOL, bytes([wire.RSVP])))
-
-
-def link_rules(new: bool, link: Link) -> list[Request]:
-    """The rules of a link: what comes in over its interface, and what leaves with its mark."""
-    mark = MARKS + link.number
-    return [local_rule(new, link.face.name), netlink.rule(new, mark, RULE_OF_MARKS, (RULE_MARK, mark), (netlink.RULE_MASK, 0xffffffff))]
+    return netlink.rule(LOCAL_TABLE, RULE_OF_LOCAL, (RULE_INTERFACE, os.fsencode(interface) + b"\0"), (RULE_PROTOCOL, bytes([wire.RSVP])))

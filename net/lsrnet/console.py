@@ -1,5 +1,6 @@
 """The router that runs as a child, with its lines and answers; and a socket at which operators ask it."""
 import collections
+import contextlib
 import errno
 import os
 import re
@@ -7,9 +8,8 @@ import selectors
 import socket
 import stat
 import subprocess
-import sys
 import time
-from collections.abc import Callable
+from collections.abc import Callable, Iterator
 
 import machine
 from machine import Trouble
@@ -19,6 +19,7 @@ END_SECONDS, ANSWER_SECONDS = 20, 15
 MOST_OPERATORS, MOST_LINE, MOST_ANSWER, READ_BYTES = 32, 4096, 1 << 22, 1 << 16
 SO_SNDBUFFORCE = 32
 AT_ONCE = 16                    # so many datagrams of a socket are taken before the others have their turn
+REFUSALS = "refused ", "bad line", "error ", "unreadable", "memory", "the router "        # so an answer begins where a line wasn't done
 Take = Callable[[list[str] | None], None]       # what takes an answer; None: the router ended before it answered
 
 
@@ -39,11 +40,9 @@ class Loop(selectors.DefaultSelector):
 def datagrams(file: socket.socket) -> list[bytes]:
     """Some of the datagrams that wait at a socket; none where it fails, as when its interface went."""
     found = []
-    try:
+    with contextlib.suppress(OSError):
         while len(found) < AT_ONCE:
             found.append(file.recv(READ_BYTES, socket.MSG_DONTWAIT))
-    except OSError:
-        pass
     return found
 
 
@@ -63,8 +62,8 @@ class Child:
                 why = ours.recv(READ_BYTES).decode(errors="replace")
                 raise Trouble(f"{why}: run as root, or let users make namespaces (sysctl user.max_user_namespaces)") from None
             self.sockets = [socket.socket(fileno=it) for it in socket.recv_fds(ours, READ_BYTES, len(addresses))[1]]
-        os.set_blocking(self.process.stdin.fileno(), False)
-        os.set_blocking(self.process.stdout.fileno(), False)
+        for file in (self.process.stdin, self.process.stdout):
+            os.set_blocking(file.fileno(), False)
         self.waiting: collections.deque[tuple[int, float, Take]] = collections.deque()  # the line that ends the answer, since when, who takes it
         self.lines, self.skip, self.unsent, self.rest, self.answer, self.answered = 0, 0, b"", b"", [], False
 
@@ -107,7 +106,7 @@ class Child:
         self.process.stdin.close()
         with Loop() as waiting:
             waiting.on(self.process.stdout, lambda: None)
-            while waiting.select(max(0.0, last - time.monotonic())) and (data := self.process.stdout.read(READ_BYTES)):
+            while (left := last - time.monotonic()) > 0 and waiting.select(left) and (data := self.process.stdout.read(READ_BYTES)):
                 said = (said + data)[-READ_BYTES:]
         try:
             self.process.wait(max(0.1, last - time.monotonic()))
@@ -128,11 +127,11 @@ class Desk:
     def __init__(self, path: str, loop: Loop, question: Callable[[str, Take], None]):
         """Opens it, in place of one that a killed run left. Trouble: the path can't be had."""
         self.path, self.loop, self.question, self.operators = path, loop, question, set()
-        self.socket = socket.socket(socket.AF_UNIX, socket.SOCK_SEQPACKET)
+        self.socket = socket.socket(socket.AF_UNIX, socket.SOCK_SEQPACKET | socket.SOCK_NONBLOCK)
         try:
-            if os.path.lexists(path) and self.socket.connect_ex(path) == errno.ECONNREFUSED and stat.S_ISSOCK(os.lstat(path).st_mode):
-                os.unlink(path)
-            self.socket = socket.socket(socket.AF_UNIX, socket.SOCK_SEQPACKET)
+            with socket.socket(socket.AF_UNIX, socket.SOCK_SEQPACKET | socket.SOCK_NONBLOCK) as other:
+                if other.connect_ex(path) == errno.ECONNREFUSED and stat.S_ISSOCK(os.lstat(path).st_mode):
+                    os.unlink(path)
             self.socket.bind(path)
             os.chmod(path, 0o660)
         except OSError as fault:
@@ -141,24 +140,21 @@ class Desk:
         loop.on(self.socket, self.ready)
 
     def ready(self) -> None:
-        """An operator comes."""
-        try:
+        """An operator comes; one too many goes at once."""
+        with contextlib.suppress(OSError):      # it went already, or there are too many files
             operator, _ = self.socket.accept()
-        except OSError:
-            return              # it went already, or there are too many files
-        operator.setblocking(False)
-        operator.setsockopt(socket.SOL_SOCKET, SO_SNDBUFFORCE, MOST_ANSWER)
-        self.operators.add(operator)
-        self.loop.on(operator, lambda: self.heard(operator))
-        if len(self.operators) > MOST_OPERATORS:
-            self.leave(operator)
+            operator.setblocking(False)
+            operator.setsockopt(socket.SOL_SOCKET, SO_SNDBUFFORCE, MOST_ANSWER)
+            self.operators.add(operator)
+            self.loop.on(operator, lambda: self.heard(operator))
+            if len(self.operators) > MOST_OPERATORS:
+                self.leave(operator)
 
     def heard(self, operator: socket.socket) -> None:
         """A line of an operator, who goes where it is none."""
-        try:
+        line = b""
+        with contextlib.suppress(OSError):
             line = operator.recv(MOST_LINE + 1)
-        except OSError:
-            line = b""
         if not line:
             self.leave(operator)
         elif line.strip() == b"quit":
@@ -166,21 +162,24 @@ class Desk:
         elif len(line) > MOST_LINE or not line.decode(errors="surrogateescape").isprintable():
             self.reply(operator, [f"bad line: it has more than {MOST_LINE} bytes, or some that can't be printed"])
         else:
+            self.loop.unregister(operator)      # until the answer: lines don't pile up before those that tell of links
             self.question(line.decode(), lambda answer: self.reply(operator, answer))
 
     def reply(self, operator: socket.socket, answer: list[str] | None) -> None:
         """Sends an answer. Who doesn't read goes."""
         answer = ["the router ended before it answered: ask again"] if answer is None else answer
         try:
-            if operator in self.operators:
-                operator.send("".join(f"{it}\n" for it in answer or [""]).encode())
+            operator.send("".join(f"{it}\n" for it in answer or [""]).encode(errors="surrogateescape"))
+            if operator not in self.loop.get_map():
+                self.loop.on(operator, lambda: self.heard(operator))
         except OSError:
             self.leave(operator)
 
     def leave(self, operator: socket.socket) -> None:
         """An operator goes."""
         self.operators.discard(operator)
-        self.loop.unregister(operator)
+        if operator in self.loop.get_map():
+            self.loop.unregister(operator)
         operator.close()
 
     def close(self) -> None:
@@ -189,22 +188,28 @@ class Desk:
         os.unlink(self.path)
 
 
-def ask(path: str, lines: list[str]) -> int:
-    """Asks the lines at a socket and prints the answers; the status: 1 where one was refused. Trouble: it isn't answered."""
-    status = 0
+def asked(path: str, lines: list[str]) -> Iterator[str]:
+    """The answers to lines that are asked at a socket. Trouble: one isn't answered."""
     try:
-        with socket.socket(socket.AF_UNIX, socket.SOCK_SEQPACKET) as asked:
-            asked.settimeout(ANSWER_SECONDS)
-            asked.connect(path)
+        with socket.socket(socket.AF_UNIX, socket.SOCK_SEQPACKET) as asking:
+            asking.settimeout(ANSWER_SECONDS)
+            asking.connect(path)
             for line in filter(str.strip, lines):
-                asked.send(os.fsencode(line))
-                answer = asked.recv(MOST_ANSWER).decode(errors="replace")
+                asking.send(os.fsencode(line))
+                answer = asking.recv(MOST_ANSWER).decode(errors="replace")
                 if not answer:
                     raise OSError(0, "it was closed")
-                sys.stdout.write(answer.lstrip("\n"))
-                status |= answer.startswith(("refused ", "bad line", "error ", "the router "))
+                yield answer.lstrip("\n")
     except TimeoutError:
         raise Trouble(f"no answer for {ANSWER_SECONDS} s: the router hangs; read its log, and end lsrnet where it stays so") from None
     except OSError as fault:
         raise Trouble(f"{path}: {fault.strerror or fault}: is lsrnet run with --socket {path}, and may you write to it?") from None
+
+
+def ask(path: str, lines: list[str]) -> int:
+    """Asks the lines at a socket and prints the answers; the status: 1 where one was refused. Trouble: it isn't answered."""
+    status = 0
+    for answer in asked(path, lines):
+        print(answer, end="", flush=True)
+        status |= answer.startswith(REFUSALS)
     return status

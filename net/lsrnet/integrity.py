@@ -23,55 +23,16 @@ import time
 from dataclasses import dataclass
 from typing import Callable
 
-HEADER_BYTES = 8                        # RFC 2205, 3.1.1: version and flags, type, checksum, Send_TTL, reserved, length
+from wire import HEADER_BYTES, MOST_BYTES, RSVP_HOP, Refused, check_header, first_object, sealed
+
 INTEGRITY_CLASS, INTEGRITY_TYPE = 4, 1  # RFC 2747, section 2
-RSVP_HOP_CLASS = 3                      # RFC 2205, A.2
 FIELDS = struct.Struct("!HBBBx6sQ")     # length, class, C-Type, flags, reserved, key identifier, sequence number; then the digest
 DIGESTS = {"hmac-md5": ("md5", 16), "hmac-sha1": ("sha1", 20)}      # hash function and bytes of its digest (RFC 2104)
 LINE = re.compile(r"(\S+)\s+(\d{1,15})\s+(\S+)\s+(?:text:(\S+)|hex:((?:[0-9A-Fa-f]{2})+))\s*")
 
 
-class Refused(Exception):
-    """A message that isn't taken; the text is the reason."""
-
-
 class BadKeys(Exception):
     """A file of keys that isn't taken; the text says where, and what to do. It has no secret in it."""
-
-
-def checksum(message: bytes) -> int:
-    """The one's complement of the one's complement sum of 16-bit words (RFC 1071), 0xffff in place of 0 as RSVP has it."""
-    padded = message + b"\0" * (len(message) % 2)
-    total = sum(word for word, in struct.iter_unpack("!H", padded))
-    while total >> 16:
-        total = (total & 0xffff) + (total >> 16)
-    return ~total & 0xffff or 0xffff
-
-
-def sealed(message: bytes) -> bytes:
-    """The message with the length of its bytes in its header, and the checksum that goes with them (RFC 2205, 3.1.1)."""
-    plain = message[:2] + b"\0\0" + message[4:6] + struct.pack("!H", len(message)) + message[HEADER_BYTES:]
-    return plain[:2] + struct.pack("!H", checksum(plain)) + plain[4:]
-
-
-def check_header(message: bytes) -> None:
-    """Raises `Refused` unless these bytes have the header of one message of version 1, whose checksum is 0 or right."""
-    if len(message) < HEADER_BYTES or message[0] >> 4 != 1:
-        raise Refused("it is no RSVP message of version 1")
-    if struct.unpack("!H", message[6:HEADER_BYTES])[0] != len(message):
-        raise Refused("its length field doesn't count its bytes")
-    if message[2:4] != b"\0\0" and sealed(message) != message:
-        raise Refused("its checksum is wrong")
-
-
-def sender_of(objects: bytes) -> bytes:
-    """Who sent a message of these objects: the body of its first RSVP_HOP; no bytes where it has none, or they aren't objects."""
-    while len(objects) >= 4:
-        length, kind = struct.unpack_from("!HB", objects)
-        if kind == RSVP_HOP_CLASS:
-            return objects[4:length]
-        objects = objects[max(length, 4):]
-    return b""
 
 
 @dataclass(frozen=True)
@@ -94,21 +55,7 @@ class Key:
         """The message of these parts, the digest taken with its own field and the checksum as zeros (RFC 2747, 4.1)."""
         length = struct.pack("!H", HEADER_BYTES + self.object_bytes + len(objects))
         head = header[:2] + b"\0\0" + header[4:6] + length + fields
-        empty = b"\0" * (self.object_bytes - FIELDS.size)
-        return sealed(head + self.digest(head + empty + objects) + objects)
-
-
-def key_of(line: str, place: str) -> tuple[str, Key]:
-    """The interface and the key of a line."""
-    words = LINE.fullmatch(line)
-    if not words:
-        raise BadKeys(f"{place}: write INTERFACE IDENTIFIER DIGEST text:SECRET, or hex:DIGITS, with an even number of them")
-    interface, identifier, name, text, digits = words.groups()
-    if name not in DIGESTS:
-        raise BadKeys(f"{place}: {name} is no digest here; write {' or '.join(DIGESTS)}")
-    if int(identifier) >> 48:
-        raise BadKeys(f"{place}: identifier {identifier} has more than 48 bits; choose one up to {(1 << 48) - 1}")
-    return interface, Key(int(identifier), name, text.encode() if text else bytes.fromhex(digits))
+        return sealed(head + self.digest(head + bytes(self.object_bytes - FIELDS.size) + objects) + objects)
 
 
 class Keys:
@@ -131,51 +78,58 @@ class Keys:
             except UnicodeDecodeError:
                 raise BadKeys(f"{path}: it isn't UTF-8; write it anew as text") from None
         for number, line in enumerate(lines, 1):
-            if line.strip() and not line.startswith("#"):
-                interface, key = key_of(line.strip(), f"{path}, line {number}")
-                of_interface = keys.setdefault(interface, [])
-                if key.identifier in (it.identifier for it in of_interface):
-                    raise BadKeys(f"{path}, line {number}: {interface} has identifier {key.identifier} already; give each key its own")
-                of_interface.append(key)
+            if not line.strip() or line.startswith("#"):
+                continue
+            words, place = LINE.fullmatch(line.strip()), f"{path}, line {number}"
+            if not words:
+                raise BadKeys(f"{place}: write INTERFACE IDENTIFIER DIGEST text:SECRET, or hex:DIGITS, with an even number of them")
+            interface, identifier, name, text, digits = words.groups()
+            if name not in DIGESTS:
+                raise BadKeys(f"{place}: {name} is no digest here; write {' or '.join(DIGESTS)}")
+            if int(identifier) >> 48:
+                raise BadKeys(f"{place}: identifier {identifier} has more than 48 bits; choose one up to {(1 << 48) - 1}")
+            if int(identifier) in (it.identifier for it in keys.setdefault(interface, [])):
+                raise BadKeys(f"{place}: {interface} has identifier {identifier} already; give each key its own")
+            keys[interface].append(Key(int(identifier), name, text.encode() if text else bytes.fromhex(digits)))
         return cls(keys)
 
     def protect(self, interface: str, message: bytes) -> bytes:
-        """The message as it leaves the interface: with the object first after the header (RFC 2205, 3.1.2), or as it is without a key."""
+        """The message as it leaves the interface: with the object first after the header (RFC 2205, 3.1.2), or as it is without a key.
+        ValueError: there is no room for the object."""
         if interface not in self.keys:
             return message
         key = self.keys[interface][0]
-        number = max(self.sent.get(interface, 0) + 1, self.clock())
-        self.sent[interface] = number
+        if len(message) + key.object_bytes > MOST_BYTES:
+            raise ValueError(f"with INTEGRITY it has more than {MOST_BYTES} bytes")
+        number = self.sent[interface] = max(self.sent.get(interface, 0) + 1, self.clock())
         fields = FIELDS.pack(key.object_bytes, INTEGRITY_CLASS, INTEGRITY_TYPE, 0, key.identifier.to_bytes(6, "big"), number)
         return key.signed(message[:HEADER_BYTES], fields, message[HEADER_BYTES:])
 
     def verify(self, interface: str, source: str, message: bytes) -> bytes:
         """The message without its object (RFC 2747, 4.2), or as it is without a key; raises `Refused`. Who sent it, and so which number was
         its last, is what its RSVP_HOP says; `source`, which no digest covers, is only told: by it a replay could pass for another's."""
-        if interface not in self.keys:
-            return message
         try:
-            return self.opened(interface, message)
+            return self.opened(interface, message) if interface in self.keys else message
         except Refused as refusal:
             raise Refused(f"a message from {source} over {interface}: {refusal}") from None
 
     def opened(self, interface: str, message: bytes) -> bytes:
         """`verify`, of an interface with keys."""
         check_header(message)
-        if message[HEADER_BYTES + 2:HEADER_BYTES + 3] != bytes([INTEGRITY_CLASS]) or len(message) < HEADER_BYTES + FIELDS.size:
-            raise Refused("it doesn't begin with an INTEGRITY object; give the neighbour this interface's key")
         fields = message[HEADER_BYTES:HEADER_BYTES + FIELDS.size]
+        if fields[2:3] != bytes([INTEGRITY_CLASS]) or len(fields) < FIELDS.size:
+            raise Refused("it doesn't begin with an INTEGRITY object; give the neighbour this interface's key")
         length, _, kind, _, identifier, number = FIELDS.unpack(fields)
         key = next((it for it in self.keys[interface] if it.identifier.to_bytes(6, "big") == identifier), None)
         if key is None:
             raise Refused(f"its key identifier {int.from_bytes(identifier, 'big')} isn't in the file of keys; add it, or change the neighbour's")
         if (kind, length) != (INTEGRITY_TYPE, key.object_bytes) or len(message) < HEADER_BYTES + length:
             raise Refused(f"its INTEGRITY object isn't one of {key.digest_name}; give both ends the same digest")
-        objects = message[HEADER_BYTES + length:]
-        if not hmac.compare_digest(key.signed(message[:HEADER_BYTES], fields, objects)[4:], sealed(message)[4:]):
+        header, objects = message[:HEADER_BYTES], message[HEADER_BYTES + length:]
+        if not hmac.compare_digest(key.signed(header, fields, objects)[4:], sealed(message)[4:]):
             raise Refused(f"its digest is wrong; give both ends the same secret for key {key.identifier}")
-        sender = interface, key.identifier, sender_of(objects)
+        sender = interface, key.identifier, first_object(header + objects, RSVP_HOP)
         if number <= self.came.get(sender, -1):
             raise Refused(f"its sequence number {number} isn't above the last one: a replay, or the neighbour's clock was set back")
         self.came[sender] = number
-        return sealed(message[:HEADER_BYTES] + objects)
+        return sealed(header + objects)

@@ -7,7 +7,7 @@ from typing import NamedTuple
 
 import netlink
 import wire
-from netlink import GETADDR, GETLINK, GETNEIGH, NEIGHBOUR, Netlink, as_number, attributes
+from netlink import ACK, DELNEIGH, GETADDR, GETLINK, GETNEIGH, NEIGHBOUR, NEIGHBOUR_HARDWARE, NEIGHBOUR_TO, NEWNEIGH, Netlink, as_number, attributes, packed
 
 MARKS = 0x2e000000              # a packet of link N has the mark MARKS + N, and the table of this number leads it to the neighbour
 LINK_NAME, LINK_MTU, ADDRESS_LOCAL = 3, 4, 2            # attributes of links and addresses
@@ -30,49 +30,31 @@ NOWHERE = Interface(0, "", False, 0)
 
 
 class Interfaces:
-    """The interfaces, addresses and neighbours that the kernel has. News of the first two say that something changed, and these are read anew."""
+    """The interfaces and IPv4 addresses that the kernel has, which are read anew where news tell that something changed."""
 
     def __init__(self) -> None:
         self.news, self.asked = Netlink(netlink.NEWS), Netlink()
-        self.read({GETLINK, GETADDR, GETNEIGH})
+        self.read()
 
-    def read(self, kinds: set[int]) -> None:
-        """Reads what there is of these kinds."""
-        if GETLINK in kinds:
-            self.faces: dict[int, Interface] = {}
-            for data in self.asked.dump(GETLINK, LINK.pack(0, 0, 0, 0, 0, 0)):
-                found, (index, flags) = attributes(data[LINK.size:]), struct.unpack_from("=iI", data, 4)
-                name = os.fsdecode(found[LINK_NAME].rstrip(b"\0"))
-                self.faces[index] = Interface(index, name, flags & IS_UP == IS_UP, as_number(found.get(LINK_MTU)))
-        if GETADDR in kinds:
-            told = self.asked.dump(GETADDR, ADDRESS.pack(socket.AF_INET, 0, 0, 0, 0))
-            self.homes = {attributes(it[ADDRESS.size:]).get(ADDRESS_LOCAL): struct.unpack_from("=i", it, 4)[0] for it in told}
-        if GETNEIGH in kinds:
-            self.neighbours: dict[tuple[int, bytes], tuple[int, bytes]] = {}    # index and address -> state and hardware address
-            for data in self.asked.dump(GETNEIGH, NEIGHBOUR.pack(socket.AF_INET, 0, 0, 0, 0, 0, 0)):
-                self.take_neighbour(data, is_new=True)
-
-    def take_neighbour(self, data: bytes, is_new: bool) -> None:
-        """Takes a message of a neighbour that is there, or went."""
-        found, (index, state) = attributes(data[NEIGHBOUR.size:]), struct.unpack_from("=iH", data, 4)
-        place = index, found.get(netlink.NEIGHBOUR_TO, b"")
-        self.neighbours.pop(place, None)
-        if is_new:
-            self.neighbours[place] = state, found.get(netlink.NEIGHBOUR_HARDWARE, b"") if state & KNOWN else b""
+    def read(self) -> None:
+        """Reads what there is."""
+        self.faces: dict[int, Interface] = {}
+        for data in self.asked.get(GETLINK, LINK.pack(0, 0, 0, 0, 0, 0)):
+            found, (index, flags) = attributes(data[LINK.size:]), struct.unpack_from("=iI", data, 4)
+            name = os.fsdecode(found[LINK_NAME].rstrip(b"\0"))
+            self.faces[index] = Interface(index, name, flags & IS_UP == IS_UP, as_number(found.get(LINK_MTU)))
+        told = self.asked.get(GETADDR, ADDRESS.pack(socket.AF_INET, 0, 0, 0, 0))
+        self.homes = {attributes(it[ADDRESS.size:]).get(ADDRESS_LOCAL): struct.unpack_from("=i", it, 4)[0] for it in told}
 
     def hear(self) -> None:
-        """Takes what news there are."""
+        """Takes what news there are; those of neighbours change nothing here."""
         kinds: set[int] = set()
         try:
-            while news := list(self.news.read(socket.MSG_DONTWAIT)):
-                kinds |= {kind & ~3 | 2 for kind, _, _ in news} & {GETLINK, GETADDR}         # the numbers of NEW, DEL and GET: 16, 17, 18
-                for kind, _, data in news:
-                    if kind in (netlink.NEWNEIGH, netlink.DELNEIGH):
-                        self.take_neighbour(data, kind == netlink.NEWNEIGH)
-        except BlockingIOError:
-            self.read(kinds)
-        except OSError:
-            self.read({GETLINK, GETADDR, GETNEIGH})     # some were lost
+            while True:
+                kinds |= {kind for kind, _, _, _ in self.news.read(socket.MSG_DONTWAIT)}
+        except OSError as fault:
+            if kinds - {NEWNEIGH, DELNEIGH} or not isinstance(fault, BlockingIOError):      # any other fault: some were lost
+                self.read()
 
     def at(self, address: str) -> Interface:
         """The interface that has the address; NOWHERE where none has."""
@@ -80,7 +62,12 @@ class Interfaces:
 
     def neighbour(self, face: Interface, address: str) -> tuple[int, bytes]:
         """The state and the hardware address of a neighbour, as far as the kernel knows them."""
-        return self.neighbours.get((face.index, socket.inet_aton(address)), (0, b""))
+        try:
+            data, = self.asked.get(GETNEIGH, NEIGHBOUR.pack(socket.AF_INET, 0, 0, face.index, 0, 0, 0) + packed((NEIGHBOUR_TO, socket.inet_aton(address))), ACK)
+        except (OSError, ValueError):
+            return 0, b""
+        state, = struct.unpack_from("=H", data, 8)
+        return state, attributes(data[NEIGHBOUR.size:]).get(NEIGHBOUR_HARDWARE, b"") if state & KNOWN else b""
 
 
 class Link:
@@ -119,13 +106,14 @@ class Link:
         source = struct.pack("=i4s4s", 0, socket.inet_aton(packet.source), bytes(4))
         more = [(socket.IPPROTO_IP, IP_PKTINFO, source), (socket.IPPROTO_IP, socket.IP_TTL, struct.pack("=i", packet.ttl))]
         more += [(socket.IPPROTO_IP, socket.IP_RETOPTS, wire.ALERT)] if packet.alert else []
-        self.raw.sendmsg([packet.message], more, 0, (packet.to, 0))
+        self.raw.sendmsg([packet.message], more, socket.MSG_DONTWAIT, (packet.to, 0))
 
     def send_frame(self, ethertype: int, payload: bytes) -> None:
         """An Ethernet frame goes to the neighbour. OSError: it doesn't."""
         if not self.packets or not self.hardware:
             raise OSError(0, f"the hardware address of {self.peer} isn't known: look whether the neighbour is there")
-        self.packets.sendto(payload, (self.face.name, ethertype, 0, 0, self.hardware))
+        self.packets.getsockopt(socket.SOL_SOCKET, socket.SO_ERROR)     # it would say that the interface was down before
+        self.packets.sendto(payload, socket.MSG_DONTWAIT, (self.face.name, ethertype, 0, 0, self.hardware))
 
 
 def raw_socket(interface: str, mark: int = 0) -> socket.socket:

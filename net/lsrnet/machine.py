@@ -1,4 +1,5 @@
 """What the adapter needs of this machine: rights, settings of the kernel, a state that outlives a run, a network namespace for the router."""
+import contextlib
 import ctypes
 import fcntl
 import json
@@ -7,6 +8,7 @@ import re
 import socket
 import struct
 import subprocess
+import sys
 import time
 import tomllib
 
@@ -16,6 +18,7 @@ SETTINGS = "/proc/sys/net/"
 CAPABILITIES = {12: "CAP_NET_ADMIN", 13: "CAP_NET_RAW"}
 MOST_LABEL = 1048574            # of Linux: platform_labels is 1048575 at most
 CLONE_NEWUSER, CLONE_NEWNET, SIOCSIFFLAGS, IFF_UP = 0x10000000, 0x40000000, 0x8914, 0x1
+SO_NETNS_COOKIE = 71            # the number of a socket's network namespace, which no other one has until the machine starts again (Linux 5.14)
 
 
 class Trouble(Exception):
@@ -28,17 +31,18 @@ class State:
 
     def __init__(self, folder: str):
         """Takes the namespace's lock, which the router holds too, since it may outlive a killed adapter for a moment. Trouble: another has it."""
-        self.path = os.path.join(folder, str(os.stat("/proc/self/ns/net").st_ino))
         self.lock = socket.socket(socket.AF_UNIX, socket.SOCK_DGRAM)
+        number = int.from_bytes(self.lock.getsockopt(socket.SOL_SOCKET, SO_NETNS_COOKIE, 8), sys.byteorder)
+        self.path = os.path.join(folder, str(number))
         last = time.monotonic() + LOCK_SECONDS
-        while not self.lock.getsockname():
-            try:
+        while True:
+            with contextlib.suppress(OSError):
                 self.lock.bind("\0lsrnet")      # an abstract address: each network namespace has its own, and it goes with its holders
-            except OSError:
-                if time.monotonic() > last:
-                    raise Trouble("another lsrnet, or the router of one, runs in this network namespace and has its label table: end it "
-                                  "(ss -xap shows it at @lsrnet), or give this one a namespace of its own (ip netns exec NAME)") from None
-                time.sleep(0.1)
+                break
+            if time.monotonic() > last:
+                raise Trouble("another lsrnet, or the router of one, runs in this network namespace and has its label table: end it "
+                              "(ss -xap shows it at @lsrnet), or give this one a namespace of its own (ip netns exec NAME)")
+            time.sleep(0.1)
         self.starts, self.instance, self.changed = 0, int.from_bytes(os.urandom(3), "big") + 1, {}
         try:
             os.makedirs(folder, exist_ok=True)
@@ -69,11 +73,10 @@ class State:
     def restore(self) -> None:
         """Puts back the settings that are still as they were set here."""
         for name, (before, ours) in self.changed.items():
-            if os.path.exists(SETTINGS + name):         # else the interface went
-                with open(SETTINGS + name, "r+", encoding="ascii") as file:
-                    if file.read().strip() == ours:
-                        file.seek(0)
-                        file.write(before)
+            with contextlib.suppress(FileNotFoundError), open(SETTINGS + name, "r+", encoding="ascii") as file:      # the interface went
+                if file.read().strip() == ours:
+                    file.seek(0)
+                    file.write(before)
         self.changed = {}
         self.save()
 

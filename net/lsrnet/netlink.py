@@ -10,6 +10,7 @@ GETLINK, GETADDR, NEWROUTE, DELROUTE, GETROUTE = 18, 22, 24, 25, 26
 NEWNEIGH, DELNEIGH, GETNEIGH, NEWRULE, DELRULE, GETRULE = 28, 29, 30, 32, 33, 34
 ERROR, DONE = 2, 3
 REQUEST, ACK, REPLACE, EXCLUSIVE, DUMP, CREATE = 0x1, 0x4, 0x100, 0x200, 0x300, 0x400
+CHANGED, DUMPS = 0x10, 8        # the flag of a dump that isn't what there was at one moment; it is asked for anew, so often at most
 AF_INET, AF_MPLS = socket.AF_INET, 28
 NEWS = 0x1 | 0x4 | 0x10         # groups that tell of links, neighbours and IPv4 addresses
 OURS = 246                      # who made an entry: all that is ours says so (`ip route show table all proto 246`), and goes by it
@@ -20,7 +21,7 @@ RULE_INTERFACE, RULE_PRIORITY, RULE_MARK, RULE_TABLE, RULE_MASK, RULE_OWNER, RUL
 METRIC_MTU, ENCAP_MPLS, ENCAP_LABELS, UNICAST, LOCAL, ONLINK, HERE = 2, 1, 1, 1, 2, 4, 254
 PERMANENT, MANAGED = 0x80, 1    # a neighbour's state and flag
 AT_ONCE = 128                   # changes are sent so many at a time, so that the kernel's answers fit the socket's buffer
-ROUTE, NEIGHBOUR = struct.Struct("=BBBBBBBBI"), struct.Struct("=BBHiHBB")       # headers; a rule's is a route's
+MESSAGE, ROUTE, NEIGHBOUR = struct.Struct("=IHHII"), struct.Struct("=BBBBBBBBI"), struct.Struct("=BBHiHBB")     # headers; a rule's is a route's
 Request = tuple[int, int, bytes]        # a change that is asked for: the message's type, its flags, its body
 
 
@@ -32,10 +33,10 @@ class Entry(NamedTuple):
     mtu: int = 0
 
 
-def attribute(kind: int, value: bytes | int) -> bytes:
-    """An attribute, padded to four bytes; a number has 32 bits."""
-    body = struct.pack("=I", value) if isinstance(value, int) else value
-    return struct.pack("=HH", 4 + len(body), kind) + body + bytes(-len(body) % 4)
+def packed(*values: tuple[int, bytes | int]) -> bytes:
+    """Attributes, each padded to four bytes. A number has 32 bits; what is empty, or 0, is left out."""
+    bodies = [(kind, struct.pack("=I", value) if isinstance(value, int) else value) for kind, value in values if value]
+    return b"".join(struct.pack("=HH", 4 + len(body), kind) + body + bytes(-len(body) % 4) for kind, body in bodies)
 
 
 def attributes(data: bytes) -> dict[int, bytes]:
@@ -52,7 +53,7 @@ def as_number(body: bytes | None) -> int:
     return struct.unpack("=I", body)[0] if body else 0
 
 
-def labels_bytes(labels: tuple[int, ...]) -> bytes:
+def stack(labels: tuple[int, ...]) -> bytes:
     """A label stack as netlink has it: the bottom bit in the last entry alone."""
     return struct.pack(f"!{len(labels)}I", *(it << 12 | (0x100 if at == len(labels) else 0) for at, it in enumerate(labels, 1)))
 
@@ -66,31 +67,32 @@ class Netlink:
         self.socket.bind((0, groups))
         self.sequence, self.room = 0, bytearray(1 << 18)        # one buffer: an allocation for each answer costs more than the kernel's work
 
-    def read(self, flags: int = 0) -> Iterator[tuple[int, int, bytes]]:
-        """The messages of one datagram: type, sequence number, body."""
+    def read(self, flags: int = 0) -> Iterator[tuple[int, int, int, bytes]]:
+        """The messages of one datagram: type, flags, sequence number, body."""
         data = bytes(self.room[:self.socket.recv_into(self.room, 0, flags)])
-        while len(data) >= 16:
-            size, kind, _, sequence, _ = struct.unpack_from("=IHHII", data)
-            yield kind, sequence, data[16:size]
+        while len(data) >= MESSAGE.size:
+            size, kind, of_message, sequence, _ = MESSAGE.unpack_from(data)
+            yield kind, of_message, sequence, data[MESSAGE.size:size]
             data = data[(size + 3) & ~3:]
 
     def message(self, request: Request, more: int = 0) -> bytes:
         """A request's bytes with these flags more, and with the next sequence number."""
         kind, flags, body = request
         self.sequence += 1
-        return struct.pack("=IHHII", 16 + len(body), kind, flags | more | REQUEST, self.sequence, 0) + body + bytes(-len(body) % 4)
+        return MESSAGE.pack(MESSAGE.size + len(body), kind, flags | more | REQUEST, self.sequence, 0) + body + bytes(-len(body) % 4)
 
-    def dump(self, kind: int, body: bytes) -> list[bytes]:
-        """All of a kind that the kernel has. OSError where it has no such kind."""
-        self.socket.send(self.message((kind, DUMP, body)))
-        found: list[bytes] = []
-        while True:
-            for told, sequence, data in self.read():
-                if sequence == self.sequence and told == ERROR:
-                    raise OSError(-struct.unpack_from("=i", data)[0], "the kernel doesn't tell what it has")
-                if sequence == self.sequence and told == DONE:
-                    return found
-                found += [data] if sequence == self.sequence else []
+    def get(self, kind: int, body: bytes, flags: int = DUMP) -> list[bytes]:
+        """All of a kind that the kernel has at one moment (where it never rests, what was read last), or with ACK one. OSError: it has no such."""
+        for _ in range(DUMPS):
+            self.socket.send(self.message((kind, flags, body)))
+            found: list[tuple[int, int, int, bytes]] = []
+            while not found or found[-1][0] not in (ERROR, DONE):
+                found += [it for it in self.read() if it[2] == self.sequence]
+            if found[-1][0] == ERROR and (error := -struct.unpack_from("=i", found[-1][3])[0]):
+                raise OSError(error, "the kernel doesn't tell what it has")
+            if not any(of_message & CHANGED for _, of_message, _, _ in found):
+                break
+        return [data for _, _, _, data in found[:-1]]
 
     def change(self, requests: list[Request]) -> list[int]:
         """Makes the changes, and gives the error number of each, 0 where it was made. Of a part the last is acknowledged alone."""
@@ -101,13 +103,13 @@ class Netlink:
             self.socket.send(b"".join(self.message(it, ACK if self.sequence + 1 == last else 0) for it in part))
             told: dict[int, int] = {}
             while last not in told:
-                told |= {at: -struct.unpack_from("=i", data)[0] for kind, at, data in self.read() if kind == ERROR}
+                told |= {at: -struct.unpack_from("=i", data)[0] for kind, _, at, data in self.read() if kind == ERROR}
             errors += [told.get(first + at, 0) for at in range(len(part))]
         return errors
 
     def routes(self, family: int) -> Iterator[tuple[int, Entry]]:
         """Our routes of a family: a label, or the table of a default route, and where it leads."""
-        for data in self.dump(GETROUTE, ROUTE.pack(family, 0, 0, 0, 0, 0, 0, 0, 0)):
+        for data in self.get(GETROUTE, ROUTE.pack(family, 0, 0, 0, 0, 0, 0, 0, 0)):
             found = attributes(data[ROUTE.size:])
             if data[5] != OURS or data[0] != family:
                 continue
@@ -120,51 +122,51 @@ class Netlink:
 
     def left(self) -> list[Request]:
         """What takes away all that is ours but routes: rules and neighbours."""
-        made = [(DELRULE, 0, it) for it in self.dump(GETRULE, ROUTE.pack(AF_INET, 0, 0, 0, 0, 0, 0, 0, 0))
-                if attributes(it[ROUTE.size:]).get(RULE_OWNER) == bytes([OURS])]
-        for data in self.dump(GETNEIGH, NEIGHBOUR.pack(AF_INET, 0, 0, 0, 0, 0, 0)):
-            found = attributes(data[NEIGHBOUR.size:])
-            if found.get(NEIGHBOUR_OWNER) == bytes([OURS]):
-                made.append((DELNEIGH, 0, data[:NEIGHBOUR.size] + attribute(NEIGHBOUR_TO, found[NEIGHBOUR_TO])))
-        return made
+        rules = [(it, attributes(it[ROUTE.size:])) for it in self.get(GETRULE, ROUTE.pack(AF_INET, 0, 0, 0, 0, 0, 0, 0, 0))]
+        known = [(it, attributes(it[NEIGHBOUR.size:])) for it in self.get(GETNEIGH, NEIGHBOUR.pack(AF_INET, 0, 0, 0, 0, 0, 0))]
+        return [(DELRULE, 0, it) for it, found in rules if found.get(RULE_OWNER) == bytes([OURS])] + [
+            (DELNEIGH, 0, it[:NEIGHBOUR.size] + packed((NEIGHBOUR_TO, found[NEIGHBOUR_TO]))) for it, found in known
+            if found.get(NEIGHBOUR_OWNER) == bytes([OURS])]
 
 
 def label_route(label: int, entry: Entry | None) -> Request:
     """`ip -f mpls route replace LABEL [as OUT..] via inet PEER dev IF`; with no peer, to this machine; with no entry, it goes."""
-    body = ROUTE.pack(AF_MPLS, 20, 0, 0, HERE, OURS, 0, UNICAST, 0) + attribute(TO, labels_bytes((label,)))
+    body = ROUTE.pack(AF_MPLS, 20, 0, 0, HERE, OURS, 0, UNICAST, 0) + packed((TO, stack((label,))))
     if entry is None:
         return DELROUTE, 0, body
-    body += attribute(NEW_LABELS, labels_bytes(entry.labels)) if entry.labels else b""
-    body += attribute(VIA, struct.pack("=H", AF_INET) + socket.inet_aton(entry.peer)) if entry.peer else b""
-    return NEWROUTE, CREATE | REPLACE, body + attribute(INTERFACE, entry.index)
+    via = struct.pack("=H", AF_INET) + socket.inet_aton(entry.peer) if entry.peer else b""
+    return NEWROUTE, CREATE | REPLACE, body + packed((NEW_LABELS, stack(entry.labels)), (VIA, via), (INTERFACE, entry.index))
 
 
 def default_route(table: int, entry: Entry | None) -> Request:
     """The default route of a table, by a neighbour and under labels; with no peer, to this machine; with no entry, it goes. The kernel takes
     the labels off the MTU."""
+    scope, kind, flags = (255, 0, 0) if entry is None else (0, UNICAST, ONLINK) if entry.peer else (HERE, LOCAL, 0)
+    body = ROUTE.pack(AF_INET, 0, 0, 0, 0, OURS, scope, kind, flags) + packed((TABLE, table))
     if entry is None:
-        return DELROUTE, 0, ROUTE.pack(AF_INET, 0, 0, 0, 0, OURS, 255, 0, 0) + attribute(TABLE, table)
-    scope, kind, flags = (0, UNICAST, ONLINK) if entry.peer else (HERE, LOCAL, 0)
-    body = ROUTE.pack(AF_INET, 0, 0, 0, 0, OURS, scope, kind, flags) + attribute(TABLE, table) + attribute(INTERFACE, entry.index)
-    if entry.labels:
-        body += attribute(ENCAP_TYPE, struct.pack("=H", ENCAP_MPLS)) + attribute(ENCAP, attribute(ENCAP_LABELS, labels_bytes(entry.labels)))
-    body += attribute(GATEWAY, socket.inet_aton(entry.peer)) if entry.peer else b""
-    body += attribute(METRICS, attribute(METRIC_MTU, entry.mtu)) if entry.mtu else b""
-    return NEWROUTE, CREATE | REPLACE, body
+        return DELROUTE, 0, body
+    under = struct.pack("=H", ENCAP_MPLS) if entry.labels else b""
+    return NEWROUTE, CREATE | REPLACE, body + packed(
+        (INTERFACE, entry.index), (ENCAP_TYPE, under), (ENCAP, packed((ENCAP_LABELS, stack(entry.labels)))),
+        (GATEWAY, socket.inet_aton(entry.peer) if entry.peer else b""), (METRICS, packed((METRIC_MTU, entry.mtu))))
 
 
-def rule(new: bool, table: int, priority: int, *conditions: tuple[int, bytes | int]) -> Request:
-    """`ip rule add priority P .. lookup TABLE` with these attributes as its conditions; or, where it isn't `new`, it goes."""
-    body = ROUTE.pack(AF_INET, 0, 0, 0, 0, 0, 0, UNICAST, 0) + attribute(RULE_TABLE, table) + attribute(RULE_PRIORITY, priority)
-    body += attribute(RULE_OWNER, bytes([OURS])) + b"".join(attribute(*it) for it in conditions)
-    return (NEWRULE, CREATE | EXCLUSIVE, body) if new else (DELRULE, 0, body)
+def rule(table: int, priority: int, *conditions: tuple[int, bytes | int]) -> Request:
+    """`ip rule add priority P .. lookup TABLE` with these attributes as its conditions."""
+    return NEWRULE, CREATE | EXCLUSIVE, ROUTE.pack(AF_INET, 0, 0, 0, 0, 0, 0, UNICAST, 0) + packed(
+        (RULE_TABLE, table), (RULE_PRIORITY, priority), (RULE_OWNER, bytes([OURS])), *conditions)
 
 
 def neighbour(index: int, peer: str, hardware: bytes = b"") -> Request:
     """A neighbour with this hardware address; without one, the kernel looks for it and keeps it known, so a repair waits for no ARP (Linux 5.16)."""
-    body = NEIGHBOUR.pack(AF_INET, 0, 0, index, PERMANENT if hardware else 0, 0, 0) + attribute(NEIGHBOUR_TO, socket.inet_aton(peer))
-    body += attribute(NEIGHBOUR_HARDWARE, hardware) if hardware else attribute(NEIGHBOUR_FLAGS, MANAGED)
-    return NEWNEIGH, CREATE | REPLACE, body + attribute(NEIGHBOUR_OWNER, bytes([OURS]))
+    return NEWNEIGH, CREATE | REPLACE, NEIGHBOUR.pack(AF_INET, 0, 0, index, PERMANENT if hardware else 0, 0, 0) + packed(
+        (NEIGHBOUR_TO, socket.inet_aton(peer)), (NEIGHBOUR_HARDWARE, hardware), (NEIGHBOUR_FLAGS, 0 if hardware else MANAGED),
+        (NEIGHBOUR_OWNER, bytes([OURS])))
+
+
+def undone(requests: list[Request]) -> list[Request]:
+    """What takes away what these make: the number of each DEL is that of NEW and one more."""
+    return [(kind + 1, 0, body) for kind, _, body in requests]
 
 
 def said(errors: Iterable[int]) -> str:

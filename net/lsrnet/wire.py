@@ -1,16 +1,16 @@
-"""RSVP as it goes over IP (RFC 2205, 3.3), and as `lsr serve` frames it (docs/WIRE.md, Frames)."""
+"""RSVP messages (RFC 2205, 3.1), as they go over IP (RFC 2205, 3.3), and as `lsr serve` frames them (docs/WIRE.md, Frames)."""
 import itertools
 import socket
 import struct
+from collections.abc import Iterator
 from typing import NamedTuple
-
-from integrity import checksum
 
 RSVP = 46                       # the IP protocol; then the types of messages (RFC 2205, 3.1.1; RFC 3209, 5.1)
 PATH, RESV, PATH_ERR, RESV_ERR, PATH_TEAR, RESV_TEAR, HELLO = 1, 2, 3, 4, 5, 6, 20
 DOWNSTREAM, UPSTREAM = {PATH, PATH_TEAR, RESV_ERR}, {RESV, PATH_ERR, RESV_TEAR}
-MESSAGE_BYTES, OBJECT_BYTES, IP_BYTES = 8, 4, 20        # of the headers of a message, of an object and of an IPv4 packet
-SESSION, FILTER_SPEC, SENDER_TEMPLATE = 1, 10, 11       # classes of objects (RFC 2205, A)
+HEADER_BYTES, OBJECT_BYTES, IP_BYTES = 8, 4, 20         # of the headers of a message, of an object and of an IPv4 packet
+MOST_BYTES = 0xffff             # of a message: its header counts them in 16 bits
+SESSION, RSVP_HOP, FILTER_SPEC, SENDER_TEMPLATE = 1, 3, 10, 11          # classes of objects (RFC 2205, A)
 HOP, LABELLED, ROUTED = 1, 2, 3                         # kinds of frames
 ROUTED_BYTES = 6                # of a Routed frame before its message: its kind, an address, a limit of hops
 MESSAGE = 1                     # the kind of a Labelled frame's payload that is a message
@@ -19,6 +19,10 @@ CONTROL_CLASS, TTL = 0xc0, 255  # the DSCP CS6 (RFC 2474), as routers mark RSVP;
 MORE_FRAGMENTS, BOTTOM, IMPLICIT_NULL = 0x2000, 0x100, 3        # RFC 791, 3.1; RFC 3032, 2.1
 IPV4, MPLS = 0x0800, 0x8847     # EtherTypes
 packet_numbers = itertools.count(1)
+
+
+class Refused(Exception):
+    """A message that isn't taken; the text is the reason."""
 
 
 class Packet(NamedTuple):
@@ -30,30 +34,55 @@ class Packet(NamedTuple):
     alert: bool = False
 
 
-def first_object(message: bytes, wanted: int) -> bytes:
-    """The body of the first object of a class (RFC 2205, 3.1.2); no bytes where there is none."""
-    at = MESSAGE_BYTES
-    while at + OBJECT_BYTES <= len(message):
-        size, found = struct.unpack_from("!HB", message, at)
-        if found == wanted:
-            return message[at + OBJECT_BYTES:at + size]
-        at += max(size, OBJECT_BYTES)
-    return b""
+def checksum(message: bytes) -> int:
+    """The one's complement of the one's complement sum of 16-bit words (RFC 1071), 0xffff in place of 0 as RSVP has it."""
+    total = sum(word for word, in struct.iter_unpack("!H", message + bytes(len(message) % 2)))
+    while total >> 16:
+        total = (total & 0xffff) + (total >> 16)
+    return ~total & 0xffff or 0xffff
+
+
+def sealed(message: bytes) -> bytes:
+    """The message with the length of its bytes in its header, and the checksum that goes with them (RFC 2205, 3.1.1)."""
+    plain = message[:2] + b"\0\0" + message[4:6] + struct.pack("!H", len(message)) + message[HEADER_BYTES:]
+    return plain[:2] + struct.pack("!H", checksum(plain)) + plain[4:]
+
+
+def check_header(message: bytes) -> None:
+    """Raises `Refused` unless these bytes have the header of one message of version 1, whose checksum is 0 or right."""
+    if len(message) < HEADER_BYTES or message[0] >> 4 != 1:
+        raise Refused("it is no RSVP message of version 1")
+    if int.from_bytes(message[6:HEADER_BYTES], "big") != len(message):
+        raise Refused("its length field doesn't count its bytes")
+    if message[2:4] != b"\0\0" and sealed(message) != message:
+        raise Refused("its checksum is wrong")
+
+
+def objects(data: bytes) -> Iterator[tuple[int, int, bytes]]:
+    """The objects in what follows a message's header: class, C-Type and body of each (RFC 2205, 3.1.2), up to what is none."""
+    while len(data) >= OBJECT_BYTES and (size := int.from_bytes(data[:2], "big")) >= OBJECT_BYTES and size % 4 == 0:
+        yield data[2], data[3], data[OBJECT_BYTES:size]
+        data = data[size:]
+
+
+def first_object(message: bytes, *wanted: int) -> bytes:
+    """The body of the first object of these classes; no bytes where there is none."""
+    return next((body for kind, _, body in objects(message[HEADER_BYTES:]) if kind in wanted), b"")
 
 
 def along_the_tunnel(message: bytes) -> Packet:
     """The packet of a Path or PathTear, or of a ResvErr under labels: from the LSP's sender to its endpoint, with router alert (RFC 2205, 3.1.3)."""
-    sender = first_object(message, SENDER_TEMPLATE) or first_object(message, FILTER_SPEC)
-    return Packet(socket.inet_ntoa(sender[:4]), socket.inet_ntoa(first_object(message, SESSION)[:4]), TTL, message, alert=True)
+    sender, session = first_object(message, SENDER_TEMPLATE, FILTER_SPEC), first_object(message, SESSION)
+    return Packet(socket.inet_ntoa(sender[:4]), socket.inet_ntoa(session[:4]), TTL, message, alert=True)
 
 
 def outgoing(frame: bytes, address: str, peer: str) -> tuple[bytes, Packet | bytes]:
     """What a frame of the router is on a link with this address and this neighbour: the bytes of a label stack, if it has one, and the packet
     of a message or, under labels, other bytes. ValueError, OSError: it is no frame."""
     kind, end = frame[0] if frame else 0, 2 + 4 * int.from_bytes(frame[1:2], "big")
-    if kind == HOP and len(frame) > MESSAGE_BYTES:
+    if kind == HOP and len(frame) > HEADER_BYTES:
         return b"", along_the_tunnel(frame[1:]) if frame[2] in (PATH, PATH_TEAR) else Packet(address, peer, TTL, frame[1:])
-    if kind == ROUTED and len(frame) >= ROUTED_BYTES + MESSAGE_BYTES:
+    if kind == ROUTED and len(frame) >= ROUTED_BYTES + HEADER_BYTES:
         return b"", Packet(address, socket.inet_ntoa(frame[1:5]), frame[5], frame[ROUTED_BYTES:])
     if kind == LABELLED and 2 < end < len(frame):
         return frame[2:end], along_the_tunnel(frame[end + 1:]) if frame[end] == MESSAGE else frame[end + 1:]
@@ -70,7 +99,7 @@ def read_packet(data: bytes) -> Packet | None:
     """The message of an IPv4 packet that the kernel took; none where it is shorter than a message's header."""
     start = (data[0] & 15) * 4 if data else 0
     message = data[start:int.from_bytes(data[2:4], "big")]
-    if start < IP_BYTES or len(message) < MESSAGE_BYTES:
+    if start < IP_BYTES or len(message) < HEADER_BYTES:
         return None
     return Packet(socket.inet_ntoa(data[12:16]), socket.inet_ntoa(data[16:20]), data[8], message)
 
