@@ -11,7 +11,7 @@ Without a PART all are run, `cases` where --cases names the program. The parts:
   configurations  `lsr config` over the texts of growth-configurations.txt
   journals        `lsr step --journal` over the cases: the journal has the entries of the lines that weren't refused, and `lsr check` says so;
                   `lsr check` and `lsr show-journal` of journals
-  others          `lsr decode`, `lsr explain`, and the charts of `lsr step` and `lsr play`
+  others          `lsr decode` and `lsr explain`
   serve           `lsr serve --console`: a line for which there was no memory is typed again
   streams         reads and writes: they fail, move a single byte, or are interrupted
   cases           the parts of the program that --cases names: what no line of `lsr` reaches
@@ -36,7 +36,7 @@ from collections import Counter
 from refused.consoles import serve_jobs
 from refused.lines import config_words, is_shown, read_jobs, recorded_jobs, step_jobs, world_jobs
 from refused.runs import (
-    DIFFERS, ENDED, FAILS, INTERRUPTED, KEPT, MEMORY, PROCESSORS, REFUSAL, REFUSED, SAME, SHORT, Ask, Case, Differing, Room,
+    DIFFERS, ENDED, FAILS, INTERRUPTED, MEMORY, PROCESSORS, REFUSAL, REFUSED, SAME, SHORT, Ask, Case, Differing, Room,
     ask_lsr, is_same, jobs_of, judge_plain, new_name, plain_case, read_lines, run, section, shown, start, want, write_lines,
 )
 
@@ -95,14 +95,6 @@ CAPTURES = ["examples/first-path.pcap", "examples/first-path.pcapng"]
 CUT_SHORT = re.compile(rb"damaged\n  .*, byte [0-9]+: there is no memory .*\n")
 
 
-def judge_chart(wanted, one):
-    """Of a run that is drawn. Where memory ran out for the chart alone, all is printed, and no file is left."""
-    is_drawn = REFUSAL in one.out and REFUSAL.split()[-1] in one.kept
-    if one.status == 0 and not one.err and is_drawn:
-        return REFUSED
-    return judge_plain(wanted, one)
-
-
 def without_memory(number, paragraph):
     """What `lsr decode` prints of a packet or of line NUMBER that there was no memory to read."""
     head, newline, _ = paragraph.partition(b"\n")
@@ -138,17 +130,6 @@ def decode_jobs(room):
 def explain_jobs(room):
     """`lsr explain` of a refusal, of an error, of all, and of what there isn't."""
     return jobs_of(room, *(plain_case(room, "explain", word) for word in ("24", "24/5", "list", "UnknwonLink")))
-
-
-def chart_jobs(room, name):
-    """`lsr step --chart` of a case."""
-    words = config_words(room, name)
-    return jobs_of(room, plain_case(room, "step", "--chart", KEPT, *words, given=f"{name}.step", judge=judge_chart))
-
-
-def world_chart_jobs(room, name):
-    """`lsr play --chart` of a world."""
-    return jobs_of(room, plain_case(room, "play", f"{name}.moves", "--chart", KEPT, judge=judge_chart))
 
 
 # Reads and writes.
@@ -233,7 +214,6 @@ def preparations(room, part):
         "steps": [(step_jobs, steps)],
         "worlds": [(world_jobs, worlds)],
         "journals": [(recorded_jobs, steps), (read_jobs, READ)],
-        "others": [(chart_jobs, steps[:1]), (world_chart_jobs, worlds[:1])],
         **{name: [(step_jobs, [name])] for name in steps},
         **{name: [(world_jobs, [name])] for name in worlds},
     }
