@@ -1,4 +1,3 @@
 mod Entering
 mod Naming
 mod Showing
-mod Told

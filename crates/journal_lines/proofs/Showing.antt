@@ -7,13 +7,15 @@ use Rattle.std.proofs.lemmas.Result.{IfOk-weaker}
 use Rattle.field_bytes.specs.Spelling.{Answers}
 use Rattle.field_bytes.specs.declared.fault.ReadFault.{ReadFault}
 use Rattle.field_bytes.specs.declared.fault.ReadFault.TheVariants as faults
+use Rattle.event_fields.specs.Fitting.{IsWord}
+use Rattle.event_fields.specs.Laws.{word_bytes}
 use Rattle.lsr_config.specs.Configs.{Setup}
 use Rattle.lsr_facts.specs.declared.router.Router.{Router}
 use Rattle.journal_bytes.specs.declared.entry.Entry.{Entry}
 use Rattle.journal_files.specs.Texts.{ReadsText, SaysConfig}
 use Rattle.journal_files.specs.declared.formats.FileFormat.{FileFormat}
 use Rattle.journal_lines.specs.Entries.{ShowsEntry}
-use Rattle.journal_lines.specs.Journals.{EntryAt, NoEntryAt, NoneStandsAt, ShowsEntries, ShowsJournal, StandsAt, break_line, break_status, break_text, breaks, end_of}
+use Rattle.journal_lines.specs.Journals.{EntryAt, NoEntryAt, NoneStandsAt, ShowsCount, ShowsEntries, ShowsJournal, StandsAt, break_line, break_status, break_text, breaks, count_line, end_of}
 use Rattle.journal_lines.specs.declared.breaks.Break.{Break}
 use Rattle.journal_lines.specs.declared.breaks.Part.TheVariants as parts
 
@@ -81,6 +83,13 @@ showing_all r format all bytes output now passed rest broken most so_far at =
           (so_far.shows [] broken (subst (λ (count : ℕ). ShowsEntries r format (passed + 1) count rest [] broken) none next)),
       so_far.told,
     )
+
+-- the number of entries, and what is shown of them
+pub counted : (r : Router) (format : FileFormat) (bytes : List ℕ) (count : ℕ) (rest : List ℕ) (broken : Option Break) (output mid now : Option (List ℕ)) → StandsAt IsWord word_bytes bytes count rest
+    → Appends output mid (count_line count) → (text : List ℕ) × ShowsEntries r format 1 count rest text broken × Appends mid now text
+    → (text : List ℕ) × ShowsCount r format bytes text broken × Appends output now text
+counted r format bytes count rest broken output mid now at told shown =
+    (count_line count ++ shown.0, inl (count, rest, shown.0, at, shown.1, refl), Appends-trans output mid now (count_line count) shown.0 told shown.2)
 
 -- a line, and what is shown after it
 pub shown_after : {E : Type 0} (Shows Whole : List ℕ → Option Break → Type 0) (result : Result (Option Break) E) (line : List ℕ) (output mid now : Option (List ℕ)) → Appends output mid line

@@ -1,5 +1,4 @@
-pub mod Asking
 pub mod Entries
-pub mod Frames
 pub mod Journals
+pub mod Telling
 pub mod Words

@@ -2,7 +2,7 @@
 ghost use Rattle.std.specs.Prelude.{◌≡◌, IfOk, OnOk};
 ghost use Rattle.std.specs.Io.KnownBytes.{Appends};
 ghost use Rattle.std.specs.Option.{MatchOption};
-ghost use Rattle.journal_lines.specs.Journals.{break_line, breaks, end_of, part_words};
+ghost use Rattle.journal_lines.specs.Journals.{break_line, breaks, part_words};
 
 use field_bytes::ReadFault;
 use std::alloc::AllocError;
@@ -10,7 +10,7 @@ use std::io;
 use std::io::Write;
 
 /// The parts of a journal, in their order.
-#[derive(Clone, Copy, Debug, PartialEq, Eq)]
+#[derive(Clone, Copy)]
 pub enum Part {
     /// `LSRJ` and the number of a format.
     Format,
@@ -27,7 +27,7 @@ pub enum Part {
 }
 
 /// Where the bytes of a journal break.
-#[derive(Clone, Copy, Debug, PartialEq, Eq)]
+#[derive(Clone, Copy)]
 pub struct Break {
     /// What is to stand there.
     pub part: Part,
@@ -43,16 +43,6 @@ pub(crate) fn breaks(part: Part, bytes: &[u8]) -> Option<Break>
         part,
         left: bytes.len(),
     })
-}
-
-/// Where bytes break after the last entry: at the first of them.
-pub(crate) fn end_of(bytes: &[u8]) -> Option<Break>
-    ensures { result ≡ end_of bytes.now }
-{
-    match bytes {
-        [] => None,
-        _ => breaks(Part::End, bytes),
-    }
 }
 
 /// What was read; none where the bytes are of another form. The error is out of memory.

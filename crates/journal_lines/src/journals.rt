@@ -6,9 +6,9 @@ ghost use Rattle.journal_bytes.specs.declared.entry.Entry.{Entry};
 ghost use Rattle.journal_files.specs.Recordings.{format_number};
 ghost use Rattle.journal_lines.specs.Entries.{ShowsEntry};
 ghost use Rattle.journal_lines.specs.declared.breaks.Break.{Break};
-ghost use Rattle.journal_lines.specs.Journals.{EntryAt, NoEntryAt, ShowsBase, ShowsBody, ShowsCount, ShowsEntries, ShowsJournal, base_lines, base_word, break_status, break_text};
+ghost use Rattle.journal_lines.specs.Journals.{EntryAt, NoEntryAt, ShowsBase, ShowsBody, ShowsCount, ShowsJournal, base_lines, break_status, break_text};
 
-use crate::breaks::{Break, Part, breaks, end_of, found, tell_break};
+use crate::breaks::{Break, Part, breaks, found, tell_break};
 use crate::entries::push_entry;
 use field_bytes::{Counted, Field, Word};
 use journal_files::{FileFormat, config_of, format_of, read_base, read_entry};
@@ -56,31 +56,8 @@ fn show_next<'a, W: Write>(
     Ok(Some(rest))
 }
 
-/// Shows so many entries, which the bytes are, and gives where they break.
-fn show_entries<W: Write>(
-    alloc: Global,
-    router: &Router,
-    format: FileFormat,
-    count: u32,
-    bytes: &[u8],
-    output: &mut W,
-) -> io::Result<Option<Break>>
-    ensures { IfOk result (λ broken. (text : List ℕ) × ShowsEntries router.now format 1 count bytes.now text broken
-        × Appends (W.contents output.old) (W.contents output.new) text) }
-{
-    let mut rest = bytes;
-    for passed in 0..count {
-        let number = passed as usize + 1;
-        match show_next(alloc, router, format, number, rest, output)? {
-            Some(after) => rest = after,
-            None => return Ok(breaks(Part::Entry, rest)),
-        }
-    }
-    Ok(end_of(rest))
-}
-
 /// Shows how many entries there are, and the entries, and gives where the bytes break.
-fn show_count<W: Write>(
+fn show_entries<W: Write>(
     alloc: Global,
     router: &Router,
     format: FileFormat,
@@ -90,25 +67,29 @@ fn show_count<W: Write>(
     ensures { IfOk result (λ broken. (text : List ℕ) × ShowsCount router.now format bytes.now text broken
         × Appends (W.contents output.old) (W.contents output.new) text) }
 {
-    let Some((count, rest)) = found(Word::read(alloc, bytes))? else {
+    let Some((count, first)) = found(Word::read(alloc, bytes))? else {
         return Ok(breaks(Part::Count, bytes));
     };
     write!(output, "entries {count}\n")?;
-    show_entries(alloc, router, format, count, rest, output)
-}
-
-/// Whether the router was cold, as a word.
-fn base_word(cold: bool) -> &'static str
-    ensures { result.now ≡ base_word cold }
-{
-    if cold { "cold" } else { "running" }
+    let mut rest = first;
+    for passed in 0..count {
+        let number = passed as usize + 1;
+        match show_next(alloc, router, format, number, rest, output)? {
+            Some(after) => rest = after,
+            None => return Ok(breaks(Part::Entry, rest)),
+        }
+    }
+    match rest {
+        [] => Ok(None),
+        _ => Ok(breaks(Part::End, rest)),
+    }
 }
 
 /// The lines of what the router knew. The only error is out of memory.
 fn base_lines(alloc: Global, router: &Router, base: &State) -> Result<String, AllocError>
     ensures { IfOk result (λ text. string_bytes text ≡ base_lines router.now base.now) }
 {
-    let word = base_word(base.facts.cold);
+    let word = if base.facts.cold { "cold" } else { "running" };
     let moment = base.facts.moment;
     let mut text = format!(in alloc; "base {word} at {moment}\n")?;
     push_counts(&mut text, router, base)?;
@@ -131,7 +112,7 @@ fn show_base<W: Write>(
     };
     let lines = base_lines(alloc, router, &base)?;
     output.write_all(lines.as_bytes())?;
-    show_count(alloc, router, format, rest, output)
+    show_entries(alloc, router, format, rest, output)
 }
 
 /// Shows what stands after the number of the format, and gives where the bytes break.

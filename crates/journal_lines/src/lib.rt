@@ -2,11 +2,10 @@
 //! it was given.
 #![tactic(auto)]
 
-mod asking;
 mod breaks;
 mod entries;
-mod frames;
 mod journals;
+mod telling;
 mod words;
 
 pub use breaks::{Break, Part};

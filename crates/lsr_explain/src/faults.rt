@@ -149,7 +149,7 @@ clock
   See: docs/PROGRAM.md (`lsr serve`: a router over sockets)
 unwritable
   The output or the error stream can't be written: its reader has gone, or a disk is full. That
-  ended the run. Or a file of --journal or --chart can't, and a line after it says which and why:
+  ended the run. Or a file of --journal can't, and a line after it says which and why:
   its folder isn't there, permissions or the disk don't allow it, its name is that of a folder, a
   device, a pipe or a link, or PREFIX.1 of `lsr serve` is there already.
   What to do: look at where the output goes, or give the file another name, and run the whole again.

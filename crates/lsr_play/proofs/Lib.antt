@@ -2,4 +2,3 @@ mod DeclaringLaws
 mod PlayLaws
 mod AnswerLaws
 mod LabLaws
-mod ChartLaws

@@ -55,13 +55,6 @@ impl<'a> Declared<'a> {
         self.names.len()
     }
 
-    /// The names of the routers, each by its place.
-    pub(crate) fn names(&self) -> &[&'a str]
-        ensures { result.now ≡ self.now.names }
-    {
-        self.names.as_slice()
-    }
-
     /// The wires.
     pub(crate) fn joints(&self) -> &[Joint]
         ensures { result.now ≡ self.now.joints }

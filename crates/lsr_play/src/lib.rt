@@ -3,7 +3,6 @@
 
 mod answers;
 mod chance;
-mod charting;
 mod chosen;
 mod declared;
 mod endings;
@@ -17,4 +16,4 @@ mod playing;
 pub use endings::{PlayEnding, play_status, tell_play_ending};
 pub use lab_playing::play_lab;
 pub use lab_world::WorldFault;
-pub use playing::{Played, play_charted, play_lines};
+pub use playing::play_lines;

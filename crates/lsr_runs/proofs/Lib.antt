@@ -1,5 +1,4 @@
 mod Checked
-mod Drawn
 mod Living
 mod Sessions
 mod Recorded

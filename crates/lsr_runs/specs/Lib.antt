@@ -1,7 +1,5 @@
-pub mod Charting
 pub mod Checking
 pub mod Decoding
-pub mod Drawing
 pub mod Endings
 pub mod Live
 pub mod Playing

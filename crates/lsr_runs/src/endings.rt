@@ -21,7 +21,7 @@ pub const FAILED: u8 = 1;
 pub const BAD_WORDS: u8 = 2;
 
 /// A text that a run reads.
-#[derive(Clone, Copy, PartialEq, Eq)]
+#[derive(Clone, Copy)]
 pub enum Source {
     /// The configuration.
     Config,

@@ -1,11 +1,9 @@
-//! What the program `lsr` does over streams and files, each run by itself: sessions, journals, worlds, configurations, charts and
+//! What the program `lsr` does over streams and files, each run by itself: sessions, journals, worlds, configurations and
 //! captures. Nothing here opens a socket or starts a thread.
 #![tactic(auto)]
 
-mod charting;
 mod checking;
 mod decoding;
-mod drawing;
 mod endings;
 mod files;
 mod live;
@@ -15,10 +13,8 @@ mod session;
 mod showing;
 mod written;
 
-pub use charting::{refuse_lab_chart, run_chart_of};
 pub use checking::run_check_of;
 pub use decoding::run_decode_on;
-pub use drawing::{refuse_kept_chart, run_drawn_of};
 pub use endings::{BAD_WORDS, DONE, FAILED, RunEnding, Source, status_of, tell_ending};
 pub use files::{FilesByName, SystemFiles};
 pub use live::{run_live, run_live_of};

@@ -23,7 +23,7 @@ use world_lines::next_file;
 
 /// Why a world's lines aren't played.
 #[derive(Drop)]
-pub(crate) struct Stop<'a> {
+struct Stop<'a> {
     /// The name of the file that is at fault.
     name: &'a str,
     /// What is wrong with it, or that memory ran out.
@@ -40,11 +40,7 @@ struct NamedText<'a> {
 }
 
 /// The text of the file of this name.
-pub(crate) fn read_file<F: FilesByName>(
-    files: &F,
-    alloc: Global,
-    name: &str,
-) -> Result<String, InputFault>
+fn read_file<F: FilesByName>(files: &F, alloc: Global, name: &str) -> Result<String, InputFault>
     ensures text { IfOk result (λ text. IsFileText (F.opens files.now) F.File.stream name.now (string_bytes text)) }
     ensures fault { IfErr result (IsTextless (F.opens files.now) (F.fails files.now) F.File.stream name.now) }
 {
@@ -144,7 +140,7 @@ fn configure<'a>(alloc: Global, texts: &[NamedText<'a>]) -> Result<Vec<Config>, 
 
 /// The configurations of the routers that the lines of a world's file name, in order. All their files are read before the first
 /// configuration is looked at.
-pub(crate) fn configs_of<'a, F: FilesByName>(
+fn configs_of<'a, F: FilesByName>(
     files: &F,
     alloc: Global,
     text: &'a str,
@@ -176,7 +172,7 @@ fn tell_whose<E: Write>(error: &mut E, stop: &Stop) -> io::Result<()>
 }
 
 /// Tells why a world's lines aren't played. The error is the stream's.
-pub(crate) fn tell_stop<E: Write>(error: &mut E, stop: &Stop) -> io::Result<()>
+fn tell_stop<E: Write>(error: &mut E, stop: &Stop) -> io::Result<()>
     ensures { OnOk result (Appends (E.contents error.old) (E.contents error.new) (stop_text stop.now.name.now stop.now.ending)) }
 {
     tell_ending(error, stop.name, &stop.ending)?;

@@ -108,7 +108,7 @@ pub(crate) fn read_texts<'a, C: ByteStream + Drop, R: ByteStream>(
 
 /// The session that begins, and the text of the input; or how the run ends before its first line. Both texts are
 /// read before the configuration is looked at.
-pub(crate) fn prepare<'a, C: ByteStream + Drop, R: ByteStream>(
+fn prepare<'a, C: ByteStream + Drop, R: ByteStream>(
     alloc: Global,
     config: Option<C>,
     input: &mut R,

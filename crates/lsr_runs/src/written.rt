@@ -12,7 +12,7 @@ use std::rt::Files;
 use std::{fs, io};
 
 /// Why a file isn't written.
-#[derive(Clone, Copy, PartialEq, Eq)]
+#[derive(Clone, Copy)]
 pub enum OutputFault {
     /// The folder that it would stand in isn't there.
     Absent,
@@ -173,7 +173,7 @@ fn has_file<F: Files>(files: &F, name: &str) -> Result<bool, OutputFault> {
     }
 }
 
-/// How many bytes tell which kind of file one is: as many as a journal's magic and version, or a picture's first word.
+/// How many bytes tell which kind of file one is: as many as a journal's magic and version.
 const HEAD_BYTES: usize = 8;
 
 /// Whether the file of this name is empty, or begins as one of these bytes does.

@@ -15,11 +15,9 @@ use Rattle.lsr_words.specs.Words.{AsksFor, lsr_words}
 use Rattle.lsr_words.specs.declared.words.Asked.{Asked}
 use Rattle.lsr_words.specs.declared.words.Asked.TheVariants as asked
 use Rattle.lsr_tool.specs.Attended.{AttendsFile}
-use Rattle.lsr_runs.specs.Charting.{DrawsFile, lab_chart_text}
 use Rattle.lsr_runs.specs.Checking.{ChecksFiles}
 use Rattle.lsr_tool.specs.Configuring.{Configures}
 use Rattle.lsr_runs.specs.Decoding.{DecodesAny}
-use Rattle.lsr_runs.specs.Drawing.{RunsDrawn, kept_chart_text}
 use Rattle.lsr_runs.specs.Endings.{ending_text, live_journal_text, status_of}
 use Rattle.lsr_runs.specs.Live.{RunsLive}
 use Rattle.lsr_runs.specs.Playing.{PlaysFile}
@@ -37,26 +35,20 @@ AreStrange input left output printed status = (left ≡ input) × (printed ≡ o
 -- the built-in router, which answers lines as they come, or once all have come; or the configuration of such a router is printed; or a word, the lines of the input or a capture file are decoded; or what
 -- words name, or a line among them tells, is explained. What is printed and told stands after what the streams held. The input was the first stream, and is the other now: to
 -- print a configuration and to explain a word it isn't read.
--- A run of lines may be recorded or drawn in a file: `holds` says which bytes a file of a name holds that was written.
+-- A run of lines may be recorded in a file: `holds` says which bytes a file of a name holds that was written.
 -- Or the links of the router of the file that is named are served: the input isn't read, and 0 is the status of one run of that router alone, of
--- which it was printed; or, with a console, it is an operator's, and 0 is the status of a run all of whose rounds are one run of that router. Or the world of a file is played, and the run may be drawn in another one; or recorded runs are checked or shown; the input isn't read then either.
+-- which it was printed; or, with a console, it is an operator's, and 0 is the status of a run all of whose rounds are one run of that router. Or the world of a file is played; or recorded runs are checked or shown; the input isn't read then either.
 abbrev pub Does : {F : Type 0} → (List ℕ → F → Type 0) → (List ℕ → InputFault → Type 0) → (F → Stream) → (List ℕ → List ℕ → Type 0) → Asked → Stream → Stream → Option (List ℕ) → Option (List ℕ) → Option (List ℕ) → Option (List ℕ) → ℕ → Type 0
-Does opens fails stream holds (asked.Step file echo true None None) input left output printed error told status =
+Does opens fails stream holds (asked.Step file echo true None) input left output printed error told status =
     RunsLive opens fails stream echo (option_map (λ f. f.now) file) input left output printed error told status
-Does opens fails stream holds (asked.Step file echo false None None) input left output printed error told status =
+Does opens fails stream holds (asked.Step file echo false None) input left output printed error told status =
     (ending : RunEnding) × (text : List ℕ) × (status ≡ status_of ending)
     × StepsOnFile opens fails stream echo (option_map (λ f. f.now) file) input text ending
     × Appends output printed text × Appends error told (ending_text (name_of (option_map (λ f. f.now) file)) ending)
-Does opens fails stream holds (asked.Step file echo false (Some journal) None) input left output printed error told status =
+Does opens fails stream holds (asked.Step file echo false (Some journal)) input left output printed error told status =
     RunsRecorded opens fails stream holds journal.now echo (option_map (λ f. f.now) file) input output printed error told status
-Does opens fails stream holds (asked.Step file echo false None (Some chart)) input left output printed error told status =
-    RunsDrawn opens fails stream holds chart.now echo (option_map (λ f. f.now) file) input output printed error told status
-Does opens fails stream holds (asked.Step file echo true (Some journal) None) input left output printed error told status =
+Does opens fails stream holds (asked.Step file echo true (Some journal)) input left output printed error told status =
     (left ≡ input) × (status ≡ 2) × (printed ≡ output) × Appends error told live_journal_text
-Does opens fails stream holds (asked.Step file echo true journal (Some chart)) input left output printed error told status =
-    (left ≡ input) × (status ≡ 2) × (printed ≡ output) × Appends error told kept_chart_text
-Does opens fails stream holds (asked.Step file echo false (Some journal) (Some chart)) input left output printed error told status =
-    (left ≡ input) × (status ≡ 2) × (printed ≡ output) × Appends error told kept_chart_text
 Does opens fails stream holds (asked.Config file) input left output printed error told status =
     (left ≡ input) × Configures opens fails stream (option_map (λ f. f.now) file) output printed error told status
 Does opens fails stream holds (asked.Decode word fields) input left output printed error told status = DecodesAny opens fails stream fields word.now input left output printed error told status
@@ -69,13 +61,9 @@ Does opens fails stream holds (asked.Serve file turns journal false false (Some 
 Does opens fails stream holds (asked.Serve file turns journal false true log) input left output printed error told status = AreStrange input left output printed status
 Does opens fails stream holds (asked.Serve file None journal true echo log) input left output printed error told status = status ≡ 0 → AttendsFile opens stream file.now printed
 Does opens fails stream holds (asked.Serve file (Some turns) journal true echo log) input left output printed error told status = AreStrange input left output printed status
-Does opens fails stream holds (asked.Play file false None) input left output printed error told status =
+Does opens fails stream holds (asked.Play file false) input left output printed error told status =
     (left ≡ input) × PlaysFile opens fails stream file.now output printed error told status
-Does opens fails stream holds (asked.Play file true None) input left output printed error told status = (left ≡ input) × (status ≤ 1)
-Does opens fails stream holds (asked.Play file false (Some chart)) input left output printed error told status =
-    (left ≡ input) × DrawsFile opens fails stream holds chart.now file.now output printed error told status
-Does opens fails stream holds (asked.Play file true (Some chart)) input left output printed error told status =
-    (left ≡ input) × (status ≡ 2) × (printed ≡ output) × Appends error told lab_chart_text
+Does opens fails stream holds (asked.Play file true) input left output printed error told status = (left ≡ input) × (status ≤ 1)
 Does opens fails stream holds (asked.Check files) input left output printed error told status =
     (left ≡ input) × ChecksFiles opens fails stream (map (λ f. f.now) files.items) output printed error told status
 Does opens fails stream holds (asked.ShowJournal file) input left output printed error told status =

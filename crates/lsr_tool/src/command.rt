@@ -4,7 +4,7 @@ ghost use Rattle.std.specs.Io.KnownBytes.{Appends};
 ghost use Rattle.std.specs.IoError.{error_kind};
 ghost use Rattle.std.specs.declared.io.ErrorKind.TheVariants.{BrokenPipe, OutOfMemory};
 ghost use Rattle.clap.specs.Words.{kind_of};
-ghost use Rattle.lsr_words.specs.declared.words.Asked.TheVariants.{Play, Serve, Step};
+ghost use Rattle.lsr_words.specs.declared.words.Asked.TheVariants.{Serve, Step};
 ghost use Rattle.lsr_tool.specs.Commands.{Does, Runs, words_status};
 ghost use Rattle.lsr_runs.specs.Endings.{memory_text, unread_words_text, unwritable_text};
 
@@ -15,9 +15,8 @@ use clap::error::{Error, ErrorKind};
 use line_streams::ByteStream;
 use lsr_explain::run_explain;
 use lsr_runs::{
-    BAD_WORDS, FAILED, FilesByName, SystemFiles, WritesFiles, refuse_kept_chart, refuse_lab_chart,
-    run_chart_of, run_check_of, run_decode_on, run_drawn_of, run_lab_of, run_live_of, run_play_of,
-    run_recorded_of, run_show_journal_of, run_step_of,
+    BAD_WORDS, FAILED, FilesByName, SystemFiles, WritesFiles, run_check_of, run_decode_on,
+    run_lab_of, run_live_of, run_play_of, run_recorded_of, run_show_journal_of, run_step_of,
 };
 use lsr_text::OUT_OF_MEMORY;
 use lsr_words::{Asked, read_words};
@@ -68,8 +67,8 @@ fn tell_words<W: Write, E: Write>(fault: Error, output: &mut W, error: &mut E) -
     Ok(status)
 }
 
-/// Answers lines by a router: as they come, or once all have come, and then it may record the run, or draw it. Gives the status, 2 where it is to
-/// do two of these. The error is that a stream could not be written, or that memory ran out.
+/// Answers lines by a router: as they come, or once all have come, and then it may record the run. Gives the status, 2 where it is to record a
+/// run whose lines are answered as they come. The error is that a stream could not be written, or that memory ran out.
 fn run_lines_of<
     F: FilesByName + WritesFiles,
     N: Wait + Clone + Drop,
@@ -84,30 +83,23 @@ fn run_lines_of<
     echo: bool,
     live: bool,
     journal: Option<&str>,
-    chart: Option<&str>,
     input: &mut R,
     output: &mut W,
     error: &mut E,
 ) -> io::Result<u8>
-    ensures { IfOk result (Does (F.opens files.now) (F.fails files.now) F.File.stream (F.holds files.now) (Step file.entry echo live journal.entry chart.entry)
+    ensures { IfOk result (Does (F.opens files.now) (F.fails files.now) F.File.stream (F.holds files.now) (Step file.entry echo live journal.entry)
         (R.stream input.old) (R.stream input.new) (W.contents output.old) (W.contents output.new) (E.contents error.old) (E.contents error.new)) }
 {
-    match (live, journal, chart) {
-        (false, None, None) => run_step_of(files, alloc, file, echo, input, output, error),
-        (true, None, None) => run_live_of(files, alloc, file, echo, input, output, error),
-        (false, Some(name), None) => run_recorded_of(
+    match (live, journal) {
+        (false, None) => run_step_of(files, alloc, file, echo, input, output, error),
+        (true, None) => run_live_of(files, alloc, file, echo, input, output, error),
+        (false, Some(name)) => run_recorded_of(
             files, rt, alloc, file, echo, name, input, output, error,
         ),
-        (false, None, Some(name)) => {
-            run_drawn_of(files, alloc, file, echo, name, input, output, error)
-        }
-        (true, Some(_), None) => {
+        (true, Some(_)) => {
             error.write_all(LIVE_JOURNAL.as_bytes())?;
             Ok(BAD_WORDS)
         }
-        (true, None, Some(_)) => refuse_kept_chart(error),
-        (true, Some(_), Some(_)) => refuse_kept_chart(error),
-        (false, Some(_), Some(_)) => refuse_kept_chart(error),
     }
 }
 
@@ -151,29 +143,6 @@ fn run_sockets_of<
     }
 }
 
-/// Plays the world of the file of this name, and may draw the run in another file. Gives the status, 2 where it is to take lines of `--lab` and to
-/// draw the run. The input isn't read. The error is that a stream could not be written, or that memory ran out.
-fn run_world_of<F: FilesByName + WritesFiles, R: ByteStream, W: Write, E: Write>(
-    files: &F,
-    alloc: Global,
-    file: &str,
-    lab: bool,
-    chart: Option<&str>,
-    _input: &mut R,
-    output: &mut W,
-    error: &mut E,
-) -> io::Result<u8>
-    ensures { IfOk result (Does (F.opens files.now) (F.fails files.now) F.File.stream (F.holds files.now) (Play file.entry lab chart.entry)
-        (R.stream _input.old) (R.stream _input.new) (W.contents output.old) (W.contents output.new) (E.contents error.old) (E.contents error.new)) }
-{
-    match (lab, chart) {
-        (false, None) => run_play_of(files, alloc, file, output, error),
-        (true, None) => run_lab_of(files, alloc, file, output, error),
-        (false, Some(chart)) => run_chart_of(files, alloc, file, chart, output, error),
-        (true, Some(_)) => refuse_lab_chart(error),
-    }
-}
-
 /// Does what was asked for, and gives the status. Links are served by `rt`. The error is that a stream could not be
 /// written, or that memory ran out.
 pub fn run_asked<
@@ -200,9 +169,8 @@ pub fn run_asked<
             echo,
             live,
             journal,
-            chart,
         } => run_lines_of(
-            files, rt, alloc, file, echo, live, journal, chart, input, output, error,
+            files, rt, alloc, file, echo, live, journal, input, output, error,
         ),
         Asked::Config(file) => run_config_of(files, alloc, file, output, error),
         Asked::Decode { word, fields } => {
@@ -219,9 +187,8 @@ pub fn run_asked<
         } => run_sockets_of(
             files, rt, alloc, file, turns, journal, console, echo, log, input, output, error,
         ),
-        Asked::Play { file, lab, chart } => {
-            run_world_of(files, alloc, file, lab, chart, input, output, error)
-        }
+        Asked::Play { file, lab: false } => run_play_of(files, alloc, file, output, error),
+        Asked::Play { file, lab: true } => run_lab_of(files, alloc, file, output, error),
         Asked::Check(names) => run_check_of(files, alloc, names.as_slice(), output, error),
         Asked::ShowJournal(file) => run_show_journal_of(files, alloc, file, output, error),
     }

@@ -1,5 +1,5 @@
 -- What a command asks for that was found with its values.
-use Rattle.std.proofs.Common.{◌≡◌, ◌≢◌, ◌==◌, arith, eqb-true, List, Result, Ok, Option, Some, None, [], ◌∷◌, refl, sym, subst, ap, ap₂, false, ◌∙◌, bytes_eq, codes, find, length, map, option_and_then, slice_get, true, unwrap_or}
+use Rattle.std.proofs.Common.{◌≡◌, ◌≢◌, ◌<◌, ◌+◌, ℕ, fold, get_or, take, ◌==◌, arith, eqb-true, List, Result, Ok, Option, Some, None, [], ◌∷◌, refl, sym, subst, ap, ap₂, false, ◌∙◌, bytes_eq, codes, find, length, map, option_and_then, slice_get, true, unwrap_or}
 use Rattle.std.specs.Borrow.{Bor}
 use Rattle.std.specs.Option.{MatchOption, option_map, option_map_or}
 use Rattle.std.specs.Result.{IfOk}
@@ -9,7 +9,11 @@ use Rattle.clap.specs.declared.builder.arg.Arg.{Arg}
 use Rattle.clap.specs.declared.builder.command.Command.{Command, out-Command}
 use Rattle.clap.proofs.OnLiterals.{clap_on_literals}
 use Rattle.clap.specs.declared.parser.matches.ArgMatches.{ArgMatches}
+use Rattle.lsr_words.specs.Rows.{add_row, add_word, row_words, word_rule}
 use Rattle.lsr_words.specs.Words.{Asks, AsksIn, lsr_words}
+use Rattle.lsr_words.specs.declared.table.Row.{Row as TableRow}
+use Rattle.lsr_words.specs.declared.table.Word.{Word}
+use Rattle.std.proofs.lemmas.List.Sums.{fold_more}
 use Rattle.lsr_words.specs.declared.words.Asked.{Asked}
 use Rattle.lsr_words.specs.declared.words.Asked.TheVariants as asked
 
@@ -71,8 +75,8 @@ word_is : (command name word other : Text) → command ≡ name → needed_by co
 word_is command name word other is needs said = ap (λ (o : Option Text). unwrap_or o []) (sym said ∙ ap needed_by (sym is) ∙ needs)
 
 -- where its word wasn't given nothing was given that it could be asked for
-lacks : (command word : Text) (given : List Row) (what : Asked) → needed_by command ≡ Some word → first_of word given ≡ None → Asks command given what → ⊥
-lacks command word given (asked.Step file echo live journal chart) needs none (is, text, said, kept, recorded, drawn) = let t : needed_by (codes "step") ≡ Some word = ap needed_by (sym is) ∙ needs in cc
+pub lacks : (command word : Text) (given : List Row) (what : Asked) → needed_by command ≡ Some word → first_of word given ≡ None → Asks command given what → ⊥
+lacks command word given (asked.Step file echo live journal) needs none (is, text, said, kept, recorded) = let t : needed_by (codes "step") ≡ Some word = ap needed_by (sym is) ∙ needs in cc
 lacks command word given (asked.Config file) needs none (is, text) = let t : needed_by (codes "config") ≡ Some word = ap needed_by (sym is) ∙ needs in cc
 lacks command word given (asked.Decode digits fields) needs none (is, text, said) =
     let t = sym none ∙ ap (λ w. first_of w given) (sym (word_is command _ word _ is needs refl)) ∙ text in cc
@@ -80,39 +84,45 @@ lacks command word given (asked.Explain words) needs none (is, text, some) =
     has_first (codes "WHAT") given words.items text some (ap (λ w. first_of w given) (word_is command _ word _ is needs refl) ∙ none)
 lacks command word given (asked.Serve file turns journal console echo log) needs none (is, text, count, recorded, attended, echoed, told) =
     let t = sym none ∙ ap (λ w. first_of w given) (sym (word_is command _ word _ is needs refl)) ∙ text in cc
-lacks command word given (asked.Play file lab chart) needs none (is, text, said, drawn) =
+lacks command word given (asked.Play file lab) needs none (is, text, said) =
     let t = sym none ∙ ap (λ w. first_of w given) (sym (word_is command _ word _ is needs refl)) ∙ text in cc
 lacks command word given (asked.Check files) needs none (is, text, some) =
     has_first (codes "FILE") given files.items text some (ap (λ w. first_of w given) (word_is command _ word _ is needs refl) ∙ none)
 lacks command word given (asked.ShowJournal file) needs none (is, text) =
     let t = sym none ∙ ap (λ w. first_of w given) (sym (word_is command _ word _ is needs refl)) ∙ text in cc
 
--- a command without its word asks for nothing
-pub asks_nothing : (found : Option (Text × List Row)) (name word : Text) (given : List Row) → found ≡ Some (name, given) → needed_by name ≡ Some word → first_of word given ≡ None → (other : Asked) → AsksIn found other → ⊥
-asks_nothing found name word given e needs none other (command, values, f, asks) =
-    lacks command word values other (ap needed_by (sym (same_command name command given values (sym e ∙ f))) ∙ needs)
-    (ap (first_of word) (sym (same_values name command given values (sym e ∙ f))) ∙ none) asks
+not_asked : (found : Option (Text × List Row)) (name : Text) (given : List Row) → found ≡ Some (name, given) → ((other : Asked) → Asks name given other → ⊥) → (other : Asked) → AsksIn found other → ⊥
+not_asked found name given e h other (command, values, f, asks) =
+    h other (subst (λ command. Asks command given other) (sym (same_command name command given values (sym e ∙ f))) (subst (λ values. Asks command values other) (sym (same_values name command given values (sym e ∙ f))) asks))
 
--- what a command asks for is what was found
-pub asked_as : (what : Asked) (found : Option (Text × List Row)) (command name : Text) (given : List Row) → found ≡ Some (name, given) → name ≡ command → Asks command given what → AsksIn found what
-asked_as what found command name given e is h = (name, given, e, subst (λ command. Asks command given what) (sym is) h)
+-- what a command that was found asks for
+pub asks_in : (what : Option Asked) (found : Option (Text × List Row)) (name : Text) (given : List Row) → found ≡ Some (name, given)
+    → MatchOption what ((other : Asked) → Asks name given other → ⊥) (Asks name given) → MatchOption what ((other : Asked) → AsksIn found other → ⊥) (AsksIn found)
+asks_in None found name given e h = not_asked found name given e h
+asks_in (Some what) found name given e h = (name, given, e, h)
 
--- what a command asks for is what was found, where its word was given
-pub asked_or : (what : Option Asked) (found : Option (Text × List Row)) (command name word : Text) (given : List Row) → found ≡ Some (name, given) → name ≡ command → needed_by command ≡ Some word
-    → MatchOption what (first_of word given ≡ None) (Asks command given) → MatchOption what ((other : Asked) → AsksIn found other → ⊥) (AsksIn found)
-asked_or None found command name word given e is needs h = asks_nothing found name word given e (ap needed_by is ∙ needs) h
-asked_or (Some what) found command name word given e is needs h = asked_as what found command name given e is h
+no_pair : (found : Option (Text × List Row)) → option_map (λ (p : Text × List Row). p.0) found ≡ None → found ≡ None
+no_pair None e = refl
+no_pair (Some p) e = let t = e in cc
 
--- a command with one more argument
-pub adds_word : (old : Command) (a : Arg) (new : Command) (before : App) (rule : Rule) → AddsArg old a new → rule_of a ≡ rule → a.global ≡ false → app_of old ≡ before → app_of new ≡ with_rule before rule
-adds_word old a new before rule adds is local e = adds.shape local ∙ ap₂ with_rule e is
+-- where there is no command nothing is asked for
+pub none_asks : (m : ArgMatches) → None ≡ subcommand_name_of m → (other : Asked) → AsksIn (subcommand_rows_of m) other → ⊥
+none_asks m e other (command, values, f, asks) = let t = sym (no_pair (subcommand_rows_of m) (name_of m ∙ sym e)) ∙ f in cc
+
+pub none_given : {X : Type 0} (P : X → Type 0) (Q : Type 0) (r : Option X) → r ≡ None → MatchOption r Q P → Q
+none_given P Q None e h = h
+none_given P Q (Some x) e h = let t = e in cc
+
+-- a command with one word more
+pub one_more_word : (old new : Command) (a : Arg) (start : App) (words : List Word) (i : ℕ) (d : Word) → i < length words → app_of old ≡ fold add_word start (take i words)
+    → rule_of a ≡ word_rule (get_or words i d) → a.global ≡ false → AddsArg old a new → app_of new ≡ fold add_word start (take (i + 1) words)
+one_more_word old new a start words i d low before rule local adds = adds.shape local ∙ ap₂ with_rule before rule ∙ sym (fold_more add_word start words i d low)
 
 -- a program with one command more
-pub adds_command : {E : Type 0} (program : Command) (made : Result Command E) (more : Command) (before words : App) → app_of program ≡ before
-    → IfOk made (λ command. app_of command ≡ words) → IfOk made (λ command. (out-Command command).has_globals ≡ false)
-    → (command : Command) × (made ≡ Ok command) × AddsSubcommand program command more → app_of more ≡ with_subcommand before words.top
-adds_command program made more before words e is local (command, found, adds) =
-    adds.shape (rw found at local) ∙ ap₂ with_subcommand e (ap (λ (a : App). a.top) (rw found at is))
+pub one_more_row : (program sub more : Command) (start : App) (rows : List TableRow) (i : ℕ) (d : TableRow) → i < length rows → app_of program ≡ fold add_row start (take i rows)
+    → app_of sub ≡ row_words (get_or rows i d) → (out-Command sub).has_globals ≡ false → AddsSubcommand program sub more → app_of more ≡ fold add_row start (take (i + 1) rows)
+one_more_row program sub more start rows i d low before words local adds =
+    adds.shape local ∙ ap₂ with_subcommand before (ap (λ (a : App). a.top) words) ∙ sym (fold_more add_row start rows i d low)
 
 pub is_taken : is_simple lsr_words ≡ true
 unfolding clap_on_literals

@@ -1,5 +1,6 @@
 -- Which words ask for what.
 use Rattle.std.specs.Prelude.{◌≡◌, ◌≢◌, ℕ, List, [], ◌∷◌, Option, Some, None, Bool, true, false, bytes_eq, codes, fold, map, option_map}
+use Rattle.std.specs.Borrow.{Bor}
 use Rattle.clap.specs.Words.{App, Row, Rule, Text, all_of, first_of, new_app, new_rule, subcommand_of, with_rule, with_subcommand}
 use Rattle.clap.specs.Simple.{on_top}
 use Rattle.clap.specs.declared.builder.action.ArgAction.TheVariants.{Append, SetTrue}
@@ -26,17 +27,13 @@ live_word = record (new_rule (codes "live")) { long = Some (codes "live"); actio
 abbrev pub journal_words : Rule
 journal_words = record (new_rule (codes "journal")) { long = Some (codes "journal"); value_names = 1 }
 
--- `--chart FILE`
-abbrev pub chart_words : Rule
-chart_words = record (new_rule (codes "chart")) { long = Some (codes "chart"); value_names = 1 }
-
 -- `step [--config FILE] [--echo] [--live]`
 abbrev pub answered_words : App
 answered_words = with_rule (with_rule (with_rule (new_app (codes "step")) file_words) echo_word) live_word
 
--- `step [--config FILE] [--echo] [--live] [--journal FILE] [--chart FILE]`
+-- `step [--config FILE] [--echo] [--live] [--journal FILE]`
 abbrev pub step_words : App
-step_words = with_rule (with_rule answered_words journal_words) chart_words
+step_words = with_rule answered_words journal_words
 
 -- `FILE`, which may be left out
 abbrev pub printed_word : Rule
@@ -94,9 +91,9 @@ played_word = record (new_rule (codes "FILE")) { required = true }
 abbrev pub lab_word : Rule
 lab_word = record (new_rule (codes "lab")) { long = Some (codes "lab"); action = Some SetTrue }
 
--- `play FILE [--lab] [--chart FILE]`
+-- `play FILE [--lab]`
 abbrev pub play_words : App
-play_words = with_rule (with_rule (with_rule (new_app (codes "play")) played_word) lab_word) chart_words
+play_words = with_rule (with_rule (new_app (codes "play")) played_word) lab_word
 
 -- `FILE..`, one or more
 abbrev pub checked_words : Rule
@@ -131,12 +128,15 @@ abbrev pub is_given : Option (List ℕ) → Bool
 is_given None = false
 is_given (Some word) = bytes_eq word (codes "true")
 
+-- all that was given for a word, and something was
+abbrev pub AreAll : Text → List Row → List (Bor Text) → Type 0
+AreAll name given words = (all_of name given ≡ Some (map (λ w. w.now) words)) × (words ≢ [])
+
 -- what a command asks for, with the values that it was given
 abbrev pub Asks : Text → List Row → Asked → Type 0
-Asks command given (asked.Step file echo live journal chart) =
+Asks command given (asked.Step file echo live journal) =
     (command ≡ codes "step") × (option_map (λ f. f.now) file ≡ first_of (codes "config") given) × (echo ≡ is_given (first_of (codes "echo") given))
     × (live ≡ is_given (first_of (codes "live") given)) × (option_map (λ f. f.now) journal ≡ first_of (codes "journal") given)
-    × (option_map (λ f. f.now) chart ≡ first_of (codes "chart") given)
 Asks command given (asked.Config file) = (command ≡ codes "config") × (option_map (λ f. f.now) file ≡ first_of (codes "FILE") given)
 Asks command given (asked.Decode word fields) =
     (command ≡ codes "decode") × (first_of (codes "HEX") given ≡ Some word.now) × (fields ≡ is_given (first_of (codes "fields") given))
@@ -146,9 +146,8 @@ Asks command given (asked.Serve file turns journal console echo log) =
     (command ≡ codes "serve") × (first_of (codes "FILE") given ≡ Some file.now) × (option_map (λ n. n.now) turns ≡ first_of (codes "turns") given)
     × (option_map (λ p. p.now) journal ≡ first_of (codes "journal") given) × (console ≡ is_given (first_of (codes "console") given))
     × (echo ≡ is_given (first_of (codes "echo") given)) × (option_map (λ l. l.now) log ≡ first_of (codes "log") given)
-Asks command given (asked.Play file lab chart) =
+Asks command given (asked.Play file lab) =
     (command ≡ codes "play") × (first_of (codes "FILE") given ≡ Some file.now) × (lab ≡ is_given (first_of (codes "lab") given))
-    × (option_map (λ f. f.now) chart ≡ first_of (codes "chart") given)
 Asks command given (asked.Check files) =
     (command ≡ codes "check") × (all_of (codes "FILE") given ≡ Some (map (λ f. f.now) files.items)) × (files.items ≢ [])
 Asks command given (asked.ShowJournal file) = (command ≡ codes "show-journal") × (first_of (codes "FILE") given ≡ Some file.now)

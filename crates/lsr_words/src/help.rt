@@ -1,25 +1,17 @@
-//! The words that `lsr` takes, and what its help says.
-ghost use Rattle.std.specs.Prelude.{◌≡◌, ◌∷◌, [], Ok, Some, true, false, IfOk};
-ghost use Rattle.clap.specs.Built.{AddsSubcommand};
-ghost use Rattle.clap.specs.Words.{app_of, new_app, new_rule, rule_of};
-ghost use Rattle.clap.specs.declared.builder.action.ArgAction.TheVariants.{Append, SetTrue};
-ghost use Rattle.clap.specs.declared.builder.command.Command.{Command, out-Command};
-ghost use Rattle.lsr_words.specs.Words.{answered_words, check_words, config_words, counted_words, decode_words, explain_words, lsr_words, play_words, printed_word, program_words, serve_words, show_journal_words, step_words, with_commands};
-
-use clap::{Arg, ArgAction, Command};
-use std::alloc::{AllocError, Global};
+//! What the help of `lsr` says.
 
 /// What stands after the program's name in `lsr --version`: the number, and what is proved.
-const VERSION: &str = "\
+pub(crate) const VERSION: &str = "\
 0.1.0
   Proved with rattle-kit-13f, logic dac8208d650f15bf (`rt version`): each function meets its
   contract, is safe and ends; README.md (What is promised) says what that covers.
   That is said of the sources: `./lsr --prove` proves them and builds the program from them,
   and a program that `./lsr` built without it checks itself as it runs";
 
-const ABOUT: &str = "An RSVP-TE control plane for MPLS: run it, inspect it, check what it did.";
+pub(crate) const ABOUT: &str =
+    "An RSVP-TE control plane for MPLS: run it, inspect it, check what it did.";
 
-const HELP: &str = "\
+pub(crate) const HELP: &str = "\
 More help:
   lsr step --help     the lines that a router takes, and what it prints for them
   lsr config --help   a router's configuration, checked and printed whole
@@ -47,9 +39,8 @@ Exit status of every command:
   2                   the words after `lsr` aren't taken, and nothing was done: too few, too
                       many or unknown ones, HEX that isn't hexadecimal digits, WHAT that names
                       nothing, N that isn't a number of turns, LEVEL that is none, or words
-                      that don't go together: --journal and --live, --chart and either of them,
-                      --chart and --lab of `play`, --turns and --console, --echo or --log of
-                      `serve` without --console
+                      that don't go together: --journal and --live, --turns and --console,
+                      --echo or --log of `serve` without --console
 What went wrong stands on standard error. Among the answers stand `mismatch` of serve, `entry N:
 FAULT` of check, `refused 41 JournalFull` of step --journal, and what `decode` says of lines or a
 file. The first line says what it is; lines after it that begin with two spaces say where it is and
@@ -58,11 +49,11 @@ kinds of lines it doesn't know: `error: ..` is about the words after `lsr`, and 
 which byte a journal file breaks.
 ";
 
-const STEP_ABOUT: &str = "\
+pub(crate) const STEP_ABOUT: &str = "\
 Serves messages, frames, the clock, links that come up and go down, commands and restarts, a
 line each from standard input, and prints what the router answers and sends";
 
-const STEP_HELP: &str = "\
+pub(crate) const STEP_HELP: &str = "\
 Standard input is read to its end, at most 16777216 bytes, before its first line is answered; with
 --live each line is answered as soon as it has come. A newline at the very end begins no further
 line. Each line is one of these:
@@ -129,14 +120,6 @@ With --journal the run is recorded in FILE: the configuration, and each event wi
 reply and what was sent. Keep FILE: `lsr check FILE` says later, anywhere, whether that is what
 such a router does, and `lsr show-journal FILE` prints it. Of the `show` lines only `show recent`
 is taken then. It isn't taken beside --live.
-
-With --chart the run is drawn in FILE, once it has ended, as a sequence chart that a browser shows.
-The router is its first column, and each of its links one, by its number and its neighbour's
-address. What comes over a link is an arrow to the router, what is sent an arrow from it, each with
-its message and LSP as TUNNEL/LSP; thick ones are of an LSP that is repaired. Beside the router
-stands what it answered, unless that is `done`. Commands, ticks and restarts stand above what came
-of them; ticks of which nothing came, and `show`, aren't drawn. A bad line ends the chart. It has
-4096 rows at most, and isn't taken beside --journal or --live.
 
 What is printed for each of them but `show`:
   done              it was done
@@ -228,18 +211,18 @@ with --live with some of them; 2 where the words of the command aren't taken:
   unreadable        FILE or the input can't be opened or read, isn't UTF-8, or has more than
                     16777216 bytes; the line after it says which of them it is, and why
   memory            there is no memory; what was printed before is done
-  unwritable        the output or the error stream can't be written, or the file of --journal or
-                    --chart, and then the line after it says why
+  unwritable        the output or the error stream can't be written, or the file of --journal, and
+                    then the line after it says why
 
 Example: a tear of a path that isn't there prints `refused 10 NoMatch`.
   echo rx 1 1005b988ff000030001001070a000004000000010a000001000c03010a00000100000001\
 000c0b070a00000100000001 | lsr step
 ";
 
-const CONFIG_ABOUT: &str = "\
+pub(crate) const CONFIG_ABOUT: &str = "\
 Checks a router's configuration, and prints it as the router understands it";
 
-const CONFIG_HELP: &str = "\
+pub(crate) const CONFIG_HELP: &str = "\
 What is printed is the whole configuration, as TOML: it can be given to `lsr step --config` and
 `lsr serve` in place of FILE, and is the same router. Use it to check a file before it is used, to
 see what was left out, to bring a file into order, or to begin one: without FILE it is the built-in
@@ -270,10 +253,10 @@ Example: what two files differ in as routers.
   lsr config one.toml > one; lsr config other.toml > other; diff one other
 ";
 
-const DECODE_ABOUT: &str =
+pub(crate) const DECODE_ABOUT: &str =
     "Prints the objects of one message, of each message of many lines, or of a capture file";
 
-const DECODE_HELP: &str = "\
+pub(crate) const DECODE_HELP: &str = "\
 HEX is one word, the bytes of one message in hexadecimal digits of either case, two for each,
 with no blanks; or it is `-`, which reads standard input to its end; or a word with `.` or `/` in
 it, which is the name of a capture file.
@@ -361,10 +344,10 @@ Example: the messages of a capture.
   lsr decode examples/first-path.pcap
 ";
 
-const EXPLAIN_ABOUT: &str = "\
+pub(crate) const EXPLAIN_ABOUT: &str = "\
 Says what a refusal, an error or a fault means, what to do about it, and where its rule stands";
 
-const EXPLAIN_HELP: &str = "\
+pub(crate) const EXPLAIN_HELP: &str = "\
 WHAT is the line that was told, whole or a part of it, as one word or as many: `lsr explain refused
 24 UnknownLink`. Capitals and small letters are alike. Words are parted by exactly one space. What
 stands after the first `refused`, `error`, `config` or `entry N:` is explained, and else the first
@@ -390,11 +373,11 @@ Example: what to do about a line of the log.
   lsr explain tunnel 1 error 24/5 NoRoute from 10.0.0.3
 ";
 
-const SERVE_ABOUT: &str = "\
+pub(crate) const SERVE_ABOUT: &str = "\
 Serves the links of a configuration over UDP sockets of this machine, and checks at exit that all
 threads saw the same sequence of events";
 
-const SERVE_HELP: &str = "\
+pub(crate) const SERVE_HELP: &str = "\
 Each link of FILE has `listen`, the socket address at which its frames come in, and `send`, to
 which they go: addresses of this machine alone, as 127.0.0.1:5701, and all of one family.
 docs/CONFIGURATION.md has the other keys; begin with copies of examples/serve-head.toml and
@@ -424,15 +407,13 @@ What is printed in the end:
   mismatch PORT PLACE      they aren't: the first port, and the place among its receipts. The
                            status is 1 then
 
-On standard error, in lines of a log, three for each port, and one for the router:
-  port P: M receipts
-                           how many events it fed
-  port P: N datagrams: A dropped, B passed, C fed, D refused
+On standard error, in lines of a log, one for each port (link L, clock, console), and one for the
+router:
+  link L: N received: A processed, B forwarded, C dropped, D refused; I frames not sent, J socket errors
                            how many datagrams came, or ticks of the clock, and what became of
-                           them: dropped for a fault or for want of a way, passed on or delivered
-                           by their labels, fed as events, and refused with one of 40 to 43
-  port P: I frames lost, J faults of the wire
-                           how many frames nothing carried, and how often the socket failed
+                           them: fed as events, passed on or delivered by their labels, dropped
+                           for a fault or for want of a way, and refused with one of 40 to 43; how
+                           many frames nothing carried, and how often the socket failed
   router: A paths, B reservations, C repairs
                            what it knows at the end
 
@@ -459,11 +440,11 @@ Example: a router that runs until `quit`.
   lsr serve examples/serve-head.toml --console
 ";
 
-const PLAY_ABOUT: &str = "\
+pub(crate) const PLAY_ABOUT: &str = "\
 Plays a world of up to sixteen routers, joined by wires that lose, repeat and reorder as the lines
 of a file say, and prints what each router answers and sends";
 
-const PLAY_HELP: &str = "\
+pub(crate) const PLAY_HELP: &str = "\
 FILE is a text, read whole before its first line is taken. First come its routers and wires:
   router NAME FILE  there is a router, which FILE configures (docs/CONFIGURATION.md); NAME is any
                     word that no router above has. FILE is looked for in the folder in which `lsr`
@@ -512,13 +493,6 @@ With --lab these lines are taken, too:
                     printed before its answer, as `> deliver 7`, and can be played again without
                     --lab
 
-With --chart the run is drawn in a file once it has ended, as a sequence chart that a browser shows:
-routers are columns, and the line of each move stands above what came of it. Each frame is an arrow,
-drawn where it is sent, to the router at the other end of its wire: with its number, its message and
-LSP as TUNNEL/LSP, and its labels. It arrives where a line `deliver I` says so. Thick ones go over
-a bypass, or tell of a repair. Beside a router stands what it answered, unless that is `done`. A
-chart has 4096 rows at most. There is none where routers and wires make no world, or memory ran out.
-
 The status is 0 where each line was taken, whatever is answered; 1 with one of these on standard
 error; 2 where the words of the command aren't taken:
   unreadable        FILE, or a file that a line `router NAME FILE` names, can't be opened or read,
@@ -533,18 +507,17 @@ error; 2 where the words of the command aren't taken:
                     is joined already
   world Memory      there is no memory for the routers
   memory            there is no memory; what was printed before is done
-  unwritable        the output or the error stream can't be written, or the file of --chart, and
-                    then the line after it says why
+  unwritable        the output or the error stream can't be written
 
 Example: three routers in a line, between which a tunnel comes up.
   lsr play examples/world/line.play --lab
 ";
 
-const CHECK_ABOUT: &str = "\
+pub(crate) const CHECK_ABOUT: &str = "\
 Says whether recorded runs are what a router with their configuration does, each from where the one
 before it ended";
 
-const CHECK_HELP: &str = "\
+pub(crate) const CHECK_HELP: &str = "\
 Each FILE is what `lsr step --journal` or `lsr serve --journal` recorded. Give the files of one run
 in the order in which they were written, to audit a router's night or after a file was copied. Who
 wrote them isn't trusted: each entry's step is decided anew, with the labels that it says were
@@ -575,10 +548,10 @@ Example: a night in three files.
   lsr check $(ls -v night.*[0-9])
 ";
 
-const SHOW_JOURNAL_ABOUT: &str = "\
+pub(crate) const SHOW_JOURNAL_ABOUT: &str = "\
 Prints a recorded run, entry by entry";
 
-const SHOW_JOURNAL_HELP: &str = "\
+pub(crate) const SHOW_JOURNAL_HELP: &str = "\
 FILE is what `lsr step --journal` or `lsr serve --journal` recorded. Each of its entries is printed
 as lines, in their order, as it stands there: to see what a router did, or what is wrong with the
 entry that `lsr check` names. Whether it is what a router does is asked of `lsr check` alone.
@@ -589,358 +562,3 @@ the output can't be written, or memory ran out; 2 where the words of the command
 Example: what a run recorded.
   lsr step --journal night.1 < lines; lsr show-journal night.1
 ";
-
-const HEX_HELP: &str = "\
-The message's bytes: an even number of hexadecimal digits of either case; `-` for a message in
-each line of standard input, which is read to its end; or the name of a capture file, a word with
-`.` or `/` in it";
-
-const WHAT_HELP: &str = "\
-A line that was told, as one word or as many; or a refusal's number or name, an error's code and
-value, as 24/5, or its name, a fault's name; or `list`";
-
-const PRINTED_FILE_HELP: &str =
-    "The file of a router's configuration (TOML); without it the built-in router's is printed";
-
-const FILE_HELP: &str =
-    "The file of the router's configuration (TOML); each of its links has `listen` and `send`";
-
-const PLAYED_FILE_HELP: &str =
-    "The file of the world: its routers, its wires and its moves, one in each line";
-
-const LAB_HELP: &str = "\
-Takes remarks, `show NAME WHAT`, `run` and `seed N MOVES`, too";
-
-const STEP_CHART_HELP: &str = "\
-Draws the run in FILE, as a sequence chart (SVG); not beside --journal or --live";
-
-const CHART_HELP: &str = "\
-Draws the run in FILE, as a sequence chart (SVG); not beside --lab";
-
-const TURNS_HELP: &str =
-    "How many turns each link makes, of 100 milliseconds at most: 1 to 1000000; without it 1000";
-
-const CONFIG_OPTION_HELP: &str =
-    "The file of the router's configuration (TOML); without it the built-in router serves";
-
-const ECHO_HELP: &str = "\
-Prints each line before its answers, and passes over empty lines and lines that begin with #";
-
-const LIVE_HELP: &str = "\
-Answers each line as soon as it has come, and goes on after a bad line";
-
-const STEP_JOURNAL_HELP: &str = "\
-Records the run in FILE, for `lsr check` and `lsr show-journal`; not beside --live";
-
-const SERVE_JOURNAL_HELP: &str = "\
-Records the run in PREFIX.1, PREFIX.2 and so on, for `lsr check` and `lsr show-journal`";
-
-const CONSOLE_HELP: &str = "\
-Answers each line of the input at once, and runs until `quit` or the end of the input; not beside
---turns";
-
-const SERVE_ECHO_HELP: &str = "\
-Prints what a line has the router send after its answer; only beside --console";
-
-const LOG_HELP: &str = "\
-How much is told of what happens: info, warn or off; only beside --console; without it info";
-
-const CHECKED_FILES_HELP: &str =
-    "The files of recorded runs, each of which begins where the one before it ended";
-
-const SHOWN_FILE_HELP: &str = "The file of a recorded run";
-
-const FIELDS_HELP: &str = "\
-Prints after the line of each object what it says: its class and its fields by name";
-
-/// The program's name.
-const PROGRAM: &str = "lsr";
-/// The name of the command that answers lines.
-pub(crate) const STEP: &str = "step";
-/// The name of the command that decodes a message.
-pub(crate) const DECODE: &str = "decode";
-/// The name of the command that explains what is told.
-pub(crate) const EXPLAIN: &str = "explain";
-/// The name of the command that serves links over sockets.
-pub(crate) const SERVE: &str = "serve";
-/// The name of the command that prints a configuration.
-pub(crate) const CONFIG: &str = "config";
-/// The name of the command that plays a world.
-pub(crate) const PLAY: &str = "play";
-/// The name of the command that checks recorded runs.
-pub(crate) const CHECK: &str = "check";
-/// The name of the command that prints a recorded run.
-pub(crate) const SHOW_JOURNAL: &str = "show-journal";
-/// The name of the argument of `config`, of `serve`, of `play`, of `check` and of `show-journal`.
-pub(crate) const FILE: &str = "FILE";
-/// The name of the option of `serve` that takes a number of turns.
-pub(crate) const TURNS: &str = "turns";
-/// The name of the option of `play` that takes more lines.
-pub(crate) const LAB: &str = "lab";
-/// The name of the option of `play` that draws the run.
-pub(crate) const CHART: &str = "chart";
-/// The name of the argument of `explain`.
-pub(crate) const WHAT: &str = "WHAT";
-/// The name of the argument of `decode`.
-pub(crate) const HEX: &str = "HEX";
-/// The name of the option of `step` that takes a file.
-pub(crate) const CONFIG_OPTION: &str = "config";
-/// The name of the option of `step` that prints lines, too, and of the one of `serve` that prints what is sent.
-pub(crate) const ECHO: &str = "echo";
-/// The name of the option of `step` that answers lines as they come.
-pub(crate) const LIVE: &str = "live";
-/// The name of the option of `step` and of `serve` that records the run.
-pub(crate) const JOURNAL: &str = "journal";
-/// The name of the option of `serve` that answers an operator.
-pub(crate) const CONSOLE: &str = "console";
-/// The name of the option of `serve` that says how much is told.
-pub(crate) const LOG: &str = "log";
-/// The name of the option of `decode` that names fields.
-pub(crate) const FIELDS: &str = "fields";
-
-/// An option that takes a value.
-fn option<'a>(alloc: Global, name: &'a str, value: &'a str, help: &'a str) -> Arg<'a>
-    ensures rule { rule_of result ≡ record (new_rule name.entry.now) { long = Some name.entry.now; value_names = 1 } }
-    ensures local { result.global ≡ false }
-{
-    Arg::new(alloc, name)
-        .long(name)
-        .value_name(value)
-        .help(help)
-}
-
-/// An option without a value.
-fn switch<'a>(alloc: Global, name: &'a str, help: &'a str) -> Arg<'a>
-    ensures rule { rule_of result ≡ record (new_rule name.entry.now) { long = Some name.entry.now; action = Some SetTrue } }
-    ensures local { result.global ≡ false }
-{
-    Arg::new(alloc, name)
-        .long(name)
-        .action(ArgAction::SetTrue)
-        .help(help)
-}
-
-/// A word that has to be there.
-fn required_word<'a>(alloc: Global, name: &'a str, help: &'a str) -> Arg<'a>
-    ensures rule { rule_of result ≡ record (new_rule name.entry.now) { required = true } }
-    ensures local { result.global ≡ false }
-{
-    Arg::new(alloc, name).required(true).help(help)
-}
-
-/// A word of which one has to be there, and more may be.
-fn required_words<'a>(alloc: Global, name: &'a str, help: &'a str) -> Arg<'a>
-    ensures rule { rule_of result ≡ record (new_rule name.entry.now) { required = true; action = Some Append } }
-    ensures local { result.global ≡ false }
-{
-    required_word(alloc, name, help).action(ArgAction::Append)
-}
-
-/// `FILE`, which may be left out.
-fn printed_file<'a>(alloc: Global) -> Arg<'a>
-    ensures rule { rule_of result ≡ printed_word }
-    ensures local { result.global ≡ false }
-{
-    Arg::new(alloc, FILE).help(PRINTED_FILE_HELP)
-}
-
-/// A command without words of its own, with its help.
-fn bare_command<'a>(alloc: Global, name: &'a str, about: &'a str, help: &'a str) -> Command<'a>
-    ensures words { app_of result ≡ new_app name.entry.now }
-    ensures local { (out-Command result).has_globals ≡ false }
-{
-    Command::new(alloc, name).about(about).after_help(help)
-}
-
-/// `step [--config FILE] [--echo] [--live]`, and the files that a run is kept in are left out. The only error is that memory ran out.
-fn answered_command<'a>(alloc: Global) -> Result<Command<'a>, AllocError>
-    ensures words { IfOk result (λ command. app_of command ≡ answered_words) }
-    ensures local { IfOk result (λ command. (out-Command command).has_globals ≡ false) }
-{
-    let config = bare_command(alloc, STEP, STEP_ABOUT, STEP_HELP).arg(option(
-        alloc,
-        CONFIG_OPTION,
-        FILE,
-        CONFIG_OPTION_HELP,
-    ))?;
-    let echo = config.arg(switch(alloc, ECHO, ECHO_HELP))?;
-    echo.arg(switch(alloc, LIVE, LIVE_HELP))
-}
-
-/// `step [--config FILE] [--echo] [--live] [--journal FILE] [--chart FILE]`. The only error is that memory ran out.
-fn step_command<'a>(alloc: Global) -> Result<Command<'a>, AllocError>
-    ensures words { IfOk result (λ command. app_of command ≡ step_words) }
-    ensures local { IfOk result (λ command. (out-Command command).has_globals ≡ false) }
-{
-    let journal = answered_command(alloc)?.arg(option(alloc, JOURNAL, FILE, STEP_JOURNAL_HELP))?;
-    journal.arg(option(alloc, CHART, FILE, STEP_CHART_HELP))
-}
-
-/// `config [FILE]`. The only error is that memory ran out.
-fn config_command<'a>(alloc: Global) -> Result<Command<'a>, AllocError>
-    ensures words { IfOk result (λ command. app_of command ≡ config_words) }
-    ensures local { IfOk result (λ command. (out-Command command).has_globals ≡ false) }
-{
-    bare_command(alloc, CONFIG, CONFIG_ABOUT, CONFIG_HELP).arg(printed_file(alloc))
-}
-
-/// `decode HEX [--fields]`. The only error is that memory ran out.
-fn decode_command<'a>(alloc: Global) -> Result<Command<'a>, AllocError>
-    ensures words { IfOk result (λ command. app_of command ≡ decode_words) }
-    ensures local { IfOk result (λ command. (out-Command command).has_globals ≡ false) }
-{
-    let hex = bare_command(alloc, DECODE, DECODE_ABOUT, DECODE_HELP).arg(required_word(
-        alloc, HEX, HEX_HELP,
-    ))?;
-    hex.arg(switch(alloc, FIELDS, FIELDS_HELP))
-}
-
-/// `explain WHAT..`. The only error is that memory ran out.
-fn explain_command<'a>(alloc: Global) -> Result<Command<'a>, AllocError>
-    ensures words { IfOk result (λ command. app_of command ≡ explain_words) }
-    ensures local { IfOk result (λ command. (out-Command command).has_globals ≡ false) }
-{
-    bare_command(alloc, EXPLAIN, EXPLAIN_ABOUT, EXPLAIN_HELP).arg(required_words(
-        alloc, WHAT, WHAT_HELP,
-    ))
-}
-
-/// `serve FILE [--turns N] [--journal PREFIX]`, and what a run with a console takes more is left out. The only error is that memory ran out.
-fn counted_command<'a>(alloc: Global) -> Result<Command<'a>, AllocError>
-    ensures words { IfOk result (λ command. app_of command ≡ counted_words) }
-    ensures local { IfOk result (λ command. (out-Command command).has_globals ≡ false) }
-{
-    let file = bare_command(alloc, SERVE, SERVE_ABOUT, SERVE_HELP).arg(required_word(
-        alloc, FILE, FILE_HELP,
-    ))?;
-    let turns = file.arg(option(alloc, TURNS, "N", TURNS_HELP))?;
-    turns.arg(option(alloc, JOURNAL, "PREFIX", SERVE_JOURNAL_HELP))
-}
-
-/// `serve FILE [--turns N] [--journal PREFIX] [--console] [--echo] [--log LEVEL]`. The only error is that memory ran out.
-fn serve_command<'a>(alloc: Global) -> Result<Command<'a>, AllocError>
-    ensures words { IfOk result (λ command. app_of command ≡ serve_words) }
-    ensures local { IfOk result (λ command. (out-Command command).has_globals ≡ false) }
-{
-    let console = counted_command(alloc)?.arg(switch(alloc, CONSOLE, CONSOLE_HELP))?;
-    let echo = console.arg(switch(alloc, ECHO, SERVE_ECHO_HELP))?;
-    echo.arg(option(alloc, LOG, "LEVEL", LOG_HELP))
-}
-
-/// `play FILE [--lab] [--chart FILE]`. The only error is that memory ran out.
-fn play_command<'a>(alloc: Global) -> Result<Command<'a>, AllocError>
-    ensures words { IfOk result (λ command. app_of command ≡ play_words) }
-    ensures local { IfOk result (λ command. (out-Command command).has_globals ≡ false) }
-{
-    let file = bare_command(alloc, PLAY, PLAY_ABOUT, PLAY_HELP).arg(required_word(
-        alloc,
-        FILE,
-        PLAYED_FILE_HELP,
-    ))?;
-    let lab = file.arg(switch(alloc, LAB, LAB_HELP))?;
-    lab.arg(option(alloc, CHART, FILE, CHART_HELP))
-}
-
-/// `check FILE..`. The only error is that memory ran out.
-fn check_command<'a>(alloc: Global) -> Result<Command<'a>, AllocError>
-    ensures words { IfOk result (λ command. app_of command ≡ check_words) }
-    ensures local { IfOk result (λ command. (out-Command command).has_globals ≡ false) }
-{
-    bare_command(alloc, CHECK, CHECK_ABOUT, CHECK_HELP).arg(required_words(
-        alloc,
-        FILE,
-        CHECKED_FILES_HELP,
-    ))
-}
-
-/// `show-journal FILE`. The only error is that memory ran out.
-fn show_journal_command<'a>(alloc: Global) -> Result<Command<'a>, AllocError>
-    ensures words { IfOk result (λ command. app_of command ≡ show_journal_words) }
-    ensures local { IfOk result (λ command. (out-Command command).has_globals ≡ false) }
-{
-    bare_command(alloc, SHOW_JOURNAL, SHOW_JOURNAL_ABOUT, SHOW_JOURNAL_HELP).arg(required_word(
-        alloc,
-        FILE,
-        SHOWN_FILE_HELP,
-    ))
-}
-
-/// The program's name, with the help of all.
-fn bare_program<'a>(alloc: Global) -> Command<'a>
-    ensures { app_of result ≡ program_words }
-{
-    Command::new(alloc, PROGRAM)
-        .about(ABOUT)
-        .version(VERSION)
-        .after_help(HELP)
-        .subcommand_required(true)
-        .arg_required_else_help(true)
-}
-
-/// The program with one command more, where that could be made. The only error is that memory ran out.
-fn with_command<'a>(
-    program: Command<'a>,
-    made: Result<Command<'a>, AllocError>,
-) -> Result<Command<'a>, AllocError>
-    ensures { IfOk result (λ more. (command : Command) × (made.entry ≡ Ok command) × AddsSubcommand program.entry command more) }
-{
-    program.subcommand(made?)
-}
-
-/// The program's name with `step` after it. The only error is that memory ran out.
-fn program_with_step<'a>(alloc: Global) -> Result<Command<'a>, AllocError>
-    ensures { IfOk result (λ command. app_of command ≡ with_commands (step_words ∷ [])) }
-{
-    with_command(bare_program(alloc), step_command(alloc))
-}
-
-/// The program with its first two commands. The only error is that memory ran out.
-fn program_with_config<'a>(alloc: Global) -> Result<Command<'a>, AllocError>
-    ensures { IfOk result (λ command. app_of command ≡ with_commands (step_words ∷ config_words ∷ [])) }
-{
-    with_command(program_with_step(alloc)?, config_command(alloc))
-}
-
-/// The program with its first three commands. The only error is that memory ran out.
-fn program_with_decode<'a>(alloc: Global) -> Result<Command<'a>, AllocError>
-    ensures { IfOk result (λ command. app_of command ≡ with_commands (step_words ∷ config_words ∷ decode_words ∷ [])) }
-{
-    with_command(program_with_config(alloc)?, decode_command(alloc))
-}
-
-/// The program with its first four commands. The only error is that memory ran out.
-fn program_with_explain<'a>(alloc: Global) -> Result<Command<'a>, AllocError>
-    ensures { IfOk result (λ command. app_of command ≡ with_commands (step_words ∷ config_words ∷ decode_words ∷ explain_words ∷ [])) }
-{
-    with_command(program_with_decode(alloc)?, explain_command(alloc))
-}
-
-/// The program with its first five commands. The only error is that memory ran out.
-fn program_with_serve<'a>(alloc: Global) -> Result<Command<'a>, AllocError>
-    ensures { IfOk result (λ command. app_of command ≡ with_commands (step_words ∷ config_words ∷ decode_words ∷ explain_words ∷ serve_words ∷ [])) }
-{
-    with_command(program_with_explain(alloc)?, serve_command(alloc))
-}
-
-/// The program with its first six commands. The only error is that memory ran out.
-fn program_with_play<'a>(alloc: Global) -> Result<Command<'a>, AllocError>
-    ensures { IfOk result (λ command. app_of command ≡ with_commands (step_words ∷ config_words ∷ decode_words ∷ explain_words ∷ serve_words ∷ play_words ∷ [])) }
-{
-    with_command(program_with_serve(alloc)?, play_command(alloc))
-}
-
-/// The program with its first seven commands. The only error is that memory ran out.
-fn program_with_check<'a>(alloc: Global) -> Result<Command<'a>, AllocError>
-    ensures { IfOk result (λ command. app_of command ≡ with_commands (step_words ∷ config_words ∷ decode_words ∷ explain_words ∷ serve_words ∷ play_words ∷ check_words ∷ [])) }
-{
-    with_command(program_with_play(alloc)?, check_command(alloc))
-}
-
-/// The words that `lsr` takes: `--version`, `step [--config FILE] [--echo] [--live] [--journal FILE] [--chart FILE]`, `config [FILE]`, `decode HEX [--fields]`,
-/// `explain WHAT..`, `serve FILE [--turns N] [--journal PREFIX] [--console] [--echo] [--log LEVEL]`, `play FILE [--lab] [--chart FILE]`, `check FILE..` and `show-journal FILE`. The only error is
-/// that memory ran out.
-pub(crate) fn command<'a>(alloc: Global) -> Result<Command<'a>, AllocError>
-    ensures { IfOk result (λ command. app_of command ≡ lsr_words) }
-{
-    with_command(program_with_check(alloc)?, show_journal_command(alloc))
-}

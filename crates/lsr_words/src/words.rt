@@ -4,11 +4,12 @@ ghost use Rattle.std.specs.Option.{MatchOption};
 ghost use Rattle.clap.specs.Matches.{found_of};
 ghost use Rattle.clap.specs.Words.{FailsBy, fault_of, first_of, kind_of, rows_of, subcommand_rows_of, takes};
 ghost use Rattle.lsr_words.specs.declared.words.Asked.{Asked};
-ghost use Rattle.lsr_words.specs.Words.{Asks, AsksFor, AsksIn, is_given, lsr_words};
+ghost use Rattle.lsr_words.specs.Words.{AreAll, Asks, AsksFor, AsksIn, is_given, lsr_words};
 
-use crate::help::{
-    CHART, CHECK, CONFIG, CONFIG_OPTION, CONSOLE, DECODE, ECHO, EXPLAIN, FIELDS, FILE, HEX,
-    JOURNAL, LAB, LIVE, LOG, PLAY, SERVE, SHOW_JOURNAL, STEP, TURNS, WHAT, command,
+use crate::command::command;
+use crate::table::{
+    CHECK, CONFIG, CONFIG_OPTION, CONSOLE, DECODE, ECHO, EXPLAIN, FIELDS, FILE, HEX, JOURNAL, LAB,
+    LIVE, LOG, PLAY, SERVE, SHOW_JOURNAL, STEP, TURNS, WHAT,
 };
 use clap::ArgMatches;
 use clap::error::{Error, ErrorKind};
@@ -28,8 +29,6 @@ pub enum Asked<'a> {
         live: bool,
         /// The name of the file that the run is recorded in; without one it isn't recorded.
         journal: Option<&'a str>,
-        /// The name of the file that the run is drawn in; without one it isn't drawn.
-        chart: Option<&'a str>,
     },
     /// `config [FILE]`: the configuration of the file of this name is printed; without one the built-in router's.
     Config(Option<&'a str>),
@@ -64,8 +63,6 @@ pub enum Asked<'a> {
         file: &'a str,
         /// Whether lines are taken, too, that remark something, show what a router knows, or deliver all frames.
         lab: bool,
-        /// The name of the file that the run is drawn in; without one it isn't drawn.
-        chart: Option<&'a str>,
     },
     /// `check FILE..`: the recorded runs of the files of these names are checked, in this order. There is one at least.
     Check(Vec<&'a str>),
@@ -95,34 +92,6 @@ fn step_asked<'a>(given: &ArgMatches<'a>) -> Asked<'a>
         echo: is_given(given.get_str(ECHO)),
         live: is_given(given.get_str(LIVE)),
         journal: given.get_str(JOURNAL),
-        chart: given.get_str(CHART),
-    }
-}
-
-/// What `decode` asks for; none without its word.
-fn decode_asked<'a>(given: &ArgMatches<'a>) -> Option<Asked<'a>>
-    ensures { MatchOption result
-        (first_of (codes "HEX") (rows_of (found_of given.now)) ≡ None)
-        (Asks (codes "decode") (rows_of (found_of given.now))) }
-{
-    match given.get_str(HEX) {
-        Some(word) => Some(Asked::Decode {
-            word,
-            fields: is_given(given.get_str(FIELDS)),
-        }),
-        None => None,
-    }
-}
-
-/// What `explain` asks for; none without words. The only error is that memory ran out.
-fn explain_asked<'a>(alloc: Global, given: &ArgMatches<'a>) -> Result<Option<Asked<'a>>, AllocError>
-    ensures { IfOk result (λ asked. MatchOption asked
-        (first_of (codes "WHAT") (rows_of (found_of given.now)) ≡ None)
-        (Asks (codes "explain") (rows_of (found_of given.now)))) }
-{
-    match given.get_strs(WHAT) {
-        Some(words) if !words.is_empty() => Ok(Some(Asked::Explain(words.to_vec(alloc)?))),
-        _ => Ok(None),
     }
 }
 
@@ -145,43 +114,64 @@ fn serve_asked<'a>(given: &ArgMatches<'a>) -> Option<Asked<'a>>
     }
 }
 
-/// What `play` asks for; none without its file.
-fn play_asked<'a>(given: &ArgMatches<'a>) -> Option<Asked<'a>>
-    ensures { MatchOption result
-        (first_of (codes "FILE") (rows_of (found_of given.now)) ≡ None)
-        (Asks (codes "play") (rows_of (found_of given.now))) }
+/// All that was given for this word; none where nothing was. The only error is that memory ran out.
+fn several<'a>(
+    alloc: Global,
+    given: &ArgMatches<'a>,
+    name: &str,
+) -> Result<Option<Vec<&'a str>>, AllocError>
+    ensures { IfOk result (λ words. MatchOption words
+        (first_of name.now (rows_of (found_of given.now)) ≡ None)
+        (λ all. AreAll name.now (rows_of (found_of given.now)) all.items)) }
 {
-    match given.get_str(FILE) {
-        Some(file) => Some(Asked::Play {
-            file,
-            lab: is_given(given.get_str(LAB)),
-            chart: given.get_str(CHART),
-        }),
-        None => None,
-    }
-}
-
-/// What `check` asks for; none without files. The only error is that memory ran out.
-fn check_asked<'a>(alloc: Global, given: &ArgMatches<'a>) -> Result<Option<Asked<'a>>, AllocError>
-    ensures { IfOk result (λ asked. MatchOption asked
-        (first_of (codes "FILE") (rows_of (found_of given.now)) ≡ None)
-        (Asks (codes "check") (rows_of (found_of given.now)))) }
-{
-    match given.get_strs(FILE) {
-        Some(files) if !files.is_empty() => Ok(Some(Asked::Check(files.to_vec(alloc)?))),
+    match given.get_strs(name) {
+        Some(words) if !words.is_empty() => Ok(Some(words.to_vec(alloc)?)),
         _ => Ok(None),
     }
 }
 
-/// What `show-journal` asks for; none without its file.
-fn show_journal_asked<'a>(given: &ArgMatches<'a>) -> Option<Asked<'a>>
-    ensures { MatchOption result
-        (first_of (codes "FILE") (rows_of (found_of given.now)) ≡ None)
-        (Asks (codes "show-journal") (rows_of (found_of given.now))) }
+/// What a command asks for with what was given; none where a word lacks that it can't do without, or no command has this name.
+/// The only error is that memory ran out.
+fn asked_by<'a>(
+    alloc: Global,
+    command: &str,
+    given: &ArgMatches<'a>,
+) -> Result<Option<Asked<'a>>, AllocError>
+    ensures { IfOk result (λ asked. MatchOption asked
+        ((other : Asked) → ¬ Asks command.now (rows_of (found_of given.now)) other)
+        (Asks command.now (rows_of (found_of given.now)))) }
 {
-    match given.get_str(FILE) {
-        Some(file) => Some(Asked::ShowJournal(file)),
-        None => None,
+    match command {
+        STEP => Ok(Some(step_asked(given))),
+        CONFIG => Ok(Some(Asked::Config(given.get_str(FILE)))),
+        DECODE => match given.get_str(HEX) {
+            Some(word) => Ok(Some(Asked::Decode {
+                word,
+                fields: is_given(given.get_str(FIELDS)),
+            })),
+            None => Ok(None),
+        },
+        EXPLAIN => match several(alloc, given, WHAT)? {
+            Some(words) => Ok(Some(Asked::Explain(words))),
+            None => Ok(None),
+        },
+        SERVE => Ok(serve_asked(given)),
+        PLAY => match given.get_str(FILE) {
+            Some(file) => Ok(Some(Asked::Play {
+                file,
+                lab: is_given(given.get_str(LAB)),
+            })),
+            None => Ok(None),
+        },
+        CHECK => match several(alloc, given, FILE)? {
+            Some(files) => Ok(Some(Asked::Check(files))),
+            None => Ok(None),
+        },
+        SHOW_JOURNAL => match given.get_str(FILE) {
+            Some(file) => Ok(Some(Asked::ShowJournal(file))),
+            None => Ok(None),
+        },
+        _ => Ok(None),
     }
 }
 
@@ -192,15 +182,8 @@ fn asked_in<'a>(alloc: Global, matches: &ArgMatches<'a>) -> Result<Option<Asked<
         (AsksIn (subcommand_rows_of matches.now))) }
 {
     match matches.subcommand() {
-        Some((STEP, given)) => Ok(Some(step_asked(given))),
-        Some((CONFIG, given)) => Ok(Some(Asked::Config(given.get_str(FILE)))),
-        Some((DECODE, given)) => Ok(decode_asked(given)),
-        Some((EXPLAIN, given)) => explain_asked(alloc, given),
-        Some((SERVE, given)) => Ok(serve_asked(given)),
-        Some((PLAY, given)) => Ok(play_asked(given)),
-        Some((CHECK, given)) => check_asked(alloc, given),
-        Some((SHOW_JOURNAL, given)) => Ok(show_journal_asked(given)),
-        _ => Ok(None),
+        Some((command, given)) => asked_by(alloc, command, given),
+        None => Ok(None),
     }
 }
 

@@ -16,7 +16,7 @@ pub returns : goal.returns
 returns g c =
     let lines : c.as_bytes.result.now ≡ base_lines c.args.router.now c.in-Some.base = cc (c.as_bytes.ensures.value, c.in_ok-lines.ensures) in
     let told = subst (λ (text : List ℕ). Appends (g.W.Write.contents c.args.output.now) (g.W.Write.contents c.write_all.new.self) text) lines c.in_ok-write_all.ensures.bytes in
-    shown_after (ShowsCount c.args.router.now c.args.format c.in-Some.rest.now) (ShowsBase c.args.router.now c.args.format c.args.bytes.now) c.show_count.result
+    shown_after (ShowsCount c.args.router.now c.args.format c.in-Some.rest.now) (ShowsBase c.args.router.now c.args.format c.args.bytes.now) c.show_entries.result
     (base_lines c.args.router.now c.in-Some.base) _ _ _ told
     (λ more broken shown. inl (c.in-Some.base, c.in-Some.rest.now, more, found_at (BaseFits c.args.format) (base_bytes c.args.format) c.args.bytes.now c.read_base.result _ c.in-Some.base c.in-Some.rest c.read_base.ensures c.in_ok-base.ensures c.in-Some.is, shown, refl))
-    c.show_count.ensures
+    c.show_entries.ensures

@@ -3,4 +3,4 @@ use Rattle.journal_lines.proofs.Showing.{IsShowing}
 use Rattle.journal_lines.proofs.journals.show_entries.Given as goal
 
 abbrev pub invariant-loop-passed : goal.invariant-loop-passed
-invariant-loop-passed g l = IsShowing l.router l.format l.count l.fn.bytes (g.W.Write.contents l.fn.output) (g.W.Write.contents l.output) l.passed l.rest
+invariant-loop-passed g l = IsShowing l.router l.format l.count l.initial.rest (g.W.Write.contents l.initial.output) (g.W.Write.contents l.output) l.passed l.rest

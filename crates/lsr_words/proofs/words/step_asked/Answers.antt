@@ -13,5 +13,4 @@ returns c =
       c.is_given.ensures ∙ ap is_given (c.get_str-2.ensures ∙ first_value-rows found (codes "echo")),
       c.is_given-2.ensures ∙ ap is_given (c.get_str-3.ensures ∙ first_value-rows found (codes "live")),
       c.get_str-4.ensures ∙ first_value-rows found (codes "journal"),
-      c.get_str-5.ensures ∙ first_value-rows found (codes "chart"),
     )

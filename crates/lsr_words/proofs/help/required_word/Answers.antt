@@ -1,8 +1,0 @@
--- Each call adds to the word's rule.
-use Rattle.std.proofs.Common.{◌∙◌, ap, true}
-use Rattle.clap.specs.Words.{Rule, rule_of}
-use Rattle.lsr_words.proofs.help.required_word.Goals as goal
-
-pub returns-clause-rule : goal.returns-clause-rule
-returns-clause-rule c =
-    ap rule_of c.help.ensures ∙ ap rule_of c.required.ensures ∙ ap (λ (r : Rule). record r { required = true }) c.new.ensures.rule

@@ -1,6 +1,0 @@
--- What is collected of a text's characters is all of them.
-use Rattle.std.proofs.lemmas.Iterator.{items_from_collect, YieldsList-from_chars}
-use Rattle.sequence_charts.proofs.escapes.chars_of.Goals as goal
-
-pub returns : goal.returns
-returns c = items_from_collect c.collect.result c.collect.ensures.ran (YieldsList-from_chars c.args.text.now c.utf8.text c.chars.ensures.rest)
