@@ -545,10 +545,11 @@ def ends_well(number):
 
 def journals(place):
     """The journals of all these runs are runs."""
-    prefixes = {it.name.rpartition(".")[0] for it in place.room.glob("j*.[0-9]*")}
+    whole = [it for it in place.room.glob("j*.[0-9]*") if it.suffix[1:].isdecimal()]      # a router that is killed may leave a .part
+    prefixes = {it.stem for it in whole}
     text = "" if len(prefixes) > 2 else f"journals of {sorted(prefixes)} alone\n"
     for prefix in prefixes:
-        files = sorted(place.room.glob(f"{prefix}.[0-9]*"), key=lambda it: int(it.suffix[1:]))
+        files = sorted((it for it in whole if it.stem == prefix), key=lambda it: int(it.suffix[1:]))
         answer = asked.ask("check", *map(str, files))
         text += "" if answer.status == 0 else f"{prefix}: {answer.out.decode()}{answer.err.decode()}\n"
     return text
