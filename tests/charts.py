@@ -26,7 +26,7 @@ CHARTS = asked.DATA / "charts"
 NO_CHART = "none"
 # A run with more rows than a chart has.
 LONG, LONG_LINES = "long.step", b"rx 1 00\n" * 2100
-# What is told of a chart that isn't written, behind its name.
+# What is told of a chart that isn't written, after its name.
 KEPT_AS_IT_IS = {
     "no/such/made.svg": "has no folder: make the folder, or give another name",
     "folder": "is no regular file, and is not replaced: give another name",

@@ -108,7 +108,7 @@ def messages():
 
 
 def message_by_chance(chance):
-    """A line with a message, which may have a byte changed and no checksum: as it is, behind labels that ended, or on its way to a router."""
+    """A line with a message, which may have a byte changed and no checksum: as it is, under labels that ended, or on its way to a router."""
     message = bytearray(chance.choice(messages()))
     if chance.random() < 0.5:
         message[CHECKSUM] = b"\0\0"
@@ -154,7 +154,7 @@ def number_of(width, number):
 
 
 def counted(content):
-    """Bytes behind their count."""
+    """Bytes after their count."""
     return number_of(4, len(content)) + content
 
 

@@ -49,7 +49,7 @@ pub(crate) const LOG: &str = "log";
 /// The name of the option of `decode` that names fields.
 pub(crate) const FIELDS: &str = "fields";
 
-/// How a word stands behind a command's name.
+/// How a word stands after a command's name.
 pub(crate) enum Form {
     /// `--NAME VALUE`, where help calls the value so.
     Option(&'static str),
