@@ -1,7 +1,8 @@
 #!/bin/sh
-# tests/calls.sh: compares the table of docs/PROVED.md, call by call, with the signatures of public functions that may find no memory.
+# tests/calls.sh: compares tests/data/calls.txt, call by call, with the signatures of public functions that may find no memory.
 #
-# `<` is a call that is in no row, `>` one in a row that there isn't. The last line is `N passed, M failed`.
+# `<` is a call that has no row, `>` one in a row that there isn't, `=` one that has two; `?` is a case that there isn't. The last line is
+# `N passed, M failed`.
 top=$(CDPATH='' cd -- "$(dirname -- "$0")/.." && pwd) && cd "$top" || exit 1
 room=$(mktemp -d) || exit 1
 trap 'rm -rf "$room"' EXIT
@@ -40,20 +41,33 @@ list_calls() {
         }' $(list_sources) | sort -u
 }
 
-# Prints `CRATE NAME` of each call of the table.
+# Prints `CRATE NAME` of each call of a row.
 list_rows() {
-    awk -F ' *[|] *' '
-        /^## / { is_table = /^## Out of memory, call by call/ }
-        is_table && /^[|] *`/ {
-            gsub(/`/, "", $2)
-            count = split($3, names, /[`, ]+/)
-            for (i = 1; i <= count; i++) if (names[i] != "") print $2, names[i]
-        }' docs/PROVED.md | sort -u
+    awk -F ': ' '!/^#/ { count = split($3, names, " "); for (i = 1; i <= count; i++) print $1, names[i] }' tests/data/calls.txt | sort
+}
+
+# Prints the cases of rows that there aren't.
+list_unknown() {
+    # shellcheck disable=SC2046 # cases are words
+    for case in $(awk -F ': ' '!/^#/ { print $2 }' tests/data/calls.txt | tr ' ' '\n' | sort -u); do
+        name=${case%%/*}
+        case $case in
+            none | nothing) ;;
+            growths/*) grep -q "words, \"${case#*/}\"" crates/growth_cases/src/lib.rt || echo "? $case" ;;
+            *.py | *.py/*) [ -f "tests/$name" ] || echo "? $case" ;;
+            *) grep -q "^PARTS = .*\"$name\"" tests/refuse.py || grep -qx "$name" tests/data/refuse/growths.txt || [ -d "crates/$name" ] || echo "? $case" ;;
+        esac
+    done
 }
 
 list_calls > "$room/calls"
-list_rows > "$room/rows"
-diff "$room/calls" "$room/rows" | grep '^[<>]' | tee "$room/differing"
+list_rows > "$room/all"
+uniq "$room/all" > "$room/rows"
+{
+    diff "$room/calls" "$room/rows" | grep '^[<>]'
+    uniq -d "$room/all" | sed 's/^/= /'
+    list_unknown
+} | tee "$room/differing"
 differing=$(wc -l < "$room/differing")
 passed=$(comm -12 "$room/calls" "$room/rows" | wc -l)
 echo "$passed passed, $differing failed"

@@ -28,7 +28,7 @@ NO_CHART = "none"
 LONG, LONG_LINES = "long.step", b"rx 1 00\n" * 2100
 # What is told of a chart that isn't written, after its name.
 KEPT_AS_IT_IS = {
-    "no/such/made.svg": "has no folder: make the folder, or give another name",
+    "no/such/made.svg": "is in a folder that doesn't exist: create it, or give another name",
     "folder": "is no regular file, and is not replaced: give another name",
     "link": "is no regular file, and is not replaced: give another name",
     "/dev/null": "is no regular file, and is not replaced: give another name",

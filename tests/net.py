@@ -24,16 +24,18 @@ import sys
 import tempfile
 import threading
 import time
+import tomllib
 
 import asked
 
 LSRNET = asked.TOP / "net" / "lsrnet"
 sys.path.insert(0, str(LSRNET))
+import configuration  # noqa: E402
 import hello  # noqa: E402
 import wire  # noqa: E402
 from links import Interfaces, Link  # noqa: E402
 from machine import SO_NETNS_COOKIE  # noqa: E402
-from plane import KernelPlane, Row, Tunnel  # noqa: E402
+from plane import TUNNELS, KernelPlane, Row  # noqa: E402
 
 # A Path that comes over link 1 of the built-in router, which sends it on over link 2.
 PATH = bytes.fromhex((asked.TOP / "examples" / "first-path.step").read_text(encoding="ascii").split()[2])
@@ -48,10 +50,8 @@ FAKE_ROUTER = """
 import os, pathlib, socket, sys
 wire, tables, room = socket.socket(socket.AF_INET, socket.SOCK_DGRAM), 0, pathlib.Path(sys.argv[1])
 wire.bind(("127.0.0.1", 5001))
-for number, line in enumerate(map(str.strip, sys.stdin), 1):
-    if line == ".":
-        print(f"bad line {number}", line, "no line", sep="\\n", flush=True)
-    elif line == "up 1" and not (room / "sent").exists():
+for line in map(str.strip, sys.stdin):
+    if line == "up 1" and not (room / "sent").exists():
         (room / "sent").touch()
         wire.sendto(b"\\1" + bytes.fromhex(sys.argv[3]), ("127.0.0.1", 5000))
     elif line == "show table" and (room / "sent").exists():
@@ -60,10 +60,42 @@ for number, line in enumerate(map(str.strip, sys.stdin), 1):
             os._exit(7)
         if tables > 3:
             (room / "given").touch()
-            print("16 swap 100 1", flush=True)
-        else:
-            print("memory", flush=True)
+        print("16 swap 100 1" if tables > 3 else "memory")
+    print(".", flush=True)
 """
+# What a changed file has more than the built-in router's: a bypass of link 1 over link 2, another route, and a tunnel of this name.
+MORE = """
+[[route]]
+prefix = "10.9.0.0/16"
+link = 2
+
+[[tunnel]]
+number = 7
+endpoint = "10.0.0.1"
+route = ["10.1.0.1/32"]
+rate = "47f42400"
+setup = 3
+hold = 3
+flags = 7
+name = "NAME"
+
+[[tunnel]]
+number = 100
+endpoint = "10.0.0.1"
+route = ["10.2.0.3/32", "~10.0.0.1/32"]
+rate = "47f42400"
+setup = 7
+hold = 7
+flags = 4
+name = "round"
+
+[[bypass]]
+number = 1
+tunnel = 100
+link = 1
+"""
+MADE = ["route 10.9.0.0/16 2", "tunnel 7 10.0.0.1 47f42400 3 3 07 t7 10.1.0.1/32", "tunnel 100 10.0.0.1 47f42400 7 7 04 round 10.2.0.3/32 ~10.0.0.1/32",
+        "bypass 1 100 1 0"]
 # What doesn't come in so many seconds doesn't come: the machine may be busy, and the unproved program slow.
 MOST_SECONDS = 180
 PAUSE = 0.1
@@ -133,6 +165,10 @@ class Place:
                 os.kill(int(process), signal.SIGKILL)
             ip(f"netns del {name}")
         shutil.rmtree(self.room)
+
+    def tables(self, text):
+        """The tables of a configuration."""
+        return configuration.read_configuration(asked.program(), str(self.write("read.toml", text)))[1]
 
     def write(self, name, text, mode=0o644):
         """A file in the folder."""
@@ -309,6 +345,8 @@ def refused_starts(place):
     yield "no words", 2, "usage: lsrnet", []
     yield "an option that there isn't", 2, "unrecognized arguments: --colour", place.words("--colour")
     yield "a question to nobody", 1, "is lsrnet run with --socket", ["ask", room / "absent.sock", "show links"]
+    yield "a reload of nobody", 1, "is lsrnet run with --socket", ["reload", place.file, "--socket", room / "absent.sock", "--lsr", asked.program()]
+    yield "a reload of nothing", 2, "required: --socket", ["reload", place.file]
     yield "a question to somebody else", 1, "is lsrnet run with --socket", ["ask", room / "taken.sock", "show links"]
     yield "a machine that is ready", 0, "(?s)rights: ready.*link 1 .*: ready", ["check", place.file, "--plane", "user", "--lsr", asked.program()]
     yield "a machine without addresses", 1, "no interface has it: ip address add 10.3.0.2/24", ["check", room / "far.toml", "--plane", "user", "--lsr", asked.program()]
@@ -489,6 +527,39 @@ def refused_lines(place):
     """`ask` says by its status that a line was refused."""
     status, said = place.run("ask", place.running.path, "show links", "drop 99")
     return lacks("refused 20 UnknownTunnel", said) + ("" if status == 1 else f"status {status}")
+
+
+def reloads(place):
+    """A changed file becomes what runs, by lines that are printed with their answers; what no line changes is told, and nothing is done then."""
+    good = place.file.read_text(encoding="utf-8")
+
+    def after(text, *more):
+        file = place.write("changed.toml", text)
+        return place.run("reload", file, "--socket", place.running.path, "--lsr", asked.program(), *more)
+
+    full, answers = good + MORE.replace("NAME", "t7"), "".join(f"{line}: done\n" for line in MADE)
+    steps = [
+        (full, ["--dry-run"], 0, "".join(f"{line}\n" for line in MADE)), (full, [], 0, answers), (full, [], 0, ""),
+        (full.replace("up = true", "up = false"), [], 0, ""),
+        (full.replace("link = 2\n\n[[tunnel]]", "link = 1\n\n[[tunnel]]").replace('"10.2.0.3/32", ', '"10.2.0.3/32", "~10.0.0.7/32", '), [], 0,
+         "route 10.9.0.0/16 1: done\nchange 100 47f42400 10.2.0.3/32 ~10.0.0.7/32 ~10.0.0.1/32: done\n"),
+        (good + MORE.replace("NAME", "A to B"), [], 1, "lsrnet: no line makes tunnel 7, since its name is no word: .*"),
+        (full.replace("limit = 1250000", "limit = 1", 1).replace("4111", "100"), [], 1, "lsrnet: no line changes labels, link 1: .*"),
+        (full + "colour = 1\n", [], 1, "lsrnet: .*UnknownKey.*"),
+    ]
+    text = ""
+    for given, more, status, pattern in steps:
+        came, said = after(given, *more)
+        text += "" if came == status and (re.fullmatch(pattern, said, re.DOTALL) or said == pattern) else f"status {came}, it says {said!r}, not {pattern!r}\n"
+        shown = place.running.ask("show config")
+        if given == full and not more:
+            text += "" if configuration.difference(tomllib.loads(shown), place.tables(full)) == [] else f"show config says {shown}\n"
+    saved = place.write("saved.toml", shown)
+    text += "" if tomllib.loads(shown)["labels"] == place.tables(good)["labels"] and "listen" not in shown else f"saved: {shown}\n"
+    text += "" if place.tables(shown) == tomllib.loads(shown) else f"{saved} reads back otherwise\n"
+    came, said = after(good)
+    wanted = ["unbypass 1", "drop 7", "drop 100", "unroute 10.9.0.0/16"]
+    return text + ("" if came == 0 and said == "".join(f"{line}: done\n" for line in wanted) else f"status {came}, it says {said!r}\n")
 
 
 def many_operators(place):
@@ -730,7 +801,7 @@ def stale_route(place):
     with inside(place.here):
         plane = KernelPlane({1: link}, Settings(), lambda *_: None)
     route = f"-n {place.here} -4 route show table 4600005"
-    plane.keep({Tunnel(5): Row((), 1)})
+    plane.keep({TUNNELS + 5: Row((), 1)})
     text = lacks("default via 10.1.0.1 dev a-b", ip(route))
     ip(f"-n {place.there} link set b-a down")
     interfaces.hear()
@@ -743,7 +814,7 @@ def stale_route(place):
     link.carrier = True
     plane.keep(plane.rows)
     text += lacks("default via 10.1.0.1 dev a-b", ip(route)) + ("" if plane.audit() == 0 else "it isn't as it was written\n")
-    plane.close()
+    plane.netlink.change([plane.request(it, None) for it in plane.read()])
     link.detach()
     return text + place.left()
 
@@ -803,7 +874,7 @@ def cases(place):
         made.append((case.__doc__, lambda case=case: case(place)))
     made += [("packets that are short", lambda: ignored(short)(place)), ("messages of other types", lambda: ignored(others)(place))]
     for case in (bad_checksum, fragments, giant, random_packets, labelled_packets, strangers, flap, interface_goes, address_goes, renamed, changed_route, bad_lines,
-                 refused_lines, many_operators, child_killed, child_hangs):
+                 refused_lines, reloads, many_operators, child_killed, child_hangs):
         made.append((case.__doc__, lambda case=case: case(place)))
     for number in (signal.SIGTERM, signal.SIGINT, signal.SIGHUP):
         made.append((f"it ends by {number.name}", lambda number=number: ends_well(number)(place)))

@@ -1,12 +1,16 @@
 #!/usr/bin/env python3
-"""The edge of a router on a real network: INTEGRITY (net/lsrnet/integrity.py), Hello (net/lsrnet/hello.py), and what net/same finds in
-captures and journals; without sockets or root. Of net/lab and what stands beside it only their words are asked.
+"""The edge of a router on a real network: INTEGRITY (net/lsrnet/integrity.py), Hello (net/lsrnet/hello.py), answers and their marks, what
+`lsrnet reload` sends, and what net/same finds in captures and journals; without sockets or root. Of net/lab and what stands beside it only
+their words are asked.
 
 Digests are those of RFC 2202, and of whole messages as another program (openssl) computed them; captures are read by tshark, where it is
 installed (else that case is told as left out, and counts for nothing).
 """
 
+import collections
 import functools
+import json
+import os
 import pathlib
 import random
 import re
@@ -17,14 +21,18 @@ import subprocess
 import sys
 import tempfile
 import time
+import tomllib
+import types
 
 import asked
 
 NET = asked.TOP / "net"
 sys.path.insert(0, str(NET / "lsrnet"))
+import configuration  # noqa: E402
 import console  # noqa: E402
 import hello  # noqa: E402
 import integrity  # noqa: E402
+import machine  # noqa: E402
 import metrics  # noqa: E402
 import netlink  # noqa: E402
 import plane  # noqa: E402
@@ -58,7 +66,7 @@ VECTORS = {
 MD5_KEY = integrity.Key(7, "hmac-md5", b"\x0b" * 16)
 SHA1_KEY = integrity.Key(8, "hmac-sha1", b"Jefe")
 SIGNED = [(MD5_KEY, 0x102, "5707b7e2a1c33f43a9592ee02c3a4bdb"), (SHA1_KEY, 0x103, "19f7c81bee04c138cef78b0c89006a7841f3c97f")]
-INTERFACE, OTHER_INTERFACE, SOURCE = "eth1", "eth2", "10.1.0.1"
+INTERFACE, OTHER_INTERFACE = "eth1", "eth2"
 # Ethernet and IPv4 of a packet in a capture: link type 1, protocol 46.
 PCAP = struct.Struct("=IHHiIII")
 PCAP_MAGIC, RSVP = 0xA1B2C3D4, 46
@@ -78,7 +86,7 @@ def keys(*of_interface, number=1):
 def refusal(of_keys, message, interface=INTERFACE):
     """Why the message is refused; no text where it is taken."""
     try:
-        of_keys.verify(interface, SOURCE, message)
+        of_keys.verify(interface, message)
     except wire.Refused as refused:
         return str(refused)
     return ""
@@ -100,11 +108,12 @@ def signed(key, number, digest):
     digest = bytes.fromhex(digest)
     head = struct.pack("!HBBHHIQ", 20 + len(digest), 4, 1, 0, 0, key.identifier, number)
     plain = PATH_TEAR[:2] + b"\0\0\xff\0" + struct.pack("!H", len(PATH_TEAR) + 20 + len(digest)) + head + digest + PATH_TEAR[8:]
-    words = struct.unpack(f"!{len(plain) // 2}H", plain)
-    total = sum(words) % 0xFFFF                          # one's complement sum, another way than the module's
-    wanted = plain[:2] + struct.pack("!H", 0xFFFF - total) + plain[4:]
+    total = sum(struct.unpack(f"!{len(plain) // 2}H", plain))
+    while total >> 16:                                   # one's complement sum, another way than the module's
+        total = (total & 0xFFFF) + (total >> 16)
+    wanted = plain[:2] + struct.pack("!H", ~total & 0xFFFF) + plain[4:]
     return different("message", wanted.hex(), came.hex()) + different(
-        "taken off", PATH_TEAR.hex(), keys(key).verify(INTERFACE, SOURCE, came).hex())
+        "taken off", PATH_TEAR.hex(), keys(key).verify(INTERFACE, came).hex())
 
 
 def without_keys():
@@ -112,7 +121,7 @@ def without_keys():
     under = keys(MD5_KEY).protect(INTERFACE, PATH_TEAR)
     of_keys = keys(MD5_KEY)
     return "".join(different("message", it, done) for it in (PATH_TEAR, under, b"")
-                   for done in (of_keys.protect(OTHER_INTERFACE, it), of_keys.verify(OTHER_INTERFACE, SOURCE, it)))
+                   for done in (of_keys.protect(OTHER_INTERFACE, it), of_keys.verify(OTHER_INTERFACE, it)))
 
 
 def replayed():
@@ -197,7 +206,7 @@ def read_keys(text, mode=0o600):
         path.chmod(mode)
         try:
             return integrity.Keys.read(str(path)).keys
-        except integrity.BadKeys as bad:
+        except ValueError as bad:
             return str(bad).replace(room + "/", "")
 
 
@@ -270,7 +279,7 @@ def changed_dump():
 
 def wrong_tables():
     """What is no label table of a router with links 1 and 2 is refused, and the rest is read."""
-    rows = {16: plane.Row((100,), 2), 17: plane.Row((200, 100), 1), 18: plane.Row((), 0), 19: plane.Row((), 2), plane.Tunnel(5): plane.Row((7,), 1)}
+    rows = {16: plane.Row((100,), 2), 17: plane.Row((200, 100), 1), 18: plane.Row((), 0), 19: plane.Row((), 2), plane.TUNNELS + 5: plane.Row((7,), 1)}
     text = different("rows", rows, plane.rows_of(["16 swap 100 2", "17 swappush 100 200 1", "18 pop", "19 swap 3 2", "tunnel 5 push 7 1"], {1, 2}))
     for line in ("memory", "", "16", "16 swap x 1", "16 swap 100 3", "tunnel", "tunnel 1", "tunnel 1 drop 3", "mismatch 1 2"):
         try:
@@ -280,11 +289,29 @@ def wrong_tables():
     return text
 
 
+def answers_and_marks():
+    """A full stop alone in its line ends each answer, in however many parts they come; what has no mark yet waits."""
+    reading, writing = os.pipe()
+    os.set_blocking(reading, False)
+    child, taken = console.Child.__new__(console.Child), []
+    child.waiting, child.rest, child.answer, child.answered = collections.deque((0.0, taken.append) for _ in range(4)), b"", [], False
+    with open(reading, "rb", buffering=0) as output, open(writing, "wb", buffering=0) as printing:
+        child.process = types.SimpleNamespace(stdout=output)
+        text = different("more to come", True, child.ready()) + different("answered", False, child.answered)
+        for part in (b"done\n", b".\n.\nlink 1 up\n\nli", b"nk 2 down\n.", b"\nbad line 4\n", b"  .\n"):
+            printing.write(part)
+            text += different("more to come", True, child.ready())
+        printing.close()
+        text += different("more to come", False, child.ready())
+    text += different("answers", [["done"], [], ["link 1 up", "", "link 2 down"]], taken)
+    return text + different("the rest", (1, ["bad line 4", "  ."]), (len(child.waiting), child.answer))
+
+
 def endless_router():
     """A router that prints without end, and doesn't end with its input, is killed when its time is over."""
     child = console.Child.__new__(console.Child)
     child.process = subprocess.Popen(["yes"], stdin=subprocess.PIPE, stdout=subprocess.PIPE, bufsize=0)
-    child.waiting, child.sockets, whole, console.END_SECONDS = [], [], console.END_SECONDS, 1
+    child.waiting, whole, console.END_SECONDS = [], console.END_SECONDS, 1
     began = time.monotonic()
     try:
         said = child.end()
@@ -301,18 +328,12 @@ def short_frames():
     with here, there:
         here.setblocking(False)
         one, sent = plane.UserPlane.__new__(plane.UserPlane), []
-        one.tap, one.rows, one.send = here.fileno(), {plane.Tunnel(5): plane.Row((7,), 1)}, lambda *words: sent.append(words)
+        one.tap, one.rows, one.send = here.fileno(), {plane.TUNNELS + 5: plane.Row((7,), 1)}, lambda *words: sent.append(words)
         head = plane.HARDWARE.pack(b"\x02\0\0\0", 5) + bytes(6) + b"\x08\0"
         for frame in (b"\0", head, head + bytes(8), head + bytes(20), head[:12] + b"\x86\xdd" + bytes(40)):
             there.send(frame)
         one.enter()
     return different("sent", [(plane.Row((7,), 1), bytes(20), 0, True)], sent)
-
-
-def told(neighbour):
-    """All that a neighbour's state machine tells."""
-    events, neighbour.events = neighbour.events, []
-    return events
 
 
 class Pair:
@@ -321,7 +342,7 @@ class Pair:
     def __init__(self):
         self.now, self.is_cut = 0.0, False
         self.nodes = [hello.Neighbour(100, SECOND), hello.Neighbour(200, SECOND)]
-        self.told = [[], []]
+        self.told = [[], []]            # of each its neighbour: when it was `down`, and `up` again
         self.requests = 0
 
     def carry(self, to, message):
@@ -337,8 +358,9 @@ class Pair:
                 message = self.nodes[own].tick(self.now)
                 self.requests += message is not None
                 self.carry(1 - own, message)
-            for own in range(2):
-                self.told[own] += [(round(self.now, 1), it) for it in told(self.nodes[own])]
+            for told, node in zip(self.told, self.nodes):
+                if node.is_lost != (bool(told) and told[-1][1] == "down"):
+                    told.append((round(self.now, 1), "down" if node.is_lost else "up"))
 
 
 def hello_bytes():
@@ -387,7 +409,7 @@ def never_heard():
     """Of a neighbour that never spoke nothing is told, and it is asked each interval."""
     one = hello.Neighbour(1, SECOND)
     sent = [one.tick(moment / 10) for moment in range(100)]
-    return different("told", [], told(one)) + different("asked", 10, sum(it is not None for it in sent))
+    return different("lost", False, one.is_lost) + different("asked", 10, sum(it is not None for it in sent))
 
 
 def met():
@@ -404,10 +426,10 @@ def wrong_instances():
             ([(hello.REQUEST, 9, 0)] * 5, 0), ([(hello.ACK, 0, 1)], 1), ([(hello.ACK, 9, 5)] * 4, 1)]
     text = ""
     for messages, losses in rows:
-        one = met()
+        one, own = met(), 1
         for words in messages:
             one.receive(0.1, hello.hello(*words))
-        text += different(f"losses after {messages}", losses, told(one).count("down"))
+        text += different(f"losses after {messages}", (losses, bool(losses)), (one.own - own, one.is_lost))      # another instance after each
     return text
 
 
@@ -421,9 +443,9 @@ def no_hellos():
     one = met()
     answers = [one.receive(3.0, it) for it in junk]
     one.tick(3.4)
-    text = different("answers", [None] * len(junk), answers) + different("told", [], told(one))
+    text = different("answers", [None] * len(junk), answers) + different("lost", False, one.is_lost)
     one.tick(3.5)
-    return text + different("told", ["down"], told(one))
+    return text + different("lost", True, one.is_lost)
 
 
 def last_instance():
@@ -458,6 +480,97 @@ def read_by_tshark():
     counts = {"    INTEGRITY\n": 4, "Message Checksum: 0x.* \\[correct\\]": 5, "Sequence Number: 258": 2,
               "HELLO Request/Ack: REQUEST": 2, "HELLO Request/Ack: ACK": 1, "Source Instance: 0x00001234": 1, "Destination Instance: 0x00005678": 1}
     return text + "".join(different(it, count, len(re.findall(it, said))) for it, count in counts.items())
+
+
+ROUTER = """router = "10.0.0.2"
+refresh_ms = 30000
+labels = [16, 4111]
+label_rest_ms = 0
+
+[[link]]
+number = 1
+address = "10.1.0.2"
+peer = "10.1.0.1"
+peer_router = "10.0.0.1"
+limit = 1250000
+up = true
+
+[[link]]
+number = 2
+address = "10.2.0.2"
+peer = "10.2.0.3"
+peer_router = "10.0.0.3"
+limit = 1250000
+up = true
+"""
+
+
+def tables(routes=(), tunnels=(), bypasses=(), router=ROUTER):
+    """A configuration, as `lsr config` has it: routes to links; tunnels with what they differ in from one; bypasses as tunnel, link and capacity."""
+    text = router + "".join(f'[[route]]\nprefix = "{prefix}"\nlink = {link}\n' for prefix, link in routes)
+    for number, more in tunnels:
+        keys_of = {"endpoint": "10.0.0.4", "route": ["10.2.0.3/32", "~10.0.0.4/32"], "rate": "47f42400", "setup": 3, "hold": 4, "flags": 23, "name": f"t{number}"}
+        text += f"[[tunnel]]\nnumber = {number}\n" + "".join(f"{key} = {json.dumps(value)}\n" for key, value in (keys_of | more).items())
+    for number, (tunnel, link, capacity) in bypasses:
+        text += f"[[bypass]]\nnumber = {number}\ntunnel = {tunnel}\nlink = {link}\ncapacity = {capacity}\n"
+    return tomllib.loads(text)
+
+
+FIVE, NINE = "10.0.0.4 47f42400 3 4 17 t5 10.2.0.3/32 ~10.0.0.4/32", "10.0.0.4 47f42400 3 4 17 t9 10.2.0.3/32 ~10.0.0.4/32"
+# Before, after, and the lines between them.
+DIFFERENCES = [
+    (tables(), tables(), []),
+    (tables([("10.9.0.0/16", 1)], [(5, {})], [(1, (5, 1, 0))]), tables([("10.9.0.0/16", 1)], [(5, {})], [(1, (5, 1, 0))]), []),
+    (tables(), tables([("10.9.0.0/16", 1)], [(5, {})], [(1, (5, 1, 7))]), ["route 10.9.0.0/16 1", f"tunnel 5 {FIVE}", "bypass 1 5 1 7"]),
+    (tables([("10.9.0.0/16", 1)], [(5, {})], [(1, (5, 1, 7))]), tables(), ["unbypass 1", "drop 5", "unroute 10.9.0.0/16"]),
+    (tables([("10.8.0.0/16", 1), ("10.9.0.0/16", 1)]), tables([("10.9.0.0/16", 2), ("10.9.9.0/24", 1)]),
+     ["unroute 10.8.0.0/16", "route 10.9.0.0/16 2", "route 10.9.9.0/24 1"]),
+    (tables(tunnels=[(5, {})]), tables(tunnels=[(5, {"rate": "00000000"})]), ["change 5 00000000 10.2.0.3/32 ~10.0.0.4/32"]),
+    (tables(tunnels=[(5, {})]), tables(tunnels=[(5, {"route": []})]), ["change 5 47f42400"]),
+    (tables(tunnels=[(5, {"name": "A to B"})]), tables(tunnels=[(5, {"name": "A to B", "rate": "00000000"})]), ["change 5 00000000 10.2.0.3/32 ~10.0.0.4/32"]),
+    (tables(tunnels=[(5, {"name": "A to B"})]), tables(tunnels=[(5, {})]), ["drop 5", f"tunnel 5 {FIVE}"]),
+    # Of two tunnels one is made anew: with it the bypass that runs in it, though that is the same; the other's stays while it changes.
+    (tables(tunnels=[(5, {"endpoint": "10.0.0.3"}), (9, {"rate": "00000000"})], bypasses=[(1, (5, 1, 0)), (2, (9, 1, 0))]),
+     tables(tunnels=[(5, {}), (9, {})], bypasses=[(1, (5, 1, 0)), (2, (9, 1, 0))]),
+     ["unbypass 1", "drop 5", f"tunnel 5 {FIVE}", "change 9 47f42400 10.2.0.3/32 ~10.0.0.4/32", "bypass 1 5 1 0"]),
+    # A bypass goes over to another tunnel, and its own goes.
+    (tables(tunnels=[(5, {})], bypasses=[(1, (5, 1, 0))]), tables(tunnels=[(9, {})], bypasses=[(1, (9, 1, 0))]),
+     ["unbypass 1", "drop 5", f"tunnel 9 {NINE}", "bypass 1 9 1 0"]),
+    (tables(tunnels=[(5, {})], bypasses=[(1, (5, 1, 0))]), tables(tunnels=[(5, {})], bypasses=[(1, (5, 2, 9))]), ["unbypass 1", "bypass 1 5 2 9"]),
+    # What the adapter says of links in place of the file.
+    (tables(router=ROUTER.replace("up = true", 'up = false\nlisten = "127.0.0.1:5001"\nsend = "127.0.0.1:5000"')), tables(), []),
+]
+# What no line changes, and what is told of it.
+UNCHANGEABLE = [
+    (tables(router=ROUTER.replace("30000", "5000")), "no line changes refresh_ms: end lsrnet"),
+    (tables(router=ROUTER.replace("4111", "100").replace('"10.0.0.2"', '"10.0.0.9"')), "no line changes router, labels: "),
+    (tables(router=ROUTER.replace("label_rest_ms = 0", "label_rest_ms = 1")), "no line changes label_rest_ms: "),
+    (tables(router=ROUTER.replace("number = 2\n", "number = 3\n")), "no line changes link 2, link 3: "),
+    (tables(router=ROUTER.replace("limit = 1250000", "limit = 0", 1)), "no line changes link 1: "),
+    *[(tables(tunnels=[(5, {"name": name})]), "no line makes tunnel 5, since its name is no word: ") for name in ("A to B", "", " t", "t\r", "a\tb", "\x7f", "\xa0")],
+]
+
+
+def reloaded():
+    """The lines that `lsrnet reload` sends; what no line changes is told, and no line comes of it."""
+    text = "".join(different("lines", lines, configuration.difference(old, new)) for old, new, lines in DIFFERENCES)
+    for new, words in UNCHANGEABLE:
+        try:
+            text += f"no trouble, but {configuration.difference(tables(), new)}\n"
+        except machine.Trouble as trouble:
+            text += "" if str(trouble).startswith(words) else f"`{words}` wanted, `{trouble}` came\n"
+    return text
+
+
+def texts_of_a_router():
+    """What a router gets of a file, and that `show config` of it is told as the file has it; an answer that is none stays as it is."""
+    own = configuration.own_text(ROUTER, range(16, 2064))
+    text = different("labels", [16, 2063], tomllib.loads(own)["labels"])
+    ends = [(it["listen"], it["send"], it["up"]) for it in tomllib.loads(own)["link"]]
+    text += different("links", [("127.0.0.1:5001", "127.0.0.1:5000", False), ("127.0.0.1:5003", "127.0.0.1:5002", False)], ends)
+    text += different("own text of own text", own, configuration.own_text(own, range(16, 2064)))
+    text += different("lines of a file", ROUTER.splitlines(), configuration.file_lines(ROUTER, own.splitlines()))
+    return text + different("no memory", ["memory"], configuration.file_lines(ROUTER, ["memory"]))
 
 
 class Carried:
@@ -548,7 +661,10 @@ CASES = [
     ("netlink that changes", changed_dump),
     ("label tables", wrong_tables),
     ("short frames", short_frames),
+    ("answers and their marks", answers_and_marks),
     ("a router that prints without end", endless_router),
+    ("lines of a reload", reloaded),
+    ("texts of a router", texts_of_a_router),
     ("Hello, byte for byte", hello_bytes),
     ("neighbours that are there", quiet_neighbours),
     ("a silent neighbour", silent_neighbour),

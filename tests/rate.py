@@ -22,12 +22,22 @@ TOLD = {
     "587fffff": "587fffff is 9007198.72 Gbit/s, 1125899839733760 bytes per second",
     "10000000": "10000000 is 2.02e-28 bit/s, 1 bytes per second; in decimal digits, as 10000000 bit/s, it would be 49989680",
 }
+# A configuration, and the remarks beside it.
+CONFIGURATION = {
+    "limit = 1250000": "  # 10 Mbit/s",
+    'rate = "49989680"': "  # 10 Mbit/s, 1250000 bytes per second",
+    "flags = 7": "  # local protection, recorded labels, shared reservations",
+    "flags = 0": "  # none",
+    "capacity = 0": "  # 0 bit/s",
+    'name = "rate = 1"': "",
+    "": "",
+}
 REFUSED = ["", "10", "10 M", "10MM", "-1M", "1e3M", "0x49989680", "9007200G", "58800000", "7f800000", "7fc00000", "80000001", "ff800000", "١M"]
 
 
-def rate(*words):
+def rate(*words, given=""):
     """The status, what is printed, and what is told."""
-    ran = subprocess.run([str(asked.TOP / "lsr"), "rate", *words], capture_output=True, text=True, timeout=asked.MOST_SECONDS, check=False)
+    ran = subprocess.run([str(asked.TOP / "lsr"), "rate", *words], input=given, capture_output=True, text=True, timeout=asked.MOST_SECONDS, check=False)
     return ran.returncode, ran.stdout, ran.stderr
 
 
@@ -36,10 +46,12 @@ def main():
     wrong = [(word, came) for word, line in TOLD.items() if (came := rate(word)) != (0, f"{line}\n", "")]
     wrong += [(word, came) for word in REFUSED if (came := rate(word))[:2] != (2, "") or not came[2].startswith("lsr rate: ")]
     wrong += [(words, came) for words in ((), ("1M", "2M")) if (came := rate(*words))[:2] != (2, "") or "--help" not in came[2]]
+    remarked = "".join(f"{line}{remark}\n" for line, remark in CONFIGURATION.items())
+    wrong += [("-", came) for came in [rate("-", given="".join(f"{line}\n" for line in CONFIGURATION))] if came != (0, remarked, "")]
     wrong += [("--help", came) for came in [rate("--help")] if came[0] or "lsr rate RATE" not in came[1]]
     for case, came in wrong:
         print(f"FAILED {case}: {came}")
-    print(f"{len(TOLD) + len(REFUSED) + 3 - len(wrong)} passed, {len(wrong)} failed")
+    print(f"{len(TOLD) + len(REFUSED) + 4 - len(wrong)} passed, {len(wrong)} failed")
     return 1 if wrong else 0
 
 

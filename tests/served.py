@@ -2,8 +2,11 @@
 """What runs over sockets and at consoles: `lsr serve` as its neighbours and its operator see it.
 
 Routers are served over UDP on addresses of this machine, lines are typed at their consoles, and frames are sent to them.
+
+Words are names of cases, as `tests/served.py "three consoles"`: these alone are run. Without words all are.
 """
 
+import argparse
 import contextlib
 import dataclasses
 import functools
@@ -13,6 +16,7 @@ import re
 import subprocess
 import sys
 import tempfile
+import threading
 import time
 from typing import NamedTuple
 
@@ -44,11 +48,30 @@ OTHER_ADDRESSES = [("10.0.0.1:5701", NOT_LOCAL), ("[::1]:5701", OTHER_FAMILY), (
 NOBODY = "127.0.0.1:9"
 # One to which the system sends nothing: that of all of this machine.
 UNSENDABLE = "127.255.255.255:9"
-# What a log of warnings tells of a datagram that is no frame, and of a Path whose hop isn't the link's peer.
-QUIET_LOG = [
-    "link 1: of 2 received 1 dropped, 0 refused",
-    "link 1: a neighbour calls itself 10.0.0.1, and the link's peer is 10.1.0.1",
+# What is told of a Path whose hop isn't the link's peer.
+STRANGER = "link 1: a neighbour calls itself 10.0.0.1, and the link's peer is 10.1.0.1"
+# What the log of a run has, to which a datagram comes that is no frame, such a Path, and the line `down 2`; and its marks.
+INFO, WARN = "[INFO ] ", "[WARN ] "
+WHOLE_LOG = [
+    INFO + "router 10.0.0.2 is running: type help for its commands, quit to stop it",
+    INFO + "0.0 s is DATE",
+    INFO + "its journal goes to {0}/night.1, {0}/night.2 and so on, a file each minute; a crash loses the minute that is in memory",
+    INFO + "S s: link 2 down",
+    WARN + "link 1: of 2 received 1 dropped, 0 refused",
+    WARN + STRANGER,
+    INFO + "link 1: N received: N processed, 0 forwarded, 1 dropped, 0 refused; 0 frames not sent, 0 socket errors",
+    INFO + "link 2: N received: N processed, 0 forwarded, 0 dropped, 0 refused; 0 frames not sent, 0 socket errors",
+    INFO + "clock: N received: N processed, 0 forwarded, 0 dropped, 0 refused; 0 frames not sent, 0 socket errors",
+    INFO + "console: N received: N processed, 0 forwarded, 0 dropped, 0 refused; 0 frames not sent, 0 socket errors",
+    INFO + "router: 1 paths, 0 reservations, 0 repairs",
 ]
+# What a log of warnings tells of two tunnels of which one has no answer, and the other no link.
+NOT_UP = [
+    "tunnel 1: lsp 1 is not up for 2 s: its Path is sent, and no Resv has come",
+    "tunnel 2: lsp 1 is not up for 2 s: no link that is up leads to the next hop of its route",
+]
+# What is told of an output that can't be written.
+UNWRITABLE = b"unwritable\n  the output or the error stream can't be written: look at where they go\n"
 # How many pairs of routers start at once; and how long a reservation takes at most to be refused, in seconds.
 PAIRS = 6
 SETTLING_SECONDS = 1
@@ -59,6 +82,8 @@ NO_TURNS_TOLD = b"error: N is a number from 1 to 1000000; see lsr serve --help\n
 TURNS = [("0050", 50), ("3", 3), ("1", 1)]
 # The most turns that there are.
 MOST_TURNS = "1000000"
+# How many turns a link has to which more frames come, and how many it takes at least: in some turns none may come.
+FRAME_TURNS, LEAST_TAKEN = 20, 10
 # How many turns two routers have for a tunnel to come up, each of a tenth of a second.
 TUNNEL_TURNS = "80"
 # How often two routers refresh their state, in milliseconds. What isn't refreshed expires after 5.25 times that: so that it doesn't
@@ -76,6 +101,75 @@ NONE_WAIT = "00000000"
 # The kind of a frame with a message from neighbour to neighbour, and the most bytes of a message.
 HOP = b"\x01"
 MOST_MESSAGE = 4096
+# What a line is told that begins with no word of a console.
+OTHER_FORM = (
+    "  expected up, down, restart, start, tunnel, change, cancel, drop, bypass, unbypass, route, unroute, show, help or quit first"
+)
+# Lines of a console, and what is answered to each. The number of a line that isn't taken is its place among all.
+PLACED = [
+    (b"", []),
+    (b"# a remark", []),
+    (b"what", ["bad line 3", "  what", OTHER_FORM]),
+    (b"rx 1 00", ["bad line 4", "  rx 1 00", "  messages and frames come over the links of a router that runs"]),
+    (b"start", ["done"]),
+    (b"", []),
+    (b"tick 5", ["bad line 7", "  tick 5", "  ticks come from the router's own clock"]),
+    (b"a\xff", ["unreadable", "  standard input, line 8, "]),
+    (b"what", ["bad line 9", "  what", OTHER_FORM]),
+]
+# So many pairs of lines are typed, so far apart that ticks of the clock, a tenth of a second apart, come between them and with them.
+TYPED_PAIRS, TYPED_SECONDS = 400, 0.003
+# How many seconds lie between two ticks of the clock, and how many ticks may be late.
+TICK_SECONDS = 0.1
+LATE_TICKS = 10
+# After how many frames of a link a round is over; more of them; and how many are sent at once, so that a socket has room for all.
+ROUND_FRAMES = 16384
+MANY_FRAMES = 17000
+FRAMES_AT_ONCE = 200
+# How long a router goes on after a round, in seconds; and how long a link brings frames without end, with so many answers at least meanwhile.
+AFTER_ROUND_SECONDS = 1.5
+FLOOD_SECONDS, LEAST_ANSWERS = 1, 5
+# What `show counters` prints before the first round is over, and first after it.
+NOTHING_COUNTED = "nothing is counted yet: the first round, of a minute at most, isn't over"
+COUNTED = "counted up to the end of the last round, at most a minute ago"
+# Lines of a console whose answers have marks, and what is answered to each. Of what isn't UTF-8 the beginning is wanted.
+MARKED = [
+    (b"start", ["done", "."]),
+    (b"# a remark", ["."]),
+    (b"", ["."]),
+    (b"what", ["bad line 4", "  what", OTHER_FORM, "."]),
+    (b"a\xff", ["unreadable", "  standard input, line 5, ", "."]),
+    (b"show counters", [NOTHING_COUNTED, "."]),
+    (b"quit", ["the run ends", "."]),
+]
+# How many LSPs have their messages in one burst, which is as many as a link has bandwidth for; the first label that a router gives out, and that
+# of the next hop.
+BURST = 10
+FIRST_LABEL, NEXT_LABEL = 16, 100
+# The places of the Path, its Resv and its PathTear among the frames.
+MESSAGES_AT = (0, 2, 7)
+# The places of a message's checksum in its frame, where zeros say that there is none, and of the number of its tunnel.
+CHECKSUM_AT, TUNNEL_AT = slice(3, 5), slice(19, 21)
+# How many different errors are told of a round, and more than those.
+MOST_ERRORS, MANY_ERRORS = 32, 40
+# In how many seconds a Path that is refused comes again; and after how many a router is ended whose first round was over after a minute, and that
+# has told by then what isn't up for more than one.
+AGAIN_SECONDS = 2.5
+MINUTE_SECONDS = 63
+# A tunnel of a configuration: its number, and its route.
+TUNNEL = """
+[[tunnel]]
+number = {0}
+endpoint = "10.0.0.2"
+route = ["{1}"]
+rate = "47f42400"
+setup = 3
+hold = 3
+flags = 4
+name = "t{0}"
+"""
+# So often routers are started again where what has to come between two looks at them didn't.
+MOST_TRIES = 5
 
 
 def differs(what, wanted, came):
@@ -107,11 +201,16 @@ def end_line(paths, reservations):
     return f"router: {paths} paths, {reservations} reservations, 0 repairs"
 
 
+def status_differs(ended, wanted=0):
+    """What differs in the status of a router that ended."""
+    return "" if ended.status == wanted else f"status {ended.status}\n"
+
+
 def ends_well(ended, printed=("the run ends",)):
     """What differs at the end of a run: this is printed, and that it is one run, of as many entries as its ports have receipts."""
     receipts = sum(int(found[1]) for found in re.finditer(r"received: (\d+) processed", "\n".join(ended.log)))
     text = differs("the end", [*printed, f"reconciled {receipts} entries"], ended.printed)
-    return text + ("" if ended.status == 0 else f"status {ended.status}\n")
+    return text + status_differs(ended)
 
 
 def example(name, addresses):
@@ -162,6 +261,12 @@ def transcript(text):
 def uncounted(line):
     """The line, without how many messages, moments and lines came: these are other numbers in each run."""
     return re.sub(r"\d+(?= received: | processed)", "N", line)
+
+
+def untimed(line):
+    """A line of the log with its mark, without the time of day, how many seconds have gone, and such numbers."""
+    line = re.sub(r"(\[INFO \] )\d+\.\d s: ", r"\1S s: ", re.sub("(0.0 s is ).*", r"\1DATE", uncounted(line)))
+    return re.sub(r"(\[WARN \] )\d+\.\d s: ", r"\1", line)
 
 
 def quit_differs(router, act):
@@ -280,6 +385,13 @@ def killed_neighbour():
             at_head.wait_log("tunnel 1 up on lsp 1")
             text += shows(at_head, "show table", ["tunnel 1 push 16 1"]) + shows(at_tail, "show table", ["16 pop"])
             return text + ends_well(at_tail.quit()) + ends_well(at_head.quit())
+
+
+def wait_told(router, pattern):
+    """Waits until the log has a line that matches, and gives the match."""
+    while not (found := re.fullmatch(pattern, line := routers.said_by(router.next_line(router.told, pattern)))):
+        router.log.append(line)
+    return found
 
 
 # Frames over sockets, with this script as the neighbours.
@@ -435,15 +547,303 @@ def echoed():
     return text + differs("echo", ["done", f"tx 2 {sent.removeprefix(HOP).hex()}"], answer)
 
 
-def quiet_log(level, wanted):
-    """The log's lines of another level than `info`: what was dropped, or none."""
+def marked():
+    """With `--mark` a line with a full stop stands after each answer, whatever the answer is."""
+    wanted = [line for _, answer in MARKED for line in answer] + ["reconciled "]
+    with routers.file_of(one_link()) as file:
+        came = asked.ask("serve", file, "--console", "--mark", "--log", "off", given=b"\n".join(line for line, _ in MARKED))
+    printed = came.out.decode().splitlines()
+    begun = [line[: len(want)] if want else line for line, want in zip(printed, wanted)] + printed[len(wanted) :]
+    return differs("answers", wanted, begun) + asked.differs(Answer(0), came._replace(out=b""))
+
+
+def counted_lines(router):
+    """What `show counters` prints of a router with two links, and how many lines its console had then."""
+    lines = router.answer("show counters")
+    console = re.fullmatch(r"console: (\d+) received: .*", lines[-1])
+    return lines[:3] + [uncounted(line) for line in lines[3:]], int(console[1]) if console else 0
+
+
+def counters():
+    """What each port did is shown, with the links' addresses, up to the end of the last round: a piece of the journal ends one."""
     came, left = path_frames()
-    with line_of_three("--log", level) as line:
+    with line_of_three() as line:
+        links = [f"link {link} listen {line.listen[link]} send {routers.address_of(line.sockets[link])}" for link in (1, 2)]
+        seats = [uncounted(port_line(seat, fed=1)) for seat in ("clock", "console")]
+        wanted = [COUNTED, port_line(links[0], fed=1), port_line(links[1]), *seats]
+        text = differs("show counters", [NOTHING_COUNTED], line.router.answer("show counters"))
+        line.send(1, came)
+        text += frame_differs(left, line.receive(2))
+        feed_lines(line.router)
+        first, before = counted_lines(line.router)
+        feed_lines(line.router)
+        second, after = counted_lines(line.router)
+        text += differs("the first round", wanted, first) + differs("the rounds", wanted, second)
+        text += "" if 0 < before < after else f"the console had {before} lines, and {after} a round later\n"
+        return text + ends_well(line.router.quit())
+
+
+# Lines at a console.
+
+
+def one_link():
+    """The configuration of a router with one link, to which nobody sends."""
+    return routers.at_addresses(ONE_LINK, [*routers.free_addresses(1), NOBODY])
+
+
+def lines_at_ticks():
+    """Lines that come one by one, between ticks of the clock and with them, are each taken once and answered, in their order."""
+    wanted = []
+    with routers.serve(one_link(), "--console") as router:
+        for pair in range(1, TYPED_PAIRS + 1):
+            router.type("start")
+            router.type("what")
+            wanted += ["done", f"bad line {2 * pair}", "  what", OTHER_FORM]
+            time.sleep(TYPED_SECONDS)
+        ended = router.quit()
+    return ends_well(ended, [*wanted, "the run ends"]) + lacks([port_line("console", fed=TYPED_PAIRS)], ended.log)
+
+
+def places_of_lines():
+    """The number of a line that isn't taken is its place: remarks and empty lines count, too. Of each answer the beginning is wanted."""
+    wanted = [line for _, answer in PLACED for line in answer] + ["reconciled "]
+    with routers.file_of(one_link()) as file:
+        came = asked.ask("serve", file, "--console", "--log", "off", given=b"\n".join(line for line, _ in PLACED))
+    printed = came.out.decode().splitlines()
+    begun = [line[: len(want)] for line, want in zip(printed, wanted)] + printed[len(wanted) :]
+    return differs("answers", wanted, begun) + asked.differs(Answer(0), came._replace(out=b""))
+
+
+def unwritable_answers():
+    """Where an answer can't be written, or the line that ends a run, the run ends with status 1; its journal is whole."""
+    text = ""
+    for lines, entries in ((b"", 0), (b"start\n", 1), (b"quit\n", 0)):
+        with room_for_journal() as room, open("/dev/full", "wb") as full:
+            words = ["serve", "router.toml", "--console", "--log", "off", "--journal", "night"]
+            came = asked.ask(*words, given=lines, stdout=full, cwd=room)
+            counts = counts_of(checked(journal_files(room), room))
+            text += asked.differs(Answer(1, err=UNWRITABLE), came) + ("" if sum(counts) >= entries else f"{counts} entries\n")
+    return text
+
+
+# What is told.
+
+
+def whole_log(words, marks):
+    """The whole log of a run with these words: of what is told as it runs and at its end the lines that have these marks."""
+    came, left = path_frames()
+    with tempfile.TemporaryDirectory() as folder, line_of_three(*words, "--journal", f"{folder}/night") as line:
         line.send(1, b"")
         line.send(1, came)
         text = frame_differs(left, line.receive(2))
+        text += differs("down", ["done"], line.router.answer("down 2"))
+        time.sleep(SETTLING_SECONDS)
+        line.router.type(QUIT)
+        line.router.process.stdin.close()
+        status = line.router.process.wait(routers.MOST_SECONDS)
+        told = [untimed(it) for it in iter(line.router.told.get, None)]
+    wanted = [it.format(folder) for it in WHOLE_LOG if it.startswith(marks)]
+    return text + differs("log", wanted, told) + ("" if status == 0 else f"status {status}\n")
+
+
+def not_up_told():
+    """After two seconds it is told that an LSP isn't up: one whose Path nobody answers, and one that has no link."""
+    text = example("console-head.toml", routers.free_addresses(4)).replace("number = 2\n", "number = 2\nup = false\n")
+    text += TUNNEL.format(1, "10.1.0.2/32") + TUNNEL.format(2, "10.2.0.2/32")
+    with routers.serve(text, "--console", "--log", "warn") as router:
+        for line in NOT_UP:
+            router.wait_log(line)
+        ended = router.quit()
+    return differs("log", [], ended.log) + status_differs(ended)
+
+
+def refused_path_told():
+    """A Path that is refused is told at the router that refuses it, with how often, and once at its ingress."""
+    head, tail = tunnel_ends(SHORT_REFRESH_MS)
+    head = head.replace('route = ["10.0.0.2/32"]', 'route = ["10.0.0.2/32", "10.0.0.9/32"]').replace('endpoint = "10.0.0.2"', 'endpoint = "10.0.0.9"')
+    with routers.attend(tail) as at_tail, routers.attend(head) as at_head:
+        at_head.wait_log("tunnel 1 error 24/2 BadStrictNode from 10.0.0.2")
+        time.sleep(AGAIN_SECONDS)
+        near, far = at_head.quit(), at_tail.quit()
+    text = "".join(f"told again: {line}\n" for line in near.log if line.startswith("tunnel 1 error"))
+    told = re.compile(r"Path for 10\.0\.0\.9/1/10\.0\.0\.1 over link 1 refused: error 24/2 BadStrictNode, [2-9] times")
+    text += "" if any(map(told.fullmatch, far.log)) else f"the log has {far.log}\n"
+    return text + ends_well(near) + ends_well(far)
+
+
+def many_errors_told():
+    """Equal errors are told with how often they came, and of very many different ones how many others there were."""
+    came, _ = path_frames()
+    with line_of_three("--log", "warn") as line:
+        text = differs("down", ["done"], line.router.answer("down 2"))
+        for number in [1, *range(1, MANY_ERRORS + 1)]:
+            line.send(1, of_tunnel(came, number))
+        wait_read(line, 1)
         ended = line.router.quit()
-    return text + differs("log", wanted, ended.log) + ("" if ended.status == 0 else f"status {ended.status}\n")
+    told = [f"Path for 10.0.0.4/{number}/10.0.0.1 over link 1 refused: error 24/2 BadStrictNode" for number in range(1, MOST_ERRORS)]
+    wanted = [f"{STRANGER}, {MANY_ERRORS + 1} times", f"{told[0]}, 2 times", *told[1:], f"{MANY_ERRORS - MOST_ERRORS + 1} other errors"]
+    return text + differs("log", wanted, ended.log) + status_differs(ended)
+
+
+def restored_once():
+    """An LSP that runs over a bypass is reserved on its own path again before the router is looked at: what differs in what is told."""
+    near1, far1, near2, far2 = routers.free_addresses(4)
+    head, tail = example("console-head.toml", [near1, far1, near2, far2]), example("console-tail.toml", [far1, near1, far2, near2])
+    with routers.attend(tail) as at_tail, routers.attend(head) as at_head:
+        at_head.answer("tunnel 1 10.0.0.2 47f42400 3 3 07 t1 10.1.0.2/32")
+        text = shows(at_head, "show table", ["tunnel 1 push 16 1"])
+        at_head.answer("tunnel 100 10.0.0.2 47f42400 7 7 04 round 10.2.0.2/32")
+        at_head.answer("bypass 1 100 1")
+        text += shows(at_head, "show bypasses", ["bypass 1 100 1 up 0 0 0"])
+        for router in (at_head, at_tail):
+            router.answer("down 1")
+        at_head.wait_log(f"lsp repaired over bypass 1: {LSP}")
+        for router, line in ((at_head, "down 2"), (at_head, "up 1"), (at_tail, "up 1")):
+            router.answer(line)
+        text += shows(at_head, "show resvs", [f"resv {LSP} 1 se 47f42400 16"])
+        time.sleep(SETTLING_SECONDS)
+        near, far = at_head.quit(), at_tail.quit()
+        text += lacks([f"lsp restored to its own path: {LSP} link 1 rate 125000 (1000000 bit/s)"], near.log)
+        return text + ends_well(near) + ends_well(far)
+
+
+def restored_told():
+    """An LSP that is back on its own path is told so. A look that comes between tells that it was down and is up, so it is tried again."""
+    for _ in range(MOST_TRIES):
+        text = restored_once()
+        if not text:
+            break
+    return text
+
+
+# Rounds, and workers.
+
+
+def of_tunnel(frame, number):
+    """A message's frame as one about the tunnel of this number, without a checksum."""
+    changed = bytearray(frame)
+    changed[CHECKSUM_AT] = bytes(2)
+    changed[TUNNEL_AT] = number.to_bytes(2, "big")
+    return bytes(changed)
+
+
+def labelled(label, ttl, payload):
+    """A frame with one label."""
+    return b"\2\1" + (label << 12 | 1 << 8 | ttl).to_bytes(4, "big") + b"\0" + payload
+
+
+def wait_read(line, link):
+    """Waits until the router has read all that came over the link."""
+    routers.wait_until(lambda: routers.waiting_bytes(line.listen[link]) == NONE_WAIT, f"link {link} isn't read")
+
+
+def send_junk(line, count):
+    """Sends so many datagrams over link 1 that are no frames, no faster than they are read."""
+    for first in range(0, count, FRAMES_AT_ONCE):
+        for _ in range(first, min(count, first + FRAMES_AT_ONCE)):
+            line.send(1, b"")
+        wait_read(line, 1)
+
+
+def ticks_differ(ended, least, most):
+    """What differs where a router ran for so many seconds at least, and for so many at most: it has a tick for each tenth of one."""
+    ticks = next(int(found[1]) for line in ended.log if (found := re.match(r"clock: (\d+) received", line)))
+    lowest, highest = least / TICK_SECONDS - LATE_TICKS, most / TICK_SECONDS + 1
+    return "" if lowest <= ticks <= highest else f"{ticks} ticks, in {least:.1f} to {most:.1f} s\n"
+
+
+def rounds_go_on():
+    """A round is over after so many frames of a link. Then links and clock go on, and what was dropped before and after is counted."""
+    came, left = path_frames()
+    began = time.monotonic()
+    with line_of_three() as line:
+        ready = time.monotonic()
+        send_junk(line, MANY_FRAMES)
+        told = wait_told(line.router, r"link 1: of (\d+) received \1 dropped, 0 refused")
+        text = "" if int(told[1]) <= ROUND_FRAMES else f"a round of {told[1]} frames\n"
+        time.sleep(AFTER_ROUND_SECONDS)
+        line.send(1, came)
+        text += frame_differs(left, line.receive(2))
+        ends = time.monotonic()
+        ended = line.router.quit()
+        text += ticks_differ(ended, ends - ready, time.monotonic() - began)
+    rest = MANY_FRAMES - int(told[1])
+    wanted = [f"link 1: of {rest + 1} received {rest} dropped, 0 refused", port_line("link 1", dropped=MANY_FRAMES, fed=1)]
+    return text + lacks(wanted, ended.log) + ends_well(ended)
+
+
+def bursts():
+    """What a frame changed counts for the next one of its link, where many come at once; then nobody is kept waiting by who brought them."""
+    path, resv, tear = (list(frames())[place][2] for place in MESSAGES_AT)
+    tunnels = range(1, BURST + 1)
+    with line_of_three() as line:
+        for number in tunnels:
+            line.send(1, of_tunnel(path, number))
+            line.receive(2)
+        for number in tunnels:
+            line.send(2, of_tunnel(resv, number))
+            line.send(2, labelled(FIRST_LABEL + number - 1, 64, bytes([number])))
+        text = "".join(frame_differs(labelled(NEXT_LABEL, 63, bytes([number])), line.receive(2)) for number in tunnels)
+        text += differs("show tunnels", [], line.router.answer("show tunnels"))
+        for number in tunnels:
+            line.send(1, of_tunnel(tear, number))
+            line.send(1, labelled(FIRST_LABEL + number - 1, 64, bytes([number])))
+        wait_read(line, 1)
+        text += differs("show paths", [], line.router.answer_in_time("show paths", []))
+        ended = line.router.quit()
+    wanted = [port_line("link 1", dropped=BURST, fed=2 * BURST), port_line("link 2", passed=BURST, fed=BURST), end_line(0, 0)]
+    return text + lacks(wanted, ended.log) + ends_well(ended)
+
+
+@contextlib.contextmanager
+def flood(line, frame):
+    """The frame comes over link 1, again and again."""
+    is_over = threading.Event()
+
+    def send_on():
+        while not is_over.is_set():
+            line.send(1, frame)
+
+    sender = threading.Thread(target=send_on)
+    sender.start()
+    try:
+        yield
+    finally:
+        is_over.set()
+        sender.join()
+
+
+def flooded():
+    """A link that brings frames without end leaves the operator and the clock their turns."""
+    came, _ = path_frames()
+    began, answers = time.monotonic(), 0
+    with line_of_three() as line:
+        ready = time.monotonic()
+        with flood(line, came):
+            while time.monotonic() < ready + FLOOD_SECONDS:
+                answers += len(line.router.answer("start"))
+        ends = time.monotonic()
+        ended = line.router.quit()
+        text = ticks_differ(ended, ends - ready, time.monotonic() - began)
+    return text + ("" if answers >= LEAST_ANSWERS else f"{answers} answers\n") + ends_well(ended)
+
+
+def a_minute():
+    """After a minute a round is over: a file of the journal is written, and ticks go on. What isn't up is told once more."""
+    with room_for_journal() as room:
+        text = example("serve-head.toml", [*routers.free_addresses(1), NOBODY])
+        (room / "router.toml").write_text(text, encoding="utf-8")
+        with journal_router(room) as router:
+            router.answer("start")
+            began = time.monotonic()
+            routers.wait_until((room / "night.1").exists, "night.1 isn't written")
+            files = [file.name for file in journal_files(room)]
+            time.sleep(max(0, began + MINUTE_SECONDS - time.monotonic()))
+            ended = router.quit()
+        told = [f"tunnel 1: lsp 1 is not up for {seconds} s: its Path is sent, and no Resv has come" for seconds in (2, 62)]
+        text = differs("files", ["night.1"], files) + lacks(told, ended.log) + ticks_differ(ended, MINUTE_SECONDS, MINUTE_SECONDS + 1)
+        counts = counts_of(checked(journal_files(room), room))
+        return text + ends_well(ended) + ("" if len(counts) == 2 and is_run(journal_files(room), room) else f"files of {counts} entries\n")
 
 
 # Sockets that can't be had, and turns.
@@ -505,6 +905,20 @@ def silent_links(word, turns):
     with routers.file_of(routers.at_addresses(MIDDLE, routers.free_addresses(4))) as file:
         came = asked.ask("serve", file, "--turns", word)
     return asked.differs(Answer(0, f"reconciled {turns} entries\n".encode(), told.encode()), came)
+
+
+def turns_of_frames():
+    """A link takes a frame in each turn, and when its turns are over no more."""
+    listen, send = routers.free_addresses(2)
+    with routers.serve(routers.at_addresses(ONE_LINK, [listen, send]), "--turns", str(FRAME_TURNS)) as router:
+        routers.wait_bound(listen)
+        with routers.open_socket(routers.fresh_host()) as neighbour:
+            for _ in range(2 * FRAME_TURNS):
+                Line(router, {3: neighbour}, {3: listen}).send(3, b"")
+        ended = router.end()
+    taken = int(re.match(r"link 3: (\d+) received", ended.log[0])[1])
+    text = "" if LEAST_TAKEN <= taken <= FRAME_TURNS else f"{taken} frames taken\n"
+    return text + lacks([port_line("link 3", dropped=taken), port_line("clock", fed=FRAME_TURNS)], ended.log) + ends_well(ended, [])
 
 
 def most_turns():
@@ -610,10 +1024,8 @@ def feed_lines(router):
 
 
 def wait_waiting(router, told):
-    """Waits until this is told of a file, with how many wait."""
-    told = re.compile(rf"{re.escape(told)}; \d+ files wait in memory, and are tried again with the next")
-    while not told.fullmatch(routers.said_by(router.next_line(router.told, told.pattern))):
-        pass
+    """Waits until this is told of a file, with how many wait: how many that are."""
+    return int(wait_told(router, rf"{re.escape(told)}; (\d+) files wait in memory, and are tried again with the next")[1])
 
 
 def later_file_unwritable():
@@ -733,6 +1145,7 @@ def killed_run():
 
 # Those that take longest stand first.
 CASES = [
+    ("a minute", a_minute),
     ("two consoles", two_consoles),
     ("three consoles", three_consoles),
     ("a killed neighbour", killed_neighbour),
@@ -754,8 +1167,23 @@ CASES = [
     ("a cold router refuses", cold_router_refuses),
     ("a frame that is lost", lost_frame),
     ("echo", echoed),
-    ("a log of warnings", functools.partial(quiet_log, "warn", QUIET_LOG)),
-    ("no log", functools.partial(quiet_log, "off", [])),
+    ("marks", marked),
+    ("counters", counters),
+    ("rounds go on", rounds_go_on),
+    ("bursts", bursts),
+    ("a flood", flooded),
+    ("lines at ticks", lines_at_ticks),
+    ("places of lines", places_of_lines),
+    ("answers that can't be written", unwritable_answers),
+    ("a whole log", functools.partial(whole_log, [], (INFO, WARN))),
+    ("a log of all", functools.partial(whole_log, ["--log", "info"], (INFO, WARN))),
+    ("a log of warnings", functools.partial(whole_log, ["--log", "warn"], (WARN,))),
+    ("no log", functools.partial(whole_log, ["--log", "off"], ())),
+    ("what isn't up is told", not_up_told),
+    ("a refused Path is told", refused_path_told),
+    ("many errors are told", many_errors_told),
+    ("what is back is told", restored_told),
+    ("turns of frames", turns_of_frames),
     (f"turns `{MOST_TURNS}`", most_turns),
     *[(f"turns `{word}`", functools.partial(no_turns, word)) for word in NO_TURNS],
     ("an address that is taken", taken_address),
@@ -767,5 +1195,17 @@ CASES = [
     ("sockets by number", sockets_by_number),
 ]
 
+
+def chosen(cases):
+    """The cases that words name, all where there are none."""
+    words = argparse.ArgumentParser(description="Runs the cases of these names, or all.")
+    words.add_argument("--lsr", metavar="PROGRAM", help="the program, in place of the one that is built here")
+    words.add_argument("names", nargs="*", metavar="NAME", help="the name of a case")
+    names = words.parse_args().names
+    if strange := set(names) - {name for name, _ in cases}:
+        words.error(f"there is no case {', '.join(sorted(strange))}")
+    return [case for case in cases if not names or case[0] in names]
+
+
 if __name__ == "__main__":
-    sys.exit(asked.count(CASES))
+    sys.exit(asked.count(chosen(CASES)))

@@ -1,6 +1,7 @@
 #!/usr/bin/env python3
 """Inputs and outputs of `lsr` that fail, break or are too long, which no file can be."""
 
+import contextlib
 import os
 import pathlib
 import resource
@@ -14,6 +15,7 @@ import time
 from functools import partial
 
 import asked
+import routers
 from asked import Answer, ask, begins, differs, started
 
 # The most bytes of an input, and of a line that is answered as it comes.
@@ -40,6 +42,9 @@ LIVE = ("step", "--live")
 # The words of the runs that read their input, and what they tell of one that breaks.
 READERS = ((STEP, TOLD_BROKEN), (LIVE, TOLD_BROKEN), (("decode", "-"), TOLD_BROKEN_LINES))
 TOLD_UNWRITABLE = b"unwritable\n  the output or the error stream can't be written: look at where they go\n"
+# The router that is served, at whose console lines come; and lines of which each is answered, before the run ends.
+SERVED = (asked.DATA / "served" / "one-link.toml").read_text(encoding="utf-8")
+CONSOLE_LINES = b"restart\nstart\n"
 TOLD_UNREAD_WORDS = b"error: a word isn't UTF-8; see lsr --help\n"
 # The states of a process that waits, and of one that has ended.
 WAITS, ENDED = "S", "Z"
@@ -190,9 +195,9 @@ def input_cases():
     yield "a longer input", partial(from_long, STEP, (MOST_INPUT + 1) * b"\n", b"unreadable\n")
     yield "the longest line", partial(from_long, LIVE, MOST_INPUT * b"x", b"bad line 1\n")
     yield "a longer line", partial(from_long, LIVE, (MOST_INPUT + 1) * b"x", b"unreadable\n")
-    told = b"unreadable\n  standard input isn't UTF-8 from byte 70000 on, "
+    told = b"unreadable\n  standard input is no text: invalid UTF-8 at byte 70000, "
     yield "a long text that isn't one", partial(from_long, STEP, TEXT_LENGTH * b"\n" + NO_TEXT, told)
-    told = b"unreadable\n  standard input, line 1, isn't UTF-8 from the line's byte 70000 on, "
+    told = b"unreadable\n  standard input, line 1, is no text: invalid UTF-8 at the line's byte 70000, "
     yield "a long line that isn't one", partial(from_long, LIVE, TEXT_LENGTH * b"#" + NO_TEXT, told)
     yield "an interrupted input", partial(from_interrupted, STEP)
     yield "an interrupted live input", partial(from_interrupted, LIVE)
@@ -213,6 +218,52 @@ def output_cases():
     yield "answers as the lines come", as_they_come
 
 
+# A router that is served, with a console.
+
+
+@contextlib.contextmanager
+def console():
+    """The words of a router that is served, with a console and without a log."""
+    with routers.file_of(routers.at_addresses(SERVED, routers.free_addresses(2))) as file:
+        yield "serve", str(file), "--console", "--log", "off"
+
+
+def at_console(wanted, **more):
+    """What differs at a console, of whose output and of what is told only the beginning is wanted."""
+    with console() as words:
+        came = ask(*words, **more)
+    return begins(wanted, came._replace(out=came.out[: len(wanted.out)]))
+
+
+def console_breaks():
+    """The input of a console breaks: the lines before are answered, and the status is 1."""
+    with broken_input(LINES) as given:
+        return at_console(Answer(1, ANSWERS + b"bad line 3\n  no line\n", TOLD_BROKEN), stdin=given)
+
+
+def console_fails(most):
+    """The output takes so many bytes of a console's answers, or all, and then fails: the status is 1."""
+    with console() as words:
+        return to_failing(words, CONSOLE_LINES, ANSWERS, most)
+
+
+def console_closed():
+    """Nobody reads a console's output: the router goes on to its end, and the status is 1."""
+    with console() as words:
+        return to_closed_pipe(words)
+
+
+def console_cases():
+    """The cases of consoles."""
+    yield "a console whose input breaks", console_breaks
+    yield "the longest line of a console", partial(at_console, Answer(0, b"bad line 1\n"), given=MOST_INPUT * b"x")
+    told = Answer(1, b"reconciled ", b"unreadable\n")
+    yield "a longer line of a console", partial(at_console, told, given=(MOST_INPUT + 1) * b"x")
+    for most in range(len(ANSWERS) + 1):
+        yield f"a console whose output fails behind {most} bytes", partial(console_fails, most)
+    yield "a console that nobody reads", console_closed
+
+
 def unread_words():
     """A word that isn't UTF-8."""
     return differs(Answer(2, b"", TOLD_UNREAD_WORDS), ask(NO_TEXT))
@@ -220,7 +271,7 @@ def unread_words():
 
 def main():
     """Runs all cases."""
-    return asked.count([*input_cases(), *output_cases(), ("words that can't be read", unread_words)])
+    return asked.count([*input_cases(), *output_cases(), *console_cases(), ("words that can't be read", unread_words)])
 
 
 if __name__ == "__main__":

@@ -11,10 +11,9 @@ import subprocess
 import time
 from collections.abc import Callable, Iterator
 
-import machine
-from machine import Trouble
+from machine import Room, trouble
 
-MARK, LINES_AFTER_MARK = ".", 2         # a line that is no line stands after each line: `bad line N`, and so many lines, end the answer
+MARK = b"."                     # the line that ends each answer of `--mark`
 END_SECONDS, ANSWER_SECONDS = 20, 15
 MOST_OPERATORS, MOST_LINE, MOST_ANSWER, READ_BYTES = 32, 4096, 1 << 22, 1 << 16
 SO_SNDBUFFORCE = 32
@@ -27,11 +26,9 @@ class Loop(selectors.DefaultSelector):
     """What is done as files become ready to be read."""
 
     def on(self, file, do: Callable[[], object]) -> None:
-        """Does this whenever the file is ready."""
         self.register(file, selectors.EVENT_READ, do)
 
     def turn(self, seconds: float) -> None:
-        """Waits at most so long, and does what there is to do."""
         for key, _ in self.select(max(0.0, seconds)):
             if self.get_map().get(key.fd) is key:       # what was done for another file may have taken this one away
                 key.data()
@@ -47,35 +44,24 @@ def datagrams(file: socket.socket) -> list[bytes]:
 
 
 class Child:
-    """`lsr serve FILE --console` in a network namespace of its own."""
+    """`lsr serve FILE --console --mark`."""
 
-    def __init__(self, words: list[str], addresses: list[tuple[str, int]], lock: socket.socket, namespaces: list[int]):
-        """Starts it, with sockets at these addresses of its namespace for the adapter; it holds the lock, too. Trouble: it doesn't start."""
-        ours, theirs = socket.socketpair()
-        with ours, theirs:
-            try:
-                self.process = subprocess.Popen(words, stdin=subprocess.PIPE, stdout=subprocess.PIPE, bufsize=0, pass_fds=[lock.fileno()],
-                                                start_new_session=True, preexec_fn=lambda: machine.own_namespace(addresses, theirs, namespaces))
-            except OSError as fault:
-                raise Trouble(f"{words[0]} doesn't start: {fault.strerror}: name the program lsr by --lsr") from None
-            except subprocess.SubprocessError:
-                why = ours.recv(READ_BYTES).decode(errors="replace")
-                raise Trouble(f"{why}: run as root, or let users make namespaces (sysctl user.max_user_namespaces)") from None
-            self.sockets = [socket.socket(fileno=it) for it in socket.recv_fds(ours, READ_BYTES, len(addresses))[1]]
+    def __init__(self, words: list[str], room: Room, lock: socket.socket):
+        """Starts it in a room; it holds the lock, too. Trouble: it doesn't start."""
+        with trouble(f"{words[0]} doesn't start", "name the program lsr by --lsr", subprocess.SubprocessError):
+            self.process = subprocess.Popen(words, stdin=subprocess.PIPE, stdout=subprocess.PIPE, bufsize=0, pass_fds=[lock.fileno()],
+                                            start_new_session=True, preexec_fn=room.enter)
         for file in (self.process.stdin, self.process.stdout):
             os.set_blocking(file.fileno(), False)
-        self.waiting: collections.deque[tuple[int, float, Take]] = collections.deque()  # the line that ends the answer, since when, who takes it
-        self.lines, self.skip, self.unsent, self.rest, self.answer, self.answered = 0, 0, b"", b"", [], False
+        self.waiting: collections.deque[tuple[float, Take]] = collections.deque()       # since when, and who takes the answer
+        self.unsent, self.rest, self.answer, self.answered = b"", b"", [], False
 
     def ask(self, line: str, take: Take = lambda answer: None) -> None:
-        """Writes a line; its answer is taken when it is there."""
-        self.lines += 2
-        self.waiting.append((self.lines, time.monotonic(), take))
-        self.unsent += f"{line}\n{MARK}\n".encode()
+        self.waiting.append((time.monotonic(), take))
+        self.unsent += f"{line}\n".encode()
         self.flush()
 
     def flush(self) -> None:
-        """Writes what the router takes now."""
         try:
             while self.unsent and (count := self.process.stdin.write(self.unsent)):
                 self.unsent = self.unsent[count:]
@@ -84,20 +70,18 @@ class Child:
 
     def silent(self) -> float:
         """For how many seconds the oldest line has waited for its answer."""
-        return time.monotonic() - self.waiting[0][1] if self.waiting else 0.0
+        return time.monotonic() - self.waiting[0][0] if self.waiting else 0.0
 
     def ready(self) -> bool:
         """Reads what it answered; False where it ended."""
         data = self.process.stdout.read(READ_BYTES)
         *lines, self.rest = (self.rest + (data or b"")).split(b"\n")
         for line in lines:
-            if self.skip:
-                self.skip -= 1
-            elif self.waiting and line == b"bad line %d" % self.waiting[0][0]:
-                self.skip, self.answered, answer, self.answer = LINES_AFTER_MARK, True, self.answer, []
-                self.waiting.popleft()[2](answer)
-            else:
+            if line != MARK:
                 self.answer.append(line.decode(errors="replace"))
+            elif self.waiting:
+                self.answered, answer, self.answer = True, self.answer, []
+                self.waiting.popleft()[1](answer)
         return data != b""
 
     def end(self) -> str:
@@ -113,10 +97,9 @@ class Child:
         except subprocess.TimeoutExpired:
             self.process.kill()
             late = f": it was killed, since it didn't end in {END_SECONDS} s, and its journal lacks its last entries"
-        for _, _, take in self.waiting:
+        for _, take in self.waiting:
             take(None)
-        for file in [*self.sockets, self.process.stdout]:
-            file.close()
+        self.process.stdout.close()
         found = re.findall(rb"^(?:reconciled|mismatch) .*$", said, re.MULTILINE)
         return f"ended with status {self.process.wait()}{late}" + (f": {found[-1].decode()}" if found else "")
 
@@ -126,16 +109,13 @@ class Desk:
 
     def __init__(self, path: str, loop: Loop, question: Callable[[str, Take], None]):
         """Opens it, in place of one that a killed run left. Trouble: the path can't be had."""
-        self.path, self.loop, self.question, self.operators = path, loop, question, set()
+        self.path, self.loop, self.question, self.operators = path, loop, question, 0
         self.socket = socket.socket(socket.AF_UNIX, socket.SOCK_SEQPACKET | socket.SOCK_NONBLOCK)
-        try:
-            with socket.socket(socket.AF_UNIX, socket.SOCK_SEQPACKET | socket.SOCK_NONBLOCK) as other:
-                if other.connect_ex(path) == errno.ECONNREFUSED and stat.S_ISSOCK(os.lstat(path).st_mode):
-                    os.unlink(path)
+        with trouble(f"--socket {path}", "name a path in a folder that is there, which nobody has"):
+            if self.socket.connect_ex(path) == errno.ECONNREFUSED and stat.S_ISSOCK(os.lstat(path).st_mode):
+                os.unlink(path)
             self.socket.bind(path)
             os.chmod(path, 0o660)
-        except OSError as fault:
-            raise Trouble(f"--socket {path}: {fault.strerror or fault}: name a path in a folder that is there, which nobody has") from None
         self.socket.listen(MOST_OPERATORS)
         loop.on(self.socket, self.ready)
 
@@ -143,73 +123,55 @@ class Desk:
         """An operator comes; one too many goes at once."""
         with contextlib.suppress(OSError):      # it went already, or there are too many files
             operator, _ = self.socket.accept()
+            if self.operators == MOST_OPERATORS:
+                return operator.close()
             operator.setblocking(False)
             operator.setsockopt(socket.SOL_SOCKET, SO_SNDBUFFORCE, MOST_ANSWER)
-            self.operators.add(operator)
             self.loop.on(operator, lambda: self.heard(operator))
-            if len(self.operators) > MOST_OPERATORS:
-                self.leave(operator)
+            self.operators += 1
 
     def heard(self, operator: socket.socket) -> None:
-        """A line of an operator, who goes where it is none."""
+        """A line of an operator, who goes where it is none. The next is read after its answer, so they don't pile up before those of links."""
+        self.loop.unregister(operator)
         line = b""
         with contextlib.suppress(OSError):
             line = operator.recv(MOST_LINE + 1)
+        text = line.decode(errors="surrogateescape")
         if not line:
             self.leave(operator)
-        elif line.strip() == b"quit":
+        elif text.strip() == "quit":
             self.reply(operator, ["the router is ended with lsrnet: by SIGTERM, or by Ctrl-C where it runs"])
-        elif len(line) > MOST_LINE or not line.decode(errors="surrogateescape").isprintable():
+        elif len(line) > MOST_LINE or not text.isprintable():
             self.reply(operator, [f"bad line: it has more than {MOST_LINE} bytes, or some that can't be printed"])
         else:
-            self.loop.unregister(operator)      # until the answer: lines don't pile up before those that tell of links
-            self.question(line.decode(), lambda answer: self.reply(operator, answer))
+            self.question(text, lambda answer: self.reply(operator, answer))
 
     def reply(self, operator: socket.socket, answer: list[str] | None) -> None:
-        """Sends an answer. Who doesn't read goes."""
         answer = ["the router ended before it answered: ask again"] if answer is None else answer
         try:
             operator.send("".join(f"{it}\n" for it in answer or [""]).encode(errors="surrogateescape"))
-            if operator not in self.loop.get_map():
-                self.loop.on(operator, lambda: self.heard(operator))
+            self.loop.on(operator, lambda: self.heard(operator))
         except OSError:
             self.leave(operator)
 
     def leave(self, operator: socket.socket) -> None:
-        """An operator goes."""
-        self.operators.discard(operator)
-        if operator in self.loop.get_map():
-            self.loop.unregister(operator)
+        self.operators -= 1
         operator.close()
 
     def close(self) -> None:
-        """The path goes."""
         self.socket.close()
         os.unlink(self.path)
 
 
 def asked(path: str, lines: list[str]) -> Iterator[str]:
     """The answers to lines that are asked at a socket. Trouble: one isn't answered."""
-    try:
+    with trouble(path, f"is lsrnet run with --socket {path}, and may you write to it? If it hangs, read its log"):
         with socket.socket(socket.AF_UNIX, socket.SOCK_SEQPACKET) as asking:
             asking.settimeout(ANSWER_SECONDS)
             asking.connect(path)
-            for line in filter(str.strip, lines):
+            for line in lines:
                 asking.send(os.fsencode(line))
                 answer = asking.recv(MOST_ANSWER).decode(errors="replace")
                 if not answer:
                     raise OSError(0, "it was closed")
                 yield answer.lstrip("\n")
-    except TimeoutError:
-        raise Trouble(f"no answer for {ANSWER_SECONDS} s: the router hangs; read its log, and end lsrnet where it stays so") from None
-    except OSError as fault:
-        raise Trouble(f"{path}: {fault.strerror or fault}: is lsrnet run with --socket {path}, and may you write to it?") from None
-
-
-def ask(path: str, lines: list[str]) -> int:
-    """Asks the lines at a socket and prints the answers; the status: 1 where one was refused. Trouble: it isn't answered."""
-    status = 0
-    for answer in asked(path, lines):
-        print(answer, end="", flush=True)
-        status |= answer.startswith(REFUSALS)
-    return status

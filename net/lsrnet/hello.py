@@ -1,13 +1,12 @@
 """RSVP Hello (RFC 3209, section 5): whether a link's neighbour is there, and is the one that it was. A state machine without sockets or a
 clock: it is given moments, in seconds on any clock that doesn't go back, and messages.
 
-A neighbour that was heard and is silent for 3.5 intervals, says another instance number than before, or doesn't reflect the own one is
-told as `down`; and as `up` once it reflects the own number again, which is then a new one. Of a neighbour that was never heard nothing is
-told: a node needn't speak Hello at all.
+A neighbour that was heard is lost when it is silent for 3.5 intervals, says another instance number than before, or doesn't reflect the own
+one; until it reflects the own number again, which is then a new one. One that was never heard isn't: a node needn't speak Hello at all.
 """
 import math
 import struct
-from dataclasses import dataclass, field
+from dataclasses import dataclass
 
 from wire import HEADER_BYTES, HELLO, Refused, check_header, objects, sealed
 
@@ -39,7 +38,7 @@ def said(message: bytes) -> tuple[int, int, int] | None:
 @dataclass
 class Neighbour:
     """One neighbour, as Hello sees it, with Hellos at this interval of seconds."""
-    own: int                            # the instance that is said to it, 1 to 4294967295; another one at each start of the router
+    own: int                            # the instance that is said to it, 1 to 4294967295; another one after each loss
     interval: float
     other: int = 0                      # its Src_Instance; 0 where none is known
     heard: float = -math.inf            # when it last said an instance
@@ -48,11 +47,6 @@ class Neighbour:
     wrong: int = 0
     is_there: bool = False
     is_lost: bool = False
-    events: list[str] = field(default_factory=list)     # `down` and `up`, the oldest first; who tells them takes them away
-
-    def __post_init__(self) -> None:
-        if not 0 < self.own <= LAST_INSTANCE or not self.interval > 0:
-            raise ValueError(f"an instance is 1 to {LAST_INSTANCE}, and an interval above 0 seconds")
 
     def tick(self, now: float) -> bytes | None:
         """What time brings: a loss where the neighbour is silent, and the REQUEST that is due. One that came within the interval stands for it."""
@@ -65,8 +59,7 @@ class Neighbour:
 
     def receive(self, now: float, message: bytes) -> bytes | None:
         """A message came: the ACK that answers a REQUEST. What is no Hello counts for nothing."""
-        words = said(message)
-        if words is None:
+        if not (words := said(message)):
             return None
         kind, source, destination = words
         if self.is_there and source != self.other:
@@ -77,7 +70,6 @@ class Neighbour:
                 self.lose(source)
         self.other, self.heard = source, now if source else self.heard
         if source and destination == self.own:          # it reflects the own instance: it is there
-            self.events += ["up"] if self.is_lost else []
             self.is_there, self.is_lost, self.wrong = True, False, 0
         if kind == ACK:
             return None
@@ -85,7 +77,6 @@ class Neighbour:
         return hello(ACK, self.own, source)
 
     def lose(self, other: int) -> None:
-        """Communication was lost: from now on another instance is said, and Hellos begin anew at once (RFC 3209, 5.3)."""
+        """From now on another instance is said, and Hellos begin anew at once (RFC 3209, 5.3)."""
         self.is_there, self.is_lost, self.other, self.wrong, self.sent = False, True, other, 0, -math.inf
         self.own = self.own + 1 if self.own < LAST_INSTANCE else 1
-        self.events.append("down")

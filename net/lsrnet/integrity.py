@@ -20,23 +20,17 @@ import os
 import re
 import struct
 import time
-from dataclasses import dataclass
-from typing import Callable
+from typing import Callable, NamedTuple
 
 from wire import HEADER_BYTES, MOST_BYTES, RSVP_HOP, Refused, check_header, first_object, sealed
 
 INTEGRITY_CLASS, INTEGRITY_TYPE = 4, 1  # RFC 2747, section 2
 FIELDS = struct.Struct("!HBBBx6sQ")     # length, class, C-Type, flags, reserved, key identifier, sequence number; then the digest
 DIGESTS = {"hmac-md5": ("md5", 16), "hmac-sha1": ("sha1", 20)}      # hash function and bytes of its digest (RFC 2104)
-LINE = re.compile(r"(\S+)\s+(\d{1,15})\s+(\S+)\s+(?:text:(\S+)|hex:((?:[0-9A-Fa-f]{2})+))\s*")
+LINE = re.compile(r"(\S+)\s+(\d{1,15})\s+(\S+)\s+(?:text:([^\s\ufffd]+)|hex:((?:[0-9A-Fa-f]{2})+))")     # U+FFFD: no UTF-8
 
 
-class BadKeys(Exception):
-    """A file of keys that isn't taken; the text says where, and what to do. It has no secret in it."""
-
-
-@dataclass(frozen=True)
-class Key:
+class Key(NamedTuple):
     """A key of an interface: its identifier (48 bits), the name of its digest, and its secret."""
     identifier: int
     digest_name: str
@@ -44,7 +38,6 @@ class Key:
 
     @property
     def object_bytes(self) -> int:
-        """The length of an INTEGRITY object under this key."""
         return FIELDS.size + DIGESTS[self.digest_name][1]
 
     def digest(self, data: bytes) -> bytes:
@@ -68,28 +61,23 @@ class Keys:
 
     @classmethod
     def read(cls, path: str) -> "Keys":
-        """The keys of a file; raises `BadKeys` where it isn't taken, and `OSError` where it can't be read."""
+        """The keys of a file; ValueError: it isn't taken, and why, without a secret. OSError: it can't be read."""
         keys: dict[str, list[Key]] = {}
-        with open(path, encoding="utf-8") as file:
+        with open(path, encoding="utf-8", errors="replace") as file:
             if os.fstat(file.fileno()).st_mode & 0o077:
-                raise BadKeys(f"{path}: others may read these secrets; run chmod 600 {path}")
-            try:
-                lines = file.read().splitlines()
-            except UnicodeDecodeError:
-                raise BadKeys(f"{path}: it isn't UTF-8; write it anew as text") from None
-        for number, line in enumerate(lines, 1):
-            if not line.strip() or line.startswith("#"):
-                continue
-            words, place = LINE.fullmatch(line.strip()), f"{path}, line {number}"
+                raise ValueError(f"{path}: others may read these secrets; run chmod 600 {path}")
+            lines = [(f"{path}, line {number}", line.strip()) for number, line in enumerate(file, 1) if line.strip() and not line.startswith("#")]
+        for place, line in lines:
+            words = LINE.fullmatch(line)
             if not words:
-                raise BadKeys(f"{place}: write INTERFACE IDENTIFIER DIGEST text:SECRET, or hex:DIGITS, with an even number of them")
+                raise ValueError(f"{place}: write INTERFACE IDENTIFIER DIGEST text:SECRET in UTF-8, or hex:DIGITS, with an even number of them")
             interface, identifier, name, text, digits = words.groups()
             if name not in DIGESTS:
-                raise BadKeys(f"{place}: {name} is no digest here; write {' or '.join(DIGESTS)}")
+                raise ValueError(f"{place}: {name} is no digest here; write {' or '.join(DIGESTS)}")
             if int(identifier) >> 48:
-                raise BadKeys(f"{place}: identifier {identifier} has more than 48 bits; choose one up to {(1 << 48) - 1}")
+                raise ValueError(f"{place}: identifier {identifier} has more than 48 bits; choose one up to {(1 << 48) - 1}")
             if int(identifier) in (it.identifier for it in keys.setdefault(interface, [])):
-                raise BadKeys(f"{place}: {interface} has identifier {identifier} already; give each key its own")
+                raise ValueError(f"{place}: {interface} has identifier {identifier} already; give each key its own")
             keys[interface].append(Key(int(identifier), name, text.encode() if text else bytes.fromhex(digits)))
         return cls(keys)
 
@@ -105,16 +93,11 @@ class Keys:
         fields = FIELDS.pack(key.object_bytes, INTEGRITY_CLASS, INTEGRITY_TYPE, 0, key.identifier.to_bytes(6, "big"), number)
         return key.signed(message[:HEADER_BYTES], fields, message[HEADER_BYTES:])
 
-    def verify(self, interface: str, source: str, message: bytes) -> bytes:
+    def verify(self, interface: str, message: bytes) -> bytes:
         """The message without its object (RFC 2747, 4.2), or as it is without a key; raises `Refused`. Who sent it, and so which number was
-        its last, is what its RSVP_HOP says; `source`, which no digest covers, is only told: by it a replay could pass for another's."""
-        try:
-            return self.opened(interface, message) if interface in self.keys else message
-        except Refused as refusal:
-            raise Refused(f"a message from {source} over {interface}: {refusal}") from None
-
-    def opened(self, interface: str, message: bytes) -> bytes:
-        """`verify`, of an interface with keys."""
+        its last, is what its RSVP_HOP says: no digest covers the packet's source, and by it a replay could pass for another's."""
+        if interface not in self.keys:
+            return message
         check_header(message)
         fields = message[HEADER_BYTES:HEADER_BYTES + FIELDS.size]
         if fields[2:3] != bytes([INTEGRITY_CLASS]) or len(fields) < FIELDS.size:

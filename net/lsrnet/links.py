@@ -7,7 +7,8 @@ from typing import NamedTuple
 
 import netlink
 import wire
-from netlink import ACK, DELNEIGH, GETADDR, GETLINK, GETNEIGH, NEIGHBOUR, NEIGHBOUR_HARDWARE, NEIGHBOUR_TO, NEWNEIGH, Netlink, as_number, attributes, packed
+from hello import Neighbour
+from netlink import ACK, DELNEIGH, GETADDR, GETLINK, GETNEIGH, NEIGHBOUR, NEWNEIGH, Netlink, as_number, attributes, packed
 
 MARKS = 0x2e000000              # a packet of link N has the mark MARKS + N, and the table of this number leads it to the neighbour
 LINK_NAME, LINK_MTU, ADDRESS_LOCAL = 3, 4, 2            # attributes of links and addresses
@@ -37,9 +38,8 @@ class Interfaces:
         self.read()
 
     def read(self) -> None:
-        """Reads what there is."""
         self.faces: dict[int, Interface] = {}
-        for data in self.asked.get(GETLINK, LINK.pack(0, 0, 0, 0, 0, 0)):
+        for data in self.asked.get(GETLINK, bytes(LINK.size)):
             found, (index, flags) = attributes(data[LINK.size:]), struct.unpack_from("=iI", data, 4)
             name = os.fsdecode(found[LINK_NAME].rstrip(b"\0"))
             self.faces[index] = Interface(index, name, flags & IS_UP == IS_UP, as_number(found.get(LINK_MTU)))
@@ -57,17 +57,17 @@ class Interfaces:
                 self.read()
 
     def at(self, address: str) -> Interface:
-        """The interface that has the address; NOWHERE where none has."""
         return self.faces.get(self.homes.get(socket.inet_aton(address), 0), NOWHERE)
 
     def neighbour(self, face: Interface, address: str) -> tuple[int, bytes]:
         """The state and the hardware address of a neighbour, as far as the kernel knows them."""
         try:
-            data, = self.asked.get(GETNEIGH, NEIGHBOUR.pack(socket.AF_INET, 0, 0, face.index, 0, 0, 0) + packed((NEIGHBOUR_TO, socket.inet_aton(address))), ACK)
+            asked = NEIGHBOUR.pack(socket.AF_INET, 0, 0, face.index, 0, 0, 0) + packed((netlink.NEIGHBOUR_TO, socket.inet_aton(address)))
+            data, = self.asked.get(GETNEIGH, asked, ACK)
         except (OSError, ValueError):
             return 0, b""
         state, = struct.unpack_from("=H", data, 8)
-        return state, attributes(data[NEIGHBOUR.size:]).get(NEIGHBOUR_HARDWARE, b"") if state & KNOWN else b""
+        return state, attributes(data[NEIGHBOUR.size:]).get(netlink.NEIGHBOUR_HARDWARE, b"") if state & KNOWN else b""
 
 
 class Link:
@@ -76,6 +76,7 @@ class Link:
     def __init__(self, number: int, address: str, peer: str):
         self.number, self.address, self.peer, self.face, self.hardware = number, address, peer, NOWHERE, b""
         self.carrier, self.heard, self.told = False, True, False       # frames can leave; Hello hears the neighbour; the router was told `up`
+        self.neighbour: Neighbour | None = None         # as Hello sees it, where Hello is said
         self.raw: socket.socket | None = None
         self.packets: socket.socket | None = None
         self.router: socket.socket | None = None
@@ -83,7 +84,6 @@ class Link:
 
     @property
     def up(self) -> bool:
-        """Whether the neighbour can be reached."""
         return self.carrier and self.heard
 
     def attach(self, face: Interface, hears: int) -> None:
@@ -94,7 +94,6 @@ class Link:
         self.face, self.heard = face, True
 
     def detach(self) -> None:
-        """The interface went: its sockets, too."""
         for it in filter(None, (self.raw, self.packets)):
             it.close()
         self.face, self.raw, self.packets, self.carrier = NOWHERE, None, None, False

@@ -4,25 +4,36 @@ import ctypes
 import fcntl
 import json
 import os
+import pathlib
 import re
 import socket
 import struct
-import subprocess
 import sys
 import time
-import tomllib
+from collections.abc import Iterator
 
 STATE_FOLDER = os.environ.get("RUNTIME_DIRECTORY", "/run/lsrnet").split(":")[0]        # systemd names the first
-LOCK_SECONDS, CONFIG_SECONDS = 10, 60
-SETTINGS = "/proc/sys/net/"
+LOCK_TRIES, TRY_SECONDS = 100, 0.1
+SETTINGS = pathlib.Path("/proc/sys/net")
 CAPABILITIES = {12: "CAP_NET_ADMIN", 13: "CAP_NET_RAW"}
 MOST_LABEL = 1048574            # of Linux: platform_labels is 1048575 at most
 CLONE_NEWUSER, CLONE_NEWNET, SIOCSIFFLAGS, IFF_UP = 0x10000000, 0x40000000, 0x8914, 0x1
 SO_NETNS_COOKIE = 71            # the number of a socket's network namespace, which no other one has until the machine starts again (Linux 5.14)
+WHY_BYTES = 1024
+libc = ctypes.CDLL(None, use_errno=True)        # os.unshare and os.setns came with Python 3.12
 
 
 class Trouble(Exception):
     """What keeps the adapter from running; the text says what to do."""
+
+
+@contextlib.contextmanager
+def trouble(what: str, do: str, *kinds: type[Exception]) -> Iterator[None]:
+    """In it errors of the system, and of these kinds, become Trouble: with what, why, and what to do."""
+    try:
+        yield
+    except (OSError, *kinds) as fault:
+        raise Trouble(f"{what}: {getattr(fault, 'strerror', None) or fault}: {do}") from None
 
 
 class State:
@@ -34,62 +45,50 @@ class State:
         self.lock = socket.socket(socket.AF_UNIX, socket.SOCK_DGRAM)
         number = int.from_bytes(self.lock.getsockopt(socket.SOL_SOCKET, SO_NETNS_COOKIE, 8), sys.byteorder)
         self.path = os.path.join(folder, str(number))
-        last = time.monotonic() + LOCK_SECONDS
-        while True:
+        for _ in range(LOCK_TRIES):
             with contextlib.suppress(OSError):
                 self.lock.bind("\0lsrnet")      # an abstract address: each network namespace has its own, and it goes with its holders
                 break
-            if time.monotonic() > last:
-                raise Trouble("another lsrnet, or the router of one, runs in this network namespace and has its label table: end it "
-                              "(ss -xap shows it at @lsrnet), or give this one a namespace of its own (ip netns exec NAME)")
-            time.sleep(0.1)
+            time.sleep(TRY_SECONDS)
+        else:
+            raise Trouble("another lsrnet, or the router of one, runs in this network namespace and has its label table: end it "
+                          "(ss -xap shows it at @lsrnet), or give this one a namespace of its own (ip netns exec NAME)")
         self.starts, self.instance, self.changed = 0, int.from_bytes(os.urandom(3), "big") + 1, {}
-        try:
+        with trouble(f"--state {folder}", "name a folder that you may write to"):
             os.makedirs(folder, exist_ok=True)
-            with open(self.path + ".json", encoding="utf-8") as file:
-                known = json.load(file)
-            self.starts, self.instance, self.changed = int(known["starts"]), int(known["instance"]), dict(known["changed"])
-        except (FileNotFoundError, ValueError, TypeError, KeyError):
-            pass                # there is none, or it isn't ours
-        except OSError as fault:
-            raise Trouble(f"--state {folder}: {fault.strerror}: name a folder that you may write to") from None
+            with contextlib.suppress(FileNotFoundError, ValueError, TypeError, KeyError):       # there is none, or it isn't ours
+                known = json.loads(pathlib.Path(self.path + ".json").read_bytes())
+                self.starts, self.instance, self.changed = int(known["starts"]), int(known["instance"]), dict(known["changed"])
 
     def save(self) -> None:
         """Writes it, whole or not at all. OSError: it can't be."""
-        with open(self.path + ".part", "w", encoding="utf-8") as file:
-            json.dump({"starts": self.starts, "instance": self.instance, "changed": self.changed}, file)
+        known = {"starts": self.starts, "instance": self.instance, "changed": self.changed}
+        pathlib.Path(self.path + ".part").write_text(json.dumps(known), encoding="utf-8")
         os.replace(self.path + ".part", self.path + ".json")
 
-    def put(self, name: str, value: int, at_least: bool = False) -> None:
-        """Sets a setting, or raises it to this. OSError: it can't be."""
-        with open(SETTINGS + name, "r+", encoding="ascii") as file:
-            before = file.read().strip()
-            if before != str(value) and not (at_least and int(before) > value):
-                self.changed[name] = [before, str(value)]
-                self.save()
-                file.seek(0)
-                file.write(str(value))
+    def put(self, values: dict[str, int], at_least: bool = False) -> None:
+        """Sets settings, or raises them to these, where there are such: a kernel may lack MPLS or IPv6. OSError: they can't be."""
+        for name, value in values.items():
+            if (setting := SETTINGS / name).exists():
+                before = setting.read_text().strip()
+                if before != str(value) and not (at_least and int(before) > value):
+                    self.changed[name] = [before, str(value)]
+                    self.save()
+                    setting.write_text(str(value))
 
     def restore(self) -> None:
         """Puts back the settings that are still as they were set here."""
         for name, (before, ours) in self.changed.items():
-            with contextlib.suppress(FileNotFoundError), open(SETTINGS + name, "r+", encoding="ascii") as file:      # the interface went
-                if file.read().strip() == ours:
-                    file.seek(0)
-                    file.write(before)
+            with contextlib.suppress(FileNotFoundError):        # the interface went
+                if (SETTINGS / name).read_text().strip() == ours:
+                    (SETTINGS / name).write_text(before)
         self.changed = {}
         self.save()
 
 
-def has_mpls() -> bool:
-    """Whether the kernel forwards labelled packets."""
-    return os.path.exists(SETTINGS + "mpls/platform_labels")
-
-
 def lacking_rights() -> str:
     """What to do where this process may not do what the adapter does; no text where it may."""
-    with open("/proc/self/status", encoding="ascii") as file:
-        have = int(re.search(r"^CapEff:\s*(\w+)", file.read(), re.MULTILINE)[1], 16)
+    have = int(re.search(r"^CapEff:\s*(\w+)", pathlib.Path("/proc/self/status").read_text(), re.MULTILINE)[1], 16)
     lacking = [name for bit, name in CAPABILITIES.items() if not have >> bit & 1]
     return f"run as root, or with {' and '.join(lacking)}" if lacking else ""
 
@@ -98,48 +97,42 @@ def lacking_plane(plane: str, last_label: int) -> str:
     """What to do where nothing can forward packets; no text where something can."""
     if plane == "user":
         return "" if os.access("/dev/net/tun", os.R_OK | os.W_OK) else "/dev/net/tun can't be opened: modprobe tun, and run as root"
-    if not has_mpls():
+    if not (SETTINGS / "mpls").exists():
         return "the kernel has no MPLS: modprobe -a mpls_router mpls_iptunnel, or take --plane user"
     return "" if last_label <= MOST_LABEL else f"the kernel has labels up to {MOST_LABEL}: let `labels` end there in the file"
 
 
-def read_configuration(lsr: str, path: str) -> tuple[str, dict]:
-    """The configuration as the router prints it, and its tables. Trouble: it is none, in the router's words."""
-    try:
-        ran = subprocess.run([lsr, "config", path], capture_output=True, text=True, stdin=subprocess.DEVNULL, timeout=CONFIG_SECONDS, errors="replace")
-        tables = tomllib.loads(ran.stdout)
-    except (OSError, subprocess.SubprocessError, ValueError) as fault:
-        raise Trouble(f"{lsr} config {path}: {fault}: name the program lsr by --lsr") from None
-    if ran.returncode or "labels" not in tables:
-        raise Trouble(f"{path} is no configuration (docs/CONFIGURATION.md): {ran.stderr.strip() or f'{lsr} says status {ran.returncode}'}")
-    if not tables.get("link"):
-        raise Trouble(f"{path} has no link: write a [[link]] for each neighbour (docs/CONFIGURATION.md)")
-    return ran.stdout, tables
+class Room:
+    """A network namespace for the router, with `lo` alone, so that no other process of the machine reaches its sockets; and the adapter's there."""
 
+    def __init__(self, addresses: list[tuple[str, int]]):
+        """Makes it, which takes the kernel up to some seconds, and UDP sockets at these addresses of it. Trouble: it can't be had."""
+        ours, theirs = socket.socketpair()
+        if not (process := os.fork()):          # this process stays where it is
+            try:
+                kinds = ["net"] if not libc.unshare(CLONE_NEWNET) else ["user", "net"]       # a user namespace gives the right to who isn't root
+                if kinds[0] == "user" and libc.unshare(CLONE_NEWUSER | CLONE_NEWNET):
+                    raise OSError(ctypes.get_errno(), os.strerror(ctypes.get_errno()))
+                made = [socket.socket(socket.AF_INET, socket.SOCK_DGRAM) for _ in addresses]
+                fcntl.ioctl(made[0], SIOCSIFFLAGS, struct.pack("16sH", b"lo", IFF_UP))
+                for it, address in zip(made, addresses):
+                    it.bind(address)
+                files = [os.open(f"/proc/self/ns/{it}", os.O_RDONLY) for it in kinds]
+                socket.send_fds(theirs, [b"ready"], files + [it.fileno() for it in made])
+            except OSError as fault:
+                theirs.send(fault.strerror.encode())
+            finally:
+                os._exit(0)
+        theirs.close()
+        with ours:
+            why, files, _, _ = socket.recv_fds(ours, WHY_BYTES, 2 + len(addresses))
+        os.waitpid(process, 0)
+        if not files:
+            raise Trouble(f"no network namespace for the router: {why.decode()}: run as root, or let users make namespaces "
+                          "(sysctl user.max_user_namespaces)")
+        self.namespaces, self.sockets = files[:-len(addresses)], [socket.socket(fileno=it) for it in files[-len(addresses):]]
 
-def namespaces_of(process: int) -> list[int]:
-    """Files of a process's network namespace, and before it of its user namespace where that is another than here; none where it ended."""
-    try:
-        kinds = [it for it in ("user", "net") if os.stat(f"/proc/{process}/ns/{it}").st_ino != os.stat(f"/proc/self/ns/{it}").st_ino]
-        return [os.open(f"/proc/{process}/ns/{it}", os.O_RDONLY) for it in kinds]
-    except OSError:
-        return []
-
-
-def own_namespace(addresses: list[tuple[str, int]], wire: socket.socket, known: list[int]) -> None:
-    """In a child, before its program: a network namespace with `lo` alone, so no other process of the machine reaches the program's sockets;
-    that of these files, or where there are none a new one, which takes the kernel up to some seconds.
-    UDP sockets at these addresses of it go to the adapter by `wire`; or the text of what fails, as OSError."""
-    try:
-        libc = ctypes.CDLL(None, use_errno=True)        # os.unshare and os.setns came with Python 3.12
-        new = not known and libc.unshare(CLONE_NEWNET) and libc.unshare(CLONE_NEWUSER | CLONE_NEWNET)   # a user namespace gives the right to who isn't root
-        if new or any(libc.setns(it, 0) for it in known):
-            raise OSError(ctypes.get_errno(), f"no network namespace for the router: {os.strerror(ctypes.get_errno())}")
-        made = [socket.socket(socket.AF_INET, socket.SOCK_DGRAM) for _ in addresses]
-        fcntl.ioctl(made[0], SIOCSIFFLAGS, struct.pack("16sH", b"lo", IFF_UP))
-        for it, address in zip(made, addresses):
-            it.bind(address)
-        socket.send_fds(wire, [b"ready"], [it.fileno() for it in made])
-    except OSError as fault:
-        wire.send((fault.strerror or str(fault)).encode())
-        raise
+    def enter(self) -> None:
+        """In a child, before its program: goes there. OSError: it can't."""
+        if any(libc.setns(it, 0) for it in self.namespaces):
+            raise OSError(ctypes.get_errno(), os.strerror(ctypes.get_errno()))

@@ -1,16 +1,14 @@
 """What a monitoring system reads: Prometheus text, of `show summary` and the adapter's own counts."""
 import json
-import re
+from collections.abc import Iterable
 
 from links import Link
 
 COUNTS = ("received", "sent", "lost", "ignored", "refused")
-# Of `show summary`: `link N reserved BYTES of LIMIT`, `bypass N assigned BYTES of CAPACITY`, and `paths N of LIMIT` or `links N up of LIMIT`.
-OF_ONE, OF_ALL = re.compile(r"(link|bypass) (\d+) (\w+) (\d+) of (\d+)"), re.compile(r"(\w+) (\d+) (?:up )?of \d+")
 LIMITS = {"link": "limit", "bypass": "capacity"}
 
 
-def metrics(summary: list[str], links: list[Link], values: dict[str, float]) -> list[str]:
+def metrics(summary: list[str], links: Iterable[Link], values: dict[str, float]) -> list[str]:
     """The lines: of the router's summary, of the links, and of these names."""
     page: dict[str, list[str]] = {}
 
@@ -19,13 +17,13 @@ def metrics(summary: list[str], links: list[Link], values: dict[str, float]) -> 
         text = ",".join(f"{key}={json.dumps(str(it), ensure_ascii=False)}" for key, it in labels.items())
         page.setdefault(name, [f"# TYPE lsr_{name} {kind}"]).append(f"lsr_{name}{'{' + text + '}' if text else ''} {value}")
 
-    for line in summary:
-        if words := OF_ONE.match(line):
-            what, number, used, count, most = words.groups()
-            put(f"{what}_{used}_bytes", count, **{what: number})
-            put(f"{what}_{LIMITS[what]}_bytes", most, **{what: number})
-        elif words := OF_ALL.match(line):
-            put(*words.groups())
+    for words in map(str.split, summary):
+        match words:
+            case ["link" | "bypass" as what, number, used, count, "of", most, *_]:
+                put(f"{what}_{used}_bytes", count, **{what: number})
+                put(f"{what}_{LIMITS[what]}_bytes", most, **{what: number})
+            case [name, count, "of", _, *_] | [name, count, "up", "of", _, *_]:
+                put(name, count)
     for link in links:
         put("link_up", int(link.up), link=link.number, interface=link.face.name)
         for name in COUNTS:

@@ -6,9 +6,8 @@ import struct
 from collections.abc import Iterable, Iterator
 from typing import NamedTuple
 
-GETLINK, GETADDR, NEWROUTE, DELROUTE, GETROUTE = 18, 22, 24, 25, 26
-NEWNEIGH, DELNEIGH, GETNEIGH, NEWRULE, DELRULE, GETRULE = 28, 29, 30, 32, 33, 34
-ERROR, DONE = 2, 3
+GETLINK, GETADDR, NEWROUTE, DELROUTE, GETROUTE = 18, 22, 24, 25, 26     # types of messages; DEL is one more than NEW, and GET one more
+NEWNEIGH, DELNEIGH, GETNEIGH, NEWRULE, GETRULE, ERROR, DONE = 28, 29, 30, 32, 34, 2, 3
 REQUEST, ACK, REPLACE, EXCLUSIVE, DUMP, CREATE = 0x1, 0x4, 0x100, 0x200, 0x300, 0x400
 CHANGED, DUMPS = 0x10, 8        # the flag of a dump that isn't what there was at one moment; it is asked for anew, so often at most
 AF_INET, AF_MPLS = socket.AF_INET, 28
@@ -40,7 +39,6 @@ def packed(*values: tuple[int, bytes | int]) -> bytes:
 
 
 def attributes(data: bytes) -> dict[int, bytes]:
-    """The attributes in these bytes, by their kinds."""
     found = {}
     while len(data) >= 4 and (size := struct.unpack_from("=H", data)[0]) >= 4:
         found[struct.unpack_from("=H", data, 2)[0] & 0x3fff] = data[4:size]
@@ -59,8 +57,6 @@ def stack(labels: tuple[int, ...]) -> bytes:
 
 
 class Netlink:
-    """A socket of routing netlink."""
-
     def __init__(self, groups: int = 0):
         self.socket = socket.socket(socket.AF_NETLINK, socket.SOCK_RAW, socket.NETLINK_ROUTE)
         self.socket.setsockopt(socket.SOL_SOCKET, socket.SO_RCVBUF, 1 << 22)
@@ -108,8 +104,8 @@ class Netlink:
         return errors
 
     def routes(self, family: int) -> Iterator[tuple[int, Entry]]:
-        """Our routes of a family: a label, or the table of a default route, and where it leads."""
-        for data in self.get(GETROUTE, ROUTE.pack(family, 0, 0, 0, 0, 0, 0, 0, 0)):
+        """Our routes of a family: a label, or the table of a default route, and where it leads. Without MPLS the kernel tells of others."""
+        for data in self.get(GETROUTE, bytes([family]) + bytes(ROUTE.size - 1)):
             found = attributes(data[ROUTE.size:])
             if data[5] != OURS or data[0] != family:
                 continue
@@ -122,11 +118,8 @@ class Netlink:
 
     def left(self) -> list[Request]:
         """What takes away all that is ours but routes: rules and neighbours."""
-        rules = [(it, attributes(it[ROUTE.size:])) for it in self.get(GETRULE, ROUTE.pack(AF_INET, 0, 0, 0, 0, 0, 0, 0, 0))]
-        known = [(it, attributes(it[NEIGHBOUR.size:])) for it in self.get(GETNEIGH, NEIGHBOUR.pack(AF_INET, 0, 0, 0, 0, 0, 0))]
-        return [(DELRULE, 0, it) for it, found in rules if found.get(RULE_OWNER) == bytes([OURS])] + [
-            (DELNEIGH, 0, it[:NEIGHBOUR.size] + packed((NEIGHBOUR_TO, found[NEIGHBOUR_TO]))) for it, found in known
-            if found.get(NEIGHBOUR_OWNER) == bytes([OURS])]
+        return [(kind - 1, 0, it) for kind, head, owner in ((GETRULE, ROUTE, RULE_OWNER), (GETNEIGH, NEIGHBOUR, NEIGHBOUR_OWNER))
+                for it in self.get(kind, bytes([AF_INET]) + bytes(head.size - 1)) if attributes(it[head.size:]).get(owner) == bytes([OURS])]
 
 
 def label_route(label: int, entry: Entry | None) -> Request:
@@ -162,11 +155,6 @@ def neighbour(index: int, peer: str, hardware: bytes = b"") -> Request:
     return NEWNEIGH, CREATE | REPLACE, NEIGHBOUR.pack(AF_INET, 0, 0, index, PERMANENT if hardware else 0, 0, 0) + packed(
         (NEIGHBOUR_TO, socket.inet_aton(peer)), (NEIGHBOUR_HARDWARE, hardware), (NEIGHBOUR_FLAGS, 0 if hardware else MANAGED),
         (NEIGHBOUR_OWNER, bytes([OURS])))
-
-
-def undone(requests: list[Request]) -> list[Request]:
-    """What takes away what these make: the number of each DEL is that of NEW and one more."""
-    return [(kind + 1, 0, body) for kind, _, body in requests]
 
 
 def said(errors: Iterable[int]) -> str:

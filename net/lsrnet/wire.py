@@ -11,9 +11,8 @@ DOWNSTREAM, UPSTREAM = {PATH, PATH_TEAR, RESV_ERR}, {RESV, PATH_ERR, RESV_TEAR}
 HEADER_BYTES, OBJECT_BYTES, IP_BYTES = 8, 4, 20         # of the headers of a message, of an object and of an IPv4 packet
 MOST_BYTES = 0xffff             # of a message: its header counts them in 16 bits
 SESSION, RSVP_HOP, FILTER_SPEC, SENDER_TEMPLATE = 1, 3, 10, 11          # classes of objects (RFC 2205, A)
-HOP, LABELLED, ROUTED = 1, 2, 3                         # kinds of frames
+HOP, LABELLED, ROUTED, MESSAGE = 1, 2, 3, 1             # kinds of frames; and of a Labelled frame's payload that is a message
 ROUTED_BYTES = 6                # of a Routed frame before its message: its kind, an address, a limit of hops
-MESSAGE = 1                     # the kind of a Labelled frame's payload that is a message
 ALERT = b"\x94\x04\x00\x00"     # the router alert option (RFC 2113), which each fragment keeps
 CONTROL_CLASS, TTL = 0xc0, 255  # the DSCP CS6 (RFC 2474), as routers mark RSVP; and the TTL, which is also the message's Send_TTL
 MORE_FRAGMENTS, BOTTOM, IMPLICIT_NULL = 0x2000, 0x100, 3        # RFC 791, 3.1; RFC 3032, 2.1
@@ -36,10 +35,7 @@ class Packet(NamedTuple):
 
 def checksum(message: bytes) -> int:
     """The one's complement of the one's complement sum of 16-bit words (RFC 1071), 0xffff in place of 0 as RSVP has it."""
-    total = sum(word for word, in struct.iter_unpack("!H", message + bytes(len(message) % 2)))
-    while total >> 16:
-        total = (total & 0xffff) + (total >> 16)
-    return ~total & 0xffff or 0xffff
+    return 0xffff - sum(word for word, in struct.iter_unpack("!H", message + bytes(len(message) % 2))) % 0xffff
 
 
 def sealed(message: bytes) -> bytes:
@@ -70,27 +66,26 @@ def first_object(message: bytes, *wanted: int) -> bytes:
     return next((body for kind, _, body in objects(message[HEADER_BYTES:]) if kind in wanted), b"")
 
 
-def along_the_tunnel(message: bytes) -> Packet:
-    """The packet of a Path or PathTear, or of a ResvErr under labels: from the LSP's sender to its endpoint, with router alert (RFC 2205, 3.1.3)."""
-    sender, session = first_object(message, SENDER_TEMPLATE, FILTER_SPEC), first_object(message, SESSION)
-    return Packet(socket.inet_ntoa(sender[:4]), socket.inet_ntoa(session[:4]), TTL, message, alert=True)
-
-
-def outgoing(frame: bytes, address: str, peer: str) -> tuple[bytes, Packet | bytes]:
-    """What a frame of the router is on a link with this address and this neighbour: the bytes of a label stack, if it has one, and the packet
-    of a message or, under labels, other bytes. ValueError, OSError: it is no frame."""
+def outgoing(frame: bytes, address: str, peer: str) -> tuple[bytes, Packet]:
+    """What a frame of the router is on a link with this address and this neighbour: a label stack's bytes, if it has one, and a packet. A Path,
+    a PathTear and what goes under labels go from the LSP's sender to its endpoint, with router alert (RFC 2205, 3.1.3).
+    ValueError, OSError: it is no frame."""
     kind, end = frame[0] if frame else 0, 2 + 4 * int.from_bytes(frame[1:2], "big")
-    if kind == HOP and len(frame) > HEADER_BYTES:
-        return b"", along_the_tunnel(frame[1:]) if frame[2] in (PATH, PATH_TEAR) else Packet(address, peer, TTL, frame[1:])
     if kind == ROUTED and len(frame) >= ROUTED_BYTES + HEADER_BYTES:
         return b"", Packet(address, socket.inet_ntoa(frame[1:5]), frame[5], frame[ROUTED_BYTES:])
-    if kind == LABELLED and 2 < end < len(frame):
-        return frame[2:end], along_the_tunnel(frame[end + 1:]) if frame[end] == MESSAGE else frame[end + 1:]
-    raise ValueError("no frame of docs/WIRE.md: take an lsr that belongs to this lsrnet")
+    if kind == HOP and len(frame) > HEADER_BYTES:
+        stack, message = b"", frame[1:]
+    elif kind == LABELLED and 2 < end < len(frame) and frame[end] == MESSAGE:
+        stack, message = frame[2:end], frame[end + 1:]
+    else:
+        raise ValueError("no frame of docs/WIRE.md: take an lsr that belongs to this lsrnet")
+    if not stack and message[1] not in (PATH, PATH_TEAR):
+        return b"", Packet(address, peer, TTL, message)
+    sender, endpoint = first_object(message, SENDER_TEMPLATE, FILTER_SPEC)[:4], first_object(message, SESSION)[:4]
+    return stack, Packet(socket.inet_ntoa(sender), socket.inet_ntoa(endpoint), TTL, message, alert=True)
 
 
 def is_resv(frame: bytes) -> bool:
-    """Whether a frame of the router is a Resv."""
     at = {HOP: 1, ROUTED: ROUTED_BYTES}.get(frame[0], len(frame)) if frame else 0
     return frame[at + 1:at + 2] == bytes([RESV])
 

@@ -1,5 +1,3 @@
-pub mod Opening
 pub mod OptionWalk
-pub mod PacketLists
 pub mod TagWalk
 pub mod Walk

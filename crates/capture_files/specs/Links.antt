@@ -15,25 +15,21 @@ abbrev pub after_tags : ℕ → List ℕ → List ℕ
 after_tags zero bytes = bytes
 after_tags (suc n) bytes = if has_tag bytes then after_tags n (drop 4 bytes) else bytes
 
--- the IPv4 packet after its EtherType
-abbrev pub ip_at : List ℕ → Option (List ℕ)
-ip_at bytes = if nat_le 2 (length bytes) && (big_number 2 bytes == 0x0800) then Some (drop 2 bytes) else None
+-- the IPv4 packet after a header of so many bytes, which begins with its EtherType
+abbrev pub ip_after : ℕ → List ℕ → Option (List ℕ)
+ip_after len bytes = if nat_le len (length bytes) && (big_number 2 bytes == 0x0800) then Some (drop len bytes) else None
 
 -- from an EtherType on, with at most eight tags
 abbrev pub ip_from : List ℕ → Option (List ℕ)
-ip_from bytes = ip_at (after_tags 8 bytes)
-
--- A version 2 header of Linux's cooked packets begins with the EtherType, and has 20 bytes.
-abbrev pub ip_in_cooked : List ℕ → Option (List ℕ)
-ip_in_cooked bytes =
-    if nat_le 20 (length bytes) && (big_number 2 bytes == 0x0800) then Some (drop 20 bytes) else None
+ip_from bytes = ip_after 2 (after_tags 8 bytes)
 
 -- The link types (draft-ietf-opsawg-pcaplinktype): 1 Ethernet, two addresses of 6 bytes before the EtherType; 113 Linux's
--- cooked packets, 14 bytes before it; 276 their version 2; 101, 228 and, on some systems, 12 and 14 raw IP.
+-- cooked packets, 14 bytes before it; 276 their version 2, whose header of 20 bytes begins with it; 101, 228 and, on some
+-- systems, 12 and 14 raw IP.
 unfoldable pub ip_in : ℕ → List ℕ → Option (List ℕ)
 ip_in link_type bytes =
     if link_type == 1 then ip_from (drop 12 bytes)
     else if link_type == 113 then ip_from (drop 14 bytes)
-    else if link_type == 276 then ip_in_cooked bytes
+    else if link_type == 276 then ip_after 20 bytes
     else if link_type == 101 || (link_type == 228 || (link_type == 12 || link_type == 14)) then Some bytes
     else None

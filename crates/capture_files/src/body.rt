@@ -1,7 +1,7 @@
-ghost use Rattle.std.specs.Prelude.{◌≡◌, ◌≤◌, ◌+◌, length, None, Some, IfErr, IfOk, Option, option_map, slice_get, List, ℕ};
+ghost use Rattle.std.specs.Prelude.{◌≡◌, ◌≤◌, ◌+◌, length, None, Some, IfErr, IfOk, option_map, slice_get};
 ghost use Rattle.std.specs.Duration.{as_nanos};
-ghost use Rattle.capture_files.specs.Bodies.{HasNumber, Says, body_fault, enhanced_fault, enhanced_in, enhanced_len, enhanced_of, enhanced_time, interface_fault, interface_in, resolution_in, section_fault, simple_fault, simple_in, simple_len};
 ghost use Rattle.capture_files.specs.Numbers.{field};
+ghost use Rattle.capture_files.specs.Bodies.{HasNumber, Says, body_fault, enhanced_fault, enhanced_in, enhanced_len, enhanced_of, enhanced_time, resolution_in, simple_fault, simple_in, simple_len};
 ghost use Rattle.capture_files.specs.Packets.{seen};
 
 use crate::block::{Block, SECTION_BLOCK};
@@ -54,7 +54,7 @@ const WORD_BITS: u32 = 32;
 const SIMPLE_HEAD_LEN: usize = 4;
 
 /// An interface that a section describes.
-#[derive(Clone, Copy, Debug)]
+#[derive(Clone, Copy)]
 pub(crate) struct Interface {
     /// The link type of its packets.
     pub link_type: u16,
@@ -77,20 +77,6 @@ pub(crate) enum Said<'a> {
     Other,
 }
 
-/// The fault of a section header's body.
-#[tactic(auto, unfolding(crate::specs::Bodies::section_fault))]
-fn section_fault(endian: Endian, body: &[u8]) -> Option<Damage>
-    ensures { result ≡ section_fault endian body.now }
-{
-    if body.len() < SECTION_HEAD_LEN {
-        return Some(Damage::Length);
-    }
-    if endian.read_u16(&body[MAJOR_FIELD..]) != MAJOR_VERSION {
-        return Some(Damage::Version);
-    }
-    None
-}
-
 /// What an interface's times count, by its options. None where they don't count from the beginning of 1970.
 fn resolution_of(endian: Endian, options: &[u8]) -> Option<u8>
     ensures { result ≡ resolution_in endian options.now }
@@ -102,23 +88,6 @@ fn resolution_of(endian: Endian, options: &[u8]) -> Option<u8>
         Some(value) if value.len() == 1 => Some(value[0]),
         _ => Some(MICROS),
     }
-}
-
-/// The interface that a description's body says.
-#[tactic(auto, unfolding(crate::specs::Bodies::interface_fault))]
-fn interface_of(endian: Endian, body: &[u8]) -> Result<Interface, Damage>
-    ensures fault { IfErr result (λ damage. interface_fault body.now ≡ Some damage) }
-    ensures interface { IfOk result (λ i. (interface_fault body.now ≡ None) × (i ≡ interface_in endian body.now)) }
-{
-    if body.len() < INTERFACE_HEAD_LEN {
-        return Err(Damage::Length);
-    }
-    let (_, options) = body.split_at(INTERFACE_HEAD_LEN);
-    Ok(Interface {
-        link_type: endian.read_u16(body),
-        snap_len: endian.read_u32(&body[SNAP_FIELD..]),
-        resolution: resolution_of(endian, options),
-    })
 }
 
 /// The time of an enhanced packet.
@@ -239,6 +208,7 @@ fn simple_of<'a>(
 }
 
 /// What a block says, in a section with these interfaces; a packet gets this number.
+#[tactic(auto, unfolding(crate::specs::Bodies::section_fault, crate::specs::Bodies::interface_fault))]
 pub(crate) fn said_by<'a>(
     block: &Block<'a>,
     interfaces: &[Interface],
@@ -252,14 +222,25 @@ pub(crate) fn said_by<'a>(
     let endian = block.endian;
     let body = block.body;
     match block.kind {
-        SECTION_BLOCK => match section_fault(endian, body) {
-            Some(damage) => Err(damage),
-            None => Ok(Said::Section(endian)),
-        },
-        INTERFACE_BLOCK => match interface_of(endian, body) {
-            Ok(interface) => Ok(Said::Interface(interface)),
-            Err(damage) => Err(damage),
-        },
+        SECTION_BLOCK => {
+            if body.len() < SECTION_HEAD_LEN {
+                return Err(Damage::Length);
+            }
+            if endian.read_u16(&body[MAJOR_FIELD..]) != MAJOR_VERSION {
+                return Err(Damage::Version);
+            }
+            Ok(Said::Section(endian))
+        }
+        INTERFACE_BLOCK => {
+            if body.len() < INTERFACE_HEAD_LEN {
+                return Err(Damage::Length);
+            }
+            Ok(Said::Interface(Interface {
+                link_type: endian.read_u16(body),
+                snap_len: endian.read_u32(&body[SNAP_FIELD..]),
+                resolution: resolution_of(endian, &body[INTERFACE_HEAD_LEN..]),
+            }))
+        }
         SIMPLE_BLOCK => match simple_of(endian, interfaces, number, body) {
             Ok(packet) => Ok(Said::Packet(packet)),
             Err(damage) => Err(damage),

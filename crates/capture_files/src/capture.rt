@@ -1,20 +1,13 @@
 ghost use Rattle.std.specs.Prelude.{◌≡◌, ◌≤◌, ◌<◌, ◌+◌, ◌-◌, [], length, Some, IfErr, IfOk, IfSome, OnErr, OnOk, OnSome};
 
-use crate::block::SECTION_BLOCK;
 use crate::body::{Interface, Said};
-use crate::endian::Endian;
 use crate::fault::{CaptureFault, Damage};
-use crate::format::{Format, read_next};
+use crate::format::{Format, read_next, read_opening};
 use crate::packet::Packet;
-use crate::record::{FILE_HEADER_LEN, magic_of, read_header};
-use byteorder::{BigEndian, ByteOrder};
 use std::alloc::Global;
 
-/// Bytes of a file's magic number.
-const MAGIC_LEN: usize = 4;
-
 /// A reader of a capture file, classic pcap or pcapng: it gives the packets one after the other, and copies nothing.
-#[derive(Debug, Drop)]
+#[derive(Drop)]
 pub struct Capture<'a> {
     size: usize,
     rest: &'a [u8],
@@ -32,44 +25,21 @@ impl<'a> Capture<'a> {
     /// the file has no room for its header, [`Damage::Magic`] where it begins as no capture file does, and
     /// [`Damage::Version`] where it is a classic pcap file of another major version than 2. Interfaces of a pcapng file are
     /// kept in memory of this allocator, 12 bytes each; a classic pcap file takes none.
-    #[tactic(auto, unfolding(crate::specs::Files::opening_fault))]
     pub fn open(alloc: Global, file: &'a [u8]) -> Result<Capture<'a>, CaptureFault>
         ensures fault { IfErr result (λ fault. (fault.at ≡ 0) × (opening_fault file.now ≡ Some fault.damage)) }
         ensures opened { IfOk result (IsOpened file.now) }
     {
-        let fail = |damage: Damage| CaptureFault { at: 0, damage };
-        if file.len() < MAGIC_LEN {
-            return Err(fail(Damage::Short));
-        }
-        if BigEndian::read_u32(file) == SECTION_BLOCK {
-            return Ok(Capture::at(alloc, file.len(), file, Format::Blocks(Endian::Big)));
-        }
-        let Some((endian, unit)) = magic_of(file) else {
-            return Err(fail(Damage::Magic));
+        let (format, rest) = match read_opening(file) {
+            Ok(opening) => opening,
+            Err(damage) => return Err(CaptureFault { at: 0, damage }),
         };
-        let form = match read_header(endian, unit, file) {
-            Ok(form) => form,
-            Err(damage) => return Err(fail(damage)),
-        };
-        let (_, records) = file.split_at(FILE_HEADER_LEN);
-        Ok(Capture::at(alloc, file.len(), records, Format::Records(form)))
-    }
-
-    /// A reader of a file of so many bytes, at this place.
-    fn at(alloc: Global, size: usize, rest: &'a [u8], format: Format) -> Capture<'a>
-        requires { length rest.now ≤ size }
-        ensures known { known_of result ≡ record { format = format; interfaces = [] } }
-        ensures rest { rest_of result ≡ rest.now }
-        ensures size { size_of_file result ≡ size }
-        ensures packets { packets_read result ≡ 0 }
-    {
-        Capture {
-            size,
+        Ok(Capture {
+            size: file.len(),
             rest,
             packets: 0,
             format,
             interfaces: Vec::new(alloc),
-        }
+        })
     }
 
     /// Reads one record or block: its packet, if it is one. Where it is damaged the reader stays.
@@ -115,18 +85,6 @@ impl<'a> Capture<'a> {
         }
     }
 
-    /// Ends the reading: the fault of what stands here.
-    fn stop(&mut self, damage: Damage) -> CaptureFault
-        ensures place { result.at ≡ size_of_file self.old - length (rest_of self.old) }
-        ensures damage { result.damage ≡ damage }
-        ensures end { rest_of self.new ≡ [] }
-        ensures size { size_of_file self.new ≡ size_of_file self.old }
-    {
-        let at = self.size - self.rest.len();
-        self.rest = &[];
-        CaptureFault { at, damage }
-    }
-
     /// The next packet, or where the file breaks before it: after that there are no more. None at the end of the file.
     pub fn next_packet(&mut self) -> Option<Result<Packet<'a>, CaptureFault>>
         ensures next { IsNext self.old self.new result }
@@ -137,7 +95,11 @@ impl<'a> Capture<'a> {
             match self.turn() {
                 Ok(None) => {}
                 Ok(Some(packet)) => return Some(Ok(packet)),
-                Err(damage) => return Some(Err(self.stop(damage))),
+                Err(damage) => {
+                    let at = self.size - self.rest.len();
+                    self.rest = &[];
+                    return Some(Err(CaptureFault { at, damage }));
+                }
             }
         }
         None

@@ -35,7 +35,7 @@ const DESTINATION_FIELD: usize = 2;
 const UDP_LENGTH_FIELD: usize = 4;
 
 /// What a packet carries for RSVP.
-#[derive(Clone, Copy, Debug)]
+#[derive(Clone, Copy)]
 pub enum PacketContent<'a> {
     /// The bytes of an IPv4 packet of protocol 46: an RSVP message, if they are one. They aren't looked at.
     Rsvp(&'a [u8]),
@@ -135,23 +135,16 @@ fn datagram_in(ip: &[u8]) -> PacketContent<'_>
     }
 }
 
-/// What the bytes of a packet of this link type carry. Known are Ethernet with at most eight IEEE 802.1Q tags (link type 1),
-/// raw IP (101, 228, 12 and 14) and Linux's cooked packets (113 and 276); packets of other link types are
-/// [`PacketContent::Other`].
-pub fn content_of(link_type: u16, bytes: &[u8]) -> PacketContent<'_>
-    ensures { carried result ≡ content_in link_type bytes.now }
-{
-    match ip_in(link_type, bytes) {
-        Some(ip) => datagram_in(ip),
-        None => PacketContent::Other,
-    }
-}
-
 impl<'a> Packet<'a> {
-    /// What the packet carries for RSVP.
+    /// What the packet carries for RSVP. Known are Ethernet with at most eight IEEE 802.1Q tags (link type 1), raw IP (101,
+    /// 228, 12 and 14) and Linux's cooked packets (113 and 276); packets of other link types are
+    /// [`PacketContent::Other`].
     pub fn content(&self) -> PacketContent<'a>
         ensures { carried result ≡ content_in self.now.link_type self.now.bytes.now }
     {
-        content_of(self.link_type, self.bytes)
+        match ip_in(self.link_type, self.bytes) {
+            Some(ip) => datagram_in(ip),
+            None => PacketContent::Other,
+        }
     }
 }

@@ -4,7 +4,7 @@ ghost use Rattle.capture_files.specs.Numbers.{number_in};
 use byteorder::{BigEndian, ByteOrder, LittleEndian};
 
 /// The byte order of a file or a section: that of the machine which wrote it.
-#[derive(Clone, Copy, Debug, PartialEq, Eq)]
+#[derive(Clone, Copy)]
 pub enum Endian {
     /// The highest byte first.
     Big,

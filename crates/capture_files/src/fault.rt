@@ -1,7 +1,7 @@
 use thiserror::Error;
 
 /// What is wrong with a capture file.
-#[derive(Clone, Copy, Debug, PartialEq, Eq, Error)]
+#[derive(Clone, Copy, Debug, Error)]
 pub enum Damage {
     /// The file ends within its header, or within the record or block that begins at the place of the fault.
     #[error("the file ends too early")]
@@ -24,7 +24,7 @@ pub enum Damage {
 }
 
 /// Where a capture file breaks, and how. What stands before that place could be read.
-#[derive(Clone, Copy, Debug, PartialEq, Eq, Error)]
+#[derive(Clone, Copy, Debug, Error)]
 #[error("byte {at}: {damage}")]
 pub struct CaptureFault {
     /// The offset in bytes of what is damaged: the file's header, a record or a block.

@@ -15,10 +15,8 @@ mod options;
 mod packet;
 mod record;
 mod times;
-mod whole;
 
 pub use capture::Capture;
-pub use datagram::{PacketContent, content_of};
+pub use datagram::PacketContent;
 pub use fault::{CaptureFault, Damage};
 pub use packet::Packet;
-pub use whole::{Packets, read_packets};

@@ -1,5 +1,5 @@
-ghost use Rattle.std.specs.Prelude.{◌≡◌, drop, option_map};
-ghost use Rattle.capture_files.specs.Links.{after_tags, has_tag, ip_from, ip_at, ip_in, ip_in_cooked};
+ghost use Rattle.std.specs.Prelude.{◌≡◌, ◌≤◌, drop, option_map};
+ghost use Rattle.capture_files.specs.Links.{after_tags, has_tag, ip_after, ip_in};
 
 use byteorder::{BigEndian, ByteOrder};
 
@@ -37,17 +37,6 @@ const TAG_LEN: usize = 4;
 /// The most tags that are passed over.
 const MAX_TAGS: usize = 8;
 
-/// What stands after so many bytes; nothing, where there are fewer.
-fn after(bytes: &[u8], len: usize) -> &[u8]
-    ensures { result.now ≡ drop len bytes.now }
-{
-    if bytes.len() < len {
-        &[]
-    } else {
-        bytes.split_at(len).1
-    }
-}
-
 /// Whether a tag stands first, and an EtherType after it.
 fn has_tag(bytes: &[u8]) -> bool
     ensures { result ≡ has_tag bytes.now }
@@ -59,39 +48,33 @@ fn has_tag(bytes: &[u8]) -> bool
     ethertype == TAG || ethertype == OUTER_TAG
 }
 
-/// What stands after the first tags.
-fn after_tags(bytes: &[u8]) -> &[u8]
-    ensures { result.now ≡ after_tags 8 bytes.now }
+/// What stands after so many bytes and the tags that follow them; nothing, where there are fewer.
+fn after_tags(bytes: &[u8], start: usize) -> &[u8]
+    ensures { result.now ≡ after_tags 8 (drop start bytes.now) }
 {
+    if bytes.len() < start {
+        return &[];
+    }
     let mut left = MAX_TAGS;
-    let mut rest = bytes;
+    let (_, mut rest) = bytes.split_at(start);
     while left > 0 {
         if !has_tag(rest) {
             return rest;
         }
         left -= 1;
-        rest = after(rest, TAG_LEN);
+        let (_, behind) = rest.split_at(TAG_LEN);
+        rest = behind;
     }
     rest
 }
 
-/// The IPv4 packet after its EtherType.
-fn ip_at(bytes: &[u8]) -> Option<&[u8]>
-    ensures { option_map (λ ip. ip.now) result ≡ ip_at bytes.now }
+/// The IPv4 packet after a header of so many bytes, which begins with its EtherType.
+fn ip_after(header_len: usize, bytes: &[u8]) -> Option<&[u8]>
+    requires { 2 ≤ header_len }
+    ensures { option_map (λ ip. ip.now) result ≡ ip_after header_len bytes.now }
 {
-    if bytes.len() >= ETHERTYPE_LEN && BigEndian::read_u16(bytes) == IPV4 {
-        Some(bytes.split_at(ETHERTYPE_LEN).1)
-    } else {
-        None
-    }
-}
-
-/// The IPv4 packet of a cooked packet of version 2.
-fn ip_in_cooked(bytes: &[u8]) -> Option<&[u8]>
-    ensures { option_map (λ ip. ip.now) result ≡ ip_in_cooked bytes.now }
-{
-    if bytes.len() >= COOKED_2_LEN && BigEndian::read_u16(bytes) == IPV4 {
-        Some(bytes.split_at(COOKED_2_LEN).1)
+    if bytes.len() >= header_len && BigEndian::read_u16(bytes) == IPV4 {
+        Some(&bytes[header_len..])
     } else {
         None
     }
@@ -103,9 +86,9 @@ pub(crate) fn ip_in(link_type: u16, bytes: &[u8]) -> Option<&[u8]>
     ensures { option_map (λ ip. ip.now) result ≡ ip_in link_type bytes.now }
 {
     match link_type {
-        ETHERNET => ip_at(after_tags(after(bytes, ADDRESSES_LEN))),
-        COOKED => ip_at(after_tags(after(bytes, COOKED_LEN))),
-        COOKED_2 => ip_in_cooked(bytes),
+        ETHERNET => ip_after(ETHERTYPE_LEN, after_tags(bytes, ADDRESSES_LEN)),
+        COOKED => ip_after(ETHERTYPE_LEN, after_tags(bytes, COOKED_LEN)),
+        COOKED_2 => ip_after(COOKED_2_LEN, bytes),
         RAW_IP | RAW_IPV4 | RAW_BSD | RAW_OPENBSD => Some(bytes),
         _ => None,
     }

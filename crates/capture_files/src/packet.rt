@@ -1,7 +1,7 @@
 use std::time::Duration;
 
 /// A packet of a capture file.
-#[derive(Clone, Copy, Debug)]
+#[derive(Clone, Copy)]
 pub struct Packet<'a> {
     /// Its place among the file's packets, from 1.
     pub number: usize,

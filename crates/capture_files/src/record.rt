@@ -1,6 +1,4 @@
-ghost use Rattle.std.specs.Prelude.{◌≡◌, ◌≤◌, ◌+◌, ◌*◌, length, None, Some, IfErr, IfOk};
-ghost use Rattle.std.specs.Duration.{as_nanos};
-ghost use Rattle.capture_files.specs.Numbers.{field};
+ghost use Rattle.std.specs.Prelude.{◌≡◌, ◌≤◌, ◌+◌, length, None, Some, IfErr, IfOk};
 ghost use Rattle.capture_files.specs.Packets.{seen};
 ghost use Rattle.capture_files.specs.Records.{captured_len, classic_in, header_fault, magic_in, record_fault, record_in};
 
@@ -10,8 +8,6 @@ use crate::packet::Packet;
 use byteorder::{BigEndian, ByteOrder};
 use std::time::Duration;
 
-/// Bytes of a classic pcap file before its first record (draft-ietf-opsawg-pcap, 4).
-pub(crate) const FILE_HEADER_LEN: usize = 24;
 /// Bytes of a record before its packet (draft-ietf-opsawg-pcap, 5).
 pub(crate) const RECORD_HEADER_LEN: usize = 16;
 /// The magic number of a file whose times are in microseconds, written by a machine with the highest byte first.
@@ -26,14 +22,6 @@ const NANOS_LITTLE: u32 = 0x4d3c_b2a1;
 const NANOS_PER_MICRO: u16 = 1_000;
 /// Nanoseconds of a second.
 const NANOS_PER_SECOND: u64 = 1_000_000_000;
-/// The major version of classic pcap files.
-const MAJOR_VERSION: u16 = 2;
-/// Where the major version stands in the file header.
-const MAJOR_FIELD: usize = 4;
-/// Where the link type stands in the file header.
-const LINK_TYPE_FIELD: usize = 20;
-/// The bits of that field which are the link type.
-const LINK_TYPE_MASK: u32 = 0xffff;
 /// Where the fraction of the second stands in a record.
 const FRACTION_FIELD: usize = 4;
 /// Where the captured length stands in a record.
@@ -42,7 +30,7 @@ const CAPTURED_FIELD: usize = 8;
 const ORIGINAL_FIELD: usize = 12;
 
 /// What the header of a classic pcap file says of its records.
-#[derive(Clone, Copy, Debug)]
+#[derive(Clone, Copy)]
 pub(crate) struct Classic {
     /// The byte order of its numbers.
     pub endian: Endian,
@@ -67,36 +55,6 @@ pub(crate) fn magic_of(bytes: &[u8]) -> Option<(Endian, u16)>
     }
 }
 
-/// What the file header says, where its magic number told this byte order and unit.
-#[tactic(auto, unfolding(crate::specs::Records::header_fault))]
-pub(crate) fn read_header(endian: Endian, unit: u16, bytes: &[u8]) -> Result<Classic, Damage>
-    ensures fault { IfErr result (λ damage. header_fault endian bytes.now ≡ Some damage) }
-    ensures form { IfOk result (λ form. (header_fault endian bytes.now ≡ None) × (form ≡ classic_in endian unit bytes.now)) }
-    ensures whole { IfOk result (λ form. 24 ≤ length bytes.now) }
-{
-    if bytes.len() < FILE_HEADER_LEN {
-        return Err(Damage::Short);
-    }
-    if endian.read_u16(&bytes[MAJOR_FIELD..]) != MAJOR_VERSION {
-        return Err(Damage::Version);
-    }
-    let link_type = (endian.read_u32(&bytes[LINK_TYPE_FIELD..]) & LINK_TYPE_MASK) as u16;
-    Ok(Classic {
-        endian,
-        unit,
-        link_type,
-    })
-}
-
-/// The time of a record, by its seconds and its fraction in units of so many nanoseconds.
-fn time_of(seconds: u32, fraction: u32, unit: u16) -> Duration
-    ensures { as_nanos result ≡ seconds * 1_000_000_000 + fraction * unit }
-{
-    Duration::from_nanos(
-        u64::from(seconds) * NANOS_PER_SECOND + u64::from(fraction) * u64::from(unit),
-    )
-}
-
 /// The packet of the first record, which gets this number.
 #[tactic(auto, unfolding(crate::specs::Records::record_fault))]
 pub(crate) fn read_record(form: Classic, number: usize, bytes: &[u8]) -> Result<Packet<'_>, Damage>
@@ -114,11 +72,12 @@ pub(crate) fn read_record(form: Classic, number: usize, bytes: &[u8]) -> Result<
     if rest.len() < captured_len {
         return Err(Damage::Short);
     }
-    let seconds = form.endian.read_u32(bytes);
-    let fraction = form.endian.read_u32(&bytes[FRACTION_FIELD..]);
+    let seconds = u64::from(form.endian.read_u32(bytes));
+    let fraction = u64::from(form.endian.read_u32(&bytes[FRACTION_FIELD..]));
+    let nanos = seconds * NANOS_PER_SECOND + fraction * u64::from(form.unit);
     Ok(Packet {
         number,
-        time: Some(time_of(seconds, fraction, form.unit)),
+        time: Some(Duration::from_nanos(nanos)),
         link_type: form.link_type,
         bytes: &rest[..captured_len],
         original_len: form.endian.read_u32(&bytes[ORIGINAL_FIELD..]),

@@ -10,7 +10,7 @@ use Rattle.config_text.specs.declared.section.Spot.TheVariants as spots
 
 -- an address
 abbrev pub address_allowed : List ℕ
-address_allowed = codes "four numbers from 0 to 255 with dots between them, in quotes, as \"10.0.0.2\""
+address_allowed = codes "four numbers from 0 to 255 without leading zeros, with dots between them, in quotes, as \"10.0.0.2\""
 
 -- a priority
 abbrev pub priority_allowed : List ℕ
@@ -18,7 +18,7 @@ priority_allowed = codes "a whole number from 0 to 7"
 
 -- a socket address
 abbrev pub socket_allowed : List ℕ
-socket_allowed = codes "an address, a colon and a port, in quotes, as \"127.0.0.1:5002\""
+socket_allowed = codes "an IPv4 or [IPv6] address, no name, a colon and a port from 0 to 65535, in quotes, as \"127.0.0.1:5002\""
 
 -- the number of a record
 abbrev pub number_allowed : Spot → List ℕ
@@ -61,7 +61,7 @@ values_allowed key.Route spot = route_allowed spot
 values_allowed key.Prefix spot = codes "an address, a slash and a length from 0 to 32, in quotes, as \"10.0.0.4/32\""
 values_allowed key.Tunnel spot = tunnel_allowed spot
 values_allowed key.Endpoint spot =
-    codes "four numbers from 0 to 255 with dots between them, in quotes, as \"10.0.0.4\", neither router nor the address of a link"
+    codes "four numbers from 0 to 255 without leading zeros, with dots between them, in quotes, as \"10.0.0.4\", neither router nor the address of a link"
 values_allowed key.Rate spot =
     codes "the eight hexadecimal digits of an IEEE 754 word, in quotes, as \"47f42400\", in bytes per second, not negative and below 2^50"
 values_allowed key.Setup spot = priority_allowed

@@ -8,10 +8,10 @@ use lsr_config::{ConfigFault, Key};
 
 /// An address.
 const ADDRESS: &str =
-    "four numbers from 0 to 255 with dots between them, in quotes, as \"10.0.0.2\"";
+    "four numbers from 0 to 255 without leading zeros, with dots between them, in quotes, as \"10.0.0.2\"";
 /// The end of a tunnel.
 const ENDPOINT: &str =
-    "four numbers from 0 to 255 with dots between them, in quotes, as \"10.0.0.4\", neither router nor the address of a link";
+    "four numbers from 0 to 255 without leading zeros, with dots between them, in quotes, as \"10.0.0.4\", neither router nor the address of a link";
 /// The labels that the router gives out.
 const LABELS: &str =
     "[first, last], two whole numbers from 16 to 1048575, the first not above the last, at most 4096 labels";
@@ -23,7 +23,8 @@ const PRIORITY: &str = "a whole number from 0 to 7";
 const RATE: &str =
     "the eight hexadecimal digits of an IEEE 754 word, in quotes, as \"47f42400\", in bytes per second, not negative and below 2^50";
 /// A socket address.
-const SOCKET: &str = "an address, a colon and a port, in quotes, as \"127.0.0.1:5002\"";
+const SOCKET: &str =
+    "an IPv4 or [IPv6] address, no name, a colon and a port from 0 to 65535, in quotes, as \"127.0.0.1:5002\"";
 /// The route of a tunnel.
 const STEPS: &str =
     "at most 31 steps in brackets, as [\"10.1.0.2/32\", \"~10.0.0.4/32\"], each an address, a slash and a length from 0 to 32, after ~ where it is loose";

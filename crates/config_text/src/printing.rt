@@ -1,6 +1,7 @@
 //! What `lsr config` prints: a configuration as the router understands it, in a form that is a configuration again.
 ghost use Rattle.std.specs.List.{flat_map};
 ghost use Rattle.std.specs.Prelude.{◌≡◌, ◌++◌, IfOk, OnOk, string_bytes};
+ghost use Rattle.lsr_config.specs.Configs.{setup};
 ghost use Rattle.config_text.specs.Printing.{bypass_record, capacity_text, config_text, demand_text, ends_text, flag_text, link_record, loose_text, name_byte, name_line, name_text, neighbour_text, next_step, quoted_step, route_record, route_text, router_text, sockets_of, sockets_text, step_text, steps_text, tunnel_record};
 
 use lsr_config::{Config, LinkSockets};
@@ -320,9 +321,32 @@ fn push_bypasses(
     Ok(())
 }
 
-/// The text of a configuration, whose links have these socket addresses, by their numbers: each key of the router and then of
-/// each link, static route, tunnel and bypass, in the order of [`lsr_config::Key`]; records in the order of their tables. It is
-/// TOML, and a configuration again. The only error is that memory ran out.
+/// The text of a configuration of a router with these static routes, tunnels and bypasses, each in the order of its table, whose
+/// links have these socket addresses, by their numbers: each key of the router and then of each link, static route, tunnel and
+/// bypass, in the order of [`lsr_config::Key`]. It is TOML, and a configuration again where the tables are one's. The only error
+/// is that memory ran out.
+pub fn setup_text(
+    alloc: Global,
+    router: &Router,
+    routes: &[(Prefix, u16)],
+    tunnels: &[(u16, Tunnel)],
+    bypasses: &[(u16, Bypass)],
+    sockets: &[(u16, LinkSockets)],
+) -> Result<Vec<u8>, AllocError>
+    ensures { IfOk result (λ text. text.items ≡ config_text (setup router.now routes.now tunnels.now bypasses.now) sockets.now) }
+{
+    let mut text = Vec::new(alloc);
+    let beginning = router_text(alloc, router)?;
+    text.extend_from_slice(beginning.as_bytes())?;
+    push_links(alloc, &mut text, router.links.as_slice(), sockets)?;
+    push_routes(alloc, &mut text, routes)?;
+    push_tunnels(alloc, &mut text, tunnels)?;
+    push_bypasses(alloc, &mut text, bypasses)?;
+    Ok(text)
+}
+
+/// The text of a configuration, whose links have these socket addresses, by their numbers ([`setup_text`]). It is TOML, and a
+/// configuration again. The only error is that memory ran out.
 pub fn config_text(
     alloc: Global,
     config: &Config,
@@ -330,12 +354,12 @@ pub fn config_text(
 ) -> Result<Vec<u8>, AllocError>
     ensures { IfOk result (λ text. text.items ≡ config_text config.now sockets.now) }
 {
-    let mut text = Vec::new(alloc);
-    let router = router_text(alloc, &config.router)?;
-    text.extend_from_slice(router.as_bytes())?;
-    push_links(alloc, &mut text, config.router.links.as_slice(), sockets)?;
-    push_routes(alloc, &mut text, config.routes.as_slice())?;
-    push_tunnels(alloc, &mut text, config.tunnels.as_slice())?;
-    push_bypasses(alloc, &mut text, config.bypasses.as_slice())?;
-    Ok(text)
+    setup_text(
+        alloc,
+        &config.router,
+        config.routes.as_slice(),
+        config.tunnels.as_slice(),
+        config.bypasses.as_slice(),
+        sockets,
+    )
 }

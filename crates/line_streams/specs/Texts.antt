@@ -41,13 +41,13 @@ IsUnread stream faults.Memory = ⊤
 
 -- what is told of an input of this name that wasn't taken: where it is and what to do stands in a line of its own
 abbrev pub input_fault_text : List ℕ → InputFault → List ℕ
-input_fault_text name faults.Absent = codes "unreadable\n  " ++ (name ++ codes " isn't there: look at its name\n")
+input_fault_text name faults.Absent = codes "unreadable\n  " ++ (name ++ codes ": no such file; check the name, which counts from the folder where lsr runs\n")
 input_fault_text name faults.Unopened = codes "unreadable\n  " ++ (name ++ codes " can't be opened: look at its name and its permissions\n")
 input_fault_text name faults.Folder = codes "unreadable\n  " ++ (name ++ codes " is a folder: give a file\n")
 input_fault_text name faults.Broken = codes "unreadable\n  " ++ (name ++ codes " can't be read to its end: look at where it comes from\n")
-input_fault_text name faults.TooLong = codes "unreadable\n  " ++ (name ++ codes " has more than 16777216 bytes: give it in parts\n")
+input_fault_text name faults.TooLong = codes "unreadable\n  " ++ (name ++ codes " has more than 16777216 bytes, the most that is read\n")
 input_fault_text name (faults.NotText at) =
-    codes "unreadable\n  " ++ (name ++ (codes " isn't UTF-8 from byte " ++ (decimal at ++ codes " on, where the first is byte 0: give it as text\n")))
+    codes "unreadable\n  " ++ (name ++ (codes " is no text: invalid UTF-8 at byte " ++ (decimal at ++ codes ", where the first is byte 0\n")))
 input_fault_text name (faults.NotTextLine line at) =
-    codes "unreadable\n  " ++ (name ++ (codes ", line " ++ (decimal line ++ (codes ", isn't UTF-8 from the line's byte " ++ (decimal at ++ codes " on, where the first is byte 0: give it as text\n")))))
+    codes "unreadable\n  " ++ (name ++ (codes ", line " ++ (decimal line ++ (codes ", is no text: invalid UTF-8 at the line's byte " ++ (decimal at ++ codes ", where the first is byte 0\n")))))
 input_fault_text name faults.Memory = codes "memory\n"

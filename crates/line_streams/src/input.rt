@@ -133,7 +133,7 @@ pub fn tell_input_fault<E: Write>(error: &mut E, name: &str, fault: InputFault) 
     match fault {
         InputFault::Absent => write!(
             error,
-            "unreadable\n  {name} isn't there: look at its name\n"
+            "unreadable\n  {name}: no such file; check the name, which counts from the folder where lsr runs\n"
         ),
         InputFault::Unopened => write!(
             error,
@@ -146,15 +146,15 @@ pub fn tell_input_fault<E: Write>(error: &mut E, name: &str, fault: InputFault) 
         ),
         InputFault::TooLong => write!(
             error,
-            "unreadable\n  {name} has more than 16777216 bytes: give it in parts\n"
+            "unreadable\n  {name} has more than 16777216 bytes, the most that is read\n"
         ),
         InputFault::NotText(at) => write!(
             error,
-            "unreadable\n  {name} isn't UTF-8 from byte {at} on, where the first is byte 0: give it as text\n"
+            "unreadable\n  {name} is no text: invalid UTF-8 at byte {at}, where the first is byte 0\n"
         ),
         InputFault::NotTextLine { line, at } => write!(
             error,
-            "unreadable\n  {name}, line {line}, isn't UTF-8 from the line's byte {at} on, where the first is byte 0: give it as text\n"
+            "unreadable\n  {name}, line {line}, is no text: invalid UTF-8 at the line's byte {at}, where the first is byte 0\n"
         ),
         InputFault::Memory => write!(error, "memory\n"),
     }

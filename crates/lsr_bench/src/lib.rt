@@ -2,28 +2,24 @@
 //! A person asks for them; without words a short run is made, whose counts are always the same.
 #![tactic(auto)]
 
-mod bare;
 mod coding;
-mod four_links;
 mod load;
 mod lookups;
 mod measuring;
 mod neighbours;
-mod sending;
-mod sockets;
 mod steps;
 mod withdrawals;
 
 use crate::coding::measure_coding;
-use crate::load::{count_datagrams, count_forwarding, measure_datagrams, measure_forwarding};
+use crate::load::{count_load, measure_load};
 use crate::lookups::{count_lookups, measure_longest, measure_lookups};
+use crate::neighbours::Traffic;
 use crate::steps::{count_steps, measure_steps};
-use crate::withdrawals::{count_withdrawals, measure_withdrawals};
+use crate::withdrawals::run_withdrawals;
 use std::io;
 use std::net::Net;
 use std::sync::Wait;
 use std::thread::Threads;
-use std::time::Clock;
 use worker_cases::Fault;
 
 /// The status of a run that did what it was asked.
@@ -56,58 +52,50 @@ const SHORT_DATAGRAMS: u32 = 1_600;
 /// How often an LSP comes and goes there.
 const SHORT_ROUNDS: u32 = 100;
 
-/// Makes the measure that this word names, at this size or else at its own, and prints what came; none where there is no such measure.
-fn measure<R: Net + Threads + Wait + Clock + Print + Clone + Send + Sync + Drop>(
-    rt: &HostRuntime,
-    handles: &R,
-    word: &str,
-    size: Option<u32>,
-) -> Option<Result<(), Fault>> {
-    let made = match word {
-        "steps" => measure_steps(rt, size.unwrap_or(100_000)),
-        "coding" => measure_coding(rt, size.unwrap_or(1_000_000)),
-        "lookups" => measure_lookups(rt, handles, size.unwrap_or(2_000_000)),
-        "longest" => measure_longest(rt, handles, size.unwrap_or(10_000_000)),
-        "datagrams" => measure_datagrams(handles, rt.alloc(), size.unwrap_or(100_000)),
-        "forwarding" => measure_forwarding(handles, rt.alloc(), size.unwrap_or(400_000)),
-        "withdrawals" => measure_withdrawals(handles, rt.alloc(), size.unwrap_or(10_000)),
-        _ => return None,
-    };
-    Some(made)
-}
-
 /// Takes steps, looks labels up, has workers serve links, and prints what is counted.
-fn run_short<R: Net + Threads + Wait + Clock + Print + Clone + Send + Sync + Drop>(
+fn run_short<R: Net + Threads + Wait + Clone + Send + Sync + Drop>(
     rt: &HostRuntime,
     handles: &R,
 ) -> Result<(), Fault> {
     count_steps(rt, SHORT_STEPS)?;
     count_lookups(rt, handles, SHORT_LOOKUPS)?;
-    count_datagrams(handles, rt.alloc(), SHORT_MESSAGES)?;
-    count_forwarding(handles, rt.alloc(), SHORT_DATAGRAMS)?;
-    count_withdrawals(handles, rt.alloc(), SHORT_ROUNDS)
+    count_load(rt, handles, Traffic::Paths, SHORT_MESSAGES)?;
+    count_load(rt, handles, Traffic::Frames, SHORT_DATAGRAMS)?;
+    run_withdrawals(rt, handles, SHORT_ROUNDS, false)
 }
 
-/// Makes what words ask for; none where they ask for nothing that is known.
-fn answer<R: Net + Threads + Wait + Clock + Print + Clone + Send + Sync + Drop>(
+/// Makes what words ask for, at the size that they say or else at its own, and prints what came; none where they ask for nothing that is
+/// known.
+fn answer<R: Net + Threads + Wait + Clone + Send + Sync + Drop>(
     rt: &HostRuntime,
     handles: &R,
     words: &[String],
 ) -> Option<Result<(), Fault>> {
-    match words {
-        [] => Some(run_short(rt, handles)),
-        [word] => measure(rt, handles, word.as_str(), None),
+    let (word, size) = match words {
+        [] => return Some(run_short(rt, handles)),
+        [word] => (word, None),
         [word, digits] => match digits.parse::<u32>() {
-            Ok(size) if size > 0 => measure(rt, handles, word.as_str(), Some(size)),
-            _ => None,
+            Ok(size) if size > 0 => (word, Some(size)),
+            _ => return None,
         },
-        _ => None,
-    }
+        _ => return None,
+    };
+    let made = match word.as_str() {
+        "steps" => measure_steps(rt, size.unwrap_or(100_000)),
+        "coding" => measure_coding(rt, size.unwrap_or(1_000_000)),
+        "lookups" => measure_lookups(rt, handles, size.unwrap_or(2_000_000)),
+        "longest" => measure_longest(rt, handles, size.unwrap_or(10_000_000)),
+        "datagrams" => measure_load(rt, handles, Traffic::Paths, size.unwrap_or(100_000)),
+        "forwarding" => measure_load(rt, handles, Traffic::Frames, size.unwrap_or(400_000)),
+        "withdrawals" => run_withdrawals(rt, handles, size.unwrap_or(10_000), true),
+        _ => return None,
+    };
+    Some(made)
 }
 
 /// Makes the measure that these words ask for, and gives the status: 0 where it was made, 1 where it failed, and 2 where the words ask for
 /// nothing that is known. The error stream says what to do then. Threads and sockets are had by the handles.
-pub fn run<R: Net + Threads + Wait + Clock + Print + Clone + Send + Sync + Drop>(
+pub fn run<R: Net + Threads + Wait + Clone + Send + Sync + Drop>(
     rt: &HostRuntime,
     handles: &R,
     words: &[String],

@@ -3,9 +3,7 @@ ghost use Rattle.std.specs.Prelude.{◌≡◌, ◌≤◌, [], IfOk};
 ghost use Rattle.lookup_plane.specs.Changes.{IsChangeOf};
 ghost use Rattle.lsr_bench.specs.declared.lookups.TheConstants.{FIRST_LABEL, LAST_LABEL};
 
-use crate::measuring::{
-    Measured, Timed, per_second, percent, tell, time_rounds, time_until, whole,
-};
+use crate::measuring::{nanos_since, per_second, tell};
 use forwarding_table::Action;
 use lookup_plane::{LookupReader, MAX_LABELS, OpenFault, Plane, TableChange};
 use sorted_rows::Table;
@@ -14,7 +12,7 @@ use std::sync::Wait;
 use std::sync::atomic::{AtomicBool, Ordering};
 use std::thread;
 use std::thread::Threads;
-use std::time::Duration;
+use std::time::Instant;
 use worker_cases::{Fault, OUT_LINK};
 
 /// The first label of the range that is looked up.
@@ -35,6 +33,8 @@ const MOST_READERS: usize = 4;
 const CHANGES_ALONE: u32 = 100_000;
 /// How many labels a burst looks up at once: as many as packets in a vector of forwarders that work in bursts.
 const BURST: u32 = 256;
+/// A look-up that takes more nanoseconds than these is long.
+const LONG_NANOS: u64 = 10_000;
 /// How many labels are looked up at once, and what is printed for it.
 const WAYS: [(u32, &str); 2] = [(1, "single look-ups"), (BURST, "look-ups in bursts of 256")];
 
@@ -45,12 +45,10 @@ fn label_in(turn: u32) -> u32
     FIRST_LABEL + turn.wrapping_mul(STRIDE) % MAX_LABELS
 }
 
-/// The link by which an action lets frames leave; 0 where there is none.
-fn link_of(action: Option<Action>) -> u64 {
-    match action {
-        Some(Action::Swap { label: _, link }) => u64::from(link),
-        _ => 0,
-    }
+/// What is done again and again.
+trait Measured {
+    /// Does it once. Of what it gives the sum is told.
+    fn once(&mut self, alloc: Global) -> Result<u64, Fault>;
 }
 
 /// The writer of a table, of which all that it took in is published.
@@ -89,16 +87,6 @@ impl<R: Wait + Drop> Measured for Writer<R> {
     }
 }
 
-impl<R: Wait + Drop> Writer<R> {
-    /// Publishes that each label is swapped.
-    fn publish_all(&mut self, alloc: Global) -> Result<(), Fault> {
-        for _ in FIRST_LABEL..=LAST_LABEL {
-            self.once(alloc)?;
-        }
-        Ok(())
-    }
-}
-
 /// A table in which each label is swapped, and so many readers of it.
 fn open<R: Wait + Clone + Drop>(
     alloc: Global,
@@ -107,17 +95,22 @@ fn open<R: Wait + Clone + Drop>(
 ) -> Result<(Writer<R>, Vec<LookupReader>), Fault>
     requires { readers ≤ 64 }
 {
-    match Plane::new(alloc, handles.clone()?, FIRST_LABEL, LAST_LABEL, readers) {
-        Ok((plane, readers)) => {
-            let mut writer = Writer { plane, turn: 0 };
-            match writer.publish_all(alloc) {
-                Ok(()) => Ok((writer, readers)),
-                Err(fault) => Err(fault),
-            }
-        }
-        Err(OpenFault::Memory) => Err(Fault::Memory),
-        Err(OpenFault::Reader) => Err(Fault::Reader),
+    let (plane, readers) = match Plane::new(
+        alloc,
+        handles.clone()?,
+        FIRST_LABEL,
+        LAST_LABEL,
+        readers,
+    ) {
+        Ok(opened) => opened,
+        Err(OpenFault::Memory) => return Err(Fault::Memory),
+        Err(OpenFault::Reader) => return Err(Fault::Reader),
+    };
+    let mut writer = Writer { plane, turn: 0 };
+    for _ in FIRST_LABEL..=LAST_LABEL {
+        writer.once(alloc)?;
     }
+    Ok((writer, readers))
 }
 
 /// A reader of a published table. It is away only while it reads.
@@ -141,7 +134,10 @@ impl Measured for Reader {
         self.turn = first.wrapping_add(self.burst);
         let mut links = 0_u64;
         for place in 0..self.burst {
-            links = links.wrapping_add(link_of(lookups.look(label_in(first.wrapping_add(place)))));
+            let label = label_in(first.wrapping_add(place));
+            if let Some(Action::Swap { label: _, link }) = lookups.look(label) {
+                links = links.wrapping_add(u64::from(link));
+            }
         }
         self.reader = Some(lookups.leave());
         Ok(links)
@@ -164,54 +160,77 @@ impl<'a> Measured for Bare<'a> {
         let mut links = 0_u64;
         for place in 0..self.burst {
             let at = label_in(first.wrapping_add(place)) - FIRST_LABEL;
-            if let Some(action) = self.actions.get(at as usize) {
-                links = links.wrapping_add(link_of(*action));
+            if let Some(Some(Action::Swap { label: _, link })) = self.actions.get(at as usize) {
+                links = links.wrapping_add(u64::from(*link));
             }
         }
         Ok(links)
     }
 }
 
-/// What readers do: how many labels each looks up at once, and in how many rounds of how many calls.
+/// What readers do: how many labels each looks up at once, in how many rounds, and how many labels in each.
 #[derive(Clone, Copy)]
 struct Looks {
     burst: u32,
     rounds: u32,
-    calls: u32,
+    labels: u32,
 }
 
-/// How many labels all readers looked up a second, and the longest of their rounds.
+/// What rounds of calls gave, and how long they took.
 #[derive(Clone, Copy)]
 struct Pace {
-    rate: u64,
-    longest: Duration,
+    /// The sum of what calls gave.
+    sum: u64,
+    /// How many labels they looked up.
+    labels: u64,
+    /// How many nanoseconds all rounds took, and how many the longest of them.
+    nanos: u64,
+    longest: u64,
+    /// How many rounds took over 10 microseconds.
     long: u64,
+    /// How many look-ups there were a second.
+    rate: u64,
 }
 
-/// The pace of readers, each of which has to have found each label.
-fn pace_of(all: &[Result<Timed, Fault>], burst: u32) -> Result<Pace, Fault> {
-    let mut pace = Pace {
-        rate: 0,
-        longest: Duration::ZERO,
+impl Pace {
+    /// No round yet.
+    const NONE: Pace = Pace {
+        sum: 0,
+        labels: 0,
+        nanos: 0,
+        longest: 0,
         long: 0,
+        rate: 0,
     };
-    for one in all {
-        let timed = match one {
-            Ok(timed) => timed,
-            Err(fault) => return Err(*fault),
-        };
-        let labels = timed.calls.saturating_mul(u64::from(burst));
-        if timed.sum != labels.saturating_mul(u64::from(OUT_LINK)) {
-            return Err(Fault::NotFound);
+}
+
+/// Makes rounds of calls, each round between two readings of the clock.
+fn time_rounds<M: Measured>(
+    rt: &HostRuntime,
+    measured: &mut M,
+    looks: Looks,
+) -> Result<Pace, Fault> {
+    let mut pace = Pace::NONE;
+    let calls = looks.labels / looks.burst.max(1);
+    for _ in 0..looks.rounds {
+        let start = Instant::now(rt)?;
+        for _ in 0..calls {
+            pace.sum = pace.sum.wrapping_add(measured.once(rt.alloc())?);
         }
-        pace.rate = pace.rate.saturating_add(per_second(labels, timed.took));
-        pace.longest = pace.longest.max(timed.longest);
-        pace.long = pace.long.saturating_add(timed.long);
+        let nanos = nanos_since(rt, start)?;
+        pace.nanos = pace.nanos.saturating_add(nanos);
+        pace.longest = pace.longest.max(nanos);
+        if nanos > LONG_NANOS {
+            pace.long = pace.long.saturating_add(1);
+        }
     }
+    pace.labels = u64::from(calls) * u64::from(looks.burst);
+    pace.labels = pace.labels.saturating_mul(u64::from(looks.rounds));
+    pace.rate = per_second(pace.labels, pace.nanos);
     Ok(pace)
 }
 
-/// The pace of one thread for each of these.
+/// The pace of one thread for each of these, all of which have to have found each label.
 fn look_by<R: Threads + Sync, T: Measured + Send + Drop>(
     rt: &HostRuntime,
     handles: &R,
@@ -223,10 +242,39 @@ fn look_by<R: Threads + Sync, T: Measured + Send + Drop>(
         tables,
         &|table: T| {
             let mut table = table;
-            time_rounds(rt, &mut table, looks.rounds, looks.calls)
+            time_rounds(rt, &mut table, looks)
         },
     )?;
-    pace_of(all.as_slice(), looks.burst)
+    let mut pace = Pace::NONE;
+    for one in all.as_slice() {
+        match one {
+            Ok(one) if one.sum == one.labels.saturating_mul(u64::from(OUT_LINK)) => {
+                pace.rate = pace.rate.saturating_add(one.rate);
+                pace.longest = pace.longest.max(one.longest);
+                pace.long = pace.long.saturating_add(one.long);
+            }
+            Ok(_) => return Err(Fault::NotFound),
+            Err(fault) => return Err(*fault),
+        }
+    }
+    Ok(pace)
+}
+
+/// How many changes a second are published until it is done.
+fn publish_until<R: Wait + Drop>(
+    rt: &HostRuntime,
+    writer: &mut Writer<R>,
+    is_done: &AtomicBool,
+) -> Result<u64, Fault> {
+    let mut changes = 0_u64;
+    let start = Instant::now(rt)?;
+    for _ in 0..u64::MAX {
+        if is_done.load(Ordering::SeqCst) {
+            break;
+        }
+        changes = changes.saturating_add(writer.once(rt.alloc())?);
+    }
+    Ok(per_second(changes, nanos_since(rt, start)?))
 }
 
 /// The pace of so many readers of a table, and how many changes a second its writer publishes beside them: all the time, or none.
@@ -259,30 +307,12 @@ fn look<R: Threads + Wait + Clone + Send + Sync + Drop>(
             is_done.store(true, Ordering::SeqCst);
             pace
         },
-        || time_until(rt, &mut writer, &is_done),
+        || publish_until(rt, &mut writer, &is_done),
     );
-    let changes = changes?;
-    Ok((pace?, per_second(changes.calls, changes.took)))
+    Ok((pace?, changes?))
 }
 
-/// The pace of so many threads that look labels up in a bare array that they share.
-fn look_bare<R: Threads + Sync>(
-    rt: &HostRuntime,
-    handles: &R,
-    readers: usize,
-    looks: Looks,
-) -> Result<Pace, Fault> {
-    let alloc = rt.alloc();
-    let actions = vec![in alloc; Some(SWAP); MAX_LABELS as usize]?;
-    let bare = Bare {
-        actions: actions.as_slice(),
-        turn: 0,
-        burst: looks.burst,
-    };
-    look_by(rt, handles, vec![in alloc; bare; readers]?, looks)
-}
-
-/// Prints how many look-ups a second so many readers make without a writer, beside one, and in a bare array.
+/// Prints how many look-ups a second so many readers make without a writer, beside one, and in a bare array that they share.
 fn measure_readers<R: Threads + Wait + Clone + Send + Sync + Drop>(
     rt: &HostRuntime,
     handles: &R,
@@ -292,21 +322,28 @@ fn measure_readers<R: Threads + Wait + Clone + Send + Sync + Drop>(
 ) -> Result<(), Fault>
     requires { readers ≤ 64 }
 {
+    let alloc = rt.alloc();
     let (alone, _) = look(rt, handles, readers, looks, false)?;
     let (beside, changes) = look(rt, handles, readers, looks, true)?;
-    let bare = look_bare(rt, handles, readers, looks)?;
+    let actions = vec![in alloc; Some(SWAP); MAX_LABELS as usize]?;
+    let bare = Bare {
+        actions: actions.as_slice(),
+        turn: 0,
+        burst: looks.burst,
+    };
+    let bare = look_by(rt, handles, vec![in alloc; bare; readers]?, looks)?;
     let numbers = [
         readers as u64,
         alone.rate,
         beside.rate,
-        percent(beside.rate, alone.rate),
+        beside.rate.saturating_mul(100) / alone.rate.max(1),
         changes,
         bare.rate,
-        percent(beside.rate, bare.rate),
+        beside.rate.saturating_mul(100) / bare.rate.max(1),
     ];
     let line =
         "readers #: # @ a second without a writer, # (#%) beside one that publishes # changes a second; # in a bare array, of which that is #%";
-    tell(rt, line, words, &numbers)?;
+    tell(rt, line, &[words], &numbers)?;
     Ok(())
 }
 
@@ -320,15 +357,19 @@ pub(crate) fn measure_lookups<R: Threads + Wait + Clone + Send + Sync + Drop>(
         Ok(opened) => opened,
         Err(fault) => return Err(fault),
     };
-    let changes = time_rounds(rt, &mut writer, 1, CHANGES_ALONE)?;
-    let line = "readers 0: # changes a second";
-    tell(rt, line, "", &[per_second(changes.calls, changes.took)])?;
+    let looks = Looks {
+        burst: 1,
+        rounds: 1,
+        labels: CHANGES_ALONE,
+    };
+    let changes = time_rounds(rt, &mut writer, looks)?;
+    tell(rt, "readers 0: # changes a second", &[], &[changes.rate])?;
     for readers in 1..=MOST_READERS {
         for (burst, words) in WAYS {
             let looks = Looks {
                 burst,
                 rounds: 1,
-                calls: count / burst.max(1),
+                labels: count,
             };
             measure_readers(rt, handles, readers, looks, words)?;
         }
@@ -345,7 +386,7 @@ pub(crate) fn measure_longest<R: Threads + Wait + Clone + Send + Sync + Drop>(
     let looks = Looks {
         burst: 1,
         rounds: count,
-        calls: 1,
+        labels: 1,
     };
     let (pace, _) = look(rt, handles, 1, looks, true)?;
     let mut nothing = Bare {
@@ -353,17 +394,17 @@ pub(crate) fn measure_longest<R: Threads + Wait + Clone + Send + Sync + Drop>(
         turn: 0,
         burst: 0,
     };
-    let clock = time_rounds(rt, &mut nothing, count, 1)?;
+    let clock = time_rounds(rt, &mut nothing, looks)?;
     let numbers = [
         u64::from(count),
-        whole(pace.longest.as_nanos()),
+        pace.longest,
         pace.long,
-        whole(clock.longest.as_nanos()),
+        clock.longest,
         clock.long,
     ];
     let line =
         "longest of # look-ups beside a writer: # ns, # took over 10000 ns; of as many pairs of readings of the clock: # ns, # took over 10000 ns";
-    tell(rt, line, "", &numbers)?;
+    tell(rt, line, &[], &numbers)?;
     Ok(())
 }
 
@@ -377,12 +418,12 @@ pub(crate) fn count_lookups<R: Threads + Wait + Clone + Send + Sync + Drop>(
         let looks = Looks {
             burst,
             rounds: 1,
-            calls: count / burst.max(1),
+            labels: count,
         };
         look(rt, handles, MOST_READERS, looks, true)?;
         let numbers = [MOST_READERS as u64, u64::from(count)];
         let line = "lookups: # readers found each label, # @ by each";
-        tell(rt, line, words, &numbers)?;
+        tell(rt, line, &[words], &numbers)?;
     }
     Ok(())
 }

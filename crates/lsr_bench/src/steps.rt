@@ -1,10 +1,11 @@
 //! How long steps of one router take, which is fed by one thread.
 
-use crate::measuring::{Measured, tell, time_rounds};
+use crate::measuring::{nanos_since, tell};
 use lsr_config::BUILT_IN;
 use lsr_facts::{Reply, WORST_PRIORITY};
 use router_core::{Event, Machine, Served};
 use std::alloc::Global;
+use std::time::Instant;
 use worker_cases::{
     Fault, IN_LINK, OUT_LINK, PATH_FRAME, RESV_FRAME, TEAR_FRAME, about_tunnel, put_bytes,
     read_config,
@@ -107,47 +108,52 @@ enum Setting {
     Awaited,
 }
 
-/// What is printed for a step of a router, or for three; what comes; and how its LSPs are set up before.
-type Step = (&'static str, &'static [Input], Setting);
+/// What is printed for a step of a router, or for three; what comes; how its LSPs are set up before; and whether it is taken again and
+/// again, with one LSP after the other, or once, with all of them.
+type Step = (&'static str, &'static [Input], Setting, bool);
 
-/// What a router does again and again, with one LSP after the other.
-const AGAIN: [Step; 5] = [
-    ("a Path again", &[Input::Path], Setting::Reserved),
-    ("a Resv again", &[Input::Resv], Setting::Reserved),
+/// The steps that are measured.
+const STEPS: [Step; 9] = [
+    ("a Path again", &[Input::Path], Setting::Reserved, true),
+    ("a Resv again", &[Input::Resv], Setting::Reserved, true),
     (
         "a PathTear, a Path and a Resv",
         &[Input::Tear, Input::Path, Input::Resv],
         Setting::Reserved,
+        true,
     ),
-    ("an idle millisecond", &[Input::Pass(1)], Setting::Reserved),
-    ("junk", &[Input::Junk], Setting::Reserved),
-];
-/// What it does once, with all of them.
-const ONCE: [Step; 4] = [
+    (
+        "an idle millisecond",
+        &[Input::Pass(1)],
+        Setting::Reserved,
+        true,
+    ),
+    ("junk", &[Input::Junk], Setting::Reserved, true),
     (
         "all are refreshed",
         &[Input::Pass(REFRESH_MS)],
         Setting::Reserved,
+        false,
     ),
     (
         "link down, all are reserved on it",
         &[Input::Down],
         Setting::Reserved,
+        false,
     ),
     (
         "link down, all are repaired",
         &[Input::Down],
         Setting::Protected,
+        false,
     ),
-    ("a Resv takes all others", &[Input::Resv], Setting::Awaited),
+    (
+        "a Resv takes all others",
+        &[Input::Resv],
+        Setting::Awaited,
+        false,
+    ),
 ];
-
-/// The router of the built-in configuration with room for all LSPs, and more of this text.
-fn open_router(alloc: Global, more: &str) -> Result<Machine, Fault> {
-    let roomy = BUILT_IN.replace(alloc, ITS_LIMIT, ROOMY_LIMIT)?;
-    let text = format!(in alloc; "{roomy}{more}")?;
-    Ok(Machine::open(alloc, read_config(alloc, text.as_str())?)?)
-}
 
 /// What a router replies to a frame that comes over a link, and how many frames it sends; none where it takes nothing.
 fn reply_to(alloc: Global, router: &mut Machine, link: u16, frame: &[u8]) -> Option<(Reply, u64)> {
@@ -172,22 +178,14 @@ fn feed(
     }
 }
 
-/// An event comes, and is done: how many frames that sends.
-fn serve(alloc: Global, router: &mut Machine, event: Event) -> Result<u64, Fault> {
-    match &router.serve_event(alloc, event) {
-        Ok(made) if matches!(made.reply, Reply::Done) => Ok(made.outputs.as_slice().len() as u64),
-        _ => Err(Fault::NotTaken),
-    }
-}
-
-/// A router, the frames that come to it, and how many LSPs it is fed. Each frame is put about the LSP that it comes of.
+/// A router, and the frames that come to it. Each frame is put about the LSP that it comes of.
 #[derive(Drop)]
 struct Fed {
     router: Machine,
-    inputs: &'static [Input],
     path: Vec<u8>,
     resv: Vec<u8>,
     tear: Vec<u8>,
+    /// How many LSPs it is fed.
     lsps: u16,
     /// The tunnel of the LSP of which something came last.
     tunnel: u16,
@@ -195,11 +193,12 @@ struct Fed {
 }
 
 impl Fed {
-    /// A router that is to be fed so many LSPs, and what comes then.
-    fn new(alloc: Global, more: &str, inputs: &'static [Input], lsps: u16) -> Result<Fed, Fault> {
+    /// The router of the built-in configuration with room for all LSPs, and with more of this text, that is to be fed so many.
+    fn new(alloc: Global, more: &str, lsps: u16) -> Result<Fed, Fault> {
+        let roomy = BUILT_IN.replace(alloc, ITS_LIMIT, ROOMY_LIMIT)?;
+        let text = format!(in alloc; "{roomy}{more}")?;
         Ok(Fed {
-            router: open_router(alloc, more)?,
-            inputs,
+            router: Machine::open(alloc, read_config(alloc, text.as_str())?)?,
             path: about_tunnel(alloc, PATH_FRAME, 1)?,
             resv: about_tunnel(alloc, RESV_FRAME, 1)?,
             tear: about_tunnel(alloc, TEAR_FRAME, 1)?,
@@ -209,62 +208,75 @@ impl Fed {
         })
     }
 
-    /// A router to which so many LSPs came that are set up for this step. Where a bypass protects them there is one less, whose place its tunnel has.
-    fn open(alloc: Global, (_, inputs, setting): Step, lsps: u16) -> Result<Fed, Fault> {
-        let is_protected = matches!(setting, Setting::Protected);
-        let mut fed = if is_protected {
-            Fed::new(alloc, A_BYPASS, inputs, lsps.min(MOST_LSPS - 1))?
-        } else {
-            Fed::new(alloc, "", inputs, lsps)?
+    /// A router to which the Path and the Resv of so many LSPs came. Where a bypass protects them there is one less, whose place its tunnel
+    /// has. Where the last Resv is awaited, it didn't come; its LSP is set up and held at the best priority, and takes all that may be reserved.
+    fn open(alloc: Global, setting: Setting, lsps: u16) -> Result<Fed, Fault> {
+        let (more, lsps) = match setting {
+            Setting::Protected => (A_BYPASS, lsps.min(MOST_LSPS - 1)),
+            _ => ("", lsps),
         };
-        if is_protected {
+        let mut fed = Fed::new(alloc, more, lsps)?;
+        if matches!(setting, Setting::Protected) {
             put_bytes(&mut fed.path, FLAGS_AT, &PROTECTED);
             fed.take(alloc, Input::Pass(1))?;
             reply_to(alloc, &mut fed.router, ROUND_LINK, ROUND_FRAME);
         }
-        fed.set_up(alloc, matches!(setting, Setting::Awaited))?;
-        Ok(fed)
-    }
-
-    /// The Path and the Resv of each LSP come. Where the last Resv is awaited, it doesn't; its LSP is set up and held at the best priority, and
-    /// takes all that may be reserved.
-    fn set_up(&mut self, alloc: Global, is_awaited: bool) -> Result<(), Fault> {
-        for tunnel in 1..=self.lsps {
-            self.tunnel = tunnel;
-            let is_last = is_awaited && tunnel == self.lsps;
-            if is_last {
-                put_bytes(&mut self.path, PRIORITIES_AT, &BEST);
-                put_bytes(&mut self.resv, RATE_AT, &WHOLE_RATE);
-                put_bytes(&mut self.resv, SIZE_AT, &WHOLE_RATE);
-            }
-            self.take(alloc, Input::Path)?;
-            if is_last {
-                self.tunnel = tunnel.saturating_sub(1);
+        for tunnel in 1..=lsps {
+            fed.tunnel = tunnel;
+            if tunnel == lsps && matches!(setting, Setting::Awaited) {
+                put_bytes(&mut fed.path, PRIORITIES_AT, &BEST);
+                put_bytes(&mut fed.resv, RATE_AT, &WHOLE_RATE);
+                put_bytes(&mut fed.resv, SIZE_AT, &WHOLE_RATE);
+                fed.take(alloc, Input::Path)?;
+                fed.tunnel = tunnel.saturating_sub(1);
             } else {
-                self.take(alloc, Input::Resv)?;
+                fed.take(alloc, Input::Path)?;
+                fed.take(alloc, Input::Resv)?;
             }
         }
-        Ok(())
+        Ok(fed)
     }
 
     /// This comes, and is done: how many frames that sends.
     fn take(&mut self, alloc: Global, input: Input) -> Result<u64, Fault> {
         let tunnel = self.tunnel;
         let router = &mut self.router;
-        match input {
-            Input::Path => feed(alloc, router, IN_LINK, &mut self.path, tunnel),
-            Input::Resv => feed(alloc, router, OUT_LINK, &mut self.resv, tunnel),
-            Input::Tear => feed(alloc, router, IN_LINK, &mut self.tear, tunnel),
+        let event = match input {
+            Input::Path => return feed(alloc, router, IN_LINK, &mut self.path, tunnel),
+            Input::Resv => return feed(alloc, router, OUT_LINK, &mut self.resv, tunnel),
+            Input::Tear => return feed(alloc, router, IN_LINK, &mut self.tear, tunnel),
             Input::Junk => match reply_to(alloc, router, IN_LINK, JUNK) {
-                Some(_) => Err(Fault::NotTaken),
-                None => Ok(0),
+                Some(_) => return Err(Fault::NotTaken),
+                None => return Ok(0),
             },
             Input::Pass(milliseconds) => {
                 self.moment = self.moment.saturating_add(milliseconds);
-                serve(alloc, router, Event::Tick(self.moment))
+                Event::Tick(self.moment)
             }
-            Input::Down => serve(alloc, router, Event::LinkDown(OUT_LINK)),
+            Input::Down => Event::LinkDown(OUT_LINK),
+        };
+        match &router.serve_event(alloc, event) {
+            Ok(made) if matches!(made.reply, Reply::Done) => {
+                Ok(made.outputs.as_slice().len() as u64)
+            }
+            _ => Err(Fault::NotTaken),
         }
+    }
+
+    /// So many times all of this comes, of one LSP after the other: how many frames that sends.
+    fn take_all(&mut self, alloc: Global, inputs: &[Input], calls: u32) -> Result<u64, Fault> {
+        let mut sent = 0_u64;
+        for _ in 0..calls {
+            self.tunnel = if self.tunnel < self.lsps {
+                self.tunnel + 1
+            } else {
+                1
+            };
+            for input in inputs {
+                sent = sent.saturating_add(self.take(alloc, *input)?);
+            }
+        }
+        Ok(sent)
     }
 
     /// Prints how many LSPs it knows, and how much of link 2 is reserved at each of the eight priorities or a better one: the sum of the eight.
@@ -275,66 +287,35 @@ impl Fed {
             reserved = reserved.saturating_add(self.router.reserved(OUT_LINK, priority));
         }
         let line = "steps: # LSPs known; bytes a second reserved, the sum over priorities: #";
-        tell(rt, line, "", &[known as u64, reserved])?;
+        tell(rt, line, &[], &[known as u64, reserved])?;
         Ok(())
     }
 }
 
-impl Measured for Fed {
-    /// All that is to come comes, of the next LSP: how many frames that sends.
-    fn once(&mut self, alloc: Global) -> Result<u64, Fault> {
-        self.tunnel = if self.tunnel < self.lsps {
-            self.tunnel + 1
-        } else {
-            1
-        };
-        let mut sent = 0_u64;
-        for input in self.inputs {
-            sent = sent.saturating_add(self.take(alloc, *input)?);
-        }
-        Ok(sent)
-    }
-}
-
-/// Prints how long this step takes by routers of each size: the shortest of so many runs of so many calls.
-fn measure_step(rt: &HostRuntime, step: Step, runs: u32, calls: u32) -> Result<(), Fault> {
-    for lsps in SIZES {
-        let mut nanos = u64::MAX;
-        for _ in 0..runs {
-            let mut fed = Fed::open(rt.alloc(), step, lsps)?;
-            nanos = nanos.min(time_rounds(rt, &mut fed, 1, calls)?.nanos_a_call());
-        }
-        tell(
-            rt,
-            "steps: # LSPs: @: # ns",
-            step.0,
-            &[u64::from(lsps), nanos],
-        )?;
-    }
-    Ok(())
-}
-
-/// Measures how long steps of one router take, by so many of those that it takes again and again.
+/// Measures how long steps take by routers of each size, by so many of those that a router takes again and again: of the others the shortest
+/// of eight.
 pub(crate) fn measure_steps(rt: &HostRuntime, count: u32) -> Result<(), Fault> {
-    for step in AGAIN {
-        measure_step(rt, step, 1, count)?;
-    }
-    for step in ONCE {
-        measure_step(rt, step, RUNS, 1)?;
+    for (words, inputs, setting, is_again) in STEPS {
+        let (runs, calls) = if is_again { (1, count) } else { (RUNS, 1) };
+        for lsps in SIZES {
+            let mut nanos = u64::MAX;
+            for _ in 0..runs {
+                let mut fed = Fed::open(rt.alloc(), setting, lsps)?;
+                let start = Instant::now(rt)?;
+                fed.take_all(rt.alloc(), inputs, calls)?;
+                nanos = nanos.min(nanos_since(rt, start)?);
+            }
+            let numbers = [u64::from(lsps), nanos / u64::from(calls.max(1))];
+            tell(rt, "steps: # LSPs: @: # ns", &[words], &numbers)?;
+        }
     }
     Ok(())
-}
-
-/// How many frames a router of the most LSPs sends that does this so many times.
-fn frames_of(rt: &HostRuntime, step: Step, calls: u32) -> Result<u64, Fault> {
-    let mut fed = Fed::open(rt.alloc(), step, MOST_LSPS)?;
-    Ok(time_rounds(rt, &mut fed, 1, calls)?.sum)
 }
 
 /// A router knows all the LSPs that it may; then one more comes, and then a moment past every expiry. Prints what it knows.
 fn count_filled(rt: &HostRuntime) -> Result<(), Fault> {
     let alloc = rt.alloc();
-    let mut fed = Fed::open(alloc, AGAIN[0], MOST_LSPS)?;
+    let mut fed = Fed::open(alloc, Setting::Reserved, MOST_LSPS)?;
     fed.tell_known(rt)?;
     let more = about_tunnel(alloc, PATH_FRAME, MOST_LSPS + 1)?;
     let reply = reply_to(alloc, &mut fed.router, IN_LINK, more.as_slice());
@@ -342,22 +323,26 @@ fn count_filled(rt: &HostRuntime) -> Result<(), Fault> {
         return Err(Fault::NotTaken);
     };
     let numbers = [u64::from(error.code), u64::from(error.value)];
-    tell(rt, "steps: one more: error # #", "", &numbers)?;
+    tell(rt, "steps: one more: error # #", &[], &numbers)?;
     fed.take(alloc, Input::Pass(LIFETIME_MS))?;
     fed.tell_known(rt)
 }
 
-/// Takes steps of one router, so many of those that it takes again and again, and prints what it sends and knows.
+/// Has a router of the most LSPs take steps, so many of those that it takes again and again, and prints what it sends and knows.
 pub(crate) fn count_steps(rt: &HostRuntime, count: u32) -> Result<(), Fault> {
     let lsps = u64::from(MOST_LSPS);
-    for step in AGAIN {
-        let numbers = [lsps, u64::from(count), frames_of(rt, step, count)?];
-        let line = "steps: # LSPs: @, # times: # frames are sent";
-        tell(rt, line, step.0, &numbers)?;
-    }
-    for step in ONCE {
-        let numbers = [lsps, frames_of(rt, step, 1)?];
-        tell(rt, "steps: # LSPs: @: # frames are sent", step.0, &numbers)?;
+    for (words, inputs, setting, is_again) in STEPS {
+        let calls = if is_again { count } else { 1 };
+        let mut fed = Fed::open(rt.alloc(), setting, MOST_LSPS)?;
+        let frames = fed.take_all(rt.alloc(), inputs, calls)?;
+        if is_again {
+            let numbers = [lsps, u64::from(calls), frames];
+            let line = "steps: # LSPs: @, # times: # frames are sent";
+            tell(rt, line, &[words], &numbers)?;
+        } else {
+            let line = "steps: # LSPs: @: # frames are sent";
+            tell(rt, line, &[words], &[lsps, frames])?;
+        }
     }
     count_filled(rt)
 }

@@ -1,7 +1,7 @@
 //! Frames that are forwarded while the entry of their label comes and goes.
 ghost use Rattle.std.specs.Prelude.{◌≡◌};
 
-use crate::measuring::per_second;
+use crate::measuring::{MILLI_NANOS, nanos_since, per_second, tell};
 use lsr_config::{BUILT_IN, Config};
 use lsr_facts::Refusal;
 use std::alloc::Global;
@@ -11,10 +11,10 @@ use std::sync::atomic::{AtomicBool, Ordering};
 use std::sync::ledger::Blank;
 use std::thread;
 use std::thread::Threads;
-use std::time::{Clock, Duration, Instant};
+use std::time::Instant;
 use worker_cases::{
-    Core, CoreName, CoreReader, Fate, Fault, Follower, IN_LINK, LABELLED_FRAME, OUT_LINK, Opened,
-    PATH_FRAME, Port, RESV_FRAME, TEAR_FRAME, followers, open_router, read_config,
+    Core, CoreName, Fate, Fault, Follower, IN_LINK, LABELLED_FRAME, OUT_LINK, Opened, PATH_FRAME,
+    RESV_FRAME, TEAR_FRAME, followers, open_router, read_config,
 };
 
 /// How many ports and readers the router has: one that signals, and three that forward.
@@ -51,20 +51,13 @@ impl Fates {
             _ => self.other = self.other.saturating_add(1),
         }
     }
-
-    /// These and others.
-    fn and(self, more: Fates) -> Fates {
-        Fates {
-            forwarded: self.forwarded.saturating_add(more.forwarded),
-            refused: self.refused.saturating_add(more.refused),
-            other: self.other.saturating_add(more.other),
-        }
-    }
 }
 
 /// What threads saw: the fates of frames after each Resv, after each PathTear, and of those that came beside them.
 #[derive(Clone, Copy)]
 struct Seen {
+    /// Whether it is the thread that signals, which alone sees frames after messages.
+    is_signaller: bool,
     after_resv: Fates,
     after_tear: Fates,
     beside: Fates,
@@ -73,65 +66,56 @@ struct Seen {
 impl Seen {
     /// Nothing yet.
     const NOTHING: Seen = Seen {
+        is_signaller: false,
         after_resv: Fates::NONE,
         after_tear: Fates::NONE,
         beside: Fates::NONE,
     };
-
-    /// This and more.
-    fn and(self, more: Seen) -> Seen {
-        Seen {
-            after_resv: self.after_resv.and(more.after_resv),
-            after_tear: self.after_tear.and(more.after_tear),
-            beside: self.beside.and(more.beside),
-        }
-    }
-}
-
-/// What becomes of a labelled frame that comes once the messages before it were taken.
-fn forward_after<L: CoreName, R: Wait + Drop>(
-    alloc: Global,
-    core: &Core<L, R>,
-    follower: &mut Follower<L>,
-    is_taken: bool,
-) -> Fate {
-    if is_taken {
-        follower.forward(alloc, core.router(), IN_LINK, LABELLED_FRAME)
-    } else {
-        Fate::Other
-    }
 }
 
 /// In each round a Path, its Resv and its PathTear come, and after the Resv and the PathTear a labelled frame, each looked up once
 /// the receipt of the message before is learnt.
 fn signal<L: CoreName, R: Wait + Drop>(
-    rt: &R,
+    handles: &R,
     alloc: Global,
     core: &Core<L, R>,
     follower: &mut Follower<L>,
     rounds: u32,
 ) -> Seen {
     let mut seen = Seen::NOTHING;
+    seen.is_signaller = true;
     for _round in 0..rounds {
-        let is_there = follower.feed(rt, alloc, core, IN_LINK, PATH_FRAME)
-            && follower.feed(rt, alloc, core, OUT_LINK, RESV_FRAME);
-        seen.after_resv
-            .count(forward_after(alloc, core, follower, is_there));
-        let is_gone = follower.feed(rt, alloc, core, IN_LINK, TEAR_FRAME);
-        seen.after_tear
-            .count(forward_after(alloc, core, follower, is_gone));
+        let is_there = follower.feed(handles, alloc, core, IN_LINK, PATH_FRAME)
+            && follower.feed(handles, alloc, core, OUT_LINK, RESV_FRAME);
+        let mut fate = Fate::Other;
+        if is_there {
+            fate = follower.forward(alloc, core.router(), IN_LINK, LABELLED_FRAME);
+        }
+        seen.after_resv.count(fate);
+        let mut fate = Fate::Other;
+        if follower.feed(handles, alloc, core, IN_LINK, TEAR_FRAME) {
+            fate = follower.forward(alloc, core.router(), IN_LINK, LABELLED_FRAME);
+        }
+        seen.after_tear.count(fate);
     }
     seen
 }
 
-/// Labelled frames come until it is done. The reader learns of no entry.
-fn forward_until<L: CoreName, R: Wait + Drop>(
+/// A thread: the first port signals; the others forward labelled frames until that is done, by readers that learn of no entry.
+fn play<L: CoreName, R: Wait + Drop>(
+    handles: &R,
     alloc: Global,
     core: &Core<L, R>,
-    follower: &mut Follower<L>,
+    follower: Follower<L>,
+    rounds: u32,
     is_done: &AtomicBool,
 ) -> Seen {
+    let mut follower = follower;
     let mut seen = Seen::NOTHING;
+    if follower.mark().port == SIGNALLER {
+        seen = signal(handles, alloc, core, &mut follower, rounds);
+        is_done.store(true, Ordering::SeqCst);
+    }
     for _frame in 0..u32::MAX {
         if is_done.load(Ordering::SeqCst) {
             break;
@@ -141,55 +125,9 @@ fn forward_until<L: CoreName, R: Wait + Drop>(
     seen
 }
 
-/// A thread: the first port signals, and the others forward until that is done.
-fn play<L: CoreName, R: Wait + Drop>(
-    rt: &R,
-    alloc: Global,
-    core: &Core<L, R>,
-    follower: Follower<L>,
-    rounds: u32,
-    is_done: &AtomicBool,
-) -> Seen {
-    let mut follower = follower;
-    if follower.mark().port != SIGNALLER {
-        return forward_until(alloc, core, &mut follower, is_done);
-    }
-    let seen = signal(rt, alloc, core, &mut follower, rounds);
-    is_done.store(true, Ordering::SeqCst);
-    seen
-}
-
-/// What all saw together.
-fn sum_of(all: &[Seen]) -> Seen {
-    let mut sum = Seen::NOTHING;
-    for seen in all {
-        sum = sum.and(*seen);
-    }
-    sum
-}
-
-/// A thread for each port: what all saw. The fault is out of memory.
-fn play_all<L: CoreName + Send + Sync, R: Threads + Wait + Send + Sync + Drop>(
-    rt: &R,
-    alloc: Global,
-    core: &Core<L, R>,
-    ports: Vec<Port<L>>,
-    readers: Vec<CoreReader<L>>,
-    rounds: u32,
-) -> Result<Seen, Fault> {
-    let is_done = AtomicBool::new(false);
-    let all = followers(alloc, ports, readers)?;
-    let seen = thread::map_vec(
-        rt,
-        all,
-        &|follower| play(rt, alloc, core, follower, rounds, &is_done),
-    )?;
-    Ok(sum_of(seen.as_slice()))
-}
-
-/// The run of a router of this name.
+/// The run of a router of this name, with a thread for each port: what all saw together.
 fn run_named<L: CoreName + Send + Sync, R: Threads + Wait + Clone + Send + Sync + Drop>(
-    rt: &R,
+    handles: &R,
     alloc: Global,
     blank: Blank,
     config: Config,
@@ -200,79 +138,74 @@ fn run_named<L: CoreName + Send + Sync, R: Threads + Wait + Clone + Send + Sync 
     requires config { config ≡ L.config }
     requires four { blank.parts ≡ PORTS }
 {
-    match open_router::<L, R>(alloc, rt.clone()?, blank, config, PORTS) {
-        Ok(
-            Opened {
-                core,
-                ports,
-                readers,
-            },
-        ) => play_all(rt, alloc, &core, ports, readers, rounds),
-        Err(fault) => Err(fault),
-    }
-}
-
-/// So many rounds of the built-in router, where it has one label to give out.
-fn run_rounds<R: Threads + Wait + Clone + Send + Sync + Drop>(
-    rt: &R,
-    alloc: Global,
-    rounds: u32,
-) -> Result<Seen, Fault> {
-    let text = BUILT_IN.replace(alloc, ITS_LABELS, ONE_LABEL)?;
-    let config = read_config(alloc, text.as_str())?;
-    run_named::<Brand, R>(rt, alloc, Blank::new(u64::from(PORTS)), config, rounds)
-}
-
-/// Prints what became of frames.
-fn tell_fates<R: Print>(rt: &R, of: &str, fates: Fates) -> Result<(), Fault> {
-    let forwarded = fates.forwarded;
-    let refused = fates.refused;
-    let other = fates.other;
-    println!(rt;
-        "withdrawals: {of}: {forwarded} forwarded, {refused} refused for their label, {other} otherwise"
+    let Opened {
+        core,
+        ports,
+        readers,
+    } = match open_router::<L, R>(alloc, handles.clone()?, blank, config, PORTS) {
+        Ok(opened) => opened,
+        Err(fault) => return Err(fault),
+    };
+    let is_done = AtomicBool::new(false);
+    let shared = &core;
+    let all = thread::map_vec(
+        handles,
+        followers(alloc, ports, readers)?,
+        &|follower| play(handles, alloc, shared, follower, rounds, &is_done),
     )?;
-    Ok(())
+    let mut sum = Seen::NOTHING;
+    for seen in all.as_slice() {
+        if seen.is_signaller {
+            sum.after_resv = seen.after_resv;
+            sum.after_tear = seen.after_tear;
+        }
+        let (beside, more) = (sum.beside, seen.beside);
+        sum.beside = Fates {
+            forwarded: beside.forwarded.saturating_add(more.forwarded),
+            refused: beside.refused.saturating_add(more.refused),
+            other: beside.other.saturating_add(more.other),
+        };
+    }
+    Ok(sum)
 }
 
-/// Prints what became of the frames that came once a receipt was learnt.
-fn tell_learnt<R: Print>(rt: &R, seen: Seen) -> Result<(), Fault> {
-    tell_fates(rt, "once the Resv is learnt", seen.after_resv)?;
-    tell_fates(rt, "once the PathTear is learnt", seen.after_tear)
-}
-
-/// Prints how many frames a second were forwarded or refused beside so many rounds.
-fn tell_rate<R: Print>(rt: &R, rounds: u32, beside: Fates, took: Duration) -> Result<(), Fault> {
-    let rate = per_second(beside.forwarded.saturating_add(beside.refused), took);
-    let millis = took.as_millis();
-    println!(rt; "withdrawals: {rounds} rounds in {millis} ms, beside {rate} frames a second")?;
-    Ok(())
-}
-
-/// An LSP comes and goes so many times, while three threads forward frames under its label: prints what becomes of frames that come
-/// once the receipt of its Resv is learnt, and once that of its PathTear is. The fault says what to do.
-pub(crate) fn count_withdrawals<R: Threads + Wait + Print + Clone + Send + Sync + Drop>(
-    rt: &R,
-    alloc: Global,
+/// An LSP of the built-in router, where that has one label to give out, comes and goes so many times, while three threads forward frames
+/// under its label: prints what becomes of frames that come once the receipt of its Resv is learnt, and once that of its PathTear is; and
+/// where it is timed, what becomes of the others, and how many a second are forwarded or refused. The fault says what to do.
+pub(crate) fn run_withdrawals<R: Threads + Wait + Clone + Send + Sync + Drop>(
+    rt: &HostRuntime,
+    handles: &R,
     count: u32,
-) -> Result<(), Fault> {
-    tell_learnt(rt, run_rounds(rt, alloc, count)?)
-}
-
-/// Measures how many frames three workers forward or refuse a second while an LSP comes and goes so many times, and prints that too. The
-/// fault says what to do.
-pub(crate) fn measure_withdrawals<R: Threads + Wait + Clock + Print + Clone + Send + Sync + Drop>(
-    rt: &R,
-    alloc: Global,
-    count: u32,
+    is_timed: bool,
 ) -> Result<(), Fault> {
     let start = Instant::now(rt)?;
-    let seen = run_rounds(rt, alloc, count)?;
-    let took = start.elapsed(rt)?;
-    tell_learnt(rt, seen)?;
-    tell_fates(
-        rt,
-        "by three workers beside it, which learn of nothing",
-        seen.beside,
-    )?;
-    tell_rate(rt, count, seen.beside, took)
+    let text = BUILT_IN.replace(rt.alloc(), ITS_LABELS, ONE_LABEL)?;
+    let config = read_config(rt.alloc(), text.as_str())?;
+    let blank = Blank::new(u64::from(PORTS));
+    let seen = run_named::<Brand, R>(handles, rt.alloc(), blank, config, count)?;
+    let nanos = nanos_since(rt, start)?;
+    let told = [
+        ("once the Resv is learnt", seen.after_resv),
+        ("once the PathTear is learnt", seen.after_tear),
+        (
+            "by three workers beside it, which learn of nothing",
+            seen.beside,
+        ),
+    ];
+    for (of, fates) in told.iter().take(if is_timed { 3 } else { 2 }) {
+        let numbers = [fates.forwarded, fates.refused, fates.other];
+        let line = "withdrawals: @: # forwarded, # refused for their label, # otherwise";
+        tell(rt, line, &[*of], &numbers)?;
+    }
+    if is_timed {
+        let frames = seen.beside.forwarded.saturating_add(seen.beside.refused);
+        let numbers = [
+            u64::from(count),
+            nanos / MILLI_NANOS,
+            per_second(frames, nanos),
+        ];
+        let line = "withdrawals: # rounds in # ms, beside # frames a second";
+        tell(rt, line, &[], &numbers)?;
+    }
+    Ok(())
 }

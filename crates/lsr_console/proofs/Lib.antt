@@ -1,4 +1,5 @@
 mod Attended
+mod Counting
 mod Hearing
 mod Receipts
 mod Requested

@@ -7,25 +7,30 @@ use Rattle.shared_core.specs.Names.{IsKnown, IsReceiptOf}
 use Rattle.shared_core.specs.Refused.{MayBeRefused}
 use Rattle.worker_tallies.specs.declared.handled.Handled.{Handled}
 use Rattle.worker_tallies.specs.declared.handled.Handled.TheVariants as handles
+use Rattle.worker_tallies.specs.declared.handled.Tally.{Tally}
 use Rattle.interface_workers.specs.declared.worker.Work.{Work}
 use Rattle.journal_bytes.specs.Events.{event_bytes}
 use Rattle.journal_bytes.specs.declared.entry.WrittenFrame.{WrittenFrame}
 use Rattle.lsr_config.specs.Configs.{Setup}
+use Rattle.lsr_config.specs.declared.sockets.LinkSockets.{LinkSockets}
 use Rattle.lsr_facts.specs.declared.refusal.Refusal.{Refusal}
 use Rattle.lsr_facts.specs.declared.reply.Reply.{Reply}
 use Rattle.lsr_facts.specs.declared.reply.Reply.TheVariants as replies
 use Rattle.lsr_lines.specs.declared.lines.Request.{Request}
 use Rattle.lsr_lines.specs.declared.lines.Request.TheVariants as requests
+use Rattle.lsr_lines.specs.declared.shown.Shown.{Shown}
 use Rattle.lsr_session.specs.Requests.{Shows, latest}
 use Rattle.lsr_text.specs.Answers.{refusal_line, replies_text, reply_line}
 use Rattle.lsr_text.specs.FrameLines.{written_line}
 use Rattle.run_journal.specs.declared.receipt.Receipt.{Receipt}
+use Rattle.lsr_console.specs.Counters.{counters_text}
 use Rattle.lsr_console.specs.Said.{Says, event_of}
 use Rattle.lsr_console.specs.Told.{bad_line_text, elsewhere_text}
 use Rattle.lsr_console.specs.declared.answering.Lack.{Lack}
 use Rattle.lsr_console.specs.declared.answering.Lack.TheVariants as lacks
 use Rattle.lsr_console.specs.declared.answering.TheConstants.{QUITS}
 use Rattle.lsr_console.specs.declared.forms.TheConstants.{FROM_CLOCK, FROM_LINKS, HELP}
+use Rattle.lsr_console.specs.declared.manner.Manner.{Manner}
 use Rattle.lsr_console.specs.declared.said.Said.{Said}
 use Rattle.lsr_console.specs.declared.said.Said.TheVariants as saids
 
@@ -90,46 +95,49 @@ pub record AnswersEvent (c : Setup) (echo : Bool) (event : Event) (before : Oper
 
 -- ---- requests
 
--- The router of this configuration shows this, as it knew things once.
-pub record ShowsKnown (c : Setup) (request : Request) (text : List ℕ) : Type 0 where
+-- The router of this configuration, whose links have these socket addresses, shows this, as it knew things once.
+pub record ShowsKnown (c : Setup) (sockets : List (ℕ × LinkSockets)) (shown : Shown) (text : List ℕ) : Type 0 where
   pub state : State
   pub known : IsKnown c state
-  pub shows : Shows (record { router = c.router; state = state }) request text
+  pub shows : Shows (record { router = c.router; state = state }) sockets shown text
 
 -- What is answered to a request of the line of this number for which no event is fed: messages, frames and moments aren't taken from an
--- operator; the last replies to him; or what the router knows.
-abbrev pub AnswersAsked : Setup → ℕ → List ℕ → List Reply → Request → List ℕ → Type 0
-AnswersAsked c number line recent (requests.Receive arrival) text = text ≡ elsewhere_text number line FROM_LINKS.now
-AnswersAsked c number line recent (requests.Frame arrival) text = text ≡ elsewhere_text number line FROM_LINKS.now
-AnswersAsked c number line recent (requests.Tick moment) text = text ≡ elsewhere_text number line FROM_CLOCK.now
-AnswersAsked c number line recent requests.ShowRecent text = text ≡ replies_text recent
-AnswersAsked c number line recent request text = ShowsKnown c request text
+-- operator; what the router knows; or the last replies to him. Nothing to a request for which one is.
+abbrev pub AnswersAsked : Setup → Manner → ℕ → List ℕ → List Reply → Request → List ℕ → Type 0
+AnswersAsked c manner number line recent (requests.Receive arrival) text = text ≡ elsewhere_text number line FROM_LINKS.now
+AnswersAsked c manner number line recent (requests.Frame arrival) text = text ≡ elsewhere_text number line FROM_LINKS.now
+AnswersAsked c manner number line recent (requests.Tick moment) text = text ≡ elsewhere_text number line FROM_CLOCK.now
+AnswersAsked c manner number line recent (requests.Show shown) text = ShowsKnown c manner.sockets shown text
+AnswersAsked c manner number line recent requests.Recent text = text ≡ replies_text recent
+AnswersAsked c manner number line recent request text = text ≡ []
 
 -- an event is answered where there is one, and else the request as it stands
-abbrev pub AnswersBy : Option Event → Setup → Bool → ℕ → List ℕ → OperatorState → Request → List ℕ → OperatorState → Type 0
-AnswersBy (Some event) c echo number line before request text after = AnswersEvent c echo event before text after
-AnswersBy None c echo number line before request text after = AnswersAsked c number line before.recent request text × (after ≡ before)
+abbrev pub AnswersBy : Option Event → Setup → Manner → ℕ → List ℕ → OperatorState → Request → List ℕ → OperatorState → Type 0
+AnswersBy (Some event) c manner number line before request text after = AnswersEvent c manner.echo event before text after
+AnswersBy None c manner number line before request text after = AnswersAsked c manner number line before.recent request text × (after ≡ before)
 
 -- what is answered to a request of the line of this number
-abbrev pub AnswersRequest : Setup → Bool → ℕ → List ℕ → OperatorState → Request → List ℕ → OperatorState → Type 0
-AnswersRequest c echo number line before request text after = AnswersBy (event_of request) c echo number line before request text after
+abbrev pub AnswersRequest : Setup → Manner → ℕ → List ℕ → OperatorState → Request → List ℕ → OperatorState → Type 0
+AnswersRequest c manner number line before request text after = AnswersBy (event_of request) c manner number line before request text after
 
 -- ---- lines
 
--- What is answered to a line of this number that says this: nothing to a remark; the lines of a console to `help`; that the run ends to `quit`;
--- what a request is answered; or that the line asks for nothing, and which form it should have.
-abbrev pub AnswersSaid : Setup → Bool → ℕ → List ℕ → OperatorState → Said → List ℕ → OperatorState → Type 0
-AnswersSaid c echo number line before saids.Remark text after = (text ≡ []) × (after ≡ before)
-AnswersSaid c echo number line before saids.Help text after = (text ≡ HELP.now) × (after ≡ before)
-AnswersSaid c echo number line before saids.Quit text after = (text ≡ QUITS.now) × (after ≡ before)
-AnswersSaid c echo number line before (saids.Asks request) text after = AnswersRequest c echo number line before request text after
-AnswersSaid c echo number line before saids.Nothing text after = (text ≡ bad_line_text number line) × (after ≡ before)
+-- What is answered to a line of this number that says this, while the ports counted so much: nothing to a remark; the lines of a console to
+-- `help`; that the run ends to `quit`; how much each port did to `show counters`; what a request is answered; or that the line asks for
+-- nothing, and which form it should have.
+abbrev pub AnswersSaid : Setup → Manner → List Tally → ℕ → List ℕ → OperatorState → Said → List ℕ → OperatorState → Type 0
+AnswersSaid c manner counts number line before saids.Remark text after = (text ≡ []) × (after ≡ before)
+AnswersSaid c manner counts number line before saids.Help text after = (text ≡ HELP.now) × (after ≡ before)
+AnswersSaid c manner counts number line before saids.Quit text after = (text ≡ QUITS.now) × (after ≡ before)
+AnswersSaid c manner counts number line before saids.Counters text after = (text ≡ counters_text manner.sockets counts) × (after ≡ before)
+AnswersSaid c manner counts number line before (saids.Asks request) text after = AnswersRequest c manner number line before request text after
+AnswersSaid c manner counts number line before saids.Nothing text after = (text ≡ bad_line_text number line) × (after ≡ before)
 
--- What is answered to the line of this number.
-pub record AnswersLine (c : Setup) (echo : Bool) (number : ℕ) (line : List ℕ) (before : OperatorState) (text : List ℕ) (after : OperatorState) : Type 0 where
+-- What is answered to the line of this number, while the ports counted so much.
+pub record AnswersLine (c : Setup) (manner : Manner) (counts : List Tally) (number : ℕ) (line : List ℕ) (before : OperatorState) (text : List ℕ) (after : OperatorState) : Type 0 where
   pub said : Said
   pub says : Says line said
-  pub answers : AnswersSaid c echo number line before said text after
+  pub answers : AnswersSaid c manner counts number line before said text after
 
 -- Memory ran out: nothing was done; or it was answered, and there is no memory for the text. `answers` says which text is the answer's, and
 -- what the operator has then.

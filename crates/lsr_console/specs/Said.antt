@@ -10,13 +10,15 @@ use Rattle.lsr_lines.specs.declared.lines.Request.TheVariants as requests
 use Rattle.lsr_console.specs.declared.said.Said.{Said}
 use Rattle.lsr_console.specs.declared.said.Said.TheVariants as saids
 
--- It is a remark; `help` or `quit`; a line that asks for what one of `lsr step` asks for; or none of these.
+-- It is a remark; `help`, `quit` or `show counters`; a line that asks for what one of `lsr step` asks for; or none of these.
 abbrev pub Says : List ℕ → Said → Type 0
 Says line saids.Remark = is_remark line ≡ true
 Says line saids.Help = line ≡ codes "help"
 Says line saids.Quit = line ≡ codes "quit"
+Says line saids.Counters = line ≡ codes "show counters"
 Says line (saids.Asks request) = AsksFor line request
-Says line saids.Nothing = (is_remark line ≡ false) × (line ≢ codes "help") × (line ≢ codes "quit") × AsksNothing line
+Says line saids.Nothing =
+    (is_remark line ≡ false) × (line ≢ codes "help") × (line ≢ codes "quit") × (line ≢ codes "show counters") × AsksNothing line
 
 -- the event that a request asks to be fed
 abbrev pub event_of : Request → Option Event

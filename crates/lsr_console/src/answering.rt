@@ -7,8 +7,10 @@ ghost use Rattle.lsr_console.specs.Answers.{AnswersAsked, AnswersLine, AnswersRe
 
 use crate::asking::shown_text;
 use crate::attending::fed_nothing;
+use crate::counters::Counters;
 use crate::feeding::answer_event;
 use crate::forms::{FROM_CLOCK, FROM_LINKS, HELP, bad_line_text, elsewhere_text};
+use crate::manner::Manner;
 use crate::said::{Said, asked_event, read_said};
 use interface_workers::{CoreName, Gate, KeepSegments, Port, Wire, Work};
 use lsr_lines::Request;
@@ -59,24 +61,30 @@ fn text_of(alloc: Global, said: &str) -> Result<String, AllocError>
     Ok(text)
 }
 
-/// The lines that are answered to a request of the line of this number, for which no event is fed: what is shown, or why it isn't taken. The
-/// only error is that memory ran out.
+/// The lines that are answered to a request of the line of this number, for which no event is fed: what is shown, or why it isn't taken; none
+/// to a request for which one is. The only error is that memory ran out.
 fn asked_text<L: CoreName, R: Wait + Drop, K: KeepSegments + Drop, T: Wait + Clock, G: Gate>(
     desk: &Desk<'_, L, R, K, T, G>,
     recent: &Recent,
+    manner: &Manner,
     number: usize,
     line: &str,
     request: &Request,
 ) -> Result<String, AllocError>
-    ensures { IfOk result (λ text. AnswersAsked L.config number line.now recent.now request.now (string_bytes text)) }
+    ensures { IfOk result (λ text. AnswersAsked L.config manner.now number line.now recent.now request.now (string_bytes text)) }
 {
     match request {
         Request::Receive(_) | Request::Frame(_) => {
             elsewhere_text(desk.alloc, number, line, FROM_LINKS)
         }
         Request::Tick(_) => elsewhere_text(desk.alloc, number, line, FROM_CLOCK),
-        Request::ShowRecent => recent.text(desk.alloc),
-        _ => shown_text(desk, request),
+        Request::Show(shown) => shown_text(desk, &manner.sockets, shown),
+        Request::Recent => recent.text(desk.alloc),
+        Request::LinkUp(_)
+        | Request::LinkDown(_)
+        | Request::Restart
+        | Request::Start
+        | Request::Command(_) => Ok(String::new(desk.alloc)),
     }
 }
 
@@ -94,33 +102,33 @@ fn answer_request<
     wire: &mut W,
     work: &mut Work,
     recent: &mut Recent,
-    echo: bool,
+    manner: &Manner,
     number: usize,
     line: &str,
     request: Request,
 ) -> Result<String, Lack>
     requires { HasRoom work.old }
     ensures attended { IsAttended L.config work.old port.old.mark port.old.taken work.new port.new.mark port.new.taken }
-    ensures told { IfOk result (λ text. AnswersRequest L.config echo number line.now (record { work = work.old; recent = recent.old }) request
+    ensures told { IfOk result (λ text. AnswersRequest L.config manner.now number line.now (record { work = work.old; recent = recent.old }) request
         (string_bytes text) (record { work = work.new; recent = recent.new })) }
     ensures lack { IfErr result (λ lack. Lacks
-        (AnswersRequest L.config echo number line.now (record { work = work.old; recent = recent.old }) request)
+        (AnswersRequest L.config manner.now number line.now (record { work = work.old; recent = recent.old }) request)
         (record { work = work.old; recent = recent.old }) lack (record { work = work.new; recent = recent.new })) }
 {
     match asked_event(request) {
-        Ok(event) => match answer_event(desk, port, wire, work, recent, echo, &event) {
+        Ok(event) => match answer_event(desk, port, wire, work, recent, manner.echo, &event) {
             Ok(text) => Ok(text),
             Err(_) => Err(Lack::Untold),
         },
         Err(request) => {
             fed_nothing(port, work);
-            Ok(asked_text(desk, recent, number, line, &request)?)
+            Ok(asked_text(desk, recent, manner, number, line, &request)?)
         }
     }
 }
 
-/// Answers the line of this number: the lines of the answer. What it asks to be fed is fed by the operator's port, what the router sends
-/// for it goes to the wire, and its reply is remembered.
+/// Answers the line of this number, while the ports counted so much: the lines of the answer. What it asks to be fed is fed by the
+/// operator's port, what the router sends for it goes to the wire, and its reply is remembered.
 pub(crate) fn answer_line<
     L: CoreName,
     R: Wait + Drop,
@@ -134,16 +142,17 @@ pub(crate) fn answer_line<
     wire: &mut W,
     work: &mut Work,
     recent: &mut Recent,
-    echo: bool,
+    manner: &Manner,
+    counters: &Counters,
     number: usize,
     line: &str,
 ) -> Result<String, Lack>
     requires { HasRoom work.old }
     ensures attended { IsAttended L.config work.old port.old.mark port.old.taken work.new port.new.mark port.new.taken }
-    ensures told { IfOk result (λ text. AnswersLine L.config echo number line.now (record { work = work.old; recent = recent.old })
+    ensures told { IfOk result (λ text. AnswersLine L.config manner.now counters.now.ports.items number line.now (record { work = work.old; recent = recent.old })
         (string_bytes text) (record { work = work.new; recent = recent.new })) }
     ensures lack { IfErr result (λ lack. Lacks
-        (AnswersLine L.config echo number line.now (record { work = work.old; recent = recent.old }))
+        (AnswersLine L.config manner.now counters.now.ports.items number line.now (record { work = work.old; recent = recent.old }))
         (record { work = work.old; recent = recent.old }) lack (record { work = work.new; recent = recent.new })) }
 {
     fed_nothing(port, work);
@@ -151,8 +160,9 @@ pub(crate) fn answer_line<
         Said::Remark => Ok(String::new(desk.alloc)),
         Said::Help => Ok(text_of(desk.alloc, HELP)?),
         Said::Quit => Ok(text_of(desk.alloc, QUITS)?),
+        Said::Counters => Ok(counters.text(desk.alloc, &manner.sockets)?),
         Said::Asks(request) => answer_request(
-            desk, port, wire, work, recent, echo, number, line, request,
+            desk, port, wire, work, recent, manner, number, line, request,
         ),
         Said::Nothing => Ok(bad_line_text(desk.alloc, number, line)?),
     }

@@ -1,15 +1,18 @@
 //! The console of a router that runs.
-ghost use Rattle.std.specs.Prelude.{◌≡◌, ℕ, List, [], IfOk, None, OnOk, is_some};
+ghost use Rattle.std.specs.Prelude.{◌≡◌, ◌⊎◌, ℕ, List, [], IfOk, None, OnOk, is_some};
 ghost use Rattle.std.specs.Io.KnownBytes.{Appends};
 ghost use Rattle.interface_workers.specs.Chains.{HasRoom};
 ghost use Rattle.lsr_rounds.specs.Attending.{IsAttended};
-ghost use Rattle.lsr_console.specs.Consoles.{TellsHeard, TellsLine, TellsOnce};
+ghost use Rattle.lsr_console.specs.Consoles.{PrintsLine, TellsHeard, TellsOnce};
+ghost use Rattle.lsr_console.specs.Counters.{counts_with};
 ghost use Rattle.lsr_console.specs.Endings.{IsWritten, ending_of};
 
 use crate::answering::answer_line;
 use crate::attending::fed_nothing;
+use crate::counters::Counters;
 use crate::ending::{ConsoleEnding, ending_of};
 use crate::listening::Heard;
+use crate::manner::Manner;
 use crate::printing::{put, put_untext};
 use crossbeam_channel::{Receiver, RecvTimeoutError};
 use interface_workers::{CoreName, Gate, KeepSegments, Port, Wire, Work};
@@ -27,10 +30,12 @@ use std::time::{Clock, Duration};
 pub struct Console<O: Write + Drop> {
     lines: Receiver<Heard>,
     output: O,
-    /// Whether what is sent for a line is printed, too.
-    echo: bool,
+    /// How it answers.
+    manner: Manner,
     /// The last replies to this console.
     recent: Recent,
+    /// What each port did up to the end of the last round.
+    counters: Counters,
     /// How many lines there were.
     number: usize,
     /// Why the run is to end, if it is.
@@ -38,25 +43,27 @@ pub struct Console<O: Write + Drop> {
 }
 
 impl<O: Write + Drop> Console<O> {
-    /// A console to which no line came. Its lines come from the other end of [`crate::open_lines`]; answers go to the output, with `echo`
-    /// also what is sent for a line. The only error is that memory ran out.
+    /// A console to which no line came, before the first round is over. Its lines come from the other end of [`crate::open_lines`]; it
+    /// answers on the output, in this manner. The only error is that memory ran out.
     pub fn new(
         alloc: Global,
         lines: Receiver<Heard>,
         output: O,
-        echo: bool,
+        manner: Manner,
     ) -> Result<Console<O>, AllocError>
         ensures output { IfOk result (λ console. console.output ≡ output) }
-        ensures echo { IfOk result (λ console. console.echo ≡ echo) }
+        ensures manner { IfOk result (λ console. console.manner ≡ manner) }
         ensures recent { IfOk result (λ console. console.recent ≡ []) }
+        ensures counters { IfOk result (λ console. console.counters.ports.items ≡ []) }
         ensures number { IfOk result (λ console. console.number ≡ 0) }
         ensures ending { IfOk result (λ console. console.ending ≡ None) }
     {
         Ok(Console {
             lines,
             output,
-            echo,
+            manner,
             recent: Recent::new(alloc)?,
+            counters: Counters::new(alloc),
             number: 0,
             ending: None,
         })
@@ -69,15 +76,16 @@ impl<O: Write + Drop> Console<O> {
         let Console {
             lines: _lines,
             output: _output,
-            echo: _,
+            manner: _manner,
             recent: _recent,
+            counters: _counters,
             number: _,
             ending,
         } = self;
         ending
     }
 
-    /// Answers the line, whose number is how many there were with it, at once. The error is the output's.
+    /// Answers the line, whose number is how many there were with it, at once, and ends the answer. The error is the output's.
     fn serve_line<
         L: CoreName,
         R: Wait + Drop,
@@ -96,14 +104,25 @@ impl<O: Write + Drop> Console<O> {
         requires { HasRoom work.old }
         ensures attended { IsAttended L.config work.old port.old.mark port.old.taken work.new port.new.mark port.new.taken }
         ensures told { OnOk result ((text : List ℕ) × Appends (O.contents self.old.output) (O.contents self.new.output) text
-            × TellsLine L.config self.old.echo self.old.number line.now (record { work = work.old; recent = self.old.recent })
-            text (record { work = work.new; recent = self.new.recent })) }
-        ensures kept { (self.new.ending ≡ self.old.ending) × (self.new.number ≡ self.old.number) × (self.new.echo ≡ self.old.echo) }
+            × PrintsLine L.config self.old.manner self.old.counters.ports.items self.old.number line.now
+            (record { work = work.old; recent = self.old.recent }) text (record { work = work.new; recent = self.new.recent })) }
+        ensures kept { (self.new.ending ≡ self.old.ending) × (self.new.number ≡ self.old.number) × (self.new.manner ≡ self.old.manner) }
     {
-        let recent = &mut self.recent;
-        match answer_line(desk, port, wire, work, recent, self.echo, self.number, line) {
-            Ok(text) => put(&mut self.output, text.as_str()),
-            Err(lack) => put(&mut self.output, lack.text()),
+        let number = self.number;
+        let marks = self.manner.marks;
+        match answer_line(
+            desk,
+            port,
+            wire,
+            work,
+            &mut self.recent,
+            &self.manner,
+            &self.counters,
+            number,
+            line,
+        ) {
+            Ok(text) => put(&mut self.output, text.as_str(), marks),
+            Err(lack) => put(&mut self.output, lack.text(), marks),
         }
     }
 
@@ -119,8 +138,8 @@ impl<O: Write + Drop> Console<O> {
         requires { HasRoom work.old }
         ensures attended { IsAttended L.config work.old port.old.mark port.old.taken work.new port.new.mark port.new.taken }
         ensures told { OnOk result ((text : List ℕ) × Appends (O.contents self.old.output) (O.contents self.new.output) text
-            × TellsHeard L.config self.old.echo self.new.number heard (record { work = work.old; recent = self.old.recent })
-            text (record { work = work.new; recent = self.new.recent })) }
+            × TellsHeard L.config self.old.manner self.old.counters.ports.items self.new.number heard
+            (record { work = work.old; recent = self.old.recent }) text (record { work = work.new; recent = self.new.recent })) }
         ensures ending { self.new.ending ≡ ending_of heard }
     {
         fed_nothing(port, work);
@@ -128,7 +147,7 @@ impl<O: Write + Drop> Console<O> {
         self.ending = ending_of(&heard);
         match heard {
             Heard::Line(line) => self.serve_line(desk, port, wire, work, line.as_str()),
-            Heard::NotText(at) => put_untext(&mut self.output, self.number, at),
+            Heard::NotText(at) => put_untext(&mut self.output, self.number, at, self.manner.marks),
             Heard::Fault(_) | Heard::End => Ok(()),
         }
     }
@@ -162,8 +181,8 @@ impl<O: Write + Drop> Operator for Console<O> {
         ensures attended { IsAttended L.config work.old port.old.mark port.old.taken work.new port.new.mark port.new.taken }
         ensures told { IsWritten self.new.ending → (text : List ℕ)
             × Appends (O.contents self.old.output) (O.contents self.new.output) text
-            × TellsOnce L.config self.old.echo self.new.number (record { work = work.old; recent = self.old.recent })
-            text (record { work = work.new; recent = self.new.recent }) }
+            × TellsOnce L.config self.old.manner self.old.counters.ports.items self.new.number
+            (record { work = work.old; recent = self.old.recent }) text (record { work = work.new; recent = self.new.recent }) }
     {
         fed_nothing(port, work);
         if self.is_done() {
@@ -187,6 +206,12 @@ impl<O: Write + Drop> Operator for Console<O> {
         _desk: &Desk<'_, L, R, K, T, G>,
     ) {}
 
-    /// Nothing.
-    fn after_round(&mut self, _ports: &[PortCount]) {}
+    /// Counts what each port did in the round, too. Where memory runs out the counts stay as they were.
+    fn after_round(&mut self, ports: &[PortCount])
+        ensures counted { (self.new.counters.ports.items ≡ counts_with self.old.counters.ports.items ports.now)
+            ⊎ (self.new.counters.ports.items ≡ self.old.counters.ports.items) }
+        ensures kept { self.new ≡ record self.old { counters = self.new.counters } }
+    {
+        self.counters.add(ports);
+    }
 }

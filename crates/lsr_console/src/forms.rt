@@ -9,17 +9,17 @@ use std::alloc::{AllocError, Global};
 pub const HELP: &str = "\
 up LINK, with LINK 1 to 65535: link LINK came up
 down LINK, with LINK 1 to 65535: link LINK went down
-restart, with nothing after it: the router lost what messages had set up in it, and is cold
-start, with nothing after it: a cold router is started; a running one goes on as it is
-tunnel N ENDPOINT RATE SETUP HOLD FLAGS NAME [ROUTE..], as tunnel 5 10.0.0.4 47f42400 3 3 04 t5 10.0.0.3/32: tunnel N is to begin here and to end at ENDPOINT
-change N RATE [ROUTE..], as change 5 47f42400 ~10.0.0.4/32: tunnel N is to carry this rate over this route
+restart, with nothing after it: the router lost what messages had set up in it, and is stopped until start
+start, with nothing after it: a stopped router is started; a running one goes on as it is
+tunnel N ENDPOINT RATE SETUP HOLD FLAGS NAME [ROUTE..], as tunnel 5 10.0.0.4 47f42400 3 3 04 t5 10.0.0.3/32: sets up tunnel N from here to ENDPOINT
+change N RATE [ROUTE..], as change 5 47f42400 ~10.0.0.4/32: moves tunnel N to this rate and route
 cancel N, with N 0 to 65535: the change of tunnel N is given up
-drop N, with N 0 to 65535: tunnel N goes
-bypass N TUNNEL LINK [CAPACITY], with N and TUNNEL 0 to 65535, LINK 1 to 65535 and CAPACITY 0 to 18446744073709551615: bypass N is to protect link LINK, and runs in tunnel TUNNEL
-unbypass N, with N 0 to 65535: bypass N goes
-route PREFIX LINK, as route 10.9.0.0/16 2: what goes to PREFIX leaves over link LINK
-unroute PREFIX, as unroute 10.9.0.0/16: the static route to PREFIX goes
-show paths, resvs, table, labels, links, tunnels, bypasses, recent or summary, or path or resv and an LSP as show path 10.0.0.4/1/10.0.0.1 10.0.0.1/1: what the router knows, or the last 32 replies to this console
+drop N, with N 0 to 65535: removes tunnel N
+bypass N TUNNEL LINK [CAPACITY], with N and TUNNEL 0 to 65535, LINK 1 to 65535 and CAPACITY 0 to 18446744073709551615: protects link LINK by bypass N, which runs in tunnel TUNNEL
+unbypass N, with N 0 to 65535: removes bypass N
+route PREFIX LINK, as route 10.9.0.0/16 2: sends what goes to PREFIX over link LINK
+unroute PREFIX, as unroute 10.9.0.0/16: removes the static route to PREFIX
+show paths, resvs, table, labels, links, tunnels, bypasses, lsps, config, counters, recent or summary; path, resv or lsp and an LSP as show path 10.0.0.4/1/10.0.0.1 10.0.0.1/1; or lsp and a tunnel as show lsp 5: what the router knows, what each port did, or the last 32 replies to this console
 help, with nothing after it: these lines
 quit, with nothing after it: the run ends
 ";
@@ -31,8 +31,8 @@ const OTHER: &str =
 /// Why messages and frames aren't taken from an operator.
 pub(crate) const FROM_LINKS: &str = "messages and frames come over the links of a router that runs";
 
-/// Why moments aren't taken from an operator.
-pub(crate) const FROM_CLOCK: &str = "moments come from the clock of a router that runs";
+/// Why ticks aren't taken from an operator.
+pub(crate) const FROM_CLOCK: &str = "ticks come from the router's own clock";
 
 /// What is told of a line of this number that asks for nothing: the form that it should have, by its first word. The only error is that
 /// memory ran out.

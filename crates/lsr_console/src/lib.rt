@@ -5,10 +5,12 @@ mod answering;
 mod asking;
 mod attending;
 mod console;
+mod counters;
 mod ending;
 mod feeding;
 mod forms;
 mod listening;
+mod manner;
 mod printing;
 mod said;
 
@@ -17,3 +19,4 @@ pub use ending::ConsoleEnding;
 pub use forms::HELP;
 pub use line_streams::InputFault;
 pub use listening::{Heard, WAITING_LINES, listen, open_lines};
+pub use manner::Manner;

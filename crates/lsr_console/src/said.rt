@@ -10,6 +10,9 @@ use std::alloc::{AllocError, Global};
 /// The line that asks for the lines of a console.
 const HELP_WORD: &str = "help";
 
+/// The line that asks how much each port did.
+const COUNTERS_LINE: &str = "show counters";
+
 /// The line that ends the run.
 pub(crate) const QUIT_WORD: &str = "quit";
 
@@ -22,6 +25,8 @@ pub(crate) enum Said {
     Help,
     /// `quit`: the run ends.
     Quit,
+    /// `show counters`: how much each port did is printed.
+    Counters,
     /// It asks for what a line of `lsr step` asks for.
     Asks(Request),
     /// It asks for nothing that there is.
@@ -41,6 +46,9 @@ pub(crate) fn read_said(alloc: Global, line: &str) -> Result<Said, AllocError>
     }
     if line == QUIT_WORD {
         return Ok(Said::Quit);
+    }
+    if line == COUNTERS_LINE {
+        return Ok(Said::Counters);
     }
     match read_request(alloc, line)? {
         Some(request) => Ok(Said::Asks(request)),

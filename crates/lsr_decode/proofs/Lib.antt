@@ -1,3 +1,4 @@
 mod Showing
 mod Capturing
 mod FileLaws
+mod PacketLists

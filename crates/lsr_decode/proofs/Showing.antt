@@ -1,5 +1,5 @@
 -- Objects that have their lines, and one more; a message that was read has a header, and one for which there is no memory.
-use Rattle.std.proofs.Common.{◌≡◌, ℕ, List, [], ◌∷◌, ◌++◌, sym, ap, ◌∙◌, append_assoc, append-nil, None, Some, Option, Result, Err, Bool, true, false, refl, nat_lt, ◌≤◌, length, arith}
+use Rattle.std.proofs.Common.{◌≡◌, ℕ, List, [], ◌∷◌, ◌++◌, sym, ap, ◌∙◌, append_assoc, append-nil, None, Some, Option, Result, Ok, Err, IfOk, OnOk, Bool, true, false, refl, nat_lt, ◌≤◌, length, arith}
 use Rattle.std.specs.Prelude.{IfSome, if◌then◌else◌}
 use Rattle.std.proofs.lemmas.Bool.Decides.{nat_tests}
 use Rattle.rsvp_contents.specs.declared.dropped.Dropped.{Dropped}
@@ -11,7 +11,9 @@ use Rattle.std.proofs.lemmas.List.Concat.{flat_map-append}
 use Rattle.rsvp_objects.specs.Raw.{Raw}
 use Rattle.rsvp_objects.specs.declared.object.Object.{Object}
 use Rattle.rsvp_contents.specs.Spelling.{IsFirstFault, SpellsReading, header_fault}
-use Rattle.lsr_decode.specs.Decoding.{RefusesMessage, bytes_of, object_lines}
+use Rattle.std.specs.Io.KnownBytes.{Appends}
+use Rattle.lsr_decode.specs.declared.decoding.Decoded.{Decoded}
+use Rattle.lsr_decode.specs.Decoding.{Decodes, RefusesMessage, bytes_of, decoded_status, object_lines, shown_text, told_text}
 
 flat_push : {A : Type 0} (f : A → List ℕ) (xs : List A) (x : A) → flat_map f (xs ++ (x ∷ [])) ≡ flat_map f xs ++ f x
 flat_push f xs x = flat_map-append f xs (x ∷ []) ∙ ap (λ l. flat_map f xs ++ l) (append-nil (f x))
@@ -69,3 +71,9 @@ refused_for bytes dropped.KindUnsupported told header = told
 refused_for bytes dropped.Integrity told header = told
 refused_for bytes dropped.TooLong told header = told
 refused_for bytes dropped.NoMemory told header = none_left (header_fault bytes) (header_memory bytes) header
+
+-- what was told of a word that was decoded so
+pub told_for : {E : Type 0} (result : Result ℕ E) (fields : Bool) (word : List ℕ) (decoded : Decoded) (before after old new : Option (List ℕ)) → Decodes fields word decoded → IfOk result (λ status. status ≡ decoded_status decoded) → OnOk result (Appends before after (shown_text decoded))
+    → OnOk result (Appends old new (told_text decoded)) → IfOk result (λ status. (d : Decoded) × Decodes fields word d × (status ≡ decoded_status d) × Appends before after (shown_text d) × Appends old new (told_text d))
+told_for (Ok status) fields word decoded before after old new decodes is shown told = (decoded, decodes, is, shown, told)
+told_for (Err error) fields word decoded before after old new decodes is shown told = tt

@@ -18,7 +18,7 @@ use Rattle.lsr_decode.specs.declared.capture.Ending.TheVariants as endings
 abbrev pub answer_text : ℕ → Decoded → List ℕ
 answer_text number (answers.Shown text) = string_bytes text ++ codes "\n"
 answer_text number (answers.Refused fault) = codes "line " ++ (decimal number ++ (codes ": " ++ (refusal_line (Unread fault) ++ codes "\n")))
-answer_text number answers.NoDigits = codes "line " ++ (decimal number ++ codes ": no hexadecimal digits\n\n")
+answer_text number answers.NoDigits = codes "line " ++ (decimal number ++ codes ": not hexadecimal digits\n\n")
 answer_text number answers.OddDigits = codes "line " ++ (decimal number ++ codes ": an odd number of hexadecimal digits\n\n")
 answer_text number answers.Memory = codes "line " ++ (decimal number ++ codes ": refused 40 NoMemory\n\n")
 

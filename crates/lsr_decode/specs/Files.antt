@@ -1,5 +1,5 @@
 -- What `decode FILE` prints for a capture file: the messages that its packets carry, and how many packets carry none.
-use Rattle.std.specs.Prelude.{◌≡◌, ◌==◌, ◌&&◌, ◌||◌, ◌⊎◌, ◌/◌, ◌%◌, ◌^◌, ◌-◌, ℕ, List, [], ◌∷◌, ◌++◌, Bool, true, false, not, if◌then◌else◌, Option, Some, None, option_map, is_some, count_by, codes}
+use Rattle.std.specs.Prelude.{◌≡◌, ◌==◌, ◌&&◌, ◌||◌, ◌⊎◌, ◌/◌, ◌%◌, ◌^◌, ◌-◌, ◌+◌, ℕ, List, [], ◌∷◌, ◌++◌, Bool, true, false, not, if◌then◌else◌, Option, Some, None, option_map, is_some, count_by, codes, cond}
 use Rattle.std.specs.Duration.{as_nanos}
 use Rattle.std.specs.Fmt.{decimal, format_spec, padded_integral}
 use Rattle.std.specs.List.{list_any}
@@ -14,8 +14,8 @@ use Rattle.rsvp_contents.specs.declared.dropped.Dropped.{Dropped}
 use Rattle.lsr_facts.specs.declared.refusal.Refusal.TheVariants.{Unread}
 use Rattle.lsr_text.specs.Answers.{refusal_line}
 use Rattle.line_streams.specs.Texts.{IsUnread, Stream, input_fault_text}
-use Rattle.line_streams.specs.declared.input.InputFault.TheVariants.{Memory}
 use Rattle.lsr_decode.specs.Decoding.{RefusesMessage, ShowsMessage}
+use Rattle.lsr_decode.specs.declared.files.Counts.{Counts}
 use Rattle.lsr_decode.specs.declared.files.FileEnding.{FileEnding}
 use Rattle.lsr_decode.specs.declared.files.FileEnding.TheVariants as endings
 
@@ -65,14 +65,39 @@ is_fragment packet = is_fragment_in (carried_by packet)
 abbrev pub is_cut : Packet → Bool
 is_cut packet = is_cut_in (carried_by packet)
 
+abbrev pub is_other_in : Carried → Bool
+is_other_in carried = not (is_some (message_in carried)) && (not (is_fragment_in carried) && not (is_cut_in carried))
+
 abbrev pub is_other : Packet → Bool
-is_other packet = not (has_message packet) && (not (is_fragment packet) && not (is_cut packet))
+is_other packet = is_other_in (carried_by packet)
 
 -- how many packets carry a message, and how many don't
-abbrev pub counts_text : List Packet → List ℕ
-counts_text packets =
-    codes "messages " ++ (decimal (count_by has_message packets) ++ (codes "\nfragments " ++ (decimal (count_by is_fragment packets)
-    ++ (codes "\ncut " ++ (decimal (count_by is_cut packets) ++ (codes "\nothers " ++ (decimal (count_by is_other packets) ++ codes "\n")))))))
+abbrev pub counts_of : List Packet → Counts
+counts_of packets =
+    record {
+      messages = count_by has_message packets;
+      fragments = count_by is_fragment packets;
+      cut = count_by is_cut packets;
+      others = count_by is_other packets;
+    }
+
+-- with one packet more, of what it carries
+abbrev pub one_if : Bool → ℕ
+one_if b = cond b 1 0
+
+abbrev pub counted : Counts → Carried → Counts
+counted counts carried =
+    record {
+      messages = counts.messages + one_if (is_some (message_in carried));
+      fragments = counts.fragments + one_if (is_fragment_in carried);
+      cut = counts.cut + one_if (is_cut_in carried);
+      others = counts.others + one_if (is_other_in carried);
+    }
+
+abbrev pub counts_text : Counts → List ℕ
+counts_text counts =
+    codes "messages " ++ (decimal counts.messages ++ (codes "\nfragments " ++ (decimal counts.fragments
+    ++ (codes "\ncut " ++ (decimal counts.cut ++ (codes "\nothers " ++ (decimal counts.others ++ codes "\n")))))))
 
 -- a number in nine digits, as `{:09}` writes it
 abbrev pub nine_digits : ℕ → List ℕ
@@ -108,19 +133,21 @@ ShowsPackets fields (packet ∷ packets) printed refused =
     (block : List ℕ) × (rest : List ℕ) × (bad : Bool) × (later : Bool) × (printed ≡ block ++ rest) × (refused ≡ (bad || later))
     × ShowsPacket fields packet block bad × ShowsPackets fields packets rest later
 
--- The messages of packets are printed, and after them how many packets there are of each kind.
-pub record ShowsFile (fields : Bool) (packets : List Packet) (printed : List ℕ) (refused : Bool) : Type 0 where
-  pub blocks : List ℕ
-  pub messages : ShowsPackets fields packets blocks refused
-  pub shown : printed ≡ blocks ++ counts_text packets
+-- A file has these packets, and their messages are printed: it is a whole capture file, and this says whether a message is
+-- refused; or it breaks after them.
+abbrev pub Shows : Bool → List ℕ → List Packet → List ℕ → FileEnding → Type 0
+Shows fields file packets blocks (endings.Whole refused) = HasPackets file packets None × ShowsPackets fields packets blocks refused
+Shows fields file packets blocks (endings.Damaged fault) =
+    HasPackets file packets (Some fault) × (refused : Bool) × ShowsPackets fields packets blocks refused
+Shows fields file packets blocks (endings.Unread fault) = ⊥
 
--- What is printed for the bytes of a file: where they are a whole capture file all its messages, and else those of the
--- packets that stand before the place where it breaks.
-abbrev pub DecodesBytes : Bool → List ℕ → List ℕ → FileEnding → Type 0
-DecodesBytes fields file printed (endings.Whole refused) = (packets : List Packet) × HasPackets file packets None × ShowsFile fields packets printed refused
-DecodesBytes fields file printed (endings.Damaged fault) =
-    (packets : List Packet) × (refused : Bool) × HasPackets file packets (Some fault) × ShowsFile fields packets printed refused
-DecodesBytes fields file printed (endings.Unread fault) = (printed ≡ []) × (fault ≡ Memory)
+-- what is printed for the bytes of a file: the messages of its packets, and after them how many packets there are of each
+-- kind
+pub record DecodesBytes (fields : Bool) (file printed : List ℕ) (ending : FileEnding) : Type 0 where
+  pub packets : List Packet
+  pub blocks : List ℕ
+  pub shows : Shows fields file packets blocks ending
+  pub shown : printed ≡ blocks ++ counts_text (counts_of packets)
 
 -- what is printed for a file's stream, all of whose bytes are read first
 abbrev pub DecodesFile : Bool → Stream → List ℕ → FileEnding → Type 0

@@ -38,34 +38,39 @@ pub enum Ending {
     Memory,
 }
 
-/// Whether the answer is a refusal.
-fn is_refused(decoded: &Decoded) -> bool
-    ensures { result ≡ is_refused decoded.now }
+/// Prints the answer to the line of this number, and an empty line after it: whether it is a refusal. The error is the
+/// stream's.
+fn put_answer<W: Write>(output: &mut W, number: u64, decoded: &Decoded) -> io::Result<bool>
+    ensures refused { IfOk result (λ refused. refused ≡ is_refused decoded.now) }
+    ensures told { OnOk result (Appends (W.contents output.old) (W.contents output.new) (answer_text number decoded.now)) }
 {
     match decoded {
-        Decoded::Shown(_) => false,
-        Decoded::Refused(_) | Decoded::NoDigits | Decoded::OddDigits | Decoded::Memory => true,
-    }
-}
-
-/// Prints the answer to the line of this number, and an empty line after it. The error is the stream's.
-fn put_answer<W: Write>(output: &mut W, number: u64, decoded: &Decoded) -> io::Result<()>
-    ensures { OnOk result (Appends (W.contents output.old) (W.contents output.new) (answer_text number decoded.now)) }
-{
-    match decoded {
-        Decoded::Shown(text) => write!(output, "{text}\n"),
+        Decoded::Shown(text) => {
+            write!(output, "{text}\n")?;
+            Ok(false)
+        }
         Decoded::Refused(fault) => {
             let refusal = Refusal::Unread(*fault);
             let kind = refusal.number();
             let name = refusal_name(refusal);
-            write!(output, "line {number}: refused {kind} {name}\n\n")
+            write!(output, "line {number}: refused {kind} {name}\n\n")?;
+            Ok(true)
         }
-        Decoded::NoDigits => write!(output, "line {number}: no hexadecimal digits\n\n"),
-        Decoded::OddDigits => write!(
-            output,
-            "line {number}: an odd number of hexadecimal digits\n\n"
-        ),
-        Decoded::Memory => write!(output, "line {number}: refused 40 NoMemory\n\n"),
+        Decoded::NoDigits => {
+            write!(output, "line {number}: not hexadecimal digits\n\n")?;
+            Ok(true)
+        }
+        Decoded::OddDigits => {
+            write!(
+                output,
+                "line {number}: an odd number of hexadecimal digits\n\n"
+            )?;
+            Ok(true)
+        }
+        Decoded::Memory => {
+            write!(output, "line {number}: refused 40 NoMemory\n\n")?;
+            Ok(true)
+        }
     }
 }
 
@@ -81,8 +86,7 @@ fn answer_line<W: Write>(
         × Appends (W.contents output.old) (W.contents output.new) (answer_text number decoded) × (refused ≡ is_refused decoded)) }
 {
     let decoded = decode_digits(alloc, fields, line);
-    put_answer(output, number, &decoded)?;
-    Ok(is_refused(&decoded))
+    put_answer(output, number, &decoded)
 }
 
 /// How a run ends that is given no further line, for this fault.
@@ -154,27 +158,10 @@ fn tell_ending<E: Write>(ending: Ending, error: &mut E) -> io::Result<u8>
     }
 }
 
-/// `lsr decode - [--fields]`: answers each line of the input, the hexadecimal digits of one message, with the message's lines or with
-/// why it is refused and its number, and an empty line after that. Gives the status: 0, or 1 where a line was refused or
-/// the input could not be read to its end. The error is that a stream could not be written.
-pub fn run_decode_lines<S: ByteStream, W: Write, E: Write>(
-    alloc: Global,
-    fields: bool,
-    input: &mut S,
-    output: &mut W,
-    error: &mut E,
-) -> io::Result<u8>
-    ensures { IfOk result (λ status. (ending : Ending) × (printed : List ℕ) × (status ≡ ending_status ending)
-        × DecodesLines fields (S.stream input.old) (S.stream input.new) printed ending
-        × Appends (W.contents output.old) (W.contents output.new) printed
-        × Appends (E.contents error.old) (E.contents error.new) (ending_text ending)) }
-{
-    let ending = decode_lines(alloc, fields, input, output)?;
-    tell_ending(ending, error)
-}
-
-/// `lsr decode HEX [--fields]`: as [`run_decode`], or as [`run_decode_lines`] where the word is `-`. The error is that a stream could
-/// not be written.
+/// `lsr decode HEX [--fields]`: as [`run_decode`]. Where the word is `-` each line of the input is the hexadecimal digits of
+/// one message, and is answered with the message's lines, or with why it is refused and its number, and an empty line after
+/// that; the status is 0, or 1 where a line was refused or the input could not be read to its end. The error is that a
+/// stream could not be written.
 pub fn run_decode_of<S: ByteStream, W: Write, E: Write>(
     alloc: Global,
     fields: bool,
@@ -187,7 +174,8 @@ pub fn run_decode_of<S: ByteStream, W: Write, E: Write>(
         (W.contents output.old) (W.contents output.new) (E.contents error.old) (E.contents error.new)) }
 {
     if word == INPUT {
-        return run_decode_lines(alloc, fields, input, output, error);
+        let ending = decode_lines(alloc, fields, input, output)?;
+        return tell_ending(ending, error);
     }
     run_decode(alloc, fields, word, output, error)
 }

@@ -6,12 +6,12 @@ ghost use Rattle.rsvp_objects.specs.declared.object.Object.{Object};
 ghost use Rattle.std.specs.Io.KnownBytes.{Appends};
 ghost use Rattle.rsvp_contents.specs.Picking.{content_in};
 ghost use Rattle.lsr_decode.specs.declared.decoding.Decoded.{Decoded};
-ghost use Rattle.lsr_decode.specs.Decoding.{Decodes, IsSpelled, RefusesMessage, ShowsMessage, ShowsObjects, body_word, bytes_of, decoded_status, fields_lines, kind_of, object_line, object_lines, shown_text, told_text};
+ghost use Rattle.lsr_decode.specs.Decoding.{Decodes, IsSpelled, RefusesMessage, ShowsMessage, ShowsObjects, bytes_of, decoded_status, fields_lines, kind_of, object_line, object_lines, shown_text, told_text};
 
 use hex::FromHexError;
 use lsr_facts::Refusal;
 use lsr_lines::are_hex_digits;
-use lsr_text::{OUT_OF_MEMORY, push_refusal};
+use lsr_text::{OUT_OF_MEMORY, refusal_name};
 use object_text::push_fields;
 use rsvp_contents::Dropped;
 use rsvp_messages::{Content, Message, Reading, read_message};
@@ -39,10 +39,10 @@ fn message_read(reading: &Reading) -> &Message
 }
 
 /// The name of the message's type.
-fn kind_of(content: &Content) -> &'static str
-    ensures { result.now ≡ kind_of content.now }
+fn kind_of(reading: &Reading) -> &'static str
+    ensures { result.now ≡ kind_of (content_in reading.now) }
 {
-    match content {
+    match message_read(reading).content() {
         Content::Path(_) => "Path",
         Content::Resv(_) => "Resv",
         Content::PathErr(_) => "PathErr",
@@ -52,18 +52,7 @@ fn kind_of(content: &Content) -> &'static str
     }
 }
 
-/// Appends the body of an object in hexadecimal digits after a space, or nothing where it is empty.
-fn push_body(alloc: Global, text: &mut String, body: &[u8]) -> Result<(), AllocError>
-    ensures { OnOk result (string_bytes text.new ≡ string_bytes text.old ++ body_word body.now) }
-{
-    if body.is_empty() {
-        return Ok(());
-    }
-    let digits = hex::encode(alloc, body)?;
-    write!(text, " {digits}")
-}
-
-/// Appends the line of the object: `CLASS CTYPE BODY`.
+/// Appends the line of the object: `CLASS CTYPE BODY`, or `CLASS CTYPE` where its body is empty.
 fn push_object(
     alloc: Global,
     text: &mut String,
@@ -74,9 +63,11 @@ fn push_object(
     ensures { OnOk result (string_bytes text.new ≡ string_bytes text.old
         ++ object_line (record { class = class; ctype = ctype; body = body.now })) }
 {
-    write!(text, "{class} {ctype}")?;
-    push_body(alloc, text, body)?;
-    text.push_str("\n")
+    if body.is_empty() {
+        return write!(text, "{class} {ctype}\n");
+    }
+    let digits = hex::encode(alloc, body)?;
+    write!(text, "{class} {ctype} {digits}\n")
 }
 
 /// Appends what the object says, where fields are asked for.
@@ -169,7 +160,7 @@ pub(crate) fn message_text(alloc: Global, fields: bool, bytes: &[u8]) -> Result<
 {
     let reading = read_message(alloc, bytes)?;
     let (_header, objects) = bytes.split_at(MESSAGE_HEADER_LEN);
-    let kind = kind_of(message_read(&reading).content());
+    let kind = kind_of(&reading);
     let len = bytes.len();
     // The objects were read before, so that all that can go wrong is that memory runs out.
     let Ok(lines) = object_lines(alloc, fields, objects) else {
@@ -203,16 +194,8 @@ pub(crate) fn decode_digits(alloc: Global, fields: bool, digits: &[u8]) -> Decod
     }
 }
 
-/// What the word is decoded as: the bytes of one message in hexadecimal digits of either case.
-pub fn decode_word(alloc: Global, fields: bool, word: &str) -> Decoded
-    ensures { Decodes fields word.now result }
-{
-    decode_digits(alloc, fields, word.as_bytes())
-}
-
 /// Prints what a word was decoded as, and gives the status. The error is a stream's.
 fn tell_decoded<W: Write, E: Write>(
-    alloc: Global,
     decoded: &Decoded,
     output: &mut W,
     error: &mut E,
@@ -227,9 +210,10 @@ fn tell_decoded<W: Write, E: Write>(
             Ok(0)
         }
         Decoded::Refused(fault) => {
-            let mut line = String::new(alloc);
-            push_refusal(&mut line, Refusal::Unread(*fault))?;
-            error.write_all(line.as_bytes())?;
+            let refusal = Refusal::Unread(*fault);
+            let kind = refusal.number();
+            let name = refusal_name(refusal);
+            write!(error, "refused {kind} {name}\n")?;
             Ok(1)
         }
         Decoded::NoDigits | Decoded::OddDigits => {
@@ -257,6 +241,6 @@ pub fn run_decode<W: Write, E: Write>(
         × Appends (W.contents output.old) (W.contents output.new) (shown_text decoded)
         × Appends (E.contents error.old) (E.contents error.new) (told_text decoded)) }
 {
-    let decoded = decode_word(alloc, fields, word);
-    tell_decoded(alloc, &decoded, output, error)
+    let decoded = decode_digits(alloc, fields, word.as_bytes());
+    tell_decoded(&decoded, output, error)
 }

@@ -1,19 +1,17 @@
 //! `lsr decode FILE`: the messages of a capture file, each under its packet's number and time.
-ghost use Rattle.std.specs.Prelude.{◌≡◌, ◌++◌, ℕ, List, IfOk, OnOk, codes, count_by, option_map};
+ghost use Rattle.std.specs.Prelude.{◌≡◌, ◌<◌, ◌+◌, ◌^◌, ℕ, List, IfOk, OnOk, length, option_map};
 ghost use Rattle.std.specs.Duration.{as_nanos};
 ghost use Rattle.std.specs.Io.KnownBytes.{Appends};
 ghost use Rattle.capture_files.specs.Datagrams.{carried};
-ghost use Rattle.lsr_facts.specs.declared.refusal.Refusal.TheVariants.{Unread};
-ghost use Rattle.lsr_text.specs.Answers.{refusal_line};
+ghost use Rattle.capture_files.specs.declared.packet.Packet.{Packet};
 ghost use Rattle.lsr_decode.specs.declared.files.FileEnding.{FileEnding};
-ghost use Rattle.lsr_decode.specs.Files.{DecodesBytes, DecodesFile, IsBlock, ShowsPacket, ShowsPackets, advice_of, counts_text, damage_text, file_ending_text, file_status, has_message, heading_text, hop_message, is_cut, is_file_name, is_fragment, is_of_version, is_other, message_in, message_of, time_text};
+ghost use Rattle.lsr_decode.specs.Files.{DecodesFile, Shows, ShowsPacket, advice_of, carried_by, counted, counts_of, file_ending_text, file_status, heading_text, hop_message, is_file_name, message_in, time_text};
 
 use crate::decoding::message_text;
-use capture_files::{CaptureFault, Damage, Packet, PacketContent, read_packets};
+use capture_files::{Capture, CaptureFault, Damage, Packet, PacketContent};
 use line_streams::{ByteStream, InputFault, read_bytes, tell_input_fault};
 use lsr_facts::Refusal;
 use lsr_text::refusal_name;
-use rsvp_contents::Dropped;
 use std::alloc::Global;
 use std::io;
 use std::io::Write;
@@ -46,16 +44,6 @@ pub fn is_file_name(word: &str) -> bool
         .any(|byte| *byte == b'.' || *byte == b'/')
 }
 
-/// Whether a message's first byte says RSVP's version.
-fn is_of_version(message: &[u8]) -> bool
-    ensures { result ≡ is_of_version message.now }
-{
-    match message {
-        [first, ..] => *first >> HALF_BITS == VERSION,
-        [] => false,
-    }
-}
-
 /// The message of a Hop frame, which the payload of a UDP datagram may be.
 fn hop_message(payload: &[u8]) -> Option<&[u8]>
     ensures { option_map (λ message. message.now) result ≡ hop_message payload.now }
@@ -63,99 +51,57 @@ fn hop_message(payload: &[u8]) -> Option<&[u8]>
     let [kind, message @ ..] = payload else {
         return None;
     };
-    if *kind == HOP && is_of_version(message) {
+    let [first, ..] = message else {
+        return None;
+    };
+    if *kind == HOP && *first >> HALF_BITS == VERSION {
         Some(message)
     } else {
         None
     }
 }
 
-/// The message that is carried: of protocol 46, or in a Hop frame.
-fn message_in(content: PacketContent<'_>) -> Option<&[u8]>
-    ensures { option_map (λ message. message.now) result ≡ message_in (carried content.entry) }
+/// How many packets of a capture carry a message, of protocol 46 or in a Hop frame, and how many don't.
+#[derive(Clone, Copy)]
+struct Counts {
+    /// Packets that carry one.
+    messages: u64,
+    /// Fragments, which aren't put together.
+    fragments: u64,
+    /// Packets of which not all bytes were captured.
+    cut: u64,
+    /// Packets that carry something else.
+    others: u64,
+}
+
+/// The message that a packet of this content carries. The packet is counted.
+fn count<'a>(counts: &mut Counts, content: PacketContent<'a>) -> Option<&'a [u8]>
+    requires messages { counts.old.messages + 1 < 2 ^ 64 }
+    requires fragments { counts.old.fragments + 1 < 2 ^ 64 }
+    requires cut { counts.old.cut + 1 < 2 ^ 64 }
+    requires others { counts.old.others + 1 < 2 ^ 64 }
+    ensures message { option_map (λ message. message.now) result ≡ message_in (carried content.entry) }
+    ensures counted { counts.new ≡ counted counts.old (carried content.entry) }
 {
-    match content {
+    let message = match content {
         PacketContent::Rsvp(message) => Some(message),
         PacketContent::Udp { payload, .. } => hop_message(payload),
-        PacketContent::Fragment | PacketContent::Cut | PacketContent::Other => None,
+        PacketContent::Fragment => {
+            counts.fragments += 1;
+            return None;
+        }
+        PacketContent::Cut => {
+            counts.cut += 1;
+            return None;
+        }
+        PacketContent::Other => None,
+    };
+    if message.is_some() {
+        counts.messages += 1;
+    } else {
+        counts.others += 1;
     }
-}
-
-/// The message that the packet carries.
-fn message_of<'a>(packet: &Packet<'a>) -> Option<&'a [u8]>
-    ensures { option_map (λ message. message.now) result ≡ message_of packet.now }
-{
-    message_in(packet.content())
-}
-
-/// Whether the packet carries a message.
-fn has_message(packet: &Packet) -> bool
-    ensures { result ≡ has_message packet.now }
-{
-    message_of(packet).is_some()
-}
-
-/// Whether the packet is a fragment.
-fn is_fragment(packet: &Packet) -> bool
-    ensures { result ≡ is_fragment packet.now }
-{
-    matches!(packet.content(), PacketContent::Fragment)
-}
-
-/// Whether not all of the packet was captured.
-fn is_cut(packet: &Packet) -> bool
-    ensures { result ≡ is_cut packet.now }
-{
-    matches!(packet.content(), PacketContent::Cut)
-}
-
-/// Whether the packet is none of these.
-fn is_other(packet: &Packet) -> bool
-    ensures { result ≡ is_other packet.now }
-{
-    !has_message(packet) && !is_fragment(packet) && !is_cut(packet)
-}
-
-/// How many packets carry a message.
-fn count_messages(packets: &[Packet]) -> usize
-    ensures { result ≡ count_by has_message packets.now }
-{
-    packets.iter().filter(|packet| has_message(*packet)).count()
-}
-
-/// How many packets are fragments.
-fn count_fragments(packets: &[Packet]) -> usize
-    ensures { result ≡ count_by is_fragment packets.now }
-{
-    packets.iter().filter(|packet| is_fragment(*packet)).count()
-}
-
-/// How many packets were cut.
-fn count_cut(packets: &[Packet]) -> usize
-    ensures { result ≡ count_by is_cut packets.now }
-{
-    packets.iter().filter(|packet| is_cut(*packet)).count()
-}
-
-/// How many packets are none of these.
-fn count_others(packets: &[Packet]) -> usize
-    ensures { result ≡ count_by is_other packets.now }
-{
-    packets.iter().filter(|packet| is_other(*packet)).count()
-}
-
-/// Prints how many packets carry a message, and how many don't. The error is the output's.
-fn put_counts<W: Write>(packets: &[Packet], output: &mut W) -> io::Result<()>
-    ensures { OnOk result (Appends (W.contents output.old) (W.contents output.new) (counts_text packets.now)) }
-{
-    let messages = count_messages(packets);
-    let fragments = count_fragments(packets);
-    let cut = count_cut(packets);
-    let others = count_others(packets);
-    write!(
-        output,
-        "messages {messages}\nfragments {fragments}\ncut {cut}\nothers {others}\n"
-    )
+    message
 }
 
 /// Prints a time in seconds since the beginning of 1970. The error is the output's.
@@ -182,28 +128,26 @@ fn put_heading<W: Write>(packet: &Packet, output: &mut W) -> io::Result<()>
     write!(output, "\n")
 }
 
-/// Prints why a message is refused, and an empty line after it. The error is the output's.
-fn put_refused<W: Write>(fault: Dropped, output: &mut W) -> io::Result<()>
-    ensures { OnOk result (Appends (W.contents output.old) (W.contents output.new) (refusal_line (Unread fault) ++ codes "\n")) }
-{
-    let refusal = Refusal::Unread(fault);
-    let kind = refusal.number();
-    let name = refusal_name(refusal);
-    write!(output, "refused {kind} {name}\n\n")
-}
-
-/// Prints the packet's message, or why it is refused, and an empty line after it: whether it is refused. The error is the
-/// output's.
-fn put_block<W: Write>(
+/// Prints the packet's message, if it carries one, or why it is refused, and an empty line after it: whether it is refused.
+/// The packet is counted. The error is the output's.
+fn put_packet<W: Write>(
     alloc: Global,
     fields: bool,
+    counts: &mut Counts,
     packet: &Packet,
-    message: &[u8],
     output: &mut W,
 ) -> io::Result<bool>
-    ensures { IfOk result (λ refused. (block : List ℕ) × Appends (W.contents output.old) (W.contents output.new) block
-        × IsBlock fields packet.now message.now block refused) }
+    requires messages { counts.old.messages + 1 < 2 ^ 64 }
+    requires fragments { counts.old.fragments + 1 < 2 ^ 64 }
+    requires cut { counts.old.cut + 1 < 2 ^ 64 }
+    requires others { counts.old.others + 1 < 2 ^ 64 }
+    ensures shown { IfOk result (λ refused. (block : List ℕ) × Appends (W.contents output.old) (W.contents output.new) block
+        × ShowsPacket fields packet.now block refused) }
+    ensures counted { OnOk result (counts.new ≡ counted counts.old (carried_by packet.now)) }
 {
+    let Some(message) = count(counts, packet.content()) else {
+        return Ok(false);
+    };
     put_heading(packet, output)?;
     match message_text(alloc, fields, message) {
         Ok(text) => {
@@ -211,68 +155,51 @@ fn put_block<W: Write>(
             Ok(false)
         }
         Err(fault) => {
-            put_refused(fault, output)?;
+            let refusal = Refusal::Unread(fault);
+            let kind = refusal.number();
+            let name = refusal_name(refusal);
+            write!(output, "refused {kind} {name}\n\n")?;
             Ok(true)
         }
     }
 }
 
-/// Prints the packet's message, if it carries one: whether it is refused. The error is the output's.
-fn put_packet<W: Write>(
-    alloc: Global,
-    fields: bool,
-    packet: &Packet,
-    output: &mut W,
-) -> io::Result<bool>
-    ensures { IfOk result (λ refused. (block : List ℕ) × Appends (W.contents output.old) (W.contents output.new) block
-        × ShowsPacket fields packet.now block refused) }
-{
-    match message_of(packet) {
-        Some(message) => put_block(alloc, fields, packet, message, output),
-        None => Ok(false),
-    }
-}
-
-/// Prints the messages of the packets: whether one is refused. The error is the output's.
+/// Prints the messages of the packets of a capture file, as far as it can be read, and counts the packets. The error is the
+/// output's.
 fn put_packets<W: Write>(
-    alloc: Global,
-    fields: bool,
-    packets: &[Packet],
-    output: &mut W,
-) -> io::Result<bool>
-    ensures { IfOk result (λ refused. (blocks : List ℕ) × Appends (W.contents output.old) (W.contents output.new) blocks
-        × ShowsPackets fields packets.now blocks refused) }
-{
-    let mut refused = false;
-    for packet in packets {
-        let is_bad = put_packet(alloc, fields, packet, output)?;
-        refused = refused | is_bad;
-    }
-    Ok(refused)
-}
-
-/// Prints the messages of the file's packets, and counts the packets. The error is the output's.
-fn decode_bytes<W: Write>(
     alloc: Global,
     fields: bool,
     file: &[u8],
     output: &mut W,
-) -> io::Result<FileEnding>
-    ensures { IfOk result (λ ending. (printed : List ℕ) × Appends (W.contents output.old) (W.contents output.new) printed
-        × DecodesBytes fields file.now printed ending) }
+) -> io::Result<(Counts, FileEnding)>
+    requires { length file.now + 1 < 2 ^ 64 }
+    ensures { IfOk result (λ found. (packets : List Packet) × (blocks : List ℕ) × Appends (W.contents output.old) (W.contents output.new) blocks
+        × Shows fields file.now packets blocks found.1 × (found.0 ≡ counts_of packets)) }
 {
-    let Ok(read) = read_packets(alloc, file) else {
-        return Ok(FileEnding::Unread(InputFault::Memory));
+    let mut counts = Counts {
+        messages: 0,
+        fragments: 0,
+        cut: 0,
+        others: 0,
     };
-    let refused = put_packets(alloc, fields, read.packets.as_slice(), output)?;
-    put_counts(read.packets.as_slice(), output)?;
-    match read.fault {
-        None => Ok(FileEnding::Whole(refused)),
-        Some(fault) => Ok(FileEnding::Damaged(fault)),
+    let mut refused = false;
+    let mut capture = match Capture::open(alloc, file) {
+        Ok(capture) => capture,
+        Err(fault) => return Ok((counts, FileEnding::Damaged(fault))),
+    };
+    while let Some(next) = capture.next_packet() {
+        match next {
+            Ok(packet) => {
+                let is_bad = put_packet(alloc, fields, &mut counts, &packet, output)?;
+                refused = refused | is_bad;
+            }
+            Err(fault) => return Ok((counts, FileEnding::Damaged(fault))),
+        }
     }
+    Ok((counts, FileEnding::Whole(refused)))
 }
 
-/// Prints the messages of a capture file, and counts its packets. The error is the output's.
+/// Prints the messages of a capture file, and how many packets carry one and how many don't. The error is the output's.
 fn decode_file<S: ByteStream, W: Write>(
     alloc: Global,
     fields: bool,
@@ -282,10 +209,20 @@ fn decode_file<S: ByteStream, W: Write>(
     ensures { IfOk result (λ ending. (printed : List ℕ) × Appends (W.contents output.old) (W.contents output.new) printed
         × DecodesFile fields (S.stream input.old) printed ending) }
 {
-    match read_bytes(alloc, input) {
-        Ok(file) => decode_bytes(alloc, fields, file.as_slice(), output),
-        Err(fault) => Ok(FileEnding::Unread(fault)),
-    }
+    let file = match read_bytes(alloc, input) {
+        Ok(file) => file,
+        Err(fault) => return Ok(FileEnding::Unread(fault)),
+    };
+    let (counts, ending) = put_packets(alloc, fields, file.as_slice(), output)?;
+    let messages = counts.messages;
+    let fragments = counts.fragments;
+    let cut = counts.cut;
+    let others = counts.others;
+    write!(
+        output,
+        "messages {messages}\nfragments {fragments}\ncut {cut}\nothers {others}\n"
+    )?;
+    Ok(ending)
 }
 
 /// What is wrong with a capture file, and what to do.
@@ -303,15 +240,6 @@ fn advice_of(damage: Damage) -> &'static str
     }
 }
 
-/// Tells where the file of this name breaks. The error is the stream's.
-fn tell_damage<E: Write>(error: &mut E, name: &str, fault: &CaptureFault) -> io::Result<()>
-    ensures { OnOk result (Appends (E.contents error.old) (E.contents error.new) (damage_text name.now fault.now)) }
-{
-    let at = fault.at;
-    let advice = advice_of(fault.damage);
-    write!(error, "damaged\n  {name}, byte {at}: {advice}\n")
-}
-
 /// Tells why the file of this name wasn't read to its end, and gives the status. The error is the stream's.
 fn tell_file_ending<E: Write>(error: &mut E, name: &str, ending: &FileEnding) -> io::Result<u8>
     ensures status { IfOk result (λ status. status ≡ file_status ending.now) }
@@ -321,7 +249,9 @@ fn tell_file_ending<E: Write>(error: &mut E, name: &str, ending: &FileEnding) ->
         FileEnding::Whole(false) => Ok(0),
         FileEnding::Whole(true) => Ok(1),
         FileEnding::Damaged(fault) => {
-            tell_damage(error, name, fault)?;
+            let at = fault.at;
+            let advice = advice_of(fault.damage);
+            write!(error, "damaged\n  {name}, byte {at}: {advice}\n")?;
             Ok(1)
         }
         FileEnding::Unread(fault) => {

@@ -5,6 +5,6 @@ mod capture;
 mod decoding;
 mod files;
 
-pub use capture::{Ending, run_decode_lines, run_decode_of};
-pub use decoding::{Decoded, decode_word, run_decode};
+pub use capture::{Ending, run_decode_of};
+pub use decoding::{Decoded, run_decode};
 pub use files::{FileEnding, is_file_name, run_decode_file};

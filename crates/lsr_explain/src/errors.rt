@@ -110,7 +110,8 @@ pub const ERRORS: &str = "\
   The next step of the explicit route is strict, and none of its nodes is a neighbour over
   a link that is up.
   What to do: take that link up, or fix the step: a strict step is a neighbour; where it lies
-  further away, make it loose or put the steps between before it.
+  further away, make it loose or put the steps between before it. Compare the `peer_router` of the
+  link with the neighbour's own `router`.
   See: RFC 3209, 7.3 and 4.3.4.1
 24/3 BadLooseNode
   The next step of the explicit route is loose, and no link that is up and no static

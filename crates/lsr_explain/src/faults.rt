@@ -144,14 +144,14 @@ mismatch PORT PLACE
   What to do: end the program, keep the configuration and the journal's files, and report it.
   See: docs/PROGRAM.md (`lsr serve`: a router over sockets)
 clock
-  Of `lsr serve --console`: the system's clock, by which its moments go, can't be read.
+  Of `lsr serve --console`: the system's clock, which the router goes by, can't be read.
   What to do: see that the system lets the program read its clock, and run it again.
   See: docs/PROGRAM.md (`lsr serve`: a router over sockets)
 unwritable
   The output or the error stream can't be written: its reader has gone, or a disk is full. That
   ended the run. Or a file of --journal can't, and a line after it says which and why:
-  its folder isn't there, permissions or the disk don't allow it, its name is that of a folder, a
-  device, a pipe or a link, or PREFIX.1 of `lsr serve` is there already.
+  its folder doesn't exist, permissions or the disk don't allow it, its name is that of a folder, a
+  device, a pipe or a link, or a PREFIX.N or PREFIX.1.part of `lsr serve` is there already.
   What to do: look at where the output goes, or give the file another name, and run the whole again.
   See: docs/PROGRAM.md (`lsr step`: echo, and what goes wrong)
 ";

@@ -93,8 +93,8 @@ pub const REFUSALS: &str = "\
   compare the label with `show table`, and with the one in the Resv that the neighbour got.
   See: RFC 3031, 3.18; docs/PROGRAM.md (`lsr step`: whole frames)
 20 UnknownTunnel
-  No tunnel that begins here has the number that the command names. Of `unbypass N` it speaks of a
-  bypass: there is no bypass N.
+  No tunnel that begins here has the number that the command names. After `unbypass N`: there is no
+  bypass N.
   What to do: name one that there is; `show tunnels` lists the tunnels, `show bypasses` the
   bypasses. The tunnel that a bypass is to run in has to be there first: add it with `tunnel`.
   See: docs/ROUTER.md (A command comes)

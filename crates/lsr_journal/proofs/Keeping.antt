@@ -42,8 +42,8 @@ request_kept before (requests.LinkDown link) printed after p = event_kept before
 request_kept before requests.Restart printed after p = event_kept before _ printed after p
 request_kept before requests.Start printed after p = event_kept before _ printed after p
 request_kept before (requests.Command command) printed after p = event_kept before _ printed after p
-request_kept before requests.ShowRecent printed after p = same before after p.1
-request_kept before request printed after p = absurd p
+request_kept before requests.Recent printed after p = same before after p.1
+request_kept before (requests.Show shown) printed after p = absurd p
 
 pub records_kept : (before : RecordedState) (request : Request) (printed : Option (List ℕ)) (after : RecordedState) → Records before request printed after → IsSameBase before after
 records_kept before request (Some printed) after p = request_kept before request printed after p

@@ -100,8 +100,8 @@ PrintsRequest before (requests.LinkDown link) printed after = PrintsEvent before
 PrintsRequest before requests.Restart printed after = PrintsEvent before events.Restart printed after
 PrintsRequest before requests.Start printed after = PrintsEvent before events.Start printed after
 PrintsRequest before (requests.Command command) printed after = PrintsEvent before (events.Command command) printed after
-PrintsRequest before requests.ShowRecent printed after = (printed ≡ replies_text before.recent) × (after ≡ before)
-PrintsRequest before request printed after = ⊥
+PrintsRequest before requests.Recent printed after = (printed ≡ replies_text before.recent) × (after ≡ before)
+PrintsRequest before (requests.Show shown) printed after = ⊥
 
 -- a request that what the router knows is shown
 abbrev pub ShowsRouter : Request → Type 0
@@ -113,8 +113,8 @@ ShowsRouter (requests.LinkDown link) = ⊥
 ShowsRouter requests.Restart = ⊥
 ShowsRouter requests.Start = ⊥
 ShowsRouter (requests.Command command) = ⊥
-ShowsRouter requests.ShowRecent = ⊥
-ShowsRouter request = Unit {0}
+ShowsRouter requests.Recent = ⊥
+ShowsRouter (requests.Show shown) = Unit {0}
 
 -- What a session prints for a request, and what it is then. It doesn't show what the router knows: then nothing is printed or changed.
 abbrev pub Records : RecordedState → Request → Option (List ℕ) → RecordedState → Type 0

@@ -164,17 +164,8 @@ fn serve<R: Wait + Drop>(
         Request::Restart => answer_event(alloc, session, &Event::Restart)?,
         Request::Start => answer_event(alloc, session, &Event::Start)?,
         Request::Command(command) => answer_command(alloc, session, command)?,
-        Request::ShowRecent => session.recent.text(alloc)?,
-        Request::ShowPaths
-        | Request::ShowResvs
-        | Request::ShowTable
-        | Request::ShowLabels
-        | Request::ShowLinks
-        | Request::ShowTunnels
-        | Request::ShowBypasses
-        | Request::ShowSummary
-        | Request::ShowPath(_)
-        | Request::ShowResv(_) => return Ok(None),
+        Request::Recent => session.recent.text(alloc)?,
+        Request::Show(_) => return Ok(None),
     };
     Ok(Some(text))
 }

@@ -1,9 +1,10 @@
 -- Which form a line should have that asks for nothing.
-use Rattle.std.specs.Prelude.{ℕ, List, [], ◌∷◌, ◌++◌, Bool, false, bytes_eq, codes, if◌then◌else◌, nat_eq}
+use Rattle.std.specs.Prelude.{ℕ, List, [], ◌∷◌, ◌++◌, Bool, false, ◌&&◌, ◌||◌, bytes_eq, codes, if◌then◌else◌, nat_eq}
 use Rattle.std.specs.Fmt.{decimal}
+use Rattle.std.specs.List.{ends_with, starts_with}
 use Rattle.lsr_lines.specs.Commands.{words_of}
 use Rattle.line_streams.specs.Cuts.{lines_of}
-use Rattle.lsr_lines.specs.declared.forms.TheConstants.{BLANK, CARRIAGE_RETURN, FORMS, OTHER}
+use Rattle.lsr_lines.specs.declared.forms.TheConstants.{CARRIAGE_RETURN, FIRST_BLANK, FORMS, LAST_BLANK, OTHER, TWO_BLANKS}
 
 -- whether a word is the first of these
 abbrev pub is_first : List ℕ → List (List ℕ) → Bool
@@ -32,17 +33,22 @@ form_among forms other line = form_for forms other (words_of line)
 abbrev pub expected_form : List ℕ → List ℕ
 expected_form line = form_among FORMS.now OTHER.now line
 
--- what is told of a line that ends with this byte: something of a blank and of a carriage return, which aren't seen
-abbrev pub end_told : ℕ → List ℕ
-end_told byte = if nat_eq byte 13 then CARRIAGE_RETURN.now else if nat_eq byte 32 then BLANK.now else []
+-- two blanks stand in a row
+unfoldable pub has_two_blanks : List ℕ → Bool
+has_two_blanks [] = false
+has_two_blanks (byte ∷ []) = false
+has_two_blanks (byte ∷ next ∷ rest) = (nat_eq byte 32 && nat_eq next 32) || has_two_blanks (next ∷ rest)
 
--- what is told of a line's last byte
+-- what is told of a line that ends with a carriage return or a blank, or else begins with a blank, or else has two in a row
 unfoldable pub unseen_end : List ℕ → List ℕ
-unseen_end [] = []
-unseen_end (byte ∷ []) = end_told byte
-unseen_end (byte ∷ next ∷ rest) = unseen_end (next ∷ rest)
+unseen_end line =
+    if ends_with nat_eq line (codes "\r") then CARRIAGE_RETURN.now
+    else if ends_with nat_eq line (codes " ") then LAST_BLANK.now
+    else if starts_with nat_eq line (codes " ") then FIRST_BLANK.now
+    else if has_two_blanks line then TWO_BLANKS.now
+    else []
 
--- a line that asks for nothing, what was expected, and an end of it that isn't seen
+-- a line that asks for nothing, what was expected, and what is hard to see in it
 abbrev pub bad_form_text : ℕ → List ℕ → List ℕ → List ℕ
 bad_form_text number line form =
     codes "bad line " ++ (decimal number ++ (codes "\n  " ++ (line ++ (codes "\n  expected " ++ (form ++ (codes "\n" ++ unseen_end line))))))

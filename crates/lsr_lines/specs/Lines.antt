@@ -3,9 +3,11 @@ use Rattle.std.specs.Prelude.{◌≡◌, ◌≤◌, ◌⊎◌, ℕ, length, List
 use Rattle.hex.specs.Hex.{decode_of}
 use Rattle.lsr_lines.specs.Numbers.{NamesLink, NamesWhole}
 use Rattle.lsr_lines.specs.Commands.{words_of, BringsTunnel, SaysCommand}
-use Rattle.lsr_lines.specs.Lsps.{AsksAbout}
+use Rattle.lsr_lines.specs.Lsps.{AsksAbout, AsksOfTunnel}
 use Rattle.lsr_lines.specs.declared.lines.Request.{Request}
 use Rattle.lsr_lines.specs.declared.lines.Request.TheVariants as requests
+use Rattle.lsr_lines.specs.declared.shown.Shown.{Shown}
+use Rattle.lsr_lines.specs.declared.shown.Shown.TheVariants as shows
 
 -- A word with one space after it, then a link, then bytes in hexadecimal digits of either case, perhaps none; the
 -- words are parted by one space.
@@ -37,8 +39,26 @@ pub record AsksOf (Names : List ℕ → ℕ → Type 0) (word line : List ℕ) (
   pub parts : line ≡ word ++ digits
   pub names : Names digits number
 
+-- What a line asks to be shown: `show` with what is shown; `show path KEY`, `show resv KEY` or `show lsp KEY` with an LSP; or
+-- `show lsp N` with the number of a tunnel.
+abbrev pub AsksToSee : List ℕ → Shown → Type 0
+AsksToSee line shows.Paths = line ≡ codes "show paths"
+AsksToSee line shows.Resvs = line ≡ codes "show resvs"
+AsksToSee line shows.Table = line ≡ codes "show table"
+AsksToSee line shows.Labels = line ≡ codes "show labels"
+AsksToSee line shows.Links = line ≡ codes "show links"
+AsksToSee line shows.Tunnels = line ≡ codes "show tunnels"
+AsksToSee line shows.Bypasses = line ≡ codes "show bypasses"
+AsksToSee line shows.Summary = line ≡ codes "show summary"
+AsksToSee line shows.Config = line ≡ codes "show config"
+AsksToSee line shows.Lsps = line ≡ codes "show lsps"
+AsksToSee line (shows.Path lsp) = AsksAbout (codes "path") line lsp
+AsksToSee line (shows.Resv lsp) = AsksAbout (codes "resv") line lsp
+AsksToSee line (shows.TunnelLsps number) = AsksOfTunnel line number
+AsksToSee line (shows.Lsp lsp) = AsksAbout (codes "lsp") line lsp
+
 -- What a line asks for: `rx LINK HEX`, `frame LINK HEX`, `tick N`, `up LINK`, `down LINK`, `restart`, `start`, a command
--- about a tunnel, a bypass or a static route, `show` with what is shown, or `show path KEY` or `show resv KEY` with an LSP.
+-- about a tunnel, a bypass or a static route, `show recent`, or `show` with what is shown of the router.
 abbrev pub AsksFor : List ℕ → Request → Type 0
 AsksFor line (requests.Receive arrival) = AsksToTake (codes "rx ") line arrival.link arrival.bytes.items
 AsksFor line (requests.Frame arrival) = AsksToTake (codes "frame ") line arrival.link arrival.bytes.items
@@ -48,14 +68,5 @@ AsksFor line (requests.LinkDown link) = AsksOf NamesLink (codes "down ") line li
 AsksFor line requests.Restart = line ≡ codes "restart"
 AsksFor line requests.Start = line ≡ codes "start"
 AsksFor line (requests.Command command) = SaysCommand (words_of line) command
-AsksFor line requests.ShowPaths = line ≡ codes "show paths"
-AsksFor line requests.ShowResvs = line ≡ codes "show resvs"
-AsksFor line requests.ShowTable = line ≡ codes "show table"
-AsksFor line requests.ShowLabels = line ≡ codes "show labels"
-AsksFor line requests.ShowLinks = line ≡ codes "show links"
-AsksFor line requests.ShowTunnels = line ≡ codes "show tunnels"
-AsksFor line requests.ShowBypasses = line ≡ codes "show bypasses"
-AsksFor line requests.ShowRecent = line ≡ codes "show recent"
-AsksFor line requests.ShowSummary = line ≡ codes "show summary"
-AsksFor line (requests.ShowPath lsp) = AsksAbout (codes "path") line lsp
-AsksFor line (requests.ShowResv lsp) = AsksAbout (codes "resv") line lsp
+AsksFor line requests.Recent = line ≡ codes "show recent"
+AsksFor line (requests.Show shown) = AsksToSee line shown

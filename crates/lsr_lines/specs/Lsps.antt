@@ -2,7 +2,7 @@
 use Rattle.std.specs.Prelude.{◌==◌, ℕ, Bool, List, [], ◌∷◌, codes, Option, Some, None}
 use Rattle.std.specs.List.{slice_split}
 use Rattle.std.specs.Net.Grammar.{IsIpv4Text}
-use Rattle.lsr_lines.specs.Commands.{BeginsWith, words_of}
+use Rattle.lsr_lines.specs.Commands.{BeginsWith, SaysNumber, words_of}
 use Rattle.lsr_lines.specs.Numbers.{NamesUpTo}
 use Rattle.lsr_lines.specs.declared.lsps.LspName.{LspName}
 use Rattle.lsr_lines.specs.declared.lsps.SenderName.{SenderName}
@@ -41,3 +41,7 @@ SaysLsp words lsp = ⊥
 -- `show WORD KEY`
 abbrev pub AsksAbout : List ℕ → List ℕ → LspName → Type 0
 AsksAbout word line lsp = BeginsWith (codes "show") (BeginsWith word (λ words. SaysLsp words lsp)) (words_of line)
+
+-- `show lsp N`
+abbrev pub AsksOfTunnel : List ℕ → ℕ → Type 0
+AsksOfTunnel line number = BeginsWith (codes "show") (BeginsWith (codes "lsp") (λ words. SaysNumber words number)) (words_of line)

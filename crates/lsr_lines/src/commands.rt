@@ -272,7 +272,7 @@ fn read_change(alloc: Global, left: Option<&str>) -> Result<Option<TunnelChange>
 }
 
 /// The number of a tunnel or a bypass that is the only word.
-fn only_number(left: Option<&str>) -> Option<u16>
+pub(crate) fn only_number(left: Option<&str>) -> Option<u16>
     ensures { Finds (SaysNumber (words_left left.entry)) result }
 {
     read_up_to(MAX_NUMBER, only_word(left)?)

@@ -1,7 +1,7 @@
 //! Which form a line should have that asks for nothing.
 ghost use Rattle.std.specs.Prelude.{◌≡◌, OnOk};
 ghost use Rattle.std.specs.Io.KnownBytes.{Appends};
-ghost use Rattle.lsr_lines.specs.Forms.{bad_form_text, bad_line_text, end_told, expected_form, form_among, form_in, is_form_of, unseen_end};
+ghost use Rattle.lsr_lines.specs.Forms.{bad_form_text, bad_line_text, expected_form, form_among, form_in, is_form_of, unseen_end};
 ghost use Rattle.line_streams.specs.Cuts.{lines_of};
 
 use crate::words::next_word;
@@ -26,7 +26,7 @@ bypass N TUNNEL LINK [CAPACITY], with N and TUNNEL 0 to 65535, LINK 1 to 65535 a
 unbypass N, with N 0 to 65535
 route PREFIX LINK, as route 10.9.0.0/16 2
 unroute PREFIX, as unroute 10.9.0.0/16
-show paths, resvs, table, labels, links, tunnels, bypasses, recent or summary, or path or resv and an LSP as show path 10.0.0.4/1/10.0.0.1 10.0.0.1/1
+show paths, resvs, table, labels, links, tunnels, bypasses, lsps, config, recent or summary; path, resv or lsp and an LSP as show path 10.0.0.4/1/10.0.0.1 10.0.0.1/1; or lsp and a tunnel as show lsp 5
 ";
 
 /// What is expected of a line with another first word.
@@ -37,7 +37,11 @@ const OTHER: &str =
 const CARRIAGE_RETURN: &str =
     "  the line ends with a carriage return, which isn't seen: take it away\n";
 /// What is told of a line that ends with a blank.
-const BLANK: &str = "  the line ends with a blank, which isn't seen: take it away\n";
+const LAST_BLANK: &str = "  the line ends with a blank, which isn't seen: take it away\n";
+/// What is told of a line that begins with a blank.
+const FIRST_BLANK: &str = "  the line begins with a blank: take it away\n";
+/// What is told of a line with a blank too many between two words.
+const TWO_BLANKS: &str = "  the line has two blanks in a row: leave one\n";
 
 /// Whether this is the form of lines that begin so.
 fn is_form_of(form: &str, word: &str) -> bool
@@ -81,30 +85,28 @@ pub fn expected_form(line: &str) -> &'static str
     form_among(FORMS, OTHER, line)
 }
 
-/// What is told of a line that ends with this byte.
-fn end_told(byte: u8) -> &'static str
-    ensures { result.now ≡ end_told byte }
-{
-    if byte == b'\r' {
-        CARRIAGE_RETURN
-    } else if byte == b' ' {
-        BLANK
-    } else {
-        ""
-    }
-}
-
-/// What is told of the end of a line that can't be seen: a blank or a carriage return. Nothing where it has another end.
+/// What is told of a carriage return or a blank that is hard to see: at the line's end, before its first word, or a second one
+/// between two words. The first of these is told, and nothing where the line has none.
 pub fn unseen_end(line: &str) -> &'static str
     ensures { result.now ≡ unseen_end line.now }
 {
-    match line.as_bytes().split_last() {
-        Some((last, _)) => end_told(*last),
-        None => "",
+    if line.ends_with("\r") {
+        return CARRIAGE_RETURN;
     }
+    if line.ends_with(" ") {
+        return LAST_BLANK;
+    }
+    if line.starts_with(" ") {
+        return FIRST_BLANK;
+    }
+    if line.contains("  ") {
+        return TWO_BLANKS;
+    }
+    ""
 }
 
-/// Tells which line is bad, the form that was expected, and an end of it that can't be seen. The error is the stream's.
+/// Tells which line is bad, the form that was expected, and a blank or a carriage return that is hard to see. The error is the
+/// stream's.
 pub fn tell_bad_form<E: Write>(
     error: &mut E,
     number: usize,

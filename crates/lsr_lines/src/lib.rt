@@ -9,6 +9,7 @@ mod live;
 mod lsps;
 mod numbers;
 mod run;
+mod shown;
 mod step;
 mod words;
 
@@ -20,5 +21,6 @@ pub use live::{LiveEnding, serve_lines};
 pub use lsps::{LspName, SenderName, SessionName};
 pub use numbers::{read_link, read_whole};
 pub use run::{RunStop, Serves, run_lines};
+pub use shown::Shown;
 pub use step::{Answers, Ending, is_remark, put_full, step_lines};
 pub use words::{next_two, next_word, only_word};

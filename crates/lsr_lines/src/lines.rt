@@ -7,14 +7,11 @@ ghost use Rattle.std.specs.Option.{MatchOption};
 ghost use Rattle.hex.specs.Hex.{decode_of};
 ghost use Rattle.lsr_lines.specs.declared.lines.Request.{Request};
 ghost use Rattle.lsr_lines.specs.Lines.{AsksFor, AsksOf, AsksToTake, BringsAfter, BringsMore};
-ghost use Rattle.lsr_lines.specs.Lsps.{AsksAbout};
 ghost use Rattle.lsr_lines.specs.Numbers.{NamesLink, NamesWhole};
-ghost use Rattle.lsr_lines.specs.declared.lsps.LspName.{LspName};
 
 use crate::commands::read_command;
-use crate::lsps::{LspName, read_lsp};
 use crate::numbers::{read_link, read_whole};
-use crate::words::next_word;
+use crate::shown::{Shown, read_show, read_show_lsp};
 use abstract_paths::Command;
 use std::alloc::{AllocError, Global};
 
@@ -47,28 +44,10 @@ pub enum Request {
     /// `tunnel ..`, `change ..`, `cancel N`, `drop N`, `bypass N TUNNEL LINK [CAPACITY]`, `unbypass N`, `route PREFIX LINK` or
     /// `unroute PREFIX`: a command about a tunnel, a bypass or a static route.
     Command(Command),
-    /// `show paths`: the paths that the router knows are printed.
-    ShowPaths,
-    /// `show resvs`: the reservations that stand are printed.
-    ShowResvs,
-    /// `show table`: the label table is printed.
-    ShowTable,
-    /// `show labels`: the labels are printed that LSPs hold and that rest.
-    ShowLabels,
-    /// `show links`: the links are printed, with what is reserved on them.
-    ShowLinks,
-    /// `show tunnels`: the tunnels that begin here are printed.
-    ShowTunnels,
-    /// `show bypasses`: the bypasses of the links are printed.
-    ShowBypasses,
     /// `show recent`: the last replies are printed.
-    ShowRecent,
-    /// `show summary`: how much there is of everything is printed.
-    ShowSummary,
-    /// `show path KEY`: all that the router knows of the path of an LSP is printed.
-    ShowPath(LspName),
-    /// `show resv KEY`: all that the router knows of the reservation of an LSP is printed.
-    ShowResv(LspName),
+    Recent,
+    /// `show ..` with anything else that can be shown: what the router knows is printed.
+    Show(Shown),
 }
 
 // The words of lines, up to the first number.
@@ -86,30 +65,7 @@ const RESTART: &str = "restart";
 
 const START: &str = "start";
 
-const SHOW_PATHS: &str = "show paths";
-
-const SHOW_RESVS: &str = "show resvs";
-
-const SHOW_TABLE: &str = "show table";
-
-const SHOW_LABELS: &str = "show labels";
-
-const SHOW_LINKS: &str = "show links";
-
-const SHOW_TUNNELS: &str = "show tunnels";
-
-const SHOW_BYPASSES: &str = "show bypasses";
-
 const SHOW_RECENT: &str = "show recent";
-
-const SHOW_SUMMARY: &str = "show summary";
-
-// The words before the LSP that is shown.
-const SHOW: &str = "show";
-
-const PATH: &str = "path";
-
-const RESV: &str = "resv";
 
 /// The link that the line names after the word, which ends with a space; none where it is no such line.
 fn read_link_after(word: &str, line: &str) -> Option<u16>
@@ -127,10 +83,10 @@ fn read_moment_after(word: &str, line: &str) -> Option<u64>
     read_whole(digits)
 }
 
-/// What a line of one word asks for, `restart` or `start`; none where it is no such line.
+/// What a line asks for that is always the same, `restart`, `start` or `show recent`; none where it is no such line.
 fn read_word(line: &str) -> Option<Request>
     ensures { MatchOption result
-        ((line.now ≢ codes "restart") × (line.now ≢ codes "start"))
+        ((line.now ≢ codes "restart") × (line.now ≢ codes "start") × (line.now ≢ codes "show recent"))
         (AsksFor line.now) }
 {
     if line == RESTART {
@@ -139,64 +95,8 @@ fn read_word(line: &str) -> Option<Request>
     if line == START {
         return Some(Request::Start);
     }
-    None
-}
-
-/// What a line asks to be shown: `show paths|resvs|table|labels|links|tunnels|bypasses|recent|summary`; none where it is no
-/// such line.
-fn read_show(line: &str) -> Option<Request>
-    ensures { MatchOption result
-        ((line.now ≢ codes "show paths") × (line.now ≢ codes "show resvs") × (line.now ≢ codes "show table")
-        × (line.now ≢ codes "show labels") × (line.now ≢ codes "show links") × (line.now ≢ codes "show tunnels")
-        × (line.now ≢ codes "show bypasses") × (line.now ≢ codes "show recent") × (line.now ≢ codes "show summary"))
-        (AsksFor line.now) }
-{
-    if line == SHOW_PATHS {
-        return Some(Request::ShowPaths);
-    }
-    if line == SHOW_RESVS {
-        return Some(Request::ShowResvs);
-    }
-    if line == SHOW_TABLE {
-        return Some(Request::ShowTable);
-    }
-    if line == SHOW_LABELS {
-        return Some(Request::ShowLabels);
-    }
-    if line == SHOW_LINKS {
-        return Some(Request::ShowLinks);
-    }
-    if line == SHOW_TUNNELS {
-        return Some(Request::ShowTunnels);
-    }
-    if line == SHOW_BYPASSES {
-        return Some(Request::ShowBypasses);
-    }
     if line == SHOW_RECENT {
-        return Some(Request::ShowRecent);
-    }
-    if line == SHOW_SUMMARY {
-        return Some(Request::ShowSummary);
-    }
-    None
-}
-
-/// The LSP that a line asks to be shown: `show path KEY` or `show resv KEY`; none where it is no such line.
-fn read_show_lsp(line: &str) -> Option<Request>
-    ensures { MatchOption result
-        (((lsp : LspName) → ¬ AsksAbout (codes "path") line.now lsp) × ((lsp : LspName) → ¬ AsksAbout (codes "resv") line.now lsp))
-        (AsksFor line.now) }
-{
-    let (word, left) = next_word(Some(line))?;
-    if word != SHOW {
-        return None;
-    }
-    let (word, left) = next_word(left)?;
-    if word == PATH {
-        return Some(Request::ShowPath(read_lsp(left)?));
-    }
-    if word == RESV {
-        return Some(Request::ShowResv(read_lsp(left)?));
+        return Some(Request::Recent);
     }
     None
 }
@@ -281,9 +181,9 @@ fn read_arrival(alloc: Global, word: &str, line: &str) -> Result<Option<Arrival>
 }
 
 /// What the line asks for: `rx LINK HEX`, `frame LINK HEX`, `tick N`, `up LINK`, `down LINK`, `restart`, `start`, a
-/// command ([`Command`]), `show paths|resvs|table|labels|links|tunnels|bypasses|recent|summary`, `show path KEY` or
-/// `show resv KEY`; none where it is no such line. Words are parted by one space. The only error is that there is no memory
-/// for bytes or for a tunnel that the line brings, so it never comes in place of none.
+/// command ([`Command`]), `show recent`, or `show` with what is shown ([`Shown`]); none where it is no such line. Words are
+/// parted by one space. The only error is that there is no memory for bytes or for a tunnel that the line brings, so it never
+/// comes in place of none.
 pub fn read_request(alloc: Global, line: &str) -> Result<Option<Request>, AllocError>
     ensures request { IfOk result (λ request. MatchOption request
         ((asked : Request) → ¬ AsksFor line.now asked)
@@ -293,11 +193,11 @@ pub fn read_request(alloc: Global, line: &str) -> Result<Option<Request>, AllocE
     if let Some(request) = read_word(line) {
         return Ok(Some(request));
     }
-    if let Some(request) = read_show(line) {
-        return Ok(Some(request));
+    if let Some(shown) = read_show(line) {
+        return Ok(Some(Request::Show(shown)));
     }
-    if let Some(request) = read_show_lsp(line) {
-        return Ok(Some(request));
+    if let Some(shown) = read_show_lsp(line) {
+        return Ok(Some(Request::Show(shown)));
     }
     if let Some(request) = read_number(line) {
         return Ok(Some(request));

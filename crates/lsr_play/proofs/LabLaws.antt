@@ -7,7 +7,7 @@ use Rattle.router_core.specs.States.{RouterState}
 use Rattle.abstract_world.specs.Worlds.{WorldState}
 use Rattle.abstract_world.specs.declared.moves.Move.{Move}
 use Rattle.lsr_facts.specs.declared.refusal.Refusal.TheVariants.{NoRouter}
-use Rattle.lsr_lines.specs.declared.lines.Request.{Request}
+use Rattle.lsr_lines.specs.declared.shown.Shown.{Shown}
 use Rattle.line_streams.proofs.CutLaws.{lines_of-nil}
 use Rattle.line_streams.specs.Cuts.{lines_of}
 use Rattle.lsr_play.specs.Declaring.{Declaration, nothing}
@@ -47,12 +47,12 @@ tells_chosen names a out block mid more text one b after said grown made kept =
     tells_one names a out block more (chosen_line names one ++ text) b after (inr (inl (one, text, refl, made))) (grown ∙ ap (λ l. l ++ text) said ∙ append_assoc block (chosen_line names one) text) kept
 
 -- a router that is there shows what it knows
-pub shows_at : (found : Option RouterState) (router : RouterState) (name : List ℕ) (request : Request) (text named : List ℕ) → Some router ≡ found → Shows router request text → named ≡ named_text name (lines_of text) → ShowsNamed found name request named
-shows_at found router name request text named e shows is = subst (λ (r : Option RouterState). ShowsNamed r name request named) e (text, shows, is)
+pub shows_at : (found : Option RouterState) (router : RouterState) (name : List ℕ) (shown : Shown) (text named : List ℕ) → Some router ≡ found → Shows router [] shown text → named ≡ named_text name (lines_of text) → ShowsNamed found name shown named
+shows_at found router name shown text named e shows is = subst (λ (r : Option RouterState). ShowsNamed r name shown named) e (text, shows, is)
 
 -- and one that isn't there is refused
-pub shows_none : (found : Option RouterState) (name : List ℕ) (request : Request) (printed : List ℕ) → None ≡ found → printed ≡ refusal_line NoRouter → ShowsNamed found name request printed
-shows_none found name request printed e is = subst (λ (r : Option RouterState). ShowsNamed r name request printed) e is
+pub shows_none : (found : Option RouterState) (name : List ℕ) (shown : Shown) (printed : List ℕ) → None ≡ found → printed ≡ refusal_line NoRouter → ShowsNamed found name shown printed
+shows_none found name shown printed e is = subst (λ (r : Option RouterState). ShowsNamed r name shown printed) e is
 
 -- the same from a world that is this one, and to one that is
 pub tells_from : (names : List (Bor (List ℕ))) (a : WorldState) (x y : Option (List ℕ)) (b start : WorldState) → start ≡ a → LabTells names start x y b → LabTells names a x y b

@@ -9,7 +9,7 @@ use Rattle.line_streams.specs.Cuts.{lines_of}
 use Rattle.lsr_config.specs.Configs.{Setup}
 use Rattle.lsr_facts.specs.declared.refusal.Refusal.TheVariants.{NoRouter}
 use Rattle.lsr_lines.specs.Steps.{is_remark}
-use Rattle.lsr_lines.specs.declared.lines.Request.{Request}
+use Rattle.lsr_lines.specs.declared.shown.Shown.{Shown}
 use Rattle.lsr_session.specs.Requests.{Shows}
 use Rattle.lsr_text.specs.Answers.{refusal_line}
 use Rattle.lsr_play.specs.Chosen.{chosen_line}
@@ -23,9 +23,9 @@ abbrev pub named_text : List ℕ → List (List ℕ) → List ℕ
 named_text name lines = flat_map (λ line. name ++ (codes " " ++ (line ++ codes "\n"))) lines
 
 -- the router of this name shows what it is asked for; it is refused where there is none
-abbrev pub ShowsNamed : Option RouterState → List ℕ → Request → List ℕ → Type 0
-ShowsNamed None name request printed = printed ≡ refusal_line NoRouter
-ShowsNamed (Some router) name request printed = (text : List ℕ) × Shows router request text × (printed ≡ named_text name (lines_of text))
+abbrev pub ShowsNamed : Option RouterState → List ℕ → Shown → List ℕ → Type 0
+ShowsNamed None name shown printed = printed ≡ refusal_line NoRouter
+ShowsNamed (Some router) name shown printed = (text : List ℕ) × Shows router [] shown text × (printed ≡ named_text name (lines_of text))
 
 -- A move of chance is made: the line that says it is printed, and then what it is answered.
 abbrev pub MakesChosen : List (Bor (List ℕ)) → WorldState → List ℕ → WorldState → Type 0
@@ -35,7 +35,7 @@ MakesChosen names before printed after =
 -- a router shows what it knows, and the world stays as it is
 abbrev pub LabShows : List (Bor (List ℕ)) → WorldState → List ℕ → WorldState → Type 0
 LabShows names before printed after =
-    (name : List ℕ) × (request : Request) × ShowsNamed (at before (place_of names name)) name request printed × (after ≡ before)
+    (name : List ℕ) × (shown : Shown) × ShowsNamed (at before (place_of names name)) name shown printed × (after ≡ before)
 
 -- What is done in a world: a move that a line says is made; or one of chance; or a frame is delivered that wasn't; or a router shows
 -- what it knows.

@@ -1,10 +1,12 @@
 //! Lines that `lsr play --lab` takes beside those of a world's file.
 ghost use Rattle.std.specs.Prelude.{◌++◌, IfOk, IfSome, codes};
-ghost use Rattle.lsr_lines.specs.Lines.{AsksFor};
+ghost use Rattle.lsr_lines.specs.Lines.{AsksToSee};
 ghost use Rattle.lsr_lines.specs.Commands.{words_left};
 ghost use Rattle.lsr_play.specs.LabLines.{SaysLab, SaysSeed, SaysShow};
 
-use lsr_lines::{Request, has_return, is_remark, next_word, only_word, read_request, read_whole};
+use lsr_lines::{
+    Request, Shown, has_return, is_remark, next_word, only_word, read_request, read_whole,
+};
 use std::alloc::{AllocError, Global};
 
 /// What such a line asks for.
@@ -13,7 +15,7 @@ pub(crate) enum LabLine<'a> {
     /// An empty line, or one that begins with #: it is passed over.
     Remark,
     /// `show NAME WHAT`: the router of this name shows what it knows.
-    Show(&'a str, Request),
+    Show(&'a str, Shown),
     /// `run`: frames are delivered that weren't yet.
     Run,
     /// `seed N MOVES`: so many moves of chance are made, by the numbers of this seed.
@@ -27,14 +29,14 @@ const RUN: &str = "run";
 
 const SEED: &str = "seed";
 
-/// What `show WHAT` asks a router for; none where it asks for nothing that a router knows. The only error is that memory ran out.
-fn read_shown(alloc: Global, what: &str) -> Result<Option<Request>, AllocError>
-    ensures { IfOk result (λ asked. IfSome asked (AsksFor (codes "show " ++ what.now))) }
+/// What `show WHAT` asks a router to show; none where it asks for nothing that a router knows. The only error is that memory ran out.
+fn read_shown(alloc: Global, what: &str) -> Result<Option<Shown>, AllocError>
+    ensures { IfOk result (λ asked. IfSome asked (AsksToSee (codes "show " ++ what.now))) }
 {
     let line = format!(in alloc; "{SHOW} {what}")?;
     match read_request(alloc, line.as_str())? {
-        Some(Request::ShowRecent) => Ok(None),
-        request => Ok(request),
+        Some(Request::Show(shown)) => Ok(Some(shown)),
+        _ => Ok(None),
     }
 }
 
@@ -49,7 +51,7 @@ fn read_show<'a>(alloc: Global, left: Option<&'a str>) -> Result<Option<LabLine<
         return Ok(None);
     }
     match read_shown(alloc, what)? {
-        Some(request) => Ok(Some(LabLine::Show(name, request))),
+        Some(shown) => Ok(Some(LabLine::Show(name, shown))),
         None => Ok(None),
     }
 }

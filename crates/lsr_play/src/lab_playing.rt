@@ -20,7 +20,7 @@ use lab_world::World;
 use line_streams::next_line;
 use lsr_config::Config;
 use lsr_facts::Refusal;
-use lsr_lines::{Request, is_remark, put_full};
+use lsr_lines::{Shown, is_remark, put_full};
 use lsr_session::show;
 use std::alloc::{AllocError, Global};
 use std::fmt::Write as _;
@@ -58,14 +58,14 @@ fn shown_text(
     declared: &Declared<'_>,
     world: &World,
     name: &str,
-    request: &Request,
+    shown: &Shown,
 ) -> Result<String, AllocError>
     ensures { IfOk result (λ text. LabShows declared.now.names world.now (string_bytes text) world.now) }
 {
     let place = declared.place_of(name);
     match world.router(place) {
         Some(router) => {
-            let text = show(alloc, router, request)?;
+            let text = show(alloc, router, &[], shown)?;
             let named = named_lines(alloc, name, text.as_str())?;
             Ok(named)
         }
@@ -83,13 +83,13 @@ fn show_named<W: Write>(
     declared: &Declared<'_>,
     world: &World,
     name: &str,
-    request: &Request,
+    shown: &Shown,
     block: &mut Vec<u8>,
     output: &mut W,
 ) -> io::Result<()>
     ensures { OnOk result (LabTells declared.now.names world.now (append_known (W.contents output.old) block.old.items) (append_known (W.contents output.new) block.new.items) world.now) }
 {
-    let text = shown_text(alloc, declared, world, name, request)?;
+    let text = shown_text(alloc, declared, world, name, shown)?;
     block.extend_from_slice(text.as_bytes())?;
     put_full(block, output)?;
     Ok(())
@@ -204,8 +204,8 @@ fn take_asked<W: Write>(
 {
     match asked {
         LabLine::Remark => Ok(()),
-        LabLine::Show(name, request) => {
-            show_named(alloc, declared, &lab.world, name, request, block, output)
+        LabLine::Show(name, shown) => {
+            show_named(alloc, declared, &lab.world, name, shown, block, output)
         }
         LabLine::Run => run(alloc, declared, lab, block, output),
         LabLine::Seed(seed, moves) => {

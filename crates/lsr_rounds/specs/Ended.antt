@@ -17,6 +17,15 @@ IsSoFarBy c ports (Some last) entries = IsRunSoFar c ports last entries
 abbrev pub IsSoFar : Setup → ℕ → RunSoFar → Type 0
 IsSoFar c ports run = IsSoFarBy c ports run.last run.entries
 
+-- the same of rounds with a last stretch: without one there was no round
+abbrev pub IsRunOfRoundsBy : Setup → ℕ → Option Stretch → ℕ → Type 0
+IsRunOfRoundsBy c ports None entries = ⊥
+IsRunOfRoundsBy c ports (Some last) entries = IsRunSoFar c ports last entries
+
+-- There was at least one round, and all are one reconciled run of the router of this configuration, with so many entries in all.
+abbrev pub IsRunOfRounds : Setup → ℕ → RunSoFar → Type 0
+IsRunOfRounds c ports run = IsRunOfRoundsBy c ports run.last run.entries
+
 -- a round goes on from this stretch; or it is the first, and is a run by itself
 abbrev pub GoesOnFrom : Setup → ℕ → Option Stretch → RunReport → Type 0
 GoesOnFrom c ports None round = ServesRun c ports round.segments.items round.receipts.items

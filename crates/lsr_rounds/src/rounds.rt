@@ -1,6 +1,6 @@
 //! A run in rounds: threads serve, what they left is reconciled and given up, and the next round goes on.
 ghost use Rattle.std.specs.Prelude.{◌≡◌, ◌+◌, ◌<◌, ◌≤◌, IfOk, length};
-ghost use Rattle.lsr_rounds.specs.Ended.{IsSoFar};
+ghost use Rattle.lsr_rounds.specs.Ended.{IsRunOfRounds, IsSoFar};
 ghost use Rattle.lsr_serve.specs.Below.workers.Below.core.Names.{IsSegmentOf};
 ghost use Rattle.lsr_serve.specs.Reports.{IsReportOf};
 
@@ -28,7 +28,7 @@ const SEATS: usize = 2;
 
 /// What a run left that was told to end: what is known of it, and how many segments of its journal are kept.
 pub struct RunEnd {
-    /// The run, all its rounds reconciled.
+    /// The run: at least one round, and all of them reconciled.
     pub run: RunSoFar,
     /// How many segments are kept: all, or those before the first that couldn't be.
     pub kept: u64,
@@ -161,7 +161,7 @@ fn serve_named<
     requires config { config.now ≡ L.config }
     requires ports { (length links.items + 2 ≤ L.parts) × (L.parts ≤ 64) }
     requires none { K.given keeper ≡ 0 }
-    ensures run { IfOk result (λ ended. IsSoFar L.config (length links.items + 2) ended.0.run) }
+    ensures run { IfOk result (λ ended. IsRunOfRounds L.config (length links.items + 2) ended.0.run) }
     ensures kept { IfOk result (λ ended. K.given ended.1 ≡ ended.0.kept) }
 {
     let count = links.len();
@@ -220,7 +220,7 @@ pub fn serve_rounds<
 ) -> Result<(RunEnd, K), RunFault>
     requires few { length links.items < 62 }
     requires none { K.given keeper ≡ 0 }
-    ensures run { IfOk result (λ ended. IsSoFar config.now (length links.items + 2) ended.0.run) }
+    ensures run { IfOk result (λ ended. IsRunOfRounds config.now (length links.items + 2) ended.0.run) }
     ensures kept { IfOk result (λ ended. K.given ended.1 ≡ ended.0.kept) }
 {
     let blank = Blank::new(links.len() as u64 + SEATS as u64);

@@ -2,7 +2,7 @@
 ghost use Rattle.std.specs.Prelude.{◌≡◌, ◌+◌, ◌<◌, IfOk, OnOk, length};
 ghost use Rattle.std.specs.Io.KnownBytes.{Appends};
 ghost use Rattle.lsr_serve.specs.Told.{reconciled_text};
-ghost use Rattle.lsr_rounds.specs.Ended.{IsSoFar};
+ghost use Rattle.lsr_rounds.specs.Ended.{IsRunOfRounds};
 
 use crate::fault::RunFault;
 use crate::operator::Operator;
@@ -87,7 +87,7 @@ pub fn serve_links_until<
 ) -> Result<RunEnd, RunFault>
     requires few { length opened.links.items < 62 }
     requires none { K.given keeper ≡ 0 }
-    ensures { IfOk result (λ ended. IsSoFar config.now (length opened.entry.links.items + 2) ended.run) }
+    ensures { IfOk result (λ ended. IsRunOfRounds config.now (length opened.entry.links.items + 2) ended.run) }
 {
     let OpenLinks { links, wire, round } = opened;
     let keeper = RoundKeeper::new(keeper, round);

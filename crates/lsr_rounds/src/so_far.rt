@@ -2,7 +2,7 @@
 ghost use Rattle.std.specs.Prelude.{◌≡◌, ◌+◌, ℕ, IfSome, OnOk, length};
 ghost use Rattle.lsr_config.specs.Configs.{Setup};
 ghost use Rattle.lsr_serve.specs.Reports.{IsReportOf};
-ghost use Rattle.lsr_rounds.specs.Ended.{IsJudged, IsSoFar};
+ghost use Rattle.lsr_rounds.specs.Ended.{IsJudged, IsRunOfRounds, IsSoFar};
 
 use crate::fault::RunFault;
 use lsr_config::Config;
@@ -121,7 +121,7 @@ impl RunSoFar {
     /// on from this as one run of the router of the configuration, told by its place in the run, or that memory ran out.
     pub fn add(&mut self, config: &Config, round: RunReport) -> Result<Vec<PortCount>, RunFault>
         requires { IsReportOf config.now round }
-        ensures { IsSoFar config.now (length round.ports.items) self.old → OnOk result (IsSoFar config.now (length round.ports.items) self.new) }
+        ensures { IsSoFar config.now (length round.ports.items) self.old → OnOk result (IsRunOfRounds config.now (length round.ports.items) self.new) }
     {
         self.judge(config, &round)?;
         let mut round = round;

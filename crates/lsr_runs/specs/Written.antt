@@ -21,7 +21,7 @@ is_memory fault = false
 
 -- what is told of it after the file's name, with what to do
 abbrev pub fault_words : OutputFault → List ℕ
-fault_words faults.Absent = codes " has no folder: make the folder, or give another name"
+fault_words faults.Absent = codes " is in a folder that doesn't exist: create it, or give another name"
 fault_words faults.Forbidden = codes " may not be written: look at its permissions and its folder's"
 fault_words faults.NotAFile = codes " is no regular file, and is not replaced: give another name"
 fault_words faults.Present = codes " is there already, and is kept: give another name, or move it away with those that belong to it"

@@ -49,7 +49,9 @@ impl OutputFault {
         ensures { result.now ≡ fault_words self }
     {
         match self {
-            OutputFault::Absent => { " has no folder: make the folder, or give another name" }
+            OutputFault::Absent => {
+                " is in a folder that doesn't exist: create it, or give another name"
+            }
             OutputFault::Forbidden => {
                 " may not be written: look at its permissions and its folder's"
             }
@@ -176,12 +178,12 @@ fn has_file<F: Files>(files: &F, name: &str) -> Result<bool, OutputFault> {
 /// How many bytes tell which kind of file one is: as many as a journal's magic and version.
 const HEAD_BYTES: usize = 8;
 
-/// Whether the file of this name is empty, or begins as one of these bytes does.
+/// Whether the file of this name is empty, or begins as one of these bytes does: with as many bytes as tell that.
 fn begins_so<F: Files>(files: &F, name: &str, bytes: &[u8]) -> io::Result<bool> {
     let mut head = [0; HEAD_BYTES];
     let mut file = fs::open(files, name)?;
     let len = file.read(&mut head)?;
-    Ok(bytes.starts_with(&head[..len]))
+    Ok(len == 0 || len == HEAD_BYTES && bytes.starts_with(&head[..len]))
 }
 
 /// Whether a file may take this name: nothing has it, or a file that may be replaced.

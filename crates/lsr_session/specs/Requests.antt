@@ -4,6 +4,7 @@ use Rattle.std.specs.FinMap.Entries.{is_sorted}
 use Rattle.std.specs.List.{count_by}
 use Rattle.std.specs.Option.{option_map_or}
 use Rattle.std.specs.Ordering.{nat_cmp}
+use Rattle.std.specs.Str.{IsUtf8}
 use Rattle.datagrams.specs.declared.datagram.Passed.{Passed}
 use Rattle.datagrams.specs.declared.datagram.Passed.TheVariants as passes
 use Rattle.forwarding_table.specs.declared.action.Action.{Action}
@@ -40,8 +41,15 @@ use Rattle.lsr_text.specs.Tunnels.{tunnels_text}
 use Rattle.lsr_lines.specs.declared.lines.Request.{Request}
 use Rattle.lsr_lines.specs.declared.lines.Request.TheVariants as requests
 use Rattle.lsr_lines.specs.declared.lsps.LspName.{LspName}
+use Rattle.lsr_lines.specs.declared.shown.Shown.{Shown}
+use Rattle.lsr_lines.specs.declared.shown.Shown.TheVariants as shows
+use Rattle.lsr_config.specs.Configs.{Setup, setup}
+use Rattle.lsr_config.specs.declared.sockets.LinkSockets.{LinkSockets}
+use Rattle.config_text.specs.Printing.{config_text}
+use Rattle.lsr_session.specs.Lsps.{lsp_text, lsps_of_text, lsps_text}
 use Rattle.lsr_session.specs.declared.requests.Answered.{Answered}
 use Rattle.lsr_session.specs.declared.requests.Answered.TheVariants as answers
+use Rattle.lsr_session.specs.declared.shown.TheConstants.{NO_TEXT}
 
 -- a session: what its router is and knows, and the last replies, the newest at the end
 pub record SessionState : Type 0 where
@@ -174,19 +182,30 @@ abbrev pub summary_text : RouterState → List ℕ
 summary_text r =
     counts_text r.router r.state ++ (flat_map (room_text r.state) r.router.links ++ flat_map (share_text r.state) r.state.facts.bypasses)
 
--- What a router shows for a request that asks for what it knows; no line for another request.
-abbrev pub Shows : RouterState → Request → List ℕ → Type 0
-Shows r requests.ShowPaths printed = printed ≡ paths_text r.state.facts.paths
-Shows r requests.ShowResvs printed = printed ≡ resvs_text r.state.resvs
-Shows r requests.ShowTable printed = PrintsTable r printed
-Shows r requests.ShowLabels printed = printed ≡ labels_text r.router r.state
-Shows r requests.ShowLinks printed = printed ≡ links_text r
-Shows r requests.ShowTunnels printed = printed ≡ tunnels_text r.state.facts.tunnels
-Shows r requests.ShowBypasses printed = printed ≡ bypasses_text r
-Shows r requests.ShowSummary printed = printed ≡ summary_text r
-Shows r (requests.ShowPath lsp) printed = printed ≡ path_lsp_text r.router r.state (key_of lsp)
-Shows r (requests.ShowResv lsp) printed = printed ≡ resv_lsp_text r.state (key_of lsp)
-Shows r request printed = printed ≡ []
+-- the configuration that runs: the router's, with the static routes, tunnels and bypasses that it has now
+abbrev pub running : RouterState → Setup
+running r = setup r.router r.state.facts.routes r.state.facts.tunnels r.state.facts.bypasses
+
+-- These bytes are printed where they are UTF-8, as they are where all names are; and else that there is no text.
+abbrev pub IsTextOf : List ℕ → List ℕ → Type 0
+IsTextOf bytes printed = (IsUtf8 bytes → printed ≡ bytes) × ((IsUtf8 bytes → ⊥) → printed ≡ NO_TEXT.now)
+
+-- What a router shows, whose links have these socket addresses, by their numbers.
+abbrev pub Shows : RouterState → List (ℕ × LinkSockets) → Shown → List ℕ → Type 0
+Shows r sockets shows.Paths printed = printed ≡ paths_text r.state.facts.paths
+Shows r sockets shows.Resvs printed = printed ≡ resvs_text r.state.resvs
+Shows r sockets shows.Table printed = PrintsTable r printed
+Shows r sockets shows.Labels printed = printed ≡ labels_text r.router r.state
+Shows r sockets shows.Links printed = printed ≡ links_text r
+Shows r sockets shows.Tunnels printed = printed ≡ tunnels_text r.state.facts.tunnels
+Shows r sockets shows.Bypasses printed = printed ≡ bypasses_text r
+Shows r sockets shows.Summary printed = printed ≡ summary_text r
+Shows r sockets shows.Config printed = IsTextOf (config_text (running r) sockets) printed
+Shows r sockets shows.Lsps printed = printed ≡ lsps_text r.router r.state
+Shows r sockets (shows.Path lsp) printed = printed ≡ path_lsp_text r.router r.state (key_of lsp)
+Shows r sockets (shows.Resv lsp) printed = printed ≡ resv_lsp_text r.state (key_of lsp)
+Shows r sockets (shows.TunnelLsps number) printed = printed ≡ lsps_of_text r.router r.state number
+Shows r sockets (shows.Lsp lsp) printed = printed ≡ lsp_text r.router r.state (key_of lsp)
 
 -- something happened to the router, and this holds of what came of it; the session was asked what it knows, and this holds of the lines
 abbrev pub IsServed : Answered → (Result Served Refusal → Type 0) → Type 0
@@ -208,8 +227,8 @@ IsAnswered before (requests.LinkDown link) answered after = IsServed answered (�
 IsAnswered before requests.Restart answered after = IsServed answered (λ answer. ServesEvent before events.Restart answer after)
 IsAnswered before requests.Start answered after = IsServed answered (λ answer. ServesEvent before events.Start answer after)
 IsAnswered before (requests.Command command) answered after = IsServed answered (λ answer. ServesEvent before (events.Command command) answer after)
-IsAnswered before requests.ShowRecent answered after = IsShown answered (λ text. text ≡ replies_text before.recent) × (after ≡ before)
-IsAnswered before request answered after = IsShown answered (Shows before.router request) × (after ≡ before)
+IsAnswered before requests.Recent answered after = IsShown answered (λ text. text ≡ replies_text before.recent) × (after ≡ before)
+IsAnswered before (requests.Show shown) answered after = IsShown answered (Shows before.router [] shown) × (after ≡ before)
 
 -- what is printed of it
 abbrev pub answered_text : Answered → List ℕ

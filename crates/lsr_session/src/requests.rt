@@ -18,7 +18,7 @@ use std::marker::Model;
 
 /// What came of a request, before it is text.
 #[derive(Drop)]
-pub enum Answered {
+enum Answered {
     /// Something happened to the router, and this came of it.
     Served(Result<Served, Refusal>),
     /// The session was asked what it knows: these lines.
@@ -60,7 +60,7 @@ impl Session {
     }
 
     /// Serves a request, and gives what came of it. The only error is that memory ran out; then the session is as it was.
-    pub fn serve(&mut self, alloc: Global, request: &Request) -> Result<Answered, AllocError>
+    fn serve(&mut self, alloc: Global, request: &Request) -> Result<Answered, AllocError>
         ensures served { IfOk result (λ answered. IsAnswered self.old request.now answered self.new) }
         ensures left { OnErr result (self.new ≡ self.old) }
     {
@@ -77,24 +77,15 @@ impl Session {
             Request::Command(command) => {
                 Ok(Answered::Served(serve_command(alloc, self, command)?))
             }
-            Request::ShowRecent => Ok(Answered::Shown(self.recent.text(alloc)?)),
-            Request::ShowPaths
-            | Request::ShowResvs
-            | Request::ShowTable
-            | Request::ShowLabels
-            | Request::ShowLinks
-            | Request::ShowTunnels
-            | Request::ShowBypasses
-            | Request::ShowSummary
-            | Request::ShowPath(_)
-            | Request::ShowResv(_) => Ok(Answered::Shown(show(alloc, &self.router, request)?)),
+            Request::Recent => Ok(Answered::Shown(self.recent.text(alloc)?)),
+            Request::Show(shown) => Ok(Answered::Shown(show(alloc, &self.router, &[], shown)?)),
         }
     }
 }
 
 impl Answered {
     /// The lines that are printed of it. The only error is that memory ran out.
-    pub fn into_text(self, alloc: Global) -> Result<String, AllocError>
+    fn into_text(self, alloc: Global) -> Result<String, AllocError>
         ensures { IfOk result (λ text. string_bytes text ≡ answered_text self) }
     {
         match self {

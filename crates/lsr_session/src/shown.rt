@@ -6,11 +6,16 @@ ghost use Rattle.lsr_text.specs.Lsps.{path_lsp_text, resv_lsp_text};
 ghost use Rattle.lsr_text.specs.Rows.{resvs_text};
 ghost use Rattle.lsr_text.specs.Shown.{paths_text};
 ghost use Rattle.lsr_text.specs.Tunnels.{tunnels_text};
-ghost use Rattle.lsr_session.specs.Requests.{PrintsTable, Shows, bypass_text, bypasses_text, head_text, heads_text, key_of, link_text, links_text, room_text, share_text, summary_text, sums_of};
+ghost use Rattle.config_text.specs.Printing.{config_text};
+ghost use Rattle.lsr_session.specs.Lsps.{lsp_text, lsps_of_text, lsps_text};
+ghost use Rattle.lsr_session.specs.Requests.{IsTextOf, PrintsTable, Shows, bypass_text, bypasses_text, head_text, heads_text, key_of, link_text, links_text, room_text, running, share_text, summary_text, sums_of};
 
+use crate::lsps::{lsp_text, lsps_of_text, lsps_text};
+use config_text::setup_text;
 use explicit_routes::is_up;
+use lsr_config::LinkSockets;
 use lsr_facts::{Assignment, Bypass, Key, Link, Repair, State, Tunnel, WORST_PRIORITY};
-use lsr_lines::{LspName, Request};
+use lsr_lines::{LspName, Shown};
 use lsr_text::{
     PRIORITIES, labels_text, path_lsp_text, paths_text, push_assigned_bypass, push_bypass,
     push_counts, push_head, push_link, push_reserved_link, resv_lsp_text, resvs_text, table_text,
@@ -19,6 +24,9 @@ use lsr_text::{
 use router_core::Machine;
 use rsvp_contents::{Session, Template};
 use std::alloc::{AllocError, Global};
+
+/// What is shown in place of a configuration with a name that isn't UTF-8, as none is that a configuration or a line says.
+const NO_TEXT: &str = "a tunnel's name isn't UTF-8: no configuration says it\n";
 
 /// The lines of the paths that the router knows. The only error is that memory ran out.
 fn show_paths(alloc: Global, router: &Machine) -> Result<String, AllocError>
@@ -295,22 +303,86 @@ fn show_summary(alloc: Global, router: &Machine) -> Result<String, AllocError>
     Ok(text)
 }
 
-/// The lines that the router shows for a request that asks for what it knows; none for another request. The only error is that
-/// memory ran out.
-pub fn show(alloc: Global, router: &Machine, request: &Request) -> Result<String, AllocError>
-    ensures { IfOk result (λ text. Shows router.now request.now (string_bytes text)) }
+/// The text of these bytes; or, where they aren't UTF-8, that there is none. The only error is that memory ran out.
+fn text_of(alloc: Global, bytes: Vec<u8>) -> Result<String, AllocError>
+    ensures { IfOk result (λ text. IsTextOf bytes.items (string_bytes text)) }
 {
-    match request {
-        Request::ShowPaths => show_paths(alloc, router),
-        Request::ShowResvs => show_resvs(alloc, router),
-        Request::ShowTable => show_table(alloc, router),
-        Request::ShowLabels => show_labels(alloc, router),
-        Request::ShowLinks => show_links(alloc, router),
-        Request::ShowTunnels => show_tunnels(alloc, router),
-        Request::ShowBypasses => show_bypasses(alloc, router),
-        Request::ShowSummary => show_summary(alloc, router),
-        Request::ShowPath(lsp) => show_path(alloc, router, lsp),
-        Request::ShowResv(lsp) => show_resv(alloc, router, lsp),
-        _ => Ok(String::new(alloc)),
+    match String::from_utf8(bytes) {
+        Ok(text) => Ok(text),
+        Err(_) => String::from_str(alloc, NO_TEXT),
+    }
+}
+
+/// The running configuration, with what commands changed of it, whose links have these socket addresses, by their numbers. The
+/// only error is that memory ran out.
+fn show_config(
+    alloc: Global,
+    router: &Machine,
+    sockets: &[(u16, LinkSockets)],
+) -> Result<String, AllocError>
+    ensures { IfOk result (λ text. IsTextOf (config_text (running router.now) sockets.now) (string_bytes text)) }
+{
+    let state = router.export(alloc)?;
+    let bytes = setup_text(
+        alloc,
+        router.router(),
+        state.facts.routes.as_slice(),
+        state.facts.tunnels.as_slice(),
+        state.facts.bypasses.as_slice(),
+        sockets,
+    )?;
+    text_of(alloc, bytes)
+}
+
+/// How each LSP stands. The only error is that memory ran out.
+fn show_lsps(alloc: Global, router: &Machine) -> Result<String, AllocError>
+    ensures { IfOk result (λ text. string_bytes text ≡ lsps_text router.now.router router.now.state) }
+{
+    let state = router.export(alloc)?;
+    lsps_text(alloc, router.router(), &state)
+}
+
+/// How the LSPs of the tunnel of a number stand: nothing where no such tunnel begins here. The only error is that memory ran
+/// out.
+fn show_tunnel_lsps(alloc: Global, router: &Machine, number: u16) -> Result<String, AllocError>
+    ensures { IfOk result (λ text. string_bytes text ≡ lsps_of_text router.now.router router.now.state number) }
+{
+    let state = router.export(alloc)?;
+    lsps_of_text(alloc, router.router(), &state, number)
+}
+
+/// How an LSP stands: nothing where the router has neither a path of it nor a tunnel. The only error is that memory ran out.
+fn show_lsp(alloc: Global, router: &Machine, lsp: &LspName) -> Result<String, AllocError>
+    ensures { IfOk result (λ text. string_bytes text ≡ lsp_text router.now.router router.now.state (key_of lsp.now)) }
+{
+    let state = router.export(alloc)?;
+    lsp_text(alloc, router.router(), &state, &key_of(lsp))
+}
+
+/// The lines that the router shows of what it knows; its links have these socket addresses, by their numbers. The only error is
+/// that memory ran out.
+pub fn show(
+    alloc: Global,
+    router: &Machine,
+    sockets: &[(u16, LinkSockets)],
+    shown: &Shown,
+) -> Result<String, AllocError>
+    ensures { IfOk result (λ text. Shows router.now sockets.now shown.now (string_bytes text)) }
+{
+    match shown {
+        Shown::Paths => show_paths(alloc, router),
+        Shown::Resvs => show_resvs(alloc, router),
+        Shown::Table => show_table(alloc, router),
+        Shown::Labels => show_labels(alloc, router),
+        Shown::Links => show_links(alloc, router),
+        Shown::Tunnels => show_tunnels(alloc, router),
+        Shown::Bypasses => show_bypasses(alloc, router),
+        Shown::Summary => show_summary(alloc, router),
+        Shown::Config => show_config(alloc, router, sockets),
+        Shown::Lsps => show_lsps(alloc, router),
+        Shown::Path(lsp) => show_path(alloc, router, lsp),
+        Shown::Resv(lsp) => show_resv(alloc, router, lsp),
+        Shown::TunnelLsps(number) => show_tunnel_lsps(alloc, router, *number),
+        Shown::Lsp(lsp) => show_lsp(alloc, router, lsp),
     }
 }

@@ -4,7 +4,7 @@ use Rattle.std.specs.Prelude.{◌+◌, ℕ, List, Option, length}
 use Rattle.line_streams.specs.Texts.{Stream}
 use Rattle.lsr_config.specs.Configs.{Setup}
 use Rattle.lsr_config.specs.declared.sockets.LinkSockets.{LinkSockets}
-use Rattle.lsr_rounds.specs.Ended.{IsSoFar}
+use Rattle.lsr_rounds.specs.Ended.{IsRunOfRounds}
 use Rattle.lsr_rounds.specs.declared.so_far.RunSoFar.{RunSoFar}
 use Rattle.lsr_serve.specs.Told.{reconciled_text}
 use Rattle.lsr_tool.specs.declared.console.Attended.{Attended}
@@ -12,19 +12,19 @@ use Rattle.lsr_tool.specs.declared.console.Attended.TheVariants.{Ended, Failed}
 use Rattle.lsr_runs.specs.Playing.{IsFileText}
 use Rattle.lsr_tool.specs.Serving.{SaysRun}
 
--- a run that ended as it was told to is one run of the router of this configuration, round after round
+-- a run that ended as it was told to is one run of the router of this configuration, round after round, and at least one
 abbrev pub IsAttended : Setup → ℕ → Attended → Type 0
-IsAttended config ports (Ended end status) = IsSoFar config ports end.run
+IsAttended config ports (Ended end status) = IsRunOfRounds config ports end.run
 IsAttended config ports Failed = Unit {0}
 
 -- the last line printed says how many entries the run has
 abbrev pub EndsSoFar : RunSoFar → Option (List ℕ) → Type 0
 EndsSoFar run printed = (before : Option (List ℕ)) × Appends before printed (reconciled_text run.entries)
 
--- All rounds of the run are one reconciled run of the router of this configuration, by so many ports, and it was printed last how many entries
--- there were.
+-- All rounds of the run, at least one, are one reconciled run of the router of this configuration, by so many ports, and it was printed last
+-- how many entries there were.
 abbrev pub AttendsRun : Setup → ℕ → Option (List ℕ) → Type 0
-AttendsRun config ports printed = (run : RunSoFar) × IsSoFar config ports run × EndsSoFar run printed
+AttendsRun config ports printed = (run : RunSoFar) × IsRunOfRounds config ports run × EndsSoFar run printed
 
 -- The router that ran is that of the text, with a port for each of its links, one for the clock and one for the operator.
 pub record AttendsText (text : List ℕ) (printed : Option (List ℕ)) : Type 0 where

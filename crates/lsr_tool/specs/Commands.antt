@@ -55,12 +55,13 @@ Does opens fails stream holds (asked.Decode word fields) input left output print
 Does opens fails stream holds (asked.Explain words) input left output printed error told status =
     (answer : Answer) × (text : List ℕ) × Explains (asked_by words.items) answer × (status ≡ answer_status answer) × (left ≡ input)
     × Appends output printed (shown_text answer) × IsTold (asked_by words.items) answer text × Appends error told text
-Does opens fails stream holds (asked.Serve file turns journal false false None) input left output printed error told status =
+Does opens fails stream holds (asked.Serve file turns journal false false false None) input left output printed error told status =
     (left ≡ input) × ServesFile opens stream file.now (option_map (λ w. w.now) turns) output printed status
-Does opens fails stream holds (asked.Serve file turns journal false false (Some level)) input left output printed error told status = AreStrange input left output printed status
-Does opens fails stream holds (asked.Serve file turns journal false true log) input left output printed error told status = AreStrange input left output printed status
-Does opens fails stream holds (asked.Serve file None journal true echo log) input left output printed error told status = status ≡ 0 → AttendsFile opens stream file.now printed
-Does opens fails stream holds (asked.Serve file (Some turns) journal true echo log) input left output printed error told status = AreStrange input left output printed status
+Does opens fails stream holds (asked.Serve file turns journal false false false (Some level)) input left output printed error told status = AreStrange input left output printed status
+Does opens fails stream holds (asked.Serve file turns journal false false true log) input left output printed error told status = AreStrange input left output printed status
+Does opens fails stream holds (asked.Serve file turns journal false true mark log) input left output printed error told status = AreStrange input left output printed status
+Does opens fails stream holds (asked.Serve file None journal true echo mark log) input left output printed error told status = status ≡ 0 → AttendsFile opens stream file.now printed
+Does opens fails stream holds (asked.Serve file (Some turns) journal true echo mark log) input left output printed error told status = AreStrange input left output printed status
 Does opens fails stream holds (asked.Play file false) input left output printed error told status =
     (left ≡ input) × PlaysFile opens fails stream file.now output printed error told status
 Does opens fails stream holds (asked.Play file true) input left output printed error told status = (left ≡ input) × (status ≤ 1)

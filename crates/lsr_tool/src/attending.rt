@@ -24,7 +24,7 @@ const SECOND_MS: u64 = 1_000;
 const TENTH_MS: u64 = 100;
 
 /// The same links again. The only error is out of memory.
-fn copy_links(
+pub(crate) fn copy_links(
     alloc: Global,
     links: &Table<u16, LinkSockets>,
 ) -> Result<Table<u16, LinkSockets>, AllocError> {
@@ -202,6 +202,7 @@ impl<B: Journaling, O: Write + Drop, E: Write + Drop> Operator for Attendant<'_,
     }
 
     fn after_round(&mut self, ports: &[PortCount]) {
+        self.console.after_round(ports);
         self.teller.tell_round(ports);
     }
 }

@@ -104,8 +104,8 @@ fn run_lines_of<
 }
 
 /// Serves the links of the router of the file of this name over sockets: for a number of turns, or with a console until its operator ends it.
-/// Gives the status, 2 where it has a console and a number of turns, or is to echo or to log without a console. The error is that a stream
-/// could not be written, or that memory ran out.
+/// Gives the status, 2 where it has a console and a number of turns, or is to echo, to mark or to log without a console. The error is that a
+/// stream could not be written, or that memory ran out.
 fn run_sockets_of<
     F: FilesByName + WritesFiles,
     N: Net + Threads + Wait + Clock + Clone + Send + Sync + Drop,
@@ -121,25 +121,27 @@ fn run_sockets_of<
     journal: Option<&str>,
     console: bool,
     echo: bool,
+    mark: bool,
     log: Option<&str>,
     input: &mut R,
     output: &mut W,
     error: &mut E,
 ) -> io::Result<u8>
     ensures { IfOk result (Does (F.opens files.now) (F.fails files.now) F.File.stream (F.holds files.now)
-        (Serve file.entry turns.entry journal.entry console echo log.entry)
+        (Serve file.entry turns.entry journal.entry console echo mark log.entry)
         (R.stream input.old) (R.stream input.new) (W.contents output.old) (W.contents output.new) (E.contents error.old) (E.contents error.new)) }
 {
-    match (console, turns, echo, log) {
-        (false, _, false, None) => {
+    match (console, turns, echo, mark, log) {
+        (false, _, false, false, None) => {
             run_serve_of(files, rt, alloc, file, turns, journal, output, error)
         }
-        (true, None, _, _) => run_console_of(
-            files, rt, alloc, file, journal, echo, log, input, output, error,
+        (true, None, _, _, _) => run_console_of(
+            files, rt, alloc, file, journal, echo, mark, log, input, output, error,
         ),
-        (true, Some(_), _, _) => refuse_words(error, console),
-        (false, _, true, _) => refuse_words(error, console),
-        (false, _, false, Some(_)) => refuse_words(error, console),
+        (true, Some(_), _, _, _) => refuse_words(error, console),
+        (false, _, true, _, _) => refuse_words(error, console),
+        (false, _, false, true, _) => refuse_words(error, console),
+        (false, _, false, false, Some(_)) => refuse_words(error, console),
     }
 }
 
@@ -183,9 +185,10 @@ pub fn run_asked<
             journal,
             console,
             echo,
+            mark,
             log,
         } => run_sockets_of(
-            files, rt, alloc, file, turns, journal, console, echo, log, input, output, error,
+            files, rt, alloc, file, turns, journal, console, echo, mark, log, input, output, error,
         ),
         Asked::Play { file, lab: false } => run_play_of(files, alloc, file, output, error),
         Asked::Play { file, lab: true } => run_lab_of(files, alloc, file, output, error),

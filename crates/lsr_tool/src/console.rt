@@ -3,7 +3,7 @@ ghost use Rattle.std.specs.Prelude.{◌≡◌, ◌+◌, ◌<◌, ℕ, Option, If
 ghost use Rattle.lsr_config.specs.Configs.{Setup};
 ghost use Rattle.lsr_tool.specs.Attended.{AttendsFile, AttendsRun, AttendsText, EndsSoFar, IsAttended};
 
-use crate::attending::{Attendant, Teller};
+use crate::attending::{Attendant, Teller, copy_links};
 use crate::keeping::{HandOver, Handed, Journaling, SegmentKeeper, SegmentWriter, Wanted};
 use crate::lasting::Lasting;
 use crate::serving::{claims, configured, read_served, tell_written};
@@ -12,7 +12,7 @@ use line_streams::{ByteStream, tell_input_fault};
 use log::sink::Writer;
 use log::{Level, LevelFilter};
 use lsr_config::Config;
-use lsr_console::{Console, ConsoleEnding, Heard, listen, open_lines};
+use lsr_console::{Console, ConsoleEnding, Heard, Manner, listen, open_lines};
 use lsr_rounds::{OpenLinks, RunEnd, RunFault, open_links, serve_links_until, tell_reconciled};
 use lsr_runs::{BAD_WORDS, DONE, FAILED, FilesByName, WritesFiles, status_of, tell_ending};
 use lsr_serve::{LinkSockets, RoundFlag, tell_end, tell_ports};
@@ -30,9 +30,9 @@ use std::{io, thread};
 const BAD_LEVEL: &str = "error: LEVEL is info, warn or off; see lsr serve --help\n";
 /// What is told where a run with a console is to end after so many turns.
 const COUNTED_CONSOLE: &str = "error: --turns isn't taken beside --console; see lsr serve --help\n";
-/// What is told where a run without a console is to echo or to log.
+/// What is told where a run without a console is to echo, to mark or to log.
 const NO_CONSOLE: &str =
-    "error: --echo and --log are taken beside --console alone; see lsr serve --help\n";
+    "error: --echo, --mark and --log are taken beside --console alone; see lsr serve --help\n";
 /// What is told of a clock that can't be read.
 const NO_CLOCK: &str = "clock\n  the system's clock can't be read\n";
 
@@ -43,6 +43,8 @@ pub(crate) struct Attending<'a> {
     pub(crate) journal: Option<&'a str>,
     /// Whether what is sent for a line is printed, too.
     pub(crate) echo: bool,
+    /// Whether an end mark is printed after each answer.
+    pub(crate) mark: bool,
     /// How much is told of what happens.
     pub(crate) level: LevelFilter,
 }
@@ -164,8 +166,13 @@ fn attend_written<
         errors: asked.level.allows(Level::Warn),
     };
     let keeper = SegmentKeeper::new(rt, alloc, handed, wanted, text);
+    let manner = Manner {
+        echo: asked.echo,
+        marks: asked.mark,
+        sockets: copy_links(alloc, links)?,
+    };
     let mut attendant = Attendant {
-        console: Console::new(alloc, lines, Lasting::new(&mut *output), asked.echo)?,
+        console: Console::new(alloc, lines, Lasting::new(&mut *output), manner)?,
         beside,
         teller: Teller::new(alloc, &mut *error, asked.level, config, links)?,
     };
@@ -319,11 +326,11 @@ fn attend_text<
     }
 }
 
-/// `lsr serve FILE --console [--journal PREFIX] [--echo] [--log LEVEL]`: the links of the router of the file of this name are served by `rt`,
-/// until the line `quit` or the end of the input; each line of the input is answered at once. Its journal goes into the files `PREFIX.1`,
-/// `PREFIX.2` and so on; without a prefix it isn't kept. Prints at the end how many entries were reconciled, tells on the error stream what
-/// happens, and why it didn't begin, and gives the status: 0, 1, or 2 where a word says no level. The error is that a stream could not be
-/// written, or that memory ran out.
+/// `lsr serve FILE --console [--journal PREFIX] [--echo] [--mark] [--log LEVEL]`: the links of the router of the file of this name are served
+/// by `rt`, until the line `quit` or the end of the input; each line of the input is answered at once. Its journal goes into the files
+/// `PREFIX.1`, `PREFIX.2` and so on; without a prefix it isn't kept. Prints at the end how many entries were reconciled, tells on the error
+/// stream what happens, and why it didn't begin, and gives the status: 0, 1, or 2 where a word says no level. The error is that a stream
+/// could not be written, or that memory ran out.
 pub fn run_console_of<
     F: FilesByName + WritesFiles,
     N: Net + Threads + Wait + Clock + Clone + Send + Sync + Drop,
@@ -337,6 +344,7 @@ pub fn run_console_of<
     file: &str,
     journal: Option<&str>,
     echo: bool,
+    mark: bool,
     log: Option<&str>,
     input: &mut R,
     output: &mut W,
@@ -351,6 +359,7 @@ pub fn run_console_of<
     let asked = Attending {
         journal,
         echo,
+        mark,
         level,
     };
     match read_served(files, alloc, file) {

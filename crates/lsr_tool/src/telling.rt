@@ -15,6 +15,10 @@ use std::net::Ipv4Addr;
 
 /// How many different lines are told of a segment.
 const MOST_TOLD: usize = 32;
+/// How many milliseconds a second has.
+const SECOND_MS: u64 = 1_000;
+/// How many milliseconds a tenth of a second has.
+const TENTH_MS: u64 = 100;
 
 /// An error of RSVP that a message met or brought.
 #[derive(Clone, Copy)]
@@ -110,41 +114,57 @@ fn stranger_line(
     }
 }
 
-/// Where the line stands among these, if it does.
-fn place_of(lines: &[(String, u32)], line: &str) -> Option<usize>
+/// A line that is told of a segment.
+#[derive(Drop)]
+struct Line {
+    text: String,
+    /// When it would be told first, in milliseconds since the start; none before the segment's first tick.
+    moment: Option<u64>,
+    /// How often it would be told.
+    times: u32,
+}
+
+/// Where the line of this text stands among these, if it does.
+fn place_of(lines: &[Line], text: &str) -> Option<usize>
     ensures { IfSome result (λ place. place < length lines.now) }
 {
     for place in 0..lines.len() {
-        if lines[place].0.as_str() == line {
+        if lines[place].text.as_str() == text {
             return Some(place);
         }
     }
     None
 }
 
-/// Lines that are told of a segment, each with how often it would be told.
+/// What is told of a segment.
 #[derive(Drop)]
 struct Told {
-    lines: Vec<(String, u32)>,
+    lines: Vec<Line>,
     /// How many others there were, for which there was no place.
     others: u32,
+    /// The last tick, in milliseconds since the start; none before the segment's first.
+    moment: Option<u64>,
 }
 
 impl Told {
     /// Counts a line with its like, or puts it to the others where there are few. The only error is out of memory.
     fn put(&mut self, line: Option<String>) -> Result<(), AllocError> {
-        let Some(line) = line else {
+        let Some(text) = line else {
             return Ok(());
         };
-        if let Some(place) = place_of(self.lines.as_slice(), line.as_str()) {
-            self.lines[place].1 = self.lines[place].1.saturating_add(1);
+        if let Some(place) = place_of(self.lines.as_slice(), text.as_str()) {
+            self.lines[place].times = self.lines[place].times.saturating_add(1);
             return Ok(());
         }
         if self.lines.len() >= MOST_TOLD {
             self.others = self.others.saturating_add(1);
             return Ok(());
         }
-        self.lines.push((line, 1))?;
+        self.lines.push(Line {
+            text,
+            moment: self.moment,
+            times: 1,
+        })?;
         Ok(())
     }
 
@@ -158,8 +178,13 @@ impl Told {
         let Ok(event) = read_event(alloc, entry.event.as_slice()) else {
             return Ok(());
         };
-        let Event::Arrive(arrive) = &event else {
-            return Ok(());
+        let arrive = match &event {
+            Event::Arrive(arrive) => arrive,
+            Event::Tick(moment) => {
+                self.moment = Some(*moment);
+                return Ok(());
+            }
+            _ => return Ok(()),
         };
         let message = match &arrive.reading {
             Reading::Whole(message) => message,
@@ -177,10 +202,16 @@ impl Told {
     /// The text of all. The only error is out of memory.
     fn text(&self, alloc: Global) -> Result<String, AllocError> {
         let mut text = String::new(alloc);
-        for (line, times) in self.lines.as_slice() {
-            match times {
-                1 => write!(text, "{line}\n")?,
-                _ => write!(text, "{line}, {times} times\n")?,
+        for line in self.lines.as_slice() {
+            if let Some(moment) = line.moment {
+                let seconds = moment / SECOND_MS;
+                let tenths = moment % SECOND_MS / TENTH_MS;
+                write!(text, "{seconds}.{tenths} s: ")?;
+            }
+            text.push_str(line.text.as_str())?;
+            match line.times {
+                1 => text.push_str("\n")?,
+                times => write!(text, ", {times} times\n")?,
             }
         }
         if self.others > 0 {
@@ -191,8 +222,8 @@ impl Told {
 }
 
 /// What is told of these entries of a router's journal: a line for each Path and Resv that was refused for an error, for each ResvErr that came, and
-/// for each neighbour that isn't the link's peer; equal ones are counted, and of more than 32 different ones only their number is told. The only error
-/// is out of memory.
+/// for each neighbour that isn't the link's peer, each with the time of the tick before it; equal ones are counted, and of more than 32 different ones
+/// only their number is told. The only error is out of memory.
 pub(crate) fn errors_text(
     alloc: Global,
     router: &Router,
@@ -201,6 +232,7 @@ pub(crate) fn errors_text(
     let mut told = Told {
         lines: Vec::new(alloc),
         others: 0,
+        moment: None,
     };
     for counted in entries {
         told.put_entry(alloc, router, &counted.entry)?;

@@ -11,6 +11,13 @@ use Rattle.lsr_text.specs.Rows.{state_word}
 use Rattle.lsr_watch.specs.Lsps.{came_lines, lost_lines, repaired_lines}
 use Rattle.lsr_watch.specs.Tunnels.{tunnels_lines}
 
+-- `router stopped by restart` or `router started`, where it was the other
+abbrev pub running_line : State → State → List ℕ
+running_line before after =
+    if beq before.facts.cold after.facts.cold then []
+    else if after.facts.cold then codes "router stopped by restart: what messages had set up is gone; type start\n"
+    else codes "router started\n"
+
 -- the link was up, or down, as it is now
 abbrev pub was_so : State → ℕ × Bool → Bool
 was_so before link = option_map_or (λ was. beq was link.1) (find nat_cmp link.0 before.facts.up) false
@@ -28,6 +35,6 @@ links_lines before after = flat_map (link_line before) after.facts.up
 unfoldable pub lsps_lines : State → State → List ℕ
 lsps_lines before after = came_lines before after ++ (lost_lines before after ++ repaired_lines before after)
 
--- What is told between two looks at what a router knows: of links, of LSPs, and of the tunnels that begin here.
+-- What is told between two looks at what a router knows: whether it runs, of links, of LSPs, and of the tunnels that begin here.
 unfoldable pub changes_text : Router → State → State → List ℕ
-changes_text r before after = links_lines before after ++ (lsps_lines before after ++ tunnels_lines r before after)
+changes_text r before after = running_line before after ++ (links_lines before after ++ (lsps_lines before after ++ tunnels_lines r before after))

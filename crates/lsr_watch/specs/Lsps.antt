@@ -1,5 +1,5 @@
 -- What is told of LSPs: which came up, went down, or run over another way than before.
-use Rattle.std.specs.Prelude.{ℕ, Bool, true, false, not, ◌==◌, ◌&&◌, ◌||◌, ◌*◌, ◌-◌, ◌^◌, min, List, [], ◌++◌, Option, Some, None, codes, flat_map, is_some, if◌then◌else◌}
+use Rattle.std.specs.Prelude.{ℕ, Bool, true, false, not, ◌==◌, ◌&&◌, ◌||◌, ◌*◌, ◌-◌, ◌^◌, min, List, [], ◌++◌, Option, Some, None, codes, flat_map, is_some, if◌then◌else◌, nat_lt}
 use Rattle.std.specs.FinMap.Entries.{find}
 use Rattle.std.specs.Fmt.{decimal}
 use Rattle.std.specs.Option.{option_map_or}
@@ -14,6 +14,7 @@ use Rattle.lsr_facts.specs.declared.repair.Repair.{Repair}
 use Rattle.lsr_facts.specs.declared.resv_fact.ResvFact.{ResvFact}
 use Rattle.lsr_facts.specs.declared.state.State.{State}
 use Rattle.lsr_text.specs.Shown.{key_text}
+use Rattle.lsr_watch.specs.declared.lsps.TheConstants.{LOW_RATE}
 
 -- the LSP is reserved on the link to its next hop
 abbrev pub is_reserved : State → Key → Bool
@@ -45,10 +46,14 @@ is_up s key = is_reserved s key || (is_repaired s key || ends_here s key)
 abbrev pub bits_of : ℕ → ℕ
 bits_of bytes = min (bytes * 8) (2 ^ 64 - 1)
 
--- `R (B bit/s)`: a rate in bytes per second, and in bits; or `none`
+-- what is told of some bytes per second that are less than 125, 1 kbit/s
+unfoldable pub rate_hint : ℕ → List ℕ
+rate_hint rate = if rate == 0 then [] else if nat_lt rate 125 then LOW_RATE.now else []
+
+-- `R (B bit/s)`: a rate in bytes per second, and in bits, and what is told of a low one; or `none`
 abbrev pub rate_words : Option ℕ → List ℕ
 rate_words None = codes "none"
-rate_words (Some rate) = decimal rate ++ (codes " (" ++ (decimal (bits_of rate) ++ codes " bit/s)"))
+rate_words (Some rate) = decimal rate ++ (codes " (" ++ (decimal (bits_of rate) ++ (codes " bit/s)" ++ rate_hint rate)))
 
 -- ` link N rate R (B bit/s)`: the link that is reserved, and the rate
 unfoldable pub reserved_words : ResvFact → List ℕ

@@ -5,32 +5,38 @@ use Rattle.std.specs.Fmt.{decimal}
 use Rattle.std.specs.Net.Addr.{ipv4_octets}
 use Rattle.std.specs.Net.Text.{ipv4_text}
 use Rattle.std.specs.Ordering.{nat_cmp}
+use Rattle.std.specs.Result.{result_ok}
 use Rattle.std.specs.declared.net.ipv4_addr.Ipv4Addr.{Ipv4Addr}
+use Rattle.rsvp_bodies.specs.Traffic.{tspec_rate}
 use Rattle.lsr_facts.specs.Tunnels.{current_key}
 use Rattle.lsr_facts.specs.declared.router.Router.{Router}
 use Rattle.lsr_facts.specs.declared.state.State.{State}
 use Rattle.lsr_facts.specs.declared.tunnel.Tunnel.{Tunnel}
 use Rattle.lsr_text.specs.Routes.{name_text}
 use Rattle.lsr_watch.specs.Errors.{error_line}
-use Rattle.lsr_watch.specs.Lsps.{is_up}
+use Rattle.lsr_watch.specs.Lsps.{is_up, rate_words}
 
 -- the LSP that carries the tunnel's traffic is up
 abbrev pub carries : Router → State → ℕ × Tunnel → Bool
 carries r s tunnel = is_up s (current_key r tunnel)
 
--- ` to ENDPOINT`
+-- ` to ENDPOINT rate `
 unfoldable pub end_words : Ipv4Addr → List ℕ
-end_words endpoint = codes " to " ++ (ipv4_text (ipv4_octets endpoint) ++ codes "\n")
+end_words endpoint = codes " to " ++ (ipv4_text (ipv4_octets endpoint) ++ codes " rate ")
 
--- `"NAME" to ENDPOINT`
+-- ` to ENDPOINT rate R (B bit/s)`
+unfoldable pub asked_words : Tunnel → List ℕ
+asked_words tunnel = end_words tunnel.endpoint ++ (rate_words (result_ok (tspec_rate tunnel.current.tspec)) ++ codes "\n")
+
+-- `"NAME" to ENDPOINT rate R (B bit/s)`
 unfoldable pub called_words : Tunnel → List ℕ
-called_words tunnel = name_text tunnel.attr.name ++ end_words tunnel.endpoint
+called_words tunnel = name_text tunnel.attr.name ++ asked_words tunnel
 
--- ` configured: "NAME" to ENDPOINT`
+-- ` configured: "NAME" to ENDPOINT rate R (B bit/s)`
 unfoldable pub configured_words : Tunnel → List ℕ
 configured_words tunnel = codes " configured: " ++ called_words tunnel
 
--- `tunnel N configured: "NAME" to ENDPOINT`
+-- `tunnel N configured: "NAME" to ENDPOINT rate R (B bit/s)`
 unfoldable pub configured_line : ℕ × Tunnel → List ℕ
 configured_line tunnel = codes "tunnel " ++ (decimal tunnel.0 ++ configured_words tunnel.1)
 

@@ -1,13 +1,26 @@
 //! All that is told between two looks at a router.
 ghost use Rattle.std.specs.Prelude.{◌≡◌, ◌++◌, IfOk, OnOk, string_bytes};
 ghost use Rattle.lsr_text.specs.Rows.{state_word};
-ghost use Rattle.lsr_watch.specs.Changes.{changes_text, link_line, links_lines, lsps_lines, was_so};
+ghost use Rattle.lsr_watch.specs.Changes.{changes_text, link_line, links_lines, lsps_lines, running_line, was_so};
 
 use crate::lsps::{push_came, push_lost, push_repaired};
 use crate::tunnels::push_tunnels;
 use lsr_facts::{Router, State};
 use std::alloc::{AllocError, Global};
 use std::fmt::Write;
+
+/// What is told where the router was stopped or started.
+fn running_line(before: &State, after: &State) -> &'static str
+    ensures { result.now ≡ running_line before.now after.now }
+{
+    if before.facts.cold == after.facts.cold {
+        ""
+    } else if after.facts.cold {
+        "router stopped by restart: what messages had set up is gone; type start\n"
+    } else {
+        "router started\n"
+    }
+}
 
 /// Whether a link was up, or down, as it is now.
 fn was_so(before: &State, link: &(u16, bool)) -> bool
@@ -62,15 +75,16 @@ fn push_lsps(text: &mut String, before: &State, after: &State) -> Result<(), All
 /// What changed of a router from one look at its state to the next one, as lines for a log; no text where nothing changed that
 /// is told:
 ///
+/// - `router stopped by restart: ..` or `router started`;
 /// - `link N down` or `link N up`;
 /// - `lsp up: KEY link N rate R (B bit/s)`: an LSP is reserved now, for R bytes per second. KEY is `ENDPOINT/TUNNEL/EXTENDED SENDER/LSP`
-///   (RFC 3209, 4.6);
+///   (RFC 3209, 4.6). A rate below 1 kbit/s is followed by how a rate is written: its word may be a decimal number by mistake;
 /// - `path received: KEY (egress here)`: a Path of an LSP came whose egress this router is, and it asks for the reservation; and
 ///   `path removed: KEY (egress here)`: it is there no more;
 /// - `lsp restored to its own path: KEY link N rate R (B bit/s)`: it is reserved now, and was repaired;
 /// - `lsp down: KEY`: it was reserved or repaired, and isn't now;
 /// - `lsp repaired over bypass N: KEY`: it is repaired now, or over another bypass than before (RFC 4090, 6.4);
-/// - `tunnel N dropped`, and `tunnel N configured: "NAME" to ENDPOINT`, of a tunnel that begins here;
+/// - `tunnel N dropped`, and `tunnel N configured: "NAME" to ENDPOINT rate R (B bit/s)`, of a tunnel that begins here;
 /// - `tunnel N switched from lsp A to lsp B`: another LSP carries its traffic (RFC 3209, 2.5);
 /// - `tunnel N up on lsp A` or `tunnel N down`: the LSP that carries its traffic is up now, or isn't any more;
 /// - `tunnel N error CODE/VALUE NAME from NODE`: an error came for one of its LSPs, other than the one that was noted before
@@ -88,6 +102,7 @@ pub fn changes_text(
     ensures { IfOk result (λ text. string_bytes text ≡ changes_text router.now before.now after.now) }
 {
     let mut text = String::new(alloc);
+    text.push_str(running_line(before, after))?;
     push_links(&mut text, before, after)?;
     push_lsps(&mut text, before, after)?;
     push_tunnels(alloc, &mut text, router, before, after)?;

@@ -3,7 +3,7 @@
 //! Most looks find the same LSPs as before, each at the same place of its table. So a table is walked place by place, and a row is
 //! looked for at that place of the other table first.
 ghost use Rattle.std.specs.Prelude.{◌≡◌, ◌++◌, OnOk, flat_map, string_bytes};
-ghost use Rattle.lsr_watch.specs.Lsps.{back_line, came_lines, down_line, ending_line, ending_words, ends_here, gone_line, is_over, is_tail, is_up, key_words, lost_held, lost_line, lost_lines, lost_tail_line, rate_words, repair_line, repaired_line, repaired_lines, reserved_line, reserved_words, tail_line, up_line, way_words};
+ghost use Rattle.lsr_watch.specs.Lsps.{back_line, came_lines, down_line, ending_line, ending_words, ends_here, gone_line, is_over, is_tail, is_up, key_words, lost_held, lost_line, lost_lines, lost_tail_line, rate_hint, rate_words, repair_line, repaired_line, repaired_lines, reserved_line, reserved_words, tail_line, up_line, way_words};
 
 use crate::near::get_near;
 use lsr_facts::{Key, PathFact, Repair, ResvFact, Role, State};
@@ -61,14 +61,36 @@ fn is_over(state: &State, place: usize, key: &Key, bypass: u16) -> bool
 /// How many bits a byte has.
 const BITS: u64 = 8;
 
-/// Appends a rate in bytes and in bits per second, or that there is none.
-fn push_rate(text: &mut String, rate: Option<u64>) -> Result<(), AllocError>
+/// The least rate that anyone asks for, other than 0: 1 kbit/s, in bytes per second.
+const LEAST_MEANT: u64 = 125;
+
+/// What is told of a lower one.
+const LOW_RATE: &str =
+    ", less than 1 kbit/s: was its word meant as a decimal number? ./lsr rate 10M prints the word of 10 Mbit/s";
+
+/// What is told of a rate that nobody asks for, as that of the word `10000000`.
+#[tactic(auto, unfolding(crate::specs::Lsps::rate_hint))]
+fn rate_hint(rate: u64) -> &'static str
+    ensures { result.now ≡ rate_hint rate }
+{
+    if rate == 0 {
+        ""
+    } else if rate < LEAST_MEANT {
+        LOW_RATE
+    } else {
+        ""
+    }
+}
+
+/// Appends a rate in bytes and in bits per second, and what is told of one that nobody asks for; or that there is none.
+pub(crate) fn push_rate(text: &mut String, rate: Option<u64>) -> Result<(), AllocError>
     ensures { OnOk result (string_bytes text.new ≡ string_bytes text.old ++ rate_words rate) }
 {
     match rate {
         Some(rate) => {
             let bits = rate.saturating_mul(BITS);
-            write!(text, "{rate} ({bits} bit/s)")
+            let hint = rate_hint(rate);
+            write!(text, "{rate} ({bits} bit/s){hint}")
         }
         None => text.push_str("none"),
     }

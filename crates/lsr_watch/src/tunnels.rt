@@ -1,9 +1,9 @@
 //! What is told of the tunnels that begin here.
 ghost use Rattle.std.specs.Prelude.{◌≡◌, ◌++◌, OnOk, flat_map, string_bytes};
-ghost use Rattle.lsr_watch.specs.Tunnels.{called_words, dropped_line, carries, configured_line, configured_words, end_words, kept_lines, new_lines, standing_line, switched_line, tunnel_lines, tunnels_lines};
+ghost use Rattle.lsr_watch.specs.Tunnels.{asked_words, called_words, dropped_line, carries, configured_line, configured_words, end_words, kept_lines, new_lines, standing_line, switched_line, tunnel_lines, tunnels_lines};
 
 use crate::errors::push_error;
-use crate::lsps::is_up;
+use crate::lsps::{is_up, push_rate};
 use lsr_facts::{Router, State, Tunnel, current_key};
 use lsr_text::push_name;
 use std::alloc::{AllocError, Global};
@@ -17,21 +17,31 @@ fn carries(router: &Router, state: &State, number: u16, tunnel: &Tunnel) -> bool
     is_up(state, &current_key(router, number, tunnel))
 }
 
-/// Appends where a tunnel ends, and ends the line.
+/// Appends where a tunnel ends.
 #[tactic(auto, unfolding(crate::specs::Tunnels::end_words))]
 fn push_end(text: &mut String, endpoint: Ipv4Addr) -> Result<(), AllocError>
     ensures { OnOk result (string_bytes text.new ≡ string_bytes text.old ++ end_words endpoint) }
 {
-    write!(text, " to {endpoint}\n")
+    write!(text, " to {endpoint} rate ")
 }
 
-/// Appends a tunnel's name and where it ends, and ends the line.
+/// Appends where a tunnel ends and at which rate, and ends the line.
+#[tactic(auto, unfolding(crate::specs::Tunnels::asked_words))]
+fn push_asked(text: &mut String, tunnel: &Tunnel) -> Result<(), AllocError>
+    ensures { OnOk result (string_bytes text.new ≡ string_bytes text.old ++ asked_words tunnel.now) }
+{
+    push_end(text, tunnel.endpoint)?;
+    push_rate(text, tunnel.current.tspec.rate().ok())?;
+    text.push_str("\n")
+}
+
+/// Appends a tunnel's name, where it ends and at which rate, and ends the line.
 #[tactic(auto, unfolding(crate::specs::Tunnels::called_words))]
 fn push_called(alloc: Global, text: &mut String, tunnel: &Tunnel) -> Result<(), AllocError>
     ensures { OnOk result (string_bytes text.new ≡ string_bytes text.old ++ called_words tunnel.now) }
 {
     push_name(alloc, text, tunnel.attr.name.as_slice())?;
-    push_end(text, tunnel.endpoint)
+    push_asked(text, tunnel)
 }
 
 /// Appends, after a tunnel's number, that it was configured, and ends the line.

@@ -82,7 +82,7 @@ lacks command word given (asked.Decode digits fields) needs none (is, text, said
     let t = sym none ∙ ap (λ w. first_of w given) (sym (word_is command _ word _ is needs refl)) ∙ text in cc
 lacks command word given (asked.Explain words) needs none (is, text, some) =
     has_first (codes "WHAT") given words.items text some (ap (λ w. first_of w given) (word_is command _ word _ is needs refl) ∙ none)
-lacks command word given (asked.Serve file turns journal console echo log) needs none (is, text, count, recorded, attended, echoed, told) =
+lacks command word given (asked.Serve file turns journal console echo mark log) needs none (is, text, count, recorded, attended, echoed, marked, told) =
     let t = sym none ∙ ap (λ w. first_of w given) (sym (word_is command _ word _ is needs refl)) ∙ text in cc
 lacks command word given (asked.Play file lab) needs none (is, text, said) =
     let t = sym none ∙ ap (λ w. first_of w given) (sym (word_is command _ word _ is needs refl)) ∙ text in cc

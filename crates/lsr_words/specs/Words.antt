@@ -71,6 +71,10 @@ turns_words = record (new_rule (codes "turns")) { long = Some (codes "turns"); v
 abbrev pub console_word : Rule
 console_word = record (new_rule (codes "console")) { long = Some (codes "console"); action = Some SetTrue }
 
+-- `--mark`
+abbrev pub mark_word : Rule
+mark_word = record (new_rule (codes "mark")) { long = Some (codes "mark"); action = Some SetTrue }
+
 -- `--log LEVEL`
 abbrev pub log_words : Rule
 log_words = record (new_rule (codes "log")) { long = Some (codes "log"); value_names = 1 }
@@ -79,9 +83,13 @@ log_words = record (new_rule (codes "log")) { long = Some (codes "log"); value_n
 abbrev pub counted_words : App
 counted_words = with_rule (with_rule (with_rule (new_app (codes "serve")) served_word) turns_words) journal_words
 
--- `serve FILE [--turns N] [--journal PREFIX] [--console] [--echo] [--log LEVEL]`
+-- `serve FILE [--turns N] [--journal PREFIX] [--console] [--echo]`
+abbrev pub attended_words : App
+attended_words = with_rule (with_rule counted_words console_word) echo_word
+
+-- `serve FILE [--turns N] [--journal PREFIX] [--console] [--echo] [--mark] [--log LEVEL]`
 abbrev pub serve_words : App
-serve_words = with_rule (with_rule (with_rule counted_words console_word) echo_word) log_words
+serve_words = with_rule (with_rule attended_words mark_word) log_words
 
 -- `FILE`
 abbrev pub played_word : Rule
@@ -142,10 +150,11 @@ Asks command given (asked.Decode word fields) =
     (command ≡ codes "decode") × (first_of (codes "HEX") given ≡ Some word.now) × (fields ≡ is_given (first_of (codes "fields") given))
 Asks command given (asked.Explain words) =
     (command ≡ codes "explain") × (all_of (codes "WHAT") given ≡ Some (map (λ w. w.now) words.items)) × (words.items ≢ [])
-Asks command given (asked.Serve file turns journal console echo log) =
+Asks command given (asked.Serve file turns journal console echo mark log) =
     (command ≡ codes "serve") × (first_of (codes "FILE") given ≡ Some file.now) × (option_map (λ n. n.now) turns ≡ first_of (codes "turns") given)
     × (option_map (λ p. p.now) journal ≡ first_of (codes "journal") given) × (console ≡ is_given (first_of (codes "console") given))
-    × (echo ≡ is_given (first_of (codes "echo") given)) × (option_map (λ l. l.now) log ≡ first_of (codes "log") given)
+    × (echo ≡ is_given (first_of (codes "echo") given)) × (mark ≡ is_given (first_of (codes "mark") given))
+    × (option_map (λ l. l.now) log ≡ first_of (codes "log") given)
 Asks command given (asked.Play file lab) =
     (command ≡ codes "play") × (first_of (codes "FILE") given ≡ Some file.now) × (lab ≡ is_given (first_of (codes "lab") given))
 Asks command given (asked.Check files) =

@@ -34,13 +34,13 @@ Exit status of every command:
                       is 0, too, but for `refused 41 JournalFull` of --journal
   1                   a file, the input, a line of `step` or `play` or a message to decode wasn't
                       taken; routers and wires make no world; a capture is damaged; a socket
-                      can't be had, or what `serve` was told isn't one run; a recorded run that
+                      can't be opened, or what `serve` was told isn't one run; a recorded run that
                       `check` is given isn't one; the output can't be written; or memory ran out
   2                   the words after `lsr` aren't taken, and nothing was done: too few, too
                       many or unknown ones, HEX that isn't hexadecimal digits, WHAT that names
                       nothing, N that isn't a number of turns, LEVEL that is none, or words
                       that don't go together: --journal and --live, --turns and --console,
-                      --echo or --log of `serve` without --console
+                      --echo, --mark or --log of `serve` without --console
 What went wrong stands on standard error. Among the answers stand `mismatch` of serve, `entry N:
 FAULT` of check, `refused 41 JournalFull` of step --journal, and what `decode` says of lines or a
 file. The first line says what it is; lines after it that begin with two spaces say where it is and
@@ -70,7 +70,7 @@ line. Each line is one of these:
   start             a stopped router is started; a running one goes on as it is. The router is
                     opened running
   tunnel N ENDPOINT RATE SETUP HOLD FLAGS NAME [ROUTE..]
-                    tunnel N, 0 to 65535, is to begin here and to end at the address ENDPOINT.
+                    sets up tunnel N, 0 to 65535, from here to the address ENDPOINT.
                     RATE is the rate of its traffic in bytes per second, as the eight
                     hexadecimal digits of an IEEE 754 word: 47f42400 is 125000. SETUP and HOLD
                     are its priorities, 0 (best) to 7; FLAGS are two hexadecimal digits: 01
@@ -79,20 +79,20 @@ line. Each line is one of these:
                     router; NAME has 1 to 255 bytes. Each ROUTE is a step of its route from here
                     on, as 10.0.0.3/32, or ~10.0.0.3/32 where it is loose
   change N RATE [ROUTE..]
-                    tunnel N is to carry this rate over this route: its new LSP is set up beside
-                    the old one, and takes its place once it is reserved
+                    moves tunnel N to this rate and route: its new LSP is set up beside the old
+                    one, and takes its place once it is reserved
   cancel N          the change of tunnel N is given up
-  drop N            tunnel N goes; refused while a bypass runs in it
+  drop N            removes tunnel N; refused while a bypass runs in it
   bypass N TUNNEL LINK [CAPACITY]
-                    bypass N, 0 to 65535, is to protect link LINK: it runs in tunnel TUNNEL, which
+                    protects link LINK by bypass N, 0 to 65535: it runs in tunnel TUNNEL, which
                     begins here and has to leave by another link. When LINK goes down, LSPs over it
                     that want protection go on over the bypass. CAPACITY is its bandwidth for them,
                     in bytes per second, at most the tunnel's rate: LSPs that ask for bandwidth
                     protection are promised some of it, and no others go over it. Without it, or
                     with 0, the bypass takes the LSPs that are promised nothing
-  unbypass N        bypass N goes; refused while LSPs are repaired over it
-  route PREFIX LINK what goes to PREFIX, as 10.9.0.0/16, leaves over link LINK
-  unroute PREFIX    the static route to PREFIX goes
+  unbypass N        removes bypass N; refused while LSPs are repaired over it
+  route PREFIX LINK sends what goes to PREFIX, as 10.9.0.0/16, over link LINK
+  unroute PREFIX    removes the static route to PREFIX
   show paths        asks for the paths that the router knows
   show resvs        asks for the reservations that stand
   show table        asks for the label table
@@ -102,8 +102,12 @@ line. Each line is one of these:
   show bypasses     asks for the bypasses of the links
   show recent       asks for the last 32 replies
   show summary      asks how much there is of everything, and how much there may be
+  show config       asks for the configuration, with what commands changed of it
+  show lsps         asks how each LSP stands, and each tunnel that begins here and has no path
   show path KEY     asks for all that is known of the path of one LSP, whose KEY `show paths` has
   show resv KEY     asks for all that is known of its reservation, or of the repaired one
+  show lsp KEY      asks how that LSP stands, why it isn't up, and what protects it
+  show lsp N        asks the same of the LSPs of tunnel N
 Words are separated by exactly one space, and nothing else stands in a line: no sign, no blank
 before or after them, no carriage return. Numbers are decimal; zeros may stand before them. An empty
 line is a bad line.
@@ -129,7 +133,7 @@ What is printed for each of them but `show`:
   tx LINK HEX       after that, each message that the router sends to a neighbour
   frame LINK HEX    and each other frame, whole: a message for another router goes on
 
-What is printed for a frame under labels, in place of these:
+What is printed for a labelled frame, in place of these:
   frame LINK HEX    it goes on over link LINK, as this frame
   deliver HEX       its labels end here; HEX is its payload
   refused N NAME    it was dropped
@@ -167,12 +171,12 @@ ENDPOINT/TUNNEL/EXTENDED SENDER/LSP, the session, sender and LSP ID of an LSP:
                     hexadecimal digits of its word; the label that the next hop gave
   LABEL swap L LINK
   LABEL swappush INNER OUTER LINK
-  LABEL pop         what is done with a frame that comes under LABEL: it goes on over LINK
-                    under L, or on a bypass under OUTER above INNER; or the label is taken
+  LABEL pop         what is done with a frame that comes with LABEL: it is sent over LINK with
+                    label L, or through a bypass with OUTER above INNER; or the label is taken
                     away, and its LSP ends here
   tunnel N push L LINK
   tunnel N push INNER OUTER LINK
-                    what enters tunnel N is to leave over LINK under L, or on a bypass under
+                    traffic of tunnel N is sent over LINK with label L, or through a bypass with
                     OUTER above INNER
   link N up|down LIMIT R0 .. R7
                     how much of it may be reserved, and what is reserved at each priority, 0
@@ -186,13 +190,20 @@ ENDPOINT/TUNNEL/EXTENDED SENDER/LSP, the session, sender and LSP ID of an LSP:
                     a label to send under; how many LSPs are repaired over it; its capacity, and
                     how much of that LSPs are promised, in bytes per second
   held LABEL KEY    a label and the LSP that holds it, in the order of the LSPs
-  resting LABEL until MOMENT left N ms
-                    a label that no LSP is given before that moment, N milliseconds from now
+  resting LABEL until TIME left N ms
+                    a label that no LSP is given before that time of the router's clock, N
+                    milliseconds from now
   free COUNT of COUNT
                     how many labels are neither held nor rest, of all that the router gives out
+  lsp KEY ROLE STATE rate N bit/s N bytes/s name \"NAME\"
+                    ROLE is transit, tail or head; STATE is `up`, `signalling` (no Resv was granted
+                    yet), `down`, `repaired over bypass N`, or `pending`, of the new LSP of a tunnel
+                    that is being changed; then the rate that is reserved, or else asked for, or
+                    `rate none`; and the name, or `name none`
 
-`show path KEY`, `show resv KEY` and `show summary` print one thing in each line, in words that
-docs/PROGRAM.md explains. Nothing is printed of an LSP that isn't there.
+`show path KEY`, `show resv KEY`, `show lsp KEY`, `show lsp N` and `show summary` print one thing in
+each line, in words that docs/PROGRAM.md explains. Nothing is printed of an LSP that isn't there.
+`show config` prints the configuration as `lsr config` does.
 
 The router is the one that FILE says (docs/CONFIGURATION.md has the keys; begin with a copy
 of examples/middle.toml), or without it the built-in one: 10.0.0.2, link 1 to 10.0.0.1, link
@@ -297,7 +308,7 @@ no bytes; a newline at the very end begins no further line, and the last line ne
 line has its answer on standard output at once, and an empty line after it: what is printed
 above, or for a line that is refused, which doesn't end the run:
   line N: refused M NAME
-  line N: no hexadecimal digits
+  line N: not hexadecimal digits
   line N: an odd number of hexadecimal digits
 N counts lines from 1.
 
@@ -396,22 +407,27 @@ a router does, and `lsr show-journal PREFIX.1` prints the first.
 
 With --console the router runs until it is told to end, and answers the lines of its input: those
 of `lsr step` for operators (tunnel, change, cancel, drop, bypass, unbypass, route, unroute, up,
-down, restart, start, and each show), `help`, and `quit`. What happens is told on standard error as
-it happens. The clock goes by real time. The operator's lines have the last port, and the clock's
-is the one before it. Once a minute, or sooner, what was told so far is reconciled and given up, so
-that memory stays bounded; with --journal a file is written then.
+down, restart, start, and each show), `show counters`, `help`, and `quit`. What happens is told on
+standard error as it happens, refused messages within a minute. The clock goes by real time. The
+operator's lines have the last port, and the clock's is the one before it. Once a minute, or
+sooner, a round is over: what was told so far is reconciled and given up, so that memory stays
+bounded; with --journal a file is written then.
+`show counters` prints what each port did up to the end of the last round, in the words below, and
+the socket addresses of the links.
+
+With --mark a line with a full stop alone stands after each answer, for a program that reads them.
 
 What is printed in the end:
-  reconciled M entries     each event that was served is in the journal once, in one order, and
-                           each port's receipts are those of its own; there are M in all
-  mismatch PORT PLACE      they aren't: the first port, and the place among its receipts. The
+  reconciled M entries     M events are in the journal, each once, in one order, and each thread
+                           saw its own of them in that order
+  mismatch PORT PLACE      they didn't: the first port, and the place among its receipts. The
                            status is 1 then
 
 On standard error, in lines of a log, one for each port (link L, clock, console), and one for the
 router:
   link L: N received: A processed, B forwarded, C dropped, D refused; I frames not sent, J socket errors
                            how many datagrams came, or ticks of the clock, and what became of
-                           them: fed as events, passed on or delivered by their labels, dropped
+                           them: processed as events, forwarded or delivered by label, dropped
                            for a fault or for want of a way, and refused with one of 40 to 43; how
                            many frames nothing carried, and how often the socket failed
   router: A paths, B reservations, C repairs
@@ -419,8 +435,8 @@ router:
 
 The status is 0; 1 for a mismatch or with one of these on standard error; 2 where the words of the
 command aren't taken, or N isn't 1 to 1000000:
-  link L: socket    the sockets of link L can't be had: an address is taken, isn't this machine's,
-                    or isn't of the family of the first link's. Nothing was started
+  link L: socket    link L can't have this address, for the reason after it: it is in use, is no
+                    loopback address, has port 0, or is of another family. Nothing was started
   config FAULT KEY  the first fault of FILE, and the key that it is about, as `lsr step` tells it;
                     `config Missing listen` and `config Missing send` come after all others
   unreadable        FILE can't be opened or read, isn't UTF-8, or has more than 16777216 bytes; or
@@ -431,7 +447,8 @@ command aren't taken, or N isn't 1 to 1000000:
                     there was no memory for file N of the journal: the files end with the one
                     before it
   unwritable        the output or the error stream can't be written, or a file of the journal. Where
-                    PREFIX.1 is there already, or has no folder, nothing was started
+                    a PREFIX.N or PREFIX.1.part is there already, or the folder doesn't exist,
+                    nothing was started
 
 Example: in two terminals, two routers that set up an LSP from the second to the first.
   lsr serve examples/serve-tail.toml --turns 100
@@ -482,8 +499,8 @@ them can be delivered at any time. Of moves that can't be made nothing changes, 
 With --lab these lines are taken, too:
   # ..              lines that begin with #, and empty lines, are passed over
   show NAME WHAT    what lsr step prints for `show WHAT` of this router, each line with its name in
-                    front; WHAT is paths, resvs, table, labels, links, tunnels, bypasses or
-                    summary, or path or resv and a KEY
+                    front; WHAT is paths, resvs, table, labels, links, tunnels, bypasses, config,
+                    lsps or summary; path, resv or lsp and a KEY; or lsp and a tunnel's number
   run               frames that weren't delivered yet are, in the order of their numbers, and what
                     is sent then, too, until none is left or 65536 were: their moves are answered
                     as any are. Frames over links that no wire joins are passed over

@@ -44,6 +44,8 @@ pub(crate) const LIVE: &str = "live";
 pub(crate) const JOURNAL: &str = "journal";
 /// The name of the option of `serve` that answers an operator.
 pub(crate) const CONSOLE: &str = "console";
+/// The name of the option of `serve` that marks the ends of answers.
+pub(crate) const MARK: &str = "mark";
 /// The name of the option of `serve` that says how much is told.
 pub(crate) const LOG: &str = "log";
 /// The name of the option of `decode` that names fields.
@@ -144,8 +146,8 @@ A line that was told, as one word or as many; or a refusal's number or name, an 
 value, as 24/5, or its name, a fault's name; or `list`",
 }];
 
-/// `serve FILE [--turns N] [--journal PREFIX] [--console] [--echo] [--log LEVEL]`.
-const SERVE_WORDS: [Word; 6] = [
+/// `serve FILE [--turns N] [--journal PREFIX] [--console] [--echo] [--mark] [--log LEVEL]`.
+const SERVE_WORDS: [Word; 7] = [
     Word {
         name: FILE,
         form: Form::Required,
@@ -175,6 +177,12 @@ Answers each line of the input at once, and runs until `quit` or the end of the 
         name: ECHO,
         form: Form::Switch,
         help: "Prints what a line has the router send after its answer; only beside --console",
+    },
+    Word {
+        name: MARK,
+        form: Form::Switch,
+        help: "\
+Prints a line with a full stop after each answer, for a program; only beside --console",
     },
     Word {
         name: LOG,

@@ -9,7 +9,7 @@ ghost use Rattle.lsr_words.specs.Words.{AreAll, Asks, AsksFor, AsksIn, is_given,
 use crate::command::command;
 use crate::table::{
     CHECK, CONFIG, CONFIG_OPTION, CONSOLE, DECODE, ECHO, EXPLAIN, FIELDS, FILE, HEX, JOURNAL, LAB,
-    LIVE, LOG, PLAY, SERVE, SHOW_JOURNAL, STEP, TURNS, WHAT,
+    LIVE, LOG, MARK, PLAY, SERVE, SHOW_JOURNAL, STEP, TURNS, WHAT,
 };
 use clap::ArgMatches;
 use clap::error::{Error, ErrorKind};
@@ -54,6 +54,8 @@ pub enum Asked<'a> {
         console: bool,
         /// Whether what an operator's line has the router send is printed, too.
         echo: bool,
+        /// Whether an end mark is printed after each answer to an operator.
+        mark: bool,
         /// How much is told of what happens, as the words give it.
         log: Option<&'a str>,
     },
@@ -108,6 +110,7 @@ fn serve_asked<'a>(given: &ArgMatches<'a>) -> Option<Asked<'a>>
             journal: given.get_str(JOURNAL),
             console: is_given(given.get_str(CONSOLE)),
             echo: is_given(given.get_str(ECHO)),
+            mark: is_given(given.get_str(MARK)),
             log: given.get_str(LOG),
         }),
         None => None,

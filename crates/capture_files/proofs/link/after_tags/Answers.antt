@@ -5,5 +5,5 @@ use Rattle.capture_files.proofs.link.after_tags.Goals as goal
 
 pub loop-left-preserved : goal.loop-left-preserved
 loop-left-preserved c =
-    one_tag c.loop-left.left c.loop-left.rest.now c.after-rest.result.now c.loop-left-test.true (search rules) c.after-rest.ensures
+    one_tag c.loop-left.left c.loop-left.rest.now c.split_at-in-loop-left.result.1.now c.loop-left-test.true (search rules) c.split_at-in-loop-left.ensures.back
     ∙ c.loop-left.invariant

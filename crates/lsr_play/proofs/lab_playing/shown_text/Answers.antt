@@ -10,9 +10,9 @@ pub returns-in_ok-named-in-Some : goal.returns-in_ok-named-in-Some
 returns-in_ok-named-in-Some c =
     let there = c.in-Some.ensures ∙ ap (at c.args.world.now) c.place_of-place.ensures in
     let named = c.in_ok-named-in-Some.ensures ∙ ap (λ text. named_text c.args.name.now (lines_of text)) c.as_str.ensures.value in
-    (c.args.name.now, c.args.request.now, shows_at _ _ _ _ _ _ there c.in_ok-text-in-Some.ensures named, refl)
+    (c.args.name.now, c.args.shown.now, shows_at _ _ _ _ _ _ there c.in_ok-text-in-Some.ensures named, refl)
 
 pub returns-in_ok-refused-in-None : goal.returns-in_ok-refused-in-None
 returns-in_ok-refused-in-None c =
     let there = c.in-None.ensures ∙ ap (at c.args.world.now) c.place_of-place.ensures in
-    (c.args.name.now, c.args.request.now, shows_none _ _ _ _ there c.in_ok-refused-in-None.ensures, refl)
+    (c.args.name.now, c.args.shown.now, shows_none _ _ _ _ there c.in_ok-refused-in-None.ensures, refl)

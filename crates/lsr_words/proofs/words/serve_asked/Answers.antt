@@ -14,7 +14,8 @@ returns-in-Some c =
       c.get_str-in-Some-2.ensures ∙ first_value-rows found (codes "journal"),
       c.is_given.ensures ∙ ap is_given (c.get_str-in-Some-3.ensures ∙ first_value-rows found (codes "console")),
       c.is_given-in-Some.ensures ∙ ap is_given (c.get_str-in-Some-4.ensures ∙ first_value-rows found (codes "echo")),
-      c.get_str-in-Some-5.ensures ∙ first_value-rows found (codes "log"),
+      c.is_given-in-Some-2.ensures ∙ ap is_given (c.get_str-in-Some-5.ensures ∙ first_value-rows found (codes "mark")),
+      c.get_str-in-Some-6.ensures ∙ first_value-rows found (codes "log"),
     )
 
 pub returns-in-None : goal.returns-in-None
