@@ -22,6 +22,7 @@ import struct
 import subprocess
 import sys
 import tempfile
+import textwrap
 import threading
 import time
 import tomllib
@@ -348,6 +349,10 @@ def refused_starts(place):
     yield "a reload of nobody", 1, "is lsrnet run with --socket", ["reload", place.file, "--socket", room / "absent.sock", "--lsr", asked.program()]
     yield "a reload of nothing", 2, "required: --socket", ["reload", place.file]
     yield "a question to somebody else", 1, "is lsrnet run with --socket", ["ask", room / "taken.sock", "show links"]
+    # What docs/NETWORK.md shows, of a link with another address.
+    sample = textwrap.dedent(re.search(r"    rights: .*\n(?:    .*\n)+", (asked.TOP / "docs" / "NETWORK.md").read_text(encoding="utf-8"))[0])
+    sample = re.escape(sample.replace("(10.1.0.1)", "(10.1.0.2)")).replace(r"\ ", " ")
+    yield "a machine whose kernel has no MPLS", 1, f"^{sample}", ["check", place.file, "--lsr", asked.program()]
     yield "a machine that is ready", 0, "(?s)rights: ready.*link 1 .*: ready", ["check", place.file, "--plane", "user", "--lsr", asked.program()]
     yield "a machine without addresses", 1, "no interface has it: ip address add 10.3.0.2/24", ["check", room / "far.toml", "--plane", "user", "--lsr", asked.program()]
 

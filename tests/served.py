@@ -351,7 +351,7 @@ def two_routers_by_turns():
 
 
 def two_routers_at_consoles():
-    """The tunnel comes up over a link that has another number at its other end; then both know it, under one label."""
+    """The tunnel comes up over a link that has another number at its other end; then both know it, under one label, and README.md has its line."""
     head, tail = tunnel_ends(LONG_REFRESH_MS)
     tail = tail.replace("number = 1\n", "number = 5\n")
     with routers.attend(tail) as at_tail, routers.attend(head) as at_head:
@@ -359,6 +359,7 @@ def two_routers_at_consoles():
         for router, line, wanted in [
             (at_head, "show resvs", [f"resv {LSP} 1 se 47f42400 16"]),
             (at_head, "show paths", [f"path {LSP} head 1 0"]),
+            (at_head, "show lsps", re.findall(r"^    (lsp .*)$", (asked.TOP / "README.md").read_text(encoding="utf-8"), re.MULTILINE)),
             (at_head, "show table", ["tunnel 1 push 16 1"]),
             (at_tail, "show resvs", []),
             (at_tail, "show paths", [f"path {LSP} tail 0 1"]),
