@@ -34,8 +34,9 @@ sys.path.insert(0, str(LSRNET))
 import configuration  # noqa: E402
 import hello  # noqa: E402
 import wire  # noqa: E402
-from links import Interfaces, Link  # noqa: E402
+from links import Link  # noqa: E402
 from machine import SO_NETNS_COOKIE  # noqa: E402
+from netlink import Interfaces  # noqa: E402
 from plane import TUNNELS, KernelPlane, Row  # noqa: E402
 
 # A Path that comes over link 1 of the built-in router, which sends it on over link 2.
@@ -796,7 +797,6 @@ def link_of_test(place):
     with inside(place.here):
         interfaces, link = Interfaces(), Link(1, *LINKS[0][:2])
         link.attach(interfaces.at(link.address), 0)
-        link.carrier = link.face.up
     return interfaces, link
 
 
@@ -810,13 +810,13 @@ def stale_route(place):
     text = lacks("default via 10.1.0.1 dev a-b", ip(route))
     ip(f"-n {place.there} link set b-a down")
     interfaces.hear()
-    link.face, link.carrier = interfaces.at(link.address), False
+    link.face = interfaces.at(link.address)._replace(up=False)
     plane.doubt(link.face.index)
     plane.keep(plane.rows)
     left = subprocess.run(["ip", *route.split()], capture_output=True, text=True, check=False).stdout
     text += f"the route stays: {left}" if left else ""
     ip(f"-n {place.there} link set b-a up")
-    link.carrier = True
+    link.face = link.face._replace(up=True)
     plane.keep(plane.rows)
     text += lacks("default via 10.1.0.1 dev a-b", ip(route)) + ("" if plane.audit() == 0 else "it isn't as it was written\n")
     plane.netlink.change([plane.request(it, None) for it in plane.read()])

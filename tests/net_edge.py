@@ -302,6 +302,9 @@ def answers_and_marks():
             printing.write(part)
             text += different("more to come", True, child.ready())
         printing.close()
+        last = time.monotonic() + asked.MOST_SECONDS            # a process that another case starts has the pipe, too, until it runs its program
+        while child.ready() and time.monotonic() < last:
+            time.sleep(0.01)
         text += different("more to come", False, child.ready())
     text += different("answers", [["done"], [], ["link 1 up", "", "link 2 down"]], taken)
     return text + different("the rest", (1, ["bad line 4", "  ."]), (len(child.waiting), child.answer))

@@ -9,22 +9,21 @@ import sys
 import time
 from argparse import Namespace
 
-import integrity
 import netlink
 import wire
 from configuration import FIRST_PORT, HOST, file_lines, own_text
 from console import Child, Desk, Loop, Take, datagrams
 from hello import HELLO_TTL, Neighbour
-from links import MARKS, NOWHERE, RECEIVE_BYTES, SO_RCVBUFFORCE, Interface, Interfaces, Link, raw_socket
-from machine import Room, State, Trouble
+from integrity import Keys
+from links import MARKS, RECEIVE_BYTES, SO_RCVBUFFORCE, Link, raw_socket
+from machine import Room, State, Trouble, trouble
 from metrics import metrics
-from netlink import CREATE, EXCLUSIVE, Request
 from plane import LOCAL_TABLE, KernelPlane, Rows, UserPlane, rows_of
 
 RULE_OF_MARKS, RULE_OF_LOCAL = 45, 46   # priorities
-# In seconds: after a message, and at the latest, the table is asked for; it is read back, and the summary asked for, so often; a router that
-# is silent for so long is told, and one that ended starts again after so long; the same fault isn't told again for so long, and what the
-# kernel refuses is done again after so long.
+# In seconds: after a message, and at the latest, the table is asked for; it is read back, and the summary asked for, so often; a router
+# that is silent for so long is told, and one that ended starts again after so long; the same fault isn't told again for so long, and what
+# the kernel refuses is done again after so long.
 AFTER_MESSAGE, ASK, AUDIT, SUMMARY, SILENT, START_AGAIN, TOLD_AGAIN, REFUSED_AGAIN = 0.02, 1.0, 10.0, 5.0, 10.0, 1.0, 10.0, 0.1
 LIFETIME = 21 / 4               # what isn't refreshed expires after so many refresh periods (RFC 2205, 3.7, K = 3)
 UNDER_LABELS = "lo"             # whose key is put on messages under labels
@@ -36,12 +35,12 @@ class Adapter:
 
     def __init__(self, words: Namespace, text: str, tables: dict):
         self.words, self.text, self.tables, self.start = words, text, tables, time.monotonic()
-        self.loop, self.interfaces = Loop(), Interfaces()
+        self.loop, self.interfaces = Loop(), netlink.Interfaces()
         self.links = {it["number"]: Link(it["number"], it["address"], it["peer"]) for it in tables["link"]}
         if not any(self.interfaces.at(it.address).index for it in self.links.values()):
             raise Trouble(f"no interface has the address of any link: lsrnet check {words.file} tells what is wanted")
         try:
-            self.keys = integrity.Keys.read(words.keys) if words.keys else integrity.Keys({})
+            self.keys = Keys.read(words.keys) if words.keys else Keys({})
         except (ValueError, OSError) as fault:
             raise Trouble(f"--keys: {fault}") from None
         self.state = State(words.state)
@@ -72,14 +71,14 @@ class Adapter:
 
     def run(self) -> int:
         """Runs until a signal, or until the router can't be started; the status. Trouble: it can't run."""
-        wake, woken = socket.socketpair()
-        wake.setblocking(False)
+        wake, woken = socket.socketpair(type=socket.SOCK_STREAM | socket.SOCK_NONBLOCK)
         signal.set_wakeup_fd(wake.fileno())
         for number in (signal.SIGTERM, signal.SIGINT, signal.SIGHUP):
             signal.signal(number, lambda *_: setattr(self, "status", self.status or 0))
         self.loop.on(woken, lambda: woken.recv(16))
         try:
-            self.open()
+            with trouble("", f"look what lsrnet check {self.words.file} tells"):
+                self.open()
             while self.status is None:
                 try:
                     self.loop.turn(min(filter(None, (self.ask_at, self.start_at, self.hello_at)), default=0.0) - time.monotonic())
@@ -87,8 +86,6 @@ class Adapter:
                 except OSError as fault:        # as for want of memory: what was left undone the next audit does
                     self.tell(f"{fault.filename or 'the kernel'}: {fault.strerror or fault}: tried again", "kernel")
                     time.sleep(REFUSED_AGAIN)
-        except OSError as fault:
-            raise Trouble(f"{fault.filename or 'the kernel'}: {fault.strerror or fault}: look what lsrnet check {self.words.file} tells") from None
         finally:
             for step in (lambda: self.child and self.end_router(), lambda: self.desk and self.desk.close(),
                          lambda: self.sweep(routes=True), self.state.restore):
@@ -125,20 +122,19 @@ class Adapter:
         gone = [self.plane.request(it, None) for it in self.plane.read()] if routes else []
         self.plane.netlink.change(self.plane.netlink.left() + gone)
 
-    def requests(self, link: Link) -> list[Request]:
-        """What is to be in the kernel for a link: RSVP that comes in over its interface is local, what leaves by it goes by its mark, and the
-        neighbour's hardware address is known."""
+    def requests(self, link: Link) -> list[netlink.Request]:
+        """What is to be in the kernel for a link: RSVP that comes in is local, what leaves goes by its mark, and the neighbour is known."""
         made, mark = [], MARKS + link.number
         if link.raw:
-            made += [local_rule(link.face.name), netlink.rule(mark, RULE_OF_MARKS, (netlink.RULE_MARK, mark), (netlink.RULE_MASK, 0xffffffff))]
-        if link.carrier and not self.interfaces.neighbour(link.face, link.peer)[0] & netlink.PERMANENT:
+            made += [local_rule(link.face.name), netlink.rule(mark, RULE_OF_MARKS, (netlink.RULE_MARK, mark))]
+        if link.face.up and not self.interfaces.neighbour(link.face, link.peer)[0] & netlink.PERMANENT:
             made.append(netlink.neighbour(link.face.index, link.peer))
         return made
 
     def write(self) -> int:
-        """Makes what isn't there of it in the kernel, for all links and for RSVP out of labels; how much wasn't. What is refused is told."""
+        """Makes what isn't there of it in the kernel, for all links and for RSVP out of labels; how much wasn't."""
         wanted = itertools.chain([local_rule(self.plane.exits)], *map(self.requests, self.links.values()))
-        errors = self.plane.netlink.change([(kind, CREATE | EXCLUSIVE, body) for kind, _, body in wanted])
+        errors = self.plane.netlink.change([(kind, netlink.CREATE | netlink.EXCLUSIVE, body) for kind, _, body in wanted])
         if refused := netlink.said(set(errors) - {errno.EEXIST}):
             self.tell(f"the kernel refuses a rule or a neighbour: {refused}", "refused rules")
         return errors.count(0)
@@ -169,15 +165,13 @@ class Adapter:
                 raise
             self.state.starts, self.start_at = self.state.starts - 1, time.monotonic() + START_AGAIN
             return self.tell(f"the router doesn't start again: {fault}", "start")
+        self.loop.on(self.child.process.stdout, self.child_speaks)
         self.spared = {key: row for key, row in (self.spared | self.rows).items() if key not in own}
         self.spared_until, self.rows = time.monotonic() + lifetime, {}
         self.values["router_starts_total"] += 1
         self.plane.keep(self.spared)
         if self.spared:
             self.tell(f"{len(self.spared)} entries of the run before stand for {lifetime:.1f} s")
-        self.loop.on(self.child.process.stdout, self.child_speaks)
-        for link in self.links.values():
-            link.told = False
         self.tell(f"router {self.tables['router']} runs with the labels {own[0]} to {own[-1]}")
         self.tell_links()
 
@@ -194,8 +188,9 @@ class Adapter:
         self.loop.unregister(child.process.stdout)
         self.tell(f"the router {child.end()}" + ("" if child.answered else " before it answered a line: what it said stands above"))
         for link in self.links.values():
-            while dropped := len(datagrams(link.router)):
-                link.counts["lost"] += dropped
+            link.told = False
+            while frames := list(datagrams(link.router)):
+                link.counts["lost"] += len(frames)
         for link, _ in self.held:
             link.counts["lost"] += 1
         self.held, self.asked, self.again = [], False, False
@@ -206,9 +201,10 @@ class Adapter:
             values = self.values | {"router_silent_seconds": silent, "plane_entries": len(self.spared | self.rows)}
             take(metrics(self.summary, self.links.values(), values))
         elif not self.child or silent > SILENT:
-            take([f"the router has been silent for {silent:.0f} s: read the log" if self.child else "the router is started again: ask in a second"])
+            silence = f"the router has been silent for {silent:.0f} s: read the log"
+            take([silence if self.child else "the router is started again: ask in a second"])
         else:
-            self.child.ask(line, (lambda answer: take(answer and file_lines(self.text, answer))) if line == "show config" else take)
+            self.child.ask(line, (lambda answer: take(file_lines(self.text, answer))) if line == "show config" else take)
             self.ask_at = min(self.ask_at, time.monotonic() + AFTER_MESSAGE)
 
     # Packets.
@@ -250,7 +246,7 @@ class Adapter:
         self.ask_at = min(self.ask_at, time.monotonic() + AFTER_MESSAGE)
 
     def frame(self, link: Link, packet: wire.Packet, from_labels: bool) -> bytes | None:
-        """The frame of a packet, without its INTEGRITY object; none where it is refused, or is a Hello of the neighbour, which is answered."""
+        """The frame of a packet, without its INTEGRITY object; none where it is refused, or is the neighbour's Hello, which is answered."""
         try:
             packet = packet._replace(message=self.keys.verify(UNDER_LABELS if from_labels else link.face.name, packet.message))
         except wire.Refused as refusal:
@@ -262,7 +258,7 @@ class Adapter:
 
     def say_hello(self, link: Link, message: bytes | None) -> None:
         """Sends a Hello, if there is one, and takes what the neighbour's state became (RFC 3209, 5)."""
-        if message and link.carrier:
+        if message and link.face.up:
             with contextlib.suppress(OSError):          # the next one follows
                 link.send(wire.Packet(link.address, link.peer, HELLO_TTL, self.keys.protect(link.face.name, message)))
         if link.heard == link.neighbour.is_lost:
@@ -280,19 +276,20 @@ class Adapter:
             face = self.interfaces.at(link.address)
             if face[:2] != link.face[:2]:
                 self.leave(link)
-                if face.index:
-                    self.take(link, face)
-            link.face = face if link.raw else NOWHERE
+            was_up = link.face.up
+            if face.index and not link.raw:
+                self.take(link, face)
+            link.face = face if link.raw else netlink.NOWHERE
             link.hardware = self.interfaces.neighbour(face, link.peer)[1]
-            if link.face.up != link.carrier:
-                link.carrier, came_up = link.face.up, came_up or link.face.up
+            if link.face.up != was_up:
+                came_up |= link.face.up
                 self.plane.doubt(face.index)
         self.tell_links()
         if came_up:
             self.plane.keep(self.plane.rows)
             self.write()
 
-    def take(self, link: Link, face: Interface) -> None:
+    def take(self, link: Link, face: netlink.Interface) -> None:
         try:
             link.attach(face, self.plane.hears)
             ours = f"ipv4/conf/{face.name}/"
@@ -300,13 +297,13 @@ class Adapter:
         except OSError as fault:
             link.detach()
             return self.tell(f"link {link.number}: {face.name} can't be used: {fault.strerror}", f"interface {link.number}")
-        self.write()
         self.loop.on(link.raw, lambda raw=link.raw: self.came(link, raw))
         if self.plane.hears:
             self.loop.on(link.packets, lambda packets=link.packets: self.plane.hear(packets))
         if self.words.hello:
             link.neighbour = Neighbour(self.state.instance, self.words.hello)
         self.tell(f"link {link.number} is {face.name}")
+        self.write()
 
     def leave(self, link: Link) -> None:
         if link.raw:
@@ -335,11 +332,11 @@ class Adapter:
             self.asked, self.covered = True, len(self.held)
             self.child.ask("show table", self.shown)
 
-    def shown(self, answer: list[str] | None) -> None:
+    def shown(self, answer: list[str]) -> None:
         """The table is there: the kernel's is made equal, and frames that waited for it go. Without one they wait on."""
         self.asked = False
-        if answer is None:
-            return                  # the router ended
+        if not self.child:
+            return                  # it ended
         try:
             self.rows = rows_of(answer, self.links)
         except (ValueError, IndexError):
@@ -374,10 +371,11 @@ class Adapter:
         if self.child:
             self.child.flush()
             if self.child.silent() > SILENT:
-                self.tell(f"the router has been silent for {SILENT:.0f} s: packets are forwarded as before, and no failure is repaired", "silent")
+                what = "packets are forwarded as before, and no failure is repaired"
+                self.tell(f"the router has been silent for {SILENT:.0f} s: {what}", "silent")
             elif now >= self.summary_at:
                 self.summary_at = now + SUMMARY
-                self.child.ask("show summary", lambda answer: setattr(self, "summary", answer or []))
+                self.child.ask("show summary", lambda answer: setattr(self, "summary", answer))
 
 
 def free_prefix(prefix: str) -> str:
@@ -386,7 +384,7 @@ def free_prefix(prefix: str) -> str:
     return next(it for it in prefixes if not os.path.exists(f"{it}.1") and not os.path.exists(f"{it}.1.part"))
 
 
-def local_rule(interface: str) -> Request:
+def local_rule(interface: str) -> netlink.Request:
     """RSVP that comes in over an interface is local here, whatever its destination."""
     iif, protocol = (netlink.RULE_INTERFACE, os.fsencode(interface) + b"\0"), (netlink.RULE_PROTOCOL, bytes([wire.RSVP]))
     return netlink.rule(LOCAL_TABLE, RULE_OF_LOCAL, iif, protocol)

@@ -1,8 +1,8 @@
 """A router's configuration: that of a file, what the router gets of it, and the lines that make one out of another."""
 import itertools
 import re
-import subprocess
 import tomllib
+from subprocess import DEVNULL, SubprocessError, run
 
 from machine import Trouble, trouble
 
@@ -14,8 +14,8 @@ OF_MACHINE = ("up", "listen", "send")                           # which aren't t
 
 def read_configuration(lsr: str, path: str) -> tuple[str, dict]:
     """The configuration as `lsr config` prints it, and its tables. Trouble: it is none, in the router's words."""
-    with trouble(f"{lsr} config {path}", "name the program lsr by --lsr", subprocess.SubprocessError, ValueError):
-        ran = subprocess.run([lsr, "config", path], stdin=subprocess.DEVNULL, capture_output=True, text=True, errors="replace", timeout=MOST_SECONDS)
+    with trouble(f"{lsr} config {path}", "name the program lsr by --lsr", SubprocessError, ValueError):
+        ran = run([lsr, "config", path], stdin=DEVNULL, capture_output=True, text=True, errors="replace", timeout=MOST_SECONDS)
         tables = tomllib.loads(ran.stdout)
     if ran.returncode or "labels" not in tables:
         raise Trouble(f"{path} is no configuration (docs/CONFIGURATION.md): {ran.stderr.strip() or f'{lsr} says status {ran.returncode}'}")
@@ -25,14 +25,14 @@ def read_configuration(lsr: str, path: str) -> tuple[str, dict]:
 
 
 def own_text(text: str, labels: range) -> str:
-    """The configuration for the router: with these labels, sockets beside the adapter's, and all links down until they are told to be up."""
+    """The configuration for the router: with these labels, sockets beside the adapter's, and all links down until it is told otherwise."""
     text = re.sub(r"(?m)^(?:listen|send) = .*\n", "", re.sub(r"(?m)^labels = .*$", f"labels = [{labels[0]}, {labels[-1]}]", text, count=1))
     ports = itertools.count(FIRST_PORT, 2)
     return re.sub(r"(?m)^up = .*$", lambda _: f'up = false\nsend = "{HOST}:{(port := next(ports))}"\nlisten = "{HOST}:{port + 1}"', text)
 
 
 def file_lines(text: str, answer: list[str]) -> list[str]:
-    """What `show config` answers as a file has it: without sockets, and with the labels of this one, of which a router has half, and its `up`."""
+    """What `show config` answers as a file has it: without sockets, and with this one's `up` and labels, of which a router has half."""
     kept = iter(re.findall(r"(?m)^(?:labels|up) = .*$", text))
     return [next(kept, it) if it.startswith(("labels = ", "up = ")) else it for it in answer if not it.startswith(("listen = ", "send = "))]
 
@@ -53,8 +53,8 @@ def tunnel_line(tunnel: dict) -> str:
 
 
 def difference(old: dict, new: dict) -> list[str]:
-    """The lines that make a router of the first tables one of the second, both as `lsr config` prints them. A tunnel is changed where its rate and
-    its route alone differ; else it goes, after the bypasses that run in it, and they come again after it. Trouble: no lines do."""
+    """The lines that make a router of the first tables one of the second, both as `lsr config` prints them. A tunnel is changed where its
+    rate and its route alone differ; else it goes, after the bypasses that run in it, and they come again after it. Trouble: no lines do."""
     was, will = fixed(old), fixed(new)
     if others := [it for it in was | will if was.get(it) != will.get(it)]:
         raise Trouble(f"no line changes {', '.join(others)}: end lsrnet and run it anew, or leave that as it was")
@@ -69,4 +69,4 @@ def difference(old: dict, new: dict) -> list[str]:
     for number, it in new_tunnels.items():
         if it != tunnels.get(number):
             lines.append(" ".join(["change", str(number), it["rate"], *it["route"]]) if number in kept else tunnel_line(it))
-    return lines + [f"bypass {number} {it['tunnel']} {it['link']} {it['capacity']}" for number, it in new_bypasses.items() if number not in stay]
+    return lines + [f"bypass {key} {it['tunnel']} {it['link']} {it['capacity']}" for key, it in new_bypasses.items() if key not in stay]

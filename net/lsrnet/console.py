@@ -4,12 +4,13 @@ import contextlib
 import errno
 import os
 import re
+import select
 import selectors
 import socket
 import stat
 import subprocess
 import time
-from collections.abc import Callable, Iterator
+from typing import Callable, Iterator, TypeVar
 
 from machine import Room, trouble
 
@@ -17,9 +18,10 @@ MARK = b"."                     # the line that ends each answer of `--mark`
 END_SECONDS, ANSWER_SECONDS = 20, 15
 MOST_OPERATORS, MOST_LINE, MOST_ANSWER, READ_BYTES = 32, 4096, 1 << 22, 1 << 16
 SO_SNDBUFFORCE = 32
-AT_ONCE = 16                    # so many datagrams of a socket are taken before the others have their turn
+AT_ONCE = 16                    # so much is read of a file before the others have their turn
 REFUSALS = "refused ", "bad line", "error ", "unreadable", "memory", "the router "        # so an answer begins where a line wasn't done
-Take = Callable[[list[str] | None], None]       # what takes an answer; None: the router ended before it answered
+Data = TypeVar("Data")
+Take = Callable[[list[str]], object]            # what takes an answer
 
 
 class Loop(selectors.DefaultSelector):
@@ -34,13 +36,15 @@ class Loop(selectors.DefaultSelector):
                 key.data()
 
 
-def datagrams(file: socket.socket) -> list[bytes]:
-    """Some of the datagrams that wait at a socket; none where it fails, as when its interface went."""
-    found = []
+def waiting(read: Callable[[], Data]) -> Iterator[Data]:
+    """Some of what waits to be read; nothing where reading fails, as when an interface went."""
     with contextlib.suppress(OSError):
-        while len(found) < AT_ONCE:
-            found.append(file.recv(READ_BYTES, socket.MSG_DONTWAIT))
-    return found
+        for _ in range(AT_ONCE):
+            yield read()
+
+
+def datagrams(file: socket.socket) -> Iterator[bytes]:
+    return waiting(lambda: file.recv(READ_BYTES, socket.MSG_DONTWAIT))
 
 
 class Child:
@@ -62,11 +66,9 @@ class Child:
         self.flush()
 
     def flush(self) -> None:
-        try:
+        with contextlib.suppress(OSError):      # it ended, as the end of its output tells
             while self.unsent and (count := self.process.stdin.write(self.unsent)):
                 self.unsent = self.unsent[count:]
-        except OSError:
-            self.unsent = b""   # it ended, as the end of its output tells
 
     def silent(self) -> float:
         """For how many seconds the oldest line has waited for its answer."""
@@ -88,18 +90,17 @@ class Child:
         """Ends it by the end of its input, so that its journal is whole, and waits so long at most; how it ended. Who waits is told."""
         last, said, late = time.monotonic() + END_SECONDS, b"", ""
         self.process.stdin.close()
-        with Loop() as waiting:
-            waiting.on(self.process.stdout, lambda: None)
-            while (left := last - time.monotonic()) > 0 and waiting.select(left) and (data := self.process.stdout.read(READ_BYTES)):
-                said = (said + data)[-READ_BYTES:]
+        output = self.process.stdout
+        while (left := last - time.monotonic()) > 0 and select.select([output], [], [], left)[0] and (data := output.read(READ_BYTES)):
+            said = (said + data)[-READ_BYTES:]
         try:
             self.process.wait(max(0.1, last - time.monotonic()))
         except subprocess.TimeoutExpired:
             self.process.kill()
             late = f": it was killed, since it didn't end in {END_SECONDS} s, and its journal lacks its last entries"
         for _, take in self.waiting:
-            take(None)
-        self.process.stdout.close()
+            take(["the router ended before it answered: ask again"])
+        output.close()
         found = re.findall(rb"^(?:reconciled|mismatch) .*$", said, re.MULTILINE)
         return f"ended with status {self.process.wait()}{late}" + (f": {found[-1].decode()}" if found else "")
 
@@ -125,17 +126,14 @@ class Desk:
             operator, _ = self.socket.accept()
             if self.operators == MOST_OPERATORS:
                 return operator.close()
-            operator.setblocking(False)
             operator.setsockopt(socket.SOL_SOCKET, SO_SNDBUFFORCE, MOST_ANSWER)
             self.loop.on(operator, lambda: self.heard(operator))
             self.operators += 1
 
     def heard(self, operator: socket.socket) -> None:
-        """A line of an operator, who goes where it is none. The next is read after its answer, so they don't pile up before those of links."""
+        """A line of an operator, who goes where it is none. The next is read after its answer, so they don't pile up before the links'."""
         self.loop.unregister(operator)
-        line = b""
-        with contextlib.suppress(OSError):
-            line = operator.recv(MOST_LINE + 1)
+        line = next(datagrams(operator), b"")
         text = line.decode(errors="surrogateescape")
         if not line:
             self.leave(operator)
@@ -146,10 +144,9 @@ class Desk:
         else:
             self.question(text, lambda answer: self.reply(operator, answer))
 
-    def reply(self, operator: socket.socket, answer: list[str] | None) -> None:
-        answer = ["the router ended before it answered: ask again"] if answer is None else answer
+    def reply(self, operator: socket.socket, answer: list[str]) -> None:
         try:
-            operator.send("".join(f"{it}\n" for it in answer or [""]).encode(errors="surrogateescape"))
+            operator.send("".join(f"{it}\n" for it in answer or [""]).encode(errors="surrogateescape"), socket.MSG_DONTWAIT)
             self.loop.on(operator, lambda: self.heard(operator))
         except OSError:
             self.leave(operator)
@@ -165,13 +162,12 @@ class Desk:
 
 def asked(path: str, lines: list[str]) -> Iterator[str]:
     """The answers to lines that are asked at a socket. Trouble: one isn't answered."""
-    with trouble(path, f"is lsrnet run with --socket {path}, and may you write to it? If it hangs, read its log"):
-        with socket.socket(socket.AF_UNIX, socket.SOCK_SEQPACKET) as asking:
-            asking.settimeout(ANSWER_SECONDS)
-            asking.connect(path)
-            for line in lines:
-                asking.send(os.fsencode(line))
-                answer = asking.recv(MOST_ANSWER).decode(errors="replace")
-                if not answer:
-                    raise OSError(0, "it was closed")
-                yield answer.lstrip("\n")
+    help_of_socket = f"is lsrnet run with --socket {path}, and may you write to it? If it hangs, read its log"
+    with trouble(path, help_of_socket), socket.socket(socket.AF_UNIX, socket.SOCK_SEQPACKET) as asking:
+        asking.settimeout(ANSWER_SECONDS)
+        asking.connect(path)
+        for line in lines:
+            asking.send(os.fsencode(line))
+            if not (answer := asking.recv(MOST_ANSWER).decode(errors="replace")):
+                raise OSError(0, "it was closed")
+            yield answer.lstrip("\n")

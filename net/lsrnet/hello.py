@@ -4,16 +4,17 @@ clock: it is given moments, in seconds on any clock that doesn't go back, and me
 A neighbour that was heard is lost when it is silent for 3.5 intervals, says another instance number than before, or doesn't reflect the own
 one; until it reflects the own number again, which is then a new one. One that was never heard isn't: a node needn't speak Hello at all.
 """
+import contextlib
 import math
 import struct
 from dataclasses import dataclass
 
-from wire import HEADER_BYTES, HELLO, Refused, check_header, objects, sealed
+from wire import HELLO, Refused, check_header, objects, sealed
 
 HELLO_CLASS, REQUEST, ACK = 22, 1, 2    # RFC 3209, 5.2: class of the object, its C-Types
 HELLO_TTL = 1                           # the IP TTL of a Hello between neighbours (RFC 3209, 5.1), and so its Send_TTL
 SILENT_INTERVALS = 3.5                  # RFC 3209, 5.3: so many intervals without a word are a loss
-WRONG_REQUESTS = 3                      # so many REQUESTs in a row that reflect a wrong instance are one (RFC 3209, 5.3: "a configured number")
+WRONG_REQUESTS = 3                      # so many REQUESTs in a row that reflect a wrong instance are one ("a configured number")
 INSTANCES = struct.Struct("!II")        # Src_Instance, Dst_Instance
 LAST_INSTANCE = 0xffffffff
 
@@ -26,13 +27,12 @@ def hello(kind: int, source: int, destination: int) -> bytes:
 
 def said(message: bytes) -> tuple[int, int, int] | None:
     """The C-Type and both instances of a Hello's first HELLO object; None where it is no such message."""
-    try:
+    with contextlib.suppress(Refused):
         check_header(message)
-    except Refused:
-        return None
-    found = (it for it in objects(message[HEADER_BYTES:]) if it[0] == HELLO_CLASS and it[1] in (REQUEST, ACK) and len(it[2]) == INSTANCES.size)
-    first = next(found, None) if message[1] == HELLO else None
-    return first and (first[1], *INSTANCES.unpack(first[2]))
+        for number, kind, body in objects(message) if message[1] == HELLO else ():
+            if number == HELLO_CLASS and kind in (REQUEST, ACK) and len(body) == INSTANCES.size:
+                return kind, *INSTANCES.unpack(body)
+    return None
 
 
 @dataclass
@@ -42,19 +42,18 @@ class Neighbour:
     interval: float
     other: int = 0                      # its Src_Instance; 0 where none is known
     heard: float = -math.inf            # when it last said an instance
-    asked: float = -math.inf            # when it last sent a REQUEST
-    sent: float = -math.inf             # when a REQUEST last went to it
+    asked: float = -math.inf            # when a REQUEST last went to it, or came from it
     wrong: int = 0
     is_there: bool = False
     is_lost: bool = False
 
     def tick(self, now: float) -> bytes | None:
-        """What time brings: a loss where the neighbour is silent, and the REQUEST that is due. One that came within the interval stands for it."""
+        """What time brings: a loss where the neighbour is silent, and the REQUEST that is due, unless one came within the interval."""
         if self.is_there and now - self.heard >= SILENT_INTERVALS * self.interval:
             self.lose(0)
-        if now - max(self.sent, self.asked) < self.interval:
+        if now - self.asked < self.interval:
             return None
-        self.sent = now
+        self.asked = now
         return hello(REQUEST, self.own, self.other)
 
     def receive(self, now: float, message: bytes) -> bytes | None:
@@ -62,12 +61,10 @@ class Neighbour:
         if not (words := said(message)):
             return None
         kind, source, destination = words
-        if self.is_there and source != self.other:
-            self.lose(source)           # it restarted, or lost this node
-        elif self.is_there and destination != self.own:
-            self.wrong += bool(destination)             # 0 says nothing in a REQUEST (RFC 3209, 5.3)
-            if kind == ACK or self.wrong >= WRONG_REQUESTS:
-                self.lose(source)
+        if self.is_there:
+            self.wrong += destination not in (0, self.own)              # 0 says nothing in a REQUEST (RFC 3209, 5.3)
+            if source != self.other or destination != self.own and (kind == ACK or self.wrong >= WRONG_REQUESTS):
+                self.lose(source)       # it restarted, or lost this node
         self.other, self.heard = source, now if source else self.heard
         if source and destination == self.own:          # it reflects the own instance: it is there
             self.is_there, self.is_lost, self.wrong = True, False, 0
@@ -78,5 +75,5 @@ class Neighbour:
 
     def lose(self, other: int) -> None:
         """From now on another instance is said, and Hellos begin anew at once (RFC 3209, 5.3)."""
-        self.is_there, self.is_lost, self.other, self.wrong, self.sent = False, True, other, 0, -math.inf
+        self.is_there, self.is_lost, self.other, self.wrong, self.asked = False, True, other, 0, -math.inf
         self.own = self.own + 1 if self.own < LAST_INSTANCE else 1

@@ -24,8 +24,8 @@ from typing import Callable, NamedTuple
 
 from wire import HEADER_BYTES, MOST_BYTES, RSVP_HOP, Refused, check_header, first_object, sealed
 
-INTEGRITY_CLASS, INTEGRITY_TYPE = 4, 1  # RFC 2747, section 2
-FIELDS = struct.Struct("!HBBBx6sQ")     # length, class, C-Type, flags, reserved, key identifier, sequence number; then the digest
+INTEGRITY_CLASS, INTEGRITY_TYPE, LAST_IDENTIFIER = 4, 1, (1 << 48) - 1          # RFC 2747, section 2
+FIELDS = struct.Struct("!HBBQQ")        # length, class, C-Type; flags, reserved and key identifier; sequence number; then the digest
 DIGESTS = {"hmac-md5": ("md5", 16), "hmac-sha1": ("sha1", 20)}      # hash function and bytes of its digest (RFC 2104)
 LINE = re.compile(r"(\S+)\s+(\d{1,15})\s+(\S+)\s+(?:text:([^\s\ufffd]+)|hex:((?:[0-9A-Fa-f]{2})+))")     # U+FFFD: no UTF-8
 
@@ -66,31 +66,29 @@ class Keys:
         with open(path, encoding="utf-8", errors="replace") as file:
             if os.fstat(file.fileno()).st_mode & 0o077:
                 raise ValueError(f"{path}: others may read these secrets; run chmod 600 {path}")
-            lines = [(f"{path}, line {number}", line.strip()) for number, line in enumerate(file, 1) if line.strip() and not line.startswith("#")]
+            lines = [(f"{path}, line {number}", line) for number, line in enumerate(file, 1) if line.strip() and not line.startswith("#")]
         for place, line in lines:
-            words = LINE.fullmatch(line)
-            if not words:
-                raise ValueError(f"{place}: write INTERFACE IDENTIFIER DIGEST text:SECRET in UTF-8, or hex:DIGITS, with an even number of them")
+            if not (words := LINE.fullmatch(line.strip())):
+                raise ValueError(f"{place}: write INTERFACE IDENTIFIER DIGEST text:SECRET in UTF-8, or hex:DIGITS, an even number of them")
             interface, identifier, name, text, digits = words.groups()
             if name not in DIGESTS:
                 raise ValueError(f"{place}: {name} is no digest here; write {' or '.join(DIGESTS)}")
-            if int(identifier) >> 48:
-                raise ValueError(f"{place}: identifier {identifier} has more than 48 bits; choose one up to {(1 << 48) - 1}")
+            if int(identifier) > LAST_IDENTIFIER:
+                raise ValueError(f"{place}: identifier {identifier} has more than 48 bits; choose one up to {LAST_IDENTIFIER}")
             if int(identifier) in (it.identifier for it in keys.setdefault(interface, [])):
                 raise ValueError(f"{place}: {interface} has identifier {identifier} already; give each key its own")
             keys[interface].append(Key(int(identifier), name, text.encode() if text else bytes.fromhex(digits)))
         return cls(keys)
 
     def protect(self, interface: str, message: bytes) -> bytes:
-        """The message as it leaves the interface: with the object first after the header (RFC 2205, 3.1.2), or as it is without a key.
-        ValueError: there is no room for the object."""
+        """The message as it leaves: with the object after the header (RFC 2205, 3.1.2), or as it is without a key. ValueError: no room."""
         if interface not in self.keys:
             return message
         key = self.keys[interface][0]
         if len(message) + key.object_bytes > MOST_BYTES:
             raise ValueError(f"with INTEGRITY it has more than {MOST_BYTES} bytes")
         number = self.sent[interface] = max(self.sent.get(interface, 0) + 1, self.clock())
-        fields = FIELDS.pack(key.object_bytes, INTEGRITY_CLASS, INTEGRITY_TYPE, 0, key.identifier.to_bytes(6, "big"), number)
+        fields = FIELDS.pack(key.object_bytes, INTEGRITY_CLASS, INTEGRITY_TYPE, key.identifier, number)
         return key.signed(message[:HEADER_BYTES], fields, message[HEADER_BYTES:])
 
     def verify(self, interface: str, message: bytes) -> bytes:
@@ -102,10 +100,10 @@ class Keys:
         fields = message[HEADER_BYTES:HEADER_BYTES + FIELDS.size]
         if fields[2:3] != bytes([INTEGRITY_CLASS]) or len(fields) < FIELDS.size:
             raise Refused("it doesn't begin with an INTEGRITY object; give the neighbour this interface's key")
-        length, _, kind, _, identifier, number = FIELDS.unpack(fields)
-        key = next((it for it in self.keys[interface] if it.identifier.to_bytes(6, "big") == identifier), None)
-        if key is None:
-            raise Refused(f"its key identifier {int.from_bytes(identifier, 'big')} isn't in the file of keys; add it, or change the neighbour's")
+        length, _, kind, identifier, number = FIELDS.unpack(fields)
+        identifier &= LAST_IDENTIFIER
+        if not (key := next((it for it in self.keys[interface] if it.identifier == identifier), None)):
+            raise Refused(f"its key identifier {identifier} isn't in the file of keys; add it, or change the neighbour's")
         if (kind, length) != (INTEGRITY_TYPE, key.object_bytes) or len(message) < HEADER_BYTES + length:
             raise Refused(f"its INTEGRITY object isn't one of {key.digest_name}; give both ends the same digest")
         header, objects = message[:HEADER_BYTES], message[HEADER_BYTES + length:]

@@ -1,4 +1,4 @@
-"""What the adapter needs of this machine: rights, settings of the kernel, a state that outlives a run, a network namespace for the router."""
+"""What the adapter needs of this machine: rights, settings of the kernel, a state that outlives a run, the router's network namespace."""
 import contextlib
 import ctypes
 import fcntl
@@ -18,7 +18,7 @@ SETTINGS = pathlib.Path("/proc/sys/net")
 CAPABILITIES = {12: "CAP_NET_ADMIN", 13: "CAP_NET_RAW"}
 MOST_LABEL = 1048574            # of Linux: platform_labels is 1048575 at most
 CLONE_NEWUSER, CLONE_NEWNET, SIOCSIFFLAGS, IFF_UP = 0x10000000, 0x40000000, 0x8914, 0x1
-SO_NETNS_COOKIE = 71            # the number of a socket's network namespace, which no other one has until the machine starts again (Linux 5.14)
+SO_NETNS_COOKIE = 71            # the number of a socket's network namespace, which no other has until the machine starts anew (Linux 5.14)
 WHY_BYTES = 1024
 libc = ctypes.CDLL(None, use_errno=True)        # os.unshare and os.setns came with Python 3.12
 
@@ -29,19 +29,20 @@ class Trouble(Exception):
 
 @contextlib.contextmanager
 def trouble(what: str, do: str, *kinds: type[Exception]) -> Iterator[None]:
-    """In it errors of the system, and of these kinds, become Trouble: with what, why, and what to do."""
+    """In it errors of the system, and of these kinds, become Trouble: with what (the file, or the kernel), why, and what to do."""
     try:
         yield
     except (OSError, *kinds) as fault:
+        what = what or getattr(fault, "filename", None) or "the kernel"
         raise Trouble(f"{what}: {getattr(fault, 'strerror', None) or fault}: {do}") from None
 
 
 class State:
-    """What is remembered from run to run in this network namespace: how often a router was started, an instance for Hello, and settings below
-    /proc/sys/net that were changed, with their values before and after. They are put back at the end, or by the run after one that was killed."""
+    """What is remembered from run to run in this network namespace: how often a router was started, an instance for Hello, and settings
+    below /proc/sys/net that were changed, with their values before and after, to be put back at the end of this run, or of the next."""
 
     def __init__(self, folder: str):
-        """Takes the namespace's lock, which the router holds too, since it may outlive a killed adapter for a moment. Trouble: another has it."""
+        """Takes the namespace's lock, which the router holds too, since it may outlive a killed adapter. Trouble: another has it."""
         self.lock = socket.socket(socket.AF_UNIX, socket.SOCK_DGRAM)
         number = int.from_bytes(self.lock.getsockopt(socket.SOL_SOCKET, SO_NETNS_COOKIE, 8), sys.byteorder)
         self.path = os.path.join(folder, str(number))
@@ -103,21 +104,21 @@ def lacking_plane(plane: str, last_label: int) -> str:
 
 
 class Room:
-    """A network namespace for the router, with `lo` alone, so that no other process of the machine reaches its sockets; and the adapter's there."""
+    """A network namespace for the router, with `lo` alone, so that no other process reaches its sockets; and the adapter's there."""
 
     def __init__(self, addresses: list[tuple[str, int]]):
         """Makes it, which takes the kernel up to some seconds, and UDP sockets at these addresses of it. Trouble: it can't be had."""
         ours, theirs = socket.socketpair()
         if not (process := os.fork()):          # this process stays where it is
             try:
-                kinds = ["net"] if not libc.unshare(CLONE_NEWNET) else ["user", "net"]       # a user namespace gives the right to who isn't root
-                if kinds[0] == "user" and libc.unshare(CLONE_NEWUSER | CLONE_NEWNET):
+                is_root = not libc.unshare(CLONE_NEWNET)            # to others a user namespace gives the right
+                if not is_root and libc.unshare(CLONE_NEWUSER | CLONE_NEWNET):
                     raise OSError(ctypes.get_errno(), os.strerror(ctypes.get_errno()))
                 made = [socket.socket(socket.AF_INET, socket.SOCK_DGRAM) for _ in addresses]
                 fcntl.ioctl(made[0], SIOCSIFFLAGS, struct.pack("16sH", b"lo", IFF_UP))
                 for it, address in zip(made, addresses):
                     it.bind(address)
-                files = [os.open(f"/proc/self/ns/{it}", os.O_RDONLY) for it in kinds]
+                files = [os.open(f"/proc/self/ns/{it}", os.O_RDONLY) for it in ("user", "net")[is_root:]]
                 socket.send_fds(theirs, [b"ready"], files + [it.fileno() for it in made])
             except OSError as fault:
                 theirs.send(fault.strerror.encode())

@@ -8,19 +8,18 @@ import fcntl
 import os
 import socket
 import struct
-from collections.abc import Callable, Collection
-from typing import NamedTuple
+from typing import Callable, Collection, NamedTuple
 
 import netlink
 import wire
-from console import AT_ONCE
+from console import waiting
 from links import MARKS, Link
 from machine import IFF_UP, SIOCSIFFLAGS, State, trouble
 from netlink import AF_INET, AF_MPLS, LOOPBACK, Entry, Netlink, Request
 
 TUNSETIFF, TAP, NO_HEADER, SIOCGIFHWADDR = 0x400454ca, 0x2, 0x1000, 0x8927
 FRAME_BYTES, TTL_AT = 1 << 16, 8
-HARDWARE, ETHERNET = struct.Struct("!4sH"), struct.Struct("!4sH6sH")    # the hardware address of a tunnel's neighbour ends with the tunnel's number
+HARDWARE, ETHERNET = struct.Struct("!4sH"), struct.Struct("!4sH6sH")    # a tunnel's neighbour has its number at the address's end
 TUNNELS = 4600000
 LOCAL_TABLE = MARKS             # everything is local in it: RSVP packets that come in are looked up there, whatever their destination
 BYPASS_BYTES = 4                # room that a head leaves for the label of a bypass further on
@@ -70,7 +69,7 @@ class KernelPlane:
         """The rows that a run before this one left, as far as they lead over links of this one."""
         ways = {(it.face.index, it.peer): it.number for it in self.links.values() if it.face.index} | {(LOOPBACK, None): 0}
         self.written = self.read()
-        return {key: Row(it.labels, ways[it.index, it.peer]) for key, it in self.written.items() if key < MARKS and (it.index, it.peer) in ways}
+        return {key: Row(it.labels, ways[way]) for key, it in self.written.items() if key < MARKS and (way := (it.index, it.peer)) in ways}
 
     def entry(self, key: int, row: Row) -> Entry | None:
         """A row as the kernel has it; none where it can't have it now."""
@@ -78,7 +77,7 @@ class KernelPlane:
             return Entry((), LOOPBACK, None)
         link = self.links[row.link]
         if key >= TUNNELS:
-            return Entry(row.labels, link.face.index, link.peer, link.face.mtu - BYPASS_BYTES) if link.carrier else None
+            return Entry(row.labels, link.face.index, link.peer, link.face.mtu - BYPASS_BYTES) if link.face.up else None
         return Entry(row.labels, link.face.index, link.peer) if link.face.index else None
 
     def request(self, key: int, entry: Entry | None) -> Request:
@@ -86,11 +85,11 @@ class KernelPlane:
         return netlink.default_route(key, entry) if key >= TUNNELS else netlink.label_route(key, entry)
 
     def keep(self, rows: Rows) -> int:
-        """Makes the kernel's table equal to this one; how many rows changed. What the kernel refuses is told, and tried again with the next.
-        Beside it what has the mark of a link that is up goes to the neighbour."""
+        """Makes the kernel's table equal to this one; how many rows changed. What the kernel refuses is told, and tried again with the
+        next. Beside it what has the mark of a link that is up goes to the neighbour."""
         changed, self.rows = sum(rows.get(it) != self.rows.get(it) for it in rows | self.rows), rows
         wanted = {key: it for key, row in rows.items() if (it := self.entry(key, row))} | {LOCAL_TABLE: Entry((), LOOPBACK, None)}
-        wanted |= {MARKS + it.number: Entry((), it.face.index, it.peer) for it in self.links.values() if it.carrier}
+        wanted |= {MARKS + it.number: Entry((), it.face.index, it.peer) for it in self.links.values() if it.face.up}
         keys = [it for it in self.written | wanted if self.written.get(it) != wanted.get(it)]
         errors = self.netlink.change([self.request(it, wanted.get(it)) for it in keys])
         refused = {key: error for key, error in zip(keys, errors) if error and key in wanted}
@@ -127,11 +126,9 @@ class UserPlane(KernelPlane):
         self.index = socket.if_nametoindex(self.exits)
 
     def hear(self, file: socket.socket) -> None:
-        with contextlib.suppress(OSError):          # no more, or the interface went down
-            for _ in range(AT_ONCE):
-                data, where = file.recvfrom(FRAME_BYTES, socket.MSG_DONTWAIT)
-                if where[2] == socket.PACKET_HOST:
-                    self.forward(data)
+        for data, where in waiting(lambda: file.recvfrom(FRAME_BYTES, socket.MSG_DONTWAIT)):
+            if where[2] == socket.PACKET_HOST:
+                self.forward(data)
 
     def forward(self, data: bytes) -> None:
         """Forwards a labelled packet by its top label (RFC 3031, 3.10); below the last label an IPv4 packet leaves its tunnel here."""
@@ -149,24 +146,20 @@ class UserPlane(KernelPlane):
 
     def send(self, row: Row, data: bytes, ttl: int, ends: bool) -> None:
         """A packet leaves by the row's link under its labels; `ends`: there are no other labels below."""
-        entries = [label << 12 | ttl for label in row.labels]
-        if entries and ends:
-            entries[-1] |= wire.BOTTOM
+        kind = wire.IPV4 if ends and not row.labels else wire.MPLS
         with contextlib.suppress(OSError):          # lost, as on a wire
-            self.links[row.link].send_frame(wire.MPLS if entries or not ends else wire.IPV4, struct.pack(f"!{len(entries)}I", *entries) + data)
+            self.links[row.link].send_frame(kind, wire.stack(row.labels, ttl, ends) + data)
 
     def enter(self) -> None:
         """Packets enter tunnels; what has no room for one is none."""
-        with contextlib.suppress(OSError):          # no more
-            for _ in range(AT_ONCE):
-                frame = os.read(self.tap, FRAME_BYTES)
-                _, number, _, kind = ETHERNET.unpack(frame[:ETHERNET.size].ljust(ETHERNET.size, b"\0"))
-                if kind == wire.IPV4 and len(frame) >= ETHERNET.size + wire.IP_BYTES and (row := self.rows.get(TUNNELS + number)):
-                    self.send(row, frame[ETHERNET.size:], frame[ETHERNET.size + TTL_AT], True)
+        for frame in waiting(lambda: os.read(self.tap, FRAME_BYTES)):
+            _, number, _, kind = ETHERNET.unpack(frame[:ETHERNET.size].ljust(ETHERNET.size, b"\0"))
+            if kind == wire.IPV4 and len(frame) >= ETHERNET.size + wire.IP_BYTES and (row := self.rows.get(TUNNELS + number)):
+                self.send(row, frame[ETHERNET.size:], frame[ETHERNET.size + TTL_AT], True)
 
     def entry(self, key: int, row: Row) -> Entry | None:
         """A tunnel's route, to its neighbour on `lsr0`; labels have none."""
-        if key < TUNNELS or not (link := self.links[row.link]).carrier:
+        if key < TUNNELS or not (link := self.links[row.link]).face.up:
             return None
         high, low = divmod(key - TUNNELS, 256)
         return Entry((), self.index, f"169.254.{high}.{low}", link.face.mtu - 4 * len(row.labels) - BYPASS_BYTES)

@@ -2,10 +2,9 @@
 import itertools
 import socket
 import struct
-from collections.abc import Iterator
-from typing import NamedTuple
+from typing import Iterator, NamedTuple
 
-RSVP = 46                       # the IP protocol; then the types of messages (RFC 2205, 3.1.1; RFC 3209, 5.1)
+RSVP = socket.IPPROTO_RSVP      # 46; then the types of messages (RFC 2205, 3.1.1; RFC 3209, 5.1)
 PATH, RESV, PATH_ERR, RESV_ERR, PATH_TEAR, RESV_TEAR, HELLO = 1, 2, 3, 4, 5, 6, 20
 DOWNSTREAM, UPSTREAM = {PATH, PATH_TEAR, RESV_ERR}, {RESV, PATH_ERR, RESV_TEAR}
 HEADER_BYTES, OBJECT_BYTES, IP_BYTES = 8, 4, 20         # of the headers of a message, of an object and of an IPv4 packet
@@ -38,6 +37,12 @@ def checksum(message: bytes) -> int:
     return 0xffff - sum(word for word, in struct.iter_unpack("!H", message + bytes(len(message) % 2))) % 0xffff
 
 
+def stack(labels: tuple[int, ...], ttl: int = 0, ends: bool = True) -> bytes:
+    """Label stack entries, the top first (RFC 3032, 2.1); `ends`: there are no others below, so the last has the bottom bit."""
+    bottoms = [0] * (len(labels) - 1) + [BOTTOM * ends]
+    return b"".join(struct.pack("!I", label << 12 | bottom | ttl) for label, bottom in zip(labels, bottoms))
+
+
 def sealed(message: bytes) -> bytes:
     """The message with the length of its bytes in its header, and the checksum that goes with them (RFC 2205, 3.1.1)."""
     plain = message[:2] + b"\0\0" + message[4:6] + struct.pack("!H", len(message)) + message[HEADER_BYTES:]
@@ -54,8 +59,9 @@ def check_header(message: bytes) -> None:
         raise Refused("its checksum is wrong")
 
 
-def objects(data: bytes) -> Iterator[tuple[int, int, bytes]]:
-    """The objects in what follows a message's header: class, C-Type and body of each (RFC 2205, 3.1.2), up to what is none."""
+def objects(message: bytes) -> Iterator[tuple[int, int, bytes]]:
+    """The objects of a message: class, C-Type and body of each (RFC 2205, 3.1.2), up to what is none."""
+    data = message[HEADER_BYTES:]
     while len(data) >= OBJECT_BYTES and (size := int.from_bytes(data[:2], "big")) >= OBJECT_BYTES and size % 4 == 0:
         yield data[2], data[3], data[OBJECT_BYTES:size]
         data = data[size:]
@@ -63,13 +69,12 @@ def objects(data: bytes) -> Iterator[tuple[int, int, bytes]]:
 
 def first_object(message: bytes, *wanted: int) -> bytes:
     """The body of the first object of these classes; no bytes where there is none."""
-    return next((body for kind, _, body in objects(message[HEADER_BYTES:]) if kind in wanted), b"")
+    return next((body for kind, _, body in objects(message) if kind in wanted), b"")
 
 
 def outgoing(frame: bytes, address: str, peer: str) -> tuple[bytes, Packet]:
-    """What a frame of the router is on a link with this address and this neighbour: a label stack's bytes, if it has one, and a packet. A Path,
-    a PathTear and what goes under labels go from the LSP's sender to its endpoint, with router alert (RFC 2205, 3.1.3).
-    ValueError, OSError: it is no frame."""
+    """What a router's frame is on a link: a label stack's bytes, if it has one, and a packet. ValueError, OSError: it is no frame. A Path,
+    a PathTear and what goes under labels go from the LSP's sender to its endpoint, with router alert (RFC 2205, 3.1.3)."""
     kind, end = frame[0] if frame else 0, 2 + 4 * int.from_bytes(frame[1:2], "big")
     if kind == ROUTED and len(frame) >= ROUTED_BYTES + HEADER_BYTES:
         return b"", Packet(address, socket.inet_ntoa(frame[1:5]), frame[5], frame[ROUTED_BYTES:])
