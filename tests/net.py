@@ -742,6 +742,16 @@ def rules_go(place):
     return "".join(f"not put right: {it}\n" for it in lacking)
 
 
+def known_neighbour(place):
+    """A neighbour that the kernel knew before, by ARP, stays known from then on, and goes at the end."""
+    ip(f"-n {place.here} neigh replace 10.1.0.1 lladdr 02:00:00:00:00:01 nud stale dev a-b")
+    adapter = Adapter(place)
+    adapter.wait_answer("show links", "link 1 up.*\nlink 2 up")
+    now = ip(f"-n {place.here} -4 neigh show to 10.1.0.1")
+    adapter.end()
+    return lacks("proto 246", now) + place.left()
+
+
 class Speaker(threading.Thread):
     """A neighbour of link 1 that speaks Hello until its socket is closed."""
 
@@ -884,7 +894,7 @@ def cases(place):
     for number in (signal.SIGTERM, signal.SIGINT, signal.SIGHUP):
         made.append((f"it ends by {number.name}", lambda number=number: ends_well(number)(place)))
     return made + [(case.__doc__, lambda case=case: case(place)) for case in (journals, killed, never_ends, no_integrity, no_reader, no_table, ends_before_table, program_goes,
-                                                                                 rules_go, hello_waits, stale_route, never_blocked, broken_pipe)]
+                                                                                 rules_go, known_neighbour, hello_waits, stale_route, never_blocked, broken_pipe)]
 
 
 def main():

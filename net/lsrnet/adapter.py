@@ -132,9 +132,12 @@ class Adapter:
         return made
 
     def write(self) -> int:
-        """Makes what isn't there of it in the kernel, for all links and for RSVP out of labels; how much wasn't."""
-        wanted = itertools.chain([local_rule(self.plane.exits)], *map(self.requests, self.links.values()))
+        """Makes what isn't there of it in the kernel, for all links and for RSVP out of labels; how much wasn't. A neighbour that is known
+        already, as by ARP, becomes one that stays known."""
+        wanted = [local_rule(self.plane.exits), *itertools.chain(*map(self.requests, self.links.values()))]
         errors = self.plane.netlink.change([(kind, netlink.CREATE | netlink.EXCLUSIVE, body) for kind, _, body in wanted])
+        known = [it for it, error in zip(wanted, errors) if it[0] == netlink.NEWNEIGH and error == errno.EEXIST]
+        self.plane.netlink.change(known)
         if refused := netlink.said(set(errors) - {errno.EEXIST}):
             self.tell(f"the kernel refuses a rule or a neighbour: {refused}", "refused rules")
         return errors.count(0)
