@@ -310,7 +310,7 @@ def refused_starts(place):
     place.write("plain", "")
     without_links = good[:good.index("[[link]]")]
     files = [
-        ("a file that isn't there", room / "absent.toml", "isn't there"), ("a folder as a file", room, "unreadable"),
+        ("a file that isn't there", room / "absent.toml", "no such file"), ("a folder as a file", room, "unreadable"),
         ("a file that is no TOML", place.write("text.toml", "router ="), "config Text"),
         ("bytes that are no text", place.write("bytes.toml", bytes(range(256))), "unreadable"),
         ("an empty file", place.write("empty.toml", ""), "config Missing router"),
