@@ -1029,19 +1029,28 @@ def wait_waiting(router, told):
     return int(wait_told(router, rf"{re.escape(told)}; (\d+) files wait in memory, and are tried again with the next")[1])
 
 
+def unwritten_counted(router):
+    """What `show counters` prints of files that aren't written."""
+    return [re.sub(r"\d+ (s|files)", r"N \1", line) for line in router.answer("show counters") if line.startswith("journal")]
+
+
 def later_file_unwritable():
     """A file that can't be written is told at once, waits, and is written when there is room again: nothing is lost."""
     with room_for_journal() as room, journal_router(room) as router:
         router.answer("start")
         (room / "night.1").mkdir()
         feed_lines(router)
-        wait_waiting(router, f"journal: {room}/night.1 is no regular file, and is not replaced: give another name")
+        why = f"{room}/night.1 is no regular file, and is not replaced: give another name"
+        wait_waiting(router, f"journal: {why}")
+        counted = unwritten_counted(router)
         (room / "night.1").rmdir()
         feed_lines(router)
         router.wait_log("journal: all files that waited are written")
+        counted += unwritten_counted(router)
         ended = router.quit()
         files = journal_files(room)
-        text = "" if ended.status == 0 and is_run(files, room) else f"status {ended.status}, files {files}\n"
+        text = differs("show counters", [f"journal since N s: {why}; N files wait"], counted)
+        text += "" if ended.status == 0 and is_run(files, room) else f"status {ended.status}, files {files}\n"
         return text + ("" if sum(counts_of(checked(files, room))) > 2 * LINES else "entries are lost\n")
 
 

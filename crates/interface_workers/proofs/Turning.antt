@@ -1,7 +1,7 @@
 -- Turns that were made, and one more.
 use Rattle.std.proofs.Common.{◌≡◌, ◌+◌, ◌-◌, ◌^◌, ◌≤◌, ◌<◌, ◌∷◌, ◌++◌, ℕ, List, [], min, length, sum_by, vec_capacity, ap, arith, refl, sym, subst, append_assoc, length-append, zero-add, ◌∙◌}
 use Rattle.std.proofs.lemmas.List.Sums.{sum_by-append}
-use Rattle.lsr_facts.specs.declared.router.Router.{Router}
+use Rattle.lsr_config.specs.Configs.{Setup}
 use Rattle.lookup_plane.specs.declared.change.TableChange.{TableChange}
 use Rattle.shared_core.specs.Below.journal.declared.mark.Mark.{Mark}
 use Rattle.interface_workers.specs.Chains.{AddsUp, HasRoom, IsChain}
@@ -141,10 +141,10 @@ none_turned start begun = record {
 }
 
 -- and after one more
-turn_more : (r : Router) (link turns : ℕ) (mark : Mark) (seen : List TableChange) (h : WireHistory) (before now : Standing) → HasTurned turns mark seen h before → IsTurn r link before now → HasTurned (turns + 1) mark seen h now
-turn_more r link turns mark seen h before now had turn =
-    let arrived = arrival_kind r now.seen link turn.arrival turn.taken turn.took in
-    let kind = served_kind turn.taken turn.handled before.work.receipts.items now.work.receipts.items turn.frames turn.sendings turn.served in
+turn_more : (c : Setup) (link turns : ℕ) (mark : Mark) (seen : List TableChange) (h : WireHistory) (before now : Standing) → HasTurned turns mark seen h before → IsTurn c link before now → HasTurned (turns + 1) mark seen h now
+turn_more c link turns mark seen h before now had turn =
+    let arrived = arrival_kind c.router now.seen link turn.arrival turn.taken turn.took in
+    let kind = served_kind c before.mark turn.taken turn.handled before.work.receipts.items now.work.receipts.items turn.frames turn.sendings turn.served in
     let tally : IsTallyOf now.work.tally (before.work.turns + 1) h now.history =
     subst (λ (t : Tally). IsTallyOf t (before.work.turns + 1) h now.history) (sym turn.tally)
     (tally_more before.work.tally before.work.turns h before.history now.history turn.arrival turn.sendings turn.handled had.tally turn.history
@@ -161,27 +161,27 @@ turn_more r link turns mark seen h before now had turn =
     }
 
 -- what so many turns have done
-turned : (r : Router) (link : ℕ) (start : Standing) (turns : ℕ) (now : Standing) → IsNoWork start.work → AreTurns r link start turns now → HasTurned turns start.mark start.seen start.history now
-turned r link start turns now begun at_first = none_turned start begun
-turned r link start turns now begun (one_more earlier all before after made turn one) =
+turned : (c : Setup) (link : ℕ) (start : Standing) (turns : ℕ) (now : Standing) → IsNoWork start.work → AreTurns c link start turns now → HasTurned turns start.mark start.seen start.history now
+turned c link start turns now begun at_first = none_turned start begun
+turned c link start turns now begun (one_more earlier all before after made turn one) =
     subst (λ (n : ℕ). HasTurned n start.mark start.seen start.history after) (sym one)
-    (turn_more r link earlier start.mark start.seen start.history before after (turned r link start earlier before begun made) turn)
+    (turn_more c link earlier start.mark start.seen start.history before after (turned c link start earlier before begun made) turn)
 
-pub run_turned : (r : Router) (link turns : ℕ) (mark : Mark) (seen : List TableChange) (h : WireHistory) (now : Standing) → IsRunOf r link turns mark seen h now → HasTurned turns mark seen h now
-run_turned r link turns mark seen h now run = turned r link (record { work = run.work; mark = mark; seen = seen; history = h }) turns now run.begun run.made
+pub run_turned : (c : Setup) (link turns : ℕ) (mark : Mark) (seen : List TableChange) (h : WireHistory) (now : Standing) → IsRunOf c link turns mark seen h now → HasTurned turns mark seen h now
+run_turned c link turns mark seen h now run = turned c link (record { work = run.work; mark = mark; seen = seen; history = h }) turns now run.begun run.made
 
 -- a run that begins
-pub run_none : (r : Router) (link : ℕ) (now : Standing) → IsNoWork now.work → IsRunOf r link 0 now.mark now.seen now.history now
-run_none r link now begun = record { work = now.work; begun = begun; made = at_first }
+pub run_none : (c : Setup) (link : ℕ) (now : Standing) → IsNoWork now.work → IsRunOf c link 0 now.mark now.seen now.history now
+run_none c link now begun = record { work = now.work; begun = begun; made = at_first }
 
 -- and goes on
-pub run_more : (r : Router) (link turns : ℕ) (mark : Mark) (seen : List TableChange) (h : WireHistory) (before now : Standing) → IsRunOf r link turns mark seen h before → IsTurn r link before now
-    → IsRunOf r link (turns + 1) mark seen h now
-run_more r link turns mark seen h before now run turn = record { work = run.work; begun = run.begun; made = one_more turns (turns + 1) before now run.made turn refl }
+pub run_more : (c : Setup) (link turns : ℕ) (mark : Mark) (seen : List TableChange) (h : WireHistory) (before now : Standing) → IsRunOf c link turns mark seen h before → IsTurn c link before now
+    → IsRunOf c link (turns + 1) mark seen h now
+run_more c link turns mark seen h before now run turn = record { work = run.work; begun = run.begun; made = one_more turns (turns + 1) before now run.made turn refl }
 
 -- the work says how many turns were made
-pub run_whole : (r : Router) (link turns : ℕ) (mark : Mark) (seen : List TableChange) (h : WireHistory) (now : Standing) → IsRunOf r link turns mark seen h now → IsRunOf r link now.work.turns mark seen h now
-run_whole r link turns mark seen h now run = subst (λ (n : ℕ). IsRunOf r link n mark seen h now) (sym (run_turned r link turns mark seen h now run).made) run
+pub run_whole : (c : Setup) (link turns : ℕ) (mark : Mark) (seen : List TableChange) (h : WireHistory) (now : Standing) → IsRunOf c link turns mark seen h now → IsRunOf c link now.work.turns mark seen h now
+run_whole c link turns mark seen h now run = subst (λ (n : ℕ). IsRunOf c link n mark seen h now) (sym (run_turned c link turns mark seen h now run).made) run
 
 -- what is counted is among the wire's failures
 min_low : (n top : ℕ) → min n top ≤ n

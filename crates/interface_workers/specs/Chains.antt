@@ -1,7 +1,8 @@
 -- Receipts of one port, each after the other, and a worker's work.
-use Rattle.std.specs.Prelude.{◌≡◌, ◌+◌, ◌-◌, ◌^◌, ◌<◌, ◌≤◌, ℕ, All, List, [], ◌∷◌, Result, Ok, Err, length, vec_capacity}
+use Rattle.std.specs.Prelude.{◌≡◌, ◌+◌, ◌-◌, ◌^◌, ◌<◌, ◌≤◌, ◌⊎◌, ℕ, All, List, [], ◌∷◌, Result, Ok, Err, length, vec_capacity}
 use Rattle.lsr_config.specs.Configs.{Setup}
 use Rattle.lsr_facts.specs.declared.refusal.Refusal.{Refusal}
+use Rattle.lsr_facts.specs.declared.refusal.Refusal.TheVariants.{JournalFull, NoMemory}
 use Rattle.abstract_paths.specs.declared.events.Event.{Event}
 use Rattle.journal_bytes.specs.Events.{event_bytes}
 use Rattle.shared_core.specs.Below.journal.Journals.{Stretch}
@@ -9,7 +10,7 @@ use Rattle.shared_core.specs.Below.journal.Marks.{Follows}
 use Rattle.shared_core.specs.Below.journal.declared.mark.Mark.{Mark}
 use Rattle.shared_core.specs.Below.journal.declared.receipt.Receipt.{Receipt}
 use Rattle.shared_core.specs.Names.{IsReceiptOf, IsSegmentOf}
-use Rattle.shared_core.specs.Refused.{MayBeRefused}
+use Rattle.shared_core.specs.Answered.{IsRefusedBy}
 use Rattle.worker_tallies.specs.Tallies.{IsSum}
 use Rattle.worker_tallies.specs.declared.handled.Handled.{Handled}
 use Rattle.worker_tallies.specs.declared.handled.Handled.TheVariants.{Fed}
@@ -20,11 +21,21 @@ abbrev pub IsChain : Mark → List Receipt → Mark → Type 0
 IsChain first [] last = last ≡ first
 IsChain first (receipt ∷ receipts) last = Follows first receipt × IsChain receipt.mark receipts last
 
--- an event is fed: the receipt is of it, and the port has the receipt's mark; or it is refused, for one of the core's reasons, and the port
--- has the mark that it had
-abbrev pub IsFed : Mark → Event → Result Receipt Refusal → Mark → Type 0
-IsFed before event (Ok receipt) after = Follows before receipt × (receipt.event ≡ event_bytes event) × (after ≡ receipt.mark)
-IsFed before event (Err refusal) after = (after ≡ before) × MayBeRefused event refusal
+-- an event is fed once: the receipt is of it, and the port has the receipt's mark; or it is refused, by the core's journal as it stood then, and
+-- the port has the mark that it had
+abbrev pub IsFedOnce : Setup → Mark → Event → Result Receipt Refusal → Mark → Type 0
+IsFedOnce c before event (Ok receipt) after = Follows before receipt × (receipt.event ≡ event_bytes event) × (after ≡ receipt.mark)
+IsFedOnce c before event (Err refusal) after = (after ≡ before) × IsRefusedBy c before event refusal
+
+-- an event of a port of this mark isn't fed, for this reason: the core's journal as it stood then refuses it so; or it was full, and memory ran out
+-- as its entries were to be taken
+abbrev pub IsLeft : Setup → Mark → Event → Refusal → Type 0
+IsLeft c m event refusal = IsRefusedBy c m event refusal ⊎ (IsRefusedBy c m event JournalFull × (refusal ≡ NoMemory))
+
+-- an event is fed, and once more where the journal was full
+abbrev pub IsFed : Setup → Mark → Event → Result Receipt Refusal → Mark → Type 0
+IsFed c before event (Ok receipt) after = Follows before receipt × (receipt.event ≡ event_bytes event) × (after ≡ receipt.mark)
+IsFed c before event (Err refusal) after = (after ≡ before) × IsLeft c before event refusal
 
 -- the work's tally adds up: each datagram is counted as one of four kinds, and there is a receipt for each that was fed
 abbrev pub AddsUp : Work → Type 0

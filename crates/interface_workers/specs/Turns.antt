@@ -1,6 +1,7 @@
 -- A worker's turns: what came, what became of it, and what was sent.
 use Rattle.std.specs.Prelude.{◌≡◌, ◌≢◌, ◌+◌, ◌-◌, ◌^◌, ◌≤◌, ◌++◌, ℕ, min, List, [], ◌∷◌, Ok, Err, length}
-use Rattle.lsr_facts.specs.declared.refusal.Refusal.TheVariants.{NoMemory}
+use Rattle.lsr_config.specs.Configs.{Setup}
+use Rattle.lsr_facts.specs.declared.refusal.Refusal.TheVariants.{JournalFull, NoMemory}
 use Rattle.lsr_facts.specs.declared.router.Router.{Router}
 use Rattle.abstract_paths.specs.declared.events.Event.{Event}
 use Rattle.forwarding_table.specs.Forwarding.{forward_of}
@@ -13,10 +14,10 @@ use Rattle.datagrams.specs.declared.datagram.Passed.{Passed}
 use Rattle.datagrams.specs.declared.datagram.Passed.TheVariants as passes
 use Rattle.journal_bytes.specs.Events.{event_bytes}
 use Rattle.journal_bytes.specs.declared.entry.WrittenFrame.{WrittenFrame}
+use Rattle.shared_core.specs.Below.journal.Journals.{Stretch}
 use Rattle.shared_core.specs.Below.journal.declared.mark.Mark.{Mark}
 use Rattle.shared_core.specs.Below.journal.declared.receipt.Receipt.{Receipt}
-use Rattle.interface_workers.specs.Chains.{WorkGoesOn}
-use Rattle.shared_core.specs.Refused.{MayBeRefused}
+use Rattle.interface_workers.specs.Chains.{IsLeft, WorkGoesOn}
 use Rattle.worker_tallies.specs.Tallies.{counted, handled_for, no_tally, with_lost}
 use Rattle.interface_workers.specs.Wires.{AreGiven, AreSent, Arrival, Sending, WireHistory, after, datagrams_in, faults_in, lost_in}
 use Rattle.interface_workers.specs.Wires.Arrival.{Came, Fault, Silence}
@@ -42,16 +43,28 @@ IsUnlabelled Silence = Unit {0}
 IsUnlabelled Fault = Unit {0}
 IsUnlabelled (Came bytes) = kind_of bytes ≢ 2
 
--- An event is served: it is fed, its receipt is kept behind the others, and its frames are sent; or it is refused, for one of the core's
--- reasons, and nothing is sent.
-abbrev pub IsEventServed : Event → Handled → List Receipt → List Receipt → List WrittenFrame → List Sending → Type 0
-IsEventServed event handles.Fed before now frames sendings =
-    (receipt : Receipt) × (now ≡ before ++ receipt ∷ []) × (receipt.event ≡ event_bytes event) × (frames ≡ receipt.outputs)
-IsEventServed event (handles.Dropped refusal) before now frames sendings =
-    (handles.Dropped refusal ≡ handled_for refusal) × (now ≡ before) × (frames ≡ []) × MayBeRefused event refusal
-IsEventServed event (handles.Refused refusal) before now frames sendings =
-    (handles.Refused refusal ≡ handled_for refusal) × (now ≡ before) × (frames ≡ []) × MayBeRefused event refusal
-IsEventServed event handled before now frames sendings = ⊥
+-- the receipt is of this event
+abbrev pub IsOfEvent : Event → Receipt → Type 0
+IsOfEvent event receipt = receipt.event ≡ event_bytes event
+
+-- An event of a port of this mark is served: it is fed, its receipt is kept after the others, and its frames are sent; or the core of this
+-- configuration refuses it, and nothing is sent.
+abbrev pub IsEventServed : Setup → Mark → Event → Handled → List Receipt → List Receipt → List WrittenFrame → List Sending → Type 0
+IsEventServed c m event handles.Fed before now frames sendings =
+    (receipt : Receipt) × (now ≡ before ++ receipt ∷ []) × IsOfEvent event receipt × (frames ≡ receipt.outputs)
+IsEventServed c m event (handles.Dropped refusal) before now frames sendings =
+    (handles.Dropped refusal ≡ handled_for refusal) × (now ≡ before) × (frames ≡ []) × IsLeft c m event refusal
+IsEventServed c m event (handles.Refused refusal) before now frames sendings =
+    (handles.Refused refusal ≡ handled_for refusal) × (now ≡ before) × (frames ≡ []) × IsLeft c m event refusal
+IsEventServed c m event handled before now frames sendings = ⊥
+
+-- An event is refused as full only where it was fed again after the journal's entries were taken: there is a segment more.
+abbrev pub IsFullAgain : Handled → List Stretch → List Stretch → Type 0
+IsFullAgain handled before now = handled ≡ handles.Refused JournalFull → length now ≡ length before + 1
+
+-- so is one that came
+abbrev pub IsFullAgainFor : Taken → Handled → List Stretch → List Stretch → Type 0
+IsFullAgainFor taken handled before now = (event : Event) → taken ≡ takes.Came (Ok (datagrams.Event event)) → IsFullAgain handled before now
 
 -- What goes on by its labels is sent as it leaves, where there is memory for its bytes: it is forwarded exactly where the wire carried it. A
 -- payload that has arrived goes no further.
@@ -64,14 +77,15 @@ IsPassedOn (passes.Sent link frame) handles.NotCarried frames sendings =
 IsPassedOn (passes.Sent link frame) (handles.Refused refusal) frames sendings = (refusal ≡ NoMemory) × (frames ≡ [])
 IsPassedOn (passes.Sent link frame) handled frames sendings = ⊥
 
--- What was taken is served: what became of it, which receipts there are now, and which frames were sent for it, with which success.
-abbrev pub IsServed : Taken → Handled → List Receipt → List Receipt → List WrittenFrame → List Sending → Type 0
-IsServed takes.Nothing handled before now frames sendings = (handled ≡ handles.Nothing) × (now ≡ before) × (frames ≡ [])
-IsServed takes.WireFailed handled before now frames sendings = (handled ≡ handles.WireFailed) × (now ≡ before) × (frames ≡ [])
-IsServed takes.NotShown handled before now frames sendings = (handled ≡ handles.NotShown) × (now ≡ before) × (frames ≡ [])
-IsServed (takes.Came (Ok (datagrams.Event event))) handled before now frames sendings = IsEventServed event handled before now frames sendings
-IsServed (takes.Came (Ok (datagrams.Passed passed))) handled before now frames sendings = (now ≡ before) × IsPassedOn passed handled frames sendings
-IsServed (takes.Came (Err refusal)) handled before now frames sendings = (handled ≡ handled_for refusal) × (now ≡ before) × (frames ≡ [])
+-- What a port of this mark took is served: what became of it, which receipts there are now, and which frames were sent for it, with which
+-- success.
+abbrev pub IsServed : Setup → Mark → Taken → Handled → List Receipt → List Receipt → List WrittenFrame → List Sending → Type 0
+IsServed c m takes.Nothing handled before now frames sendings = (handled ≡ handles.Nothing) × (now ≡ before) × (frames ≡ [])
+IsServed c m takes.WireFailed handled before now frames sendings = (handled ≡ handles.WireFailed) × (now ≡ before) × (frames ≡ [])
+IsServed c m takes.NotShown handled before now frames sendings = (handled ≡ handles.NotShown) × (now ≡ before) × (frames ≡ [])
+IsServed c m (takes.Came (Ok (datagrams.Event event))) handled before now frames sendings = IsEventServed c m event handled before now frames sendings
+IsServed c m (takes.Came (Ok (datagrams.Passed passed))) handled before now frames sendings = (now ≡ before) × IsPassedOn passed handled frames sendings
+IsServed c m (takes.Came (Err refusal)) handled before now frames sendings = (handled ≡ handled_for refusal) × (now ≡ before) × (frames ≡ [])
 
 -- Such frames were sent, with such success, and nothing else happened on the wire.
 pub record HasSent (Is : List WrittenFrame → List Sending → Type 0) (before now : WireHistory) : Type 0 where
@@ -87,28 +101,29 @@ pub record Standing : Type 0 where
   pub seen : List TableChange
   pub history : WireHistory
 
--- A turn: the wire was asked for a frame, once; what it gave was served, and counted by what became of it; and nothing else happened on the
--- wire. The reader has seen more of the label table only where that was a labelled frame.
-pub record IsTurn (r : Router) (link : ℕ) (before now : Standing) : Type 0 where
+-- A turn of a worker of the core of this configuration: the wire was asked for a frame, once; what it gave was served, and counted by what
+-- became of it; and nothing else happened on the wire. The reader has seen more of the label table only where that was a labelled frame.
+pub record IsTurn (c : Setup) (link : ℕ) (before now : Standing) : Type 0 where
   pub arrival : Arrival
   pub taken : Taken
   pub handled : Handled
   pub frames : List WrittenFrame
   pub sendings : List Sending
-  pub took : IsTaken r now.seen link arrival taken
-  pub served : IsServed taken handled before.work.receipts.items now.work.receipts.items frames sendings
+  pub took : IsTaken c.router now.seen link arrival taken
+  pub served : IsServed c before.mark taken handled before.work.receipts.items now.work.receipts.items frames sendings
   pub given : AreGiven frames sendings now.history.failed
   pub history : now.history ≡ after before.history (arrival ∷ []) sendings
   pub tally : now.work.tally ≡ counted (with_lost before.work.tally (lost_in sendings)) handled
   pub turns : now.work.turns ≡ before.work.turns + 1
   pub goes_on : WorkGoesOn before.work before.mark now.work now.mark
+  pub full : IsFullAgainFor taken handled before.work.segments.items now.work.segments.items
   pub seen : StartsWith now.seen before.seen
   pub unlabelled : IsUnlabelled arrival → now.seen ≡ before.seen
 
 -- So many turns were made from here, one after the other, all over this link.
-pub data AreTurns (r : Router) (link : ℕ) (start : Standing) : ℕ → Standing → Type 0 where
-  at_first : AreTurns r link start 0 start
-  one_more : (turns all : ℕ) (before now : Standing) → AreTurns r link start turns before → IsTurn r link before now → all ≡ turns + 1 → AreTurns r link start all now
+pub data AreTurns (c : Setup) (link : ℕ) (start : Standing) : ℕ → Standing → Type 0 where
+  at_first : AreTurns c link start 0 start
+  one_more : (turns all : ℕ) (before now : Standing) → AreTurns c link start turns before → IsTurn c link before now → all ≡ turns + 1 → AreTurns c link start all now
 
 -- no work yet
 pub record IsNoWork (work : Work) : Type 0 where
@@ -118,10 +133,10 @@ pub record IsNoWork (work : Work) : Type 0 where
   pub turns : work.turns ≡ 0
 
 -- All that a worker did are so many turns: it began with no work.
-pub record IsRunOf (r : Router) (link turns : ℕ) (mark : Mark) (seen : List TableChange) (history : WireHistory) (now : Standing) : Type 0 where
+pub record IsRunOf (c : Setup) (link turns : ℕ) (mark : Mark) (seen : List TableChange) (history : WireHistory) (now : Standing) : Type 0 where
   pub work : Work
   pub begun : IsNoWork work
-  pub made : AreTurns r link (record { work = work; mark = mark; seen = seen; history = history }) turns now
+  pub made : AreTurns c link (record { work = work; mark = mark; seen = seen; history = history }) turns now
 
 -- The tally and the number of turns tell what happened on the wire: it was asked for a frame once in each turn; so many datagrams came, and
 -- so often it failed; and of the frames that it was given, so many are lost.

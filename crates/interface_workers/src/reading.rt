@@ -55,8 +55,11 @@ fn read_labelled<L: Ledger>(
 {
     match reader.enter() {
         Ok(lookups) => {
-            let answer = read_datagram(alloc, router, &Seen { lookups: &lookups }, link, bytes);
-            (Some(answer), CoreReader::leave(lookups))
+            let seen = Seen {
+                lookups: lookups.as_lookups(),
+            };
+            let answer = read_datagram(alloc, router, &seen, link, bytes);
+            (Some(answer), lookups.leave())
         }
         Err(reader) => (None, reader),
     }
@@ -103,7 +106,9 @@ fn next_labelled<'a, L: Ledger>(
         Ok(lookups) => lookups,
         Err(reader) => return (Next::Taken(Taken::NotShown), reader),
     };
-    let seen = Seen { lookups: &lookups };
+    let seen = Seen {
+        lookups: lookups.as_lookups(),
+    };
     let next = match rewrite(&seen, buffer) {
         Some(sent) => Next::Rewritten {
             link: sent.link,
@@ -117,7 +122,7 @@ fn next_labelled<'a, L: Ledger>(
             &buffer[ROOM..],
         ))),
     };
-    (next, CoreReader::leave(lookups))
+    (next, lookups.leave())
 }
 
 /// What a turn serves of a datagram that came over a link, to the router of the reader's name, and stands in the buffer after room for more

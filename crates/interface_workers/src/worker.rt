@@ -1,10 +1,11 @@
 //! A worker: it takes frames from a link's wire, feeds the core what they say, and sends what the core answers.
 
-ghost use Rattle.std.specs.Prelude.{◌≡◌, ◌+◌, ◌-◌, ◌^◌, ◌<◌, ◌≤◌, ◌⊎◌, ◌∷◌, ℕ, All, false, true, [], IfOk, IfSome, List, OnErr, length, vec_capacity};
-ghost use Rattle.interface_workers.specs.Chains.{AddsUp, AreHandedOut, HasRoom, IsChain, IsFed, IsWorkOf, StaysWorkOf, WorkGoesOn};
+ghost use Rattle.std.specs.Prelude.{◌≡◌, ◌+◌, ◌-◌, ◌^◌, ◌<◌, ◌≤◌, ◌⊎◌, ◌∷◌, ℕ, All, false, true, [], IfErr, IfOk, IfSome, List, OnErr, length, vec_capacity};
+ghost use Rattle.lsr_facts.specs.declared.refusal.Refusal.TheVariants.{JournalFull};
+ghost use Rattle.interface_workers.specs.Chains.{AddsUp, AreHandedOut, HasRoom, IsChain, IsFed, IsFedOnce, IsWorkOf, StaysWorkOf, WorkGoesOn};
 ghost use Rattle.shared_core.specs.Names.{IsReceiptOf, IsSegmentOf};
 ghost use Rattle.worker_tallies.specs.Tallies.{counted, with_lost};
-ghost use Rattle.interface_workers.specs.Turns.{AreAmongFailures, HasSent, IsEventServed, IsNoWork, IsPassedOn, IsRunOf, IsServed, IsTaken, IsTallyOf, IsTurn, IsUnlabelled};
+ghost use Rattle.interface_workers.specs.Turns.{AreAmongFailures, HasSent, IsEventServed, IsFullAgain, IsFullAgainFor, IsNoWork, IsPassedOn, IsRunOf, IsServed, IsTaken, IsTallyOf, IsTurn, IsUnlabelled};
 ghost use Rattle.interface_workers.specs.Wires.{AreSent, Arrival, Sending, after};
 ghost use Rattle.interface_workers.specs.Next.{StandsFor};
 ghost use Rattle.link_frames.specs.Frames.{frame_bytes};
@@ -208,7 +209,7 @@ impl<'a, L: CoreName, R: Wait + Drop, K: KeepSegments + Drop, T: Wait, G: Gate> 
         spelled: Option<SpelledEvent>,
     ) -> Result<CoreReceipt<L>, Refusal>
         requires { IfSome spelled (IsSpelled event.now) }
-        ensures fed { IsFed port.old.mark event.now result port.new.mark }
+        ensures fed { IsFedOnce L.config port.old.mark event.now result port.new.mark }
         ensures taken { port.new.taken ≡ port.old.taken }
         ensures own { IfOk result (IsReceiptOf L.config) }
     {
@@ -237,10 +238,11 @@ impl<'a, L: CoreName, R: Wait + Drop, K: KeepSegments + Drop, T: Wait, G: Gate> 
     ) -> Result<CoreReceipt<L>, Refusal>
         requires room { length segments.old.items < vec_capacity segments.old }
         requires spelled { IfSome spelled (IsSpelled event.now) }
-        ensures fed { IsFed port.old.mark event.now result port.new.mark }
+        ensures fed { IsFed L.config port.old.mark event.now result port.new.mark }
         ensures segments { length segments.new.items ≤ length segments.old.items + 1 }
         ensures room { vec_capacity segments.new ≡ vec_capacity segments.old }
         ensures handed_out { AreHandedOut port.old.taken segments.old.items port.new.taken segments.new.items }
+        ensures full { IfErr result (λ refusal. refusal ≡ JournalFull → length segments.new.items ≡ length segments.old.items + 1) }
         ensures own { IfOk result (IsReceiptOf L.config) }
         ensures stays { All (IsSegmentOf L.config) segments.old.items → All (IsSegmentOf L.config) segments.new.items }
     {
@@ -254,8 +256,8 @@ impl<'a, L: CoreName, R: Wait + Drop, K: KeepSegments + Drop, T: Wait, G: Gate> 
         }
     }
 
-    /// Feeds an event, keeps its receipt, and sends what the core answers. What is refused, for one of the core's reasons, leaves no receipt.
-    /// Nothing is counted yet.
+    /// Feeds an event, keeps its receipt, and sends what the core answers. What is refused leaves no receipt; as full it is
+    /// only where it was so again, after the entries were taken. Nothing is counted yet.
     fn serve_event<W: Wire>(
         &self,
         held: &mut Option<HeldCore<'a, L, R>>,
@@ -270,7 +272,8 @@ impl<'a, L: CoreName, R: Wait + Drop, K: KeepSegments + Drop, T: Wait, G: Gate> 
         ensures goes_on { WorkGoesOn work.old port.old.mark work.new port.new.mark }
         ensures handed_out { AreHandedOut port.old.taken work.old.segments.items port.new.taken work.new.segments.items }
         ensures own { StaysWorkOf L.config work.old work.new }
-        ensures served { HasSent (IsEventServed event.now result work.old.receipts.items work.new.receipts.items) (W.history wire.old) (W.history wire.new) }
+        ensures served { HasSent (IsEventServed L.config port.old.mark event.now result work.old.receipts.items work.new.receipts.items) (W.history wire.old) (W.history wire.new) }
+        ensures full { IsFullAgain result work.old.segments.items work.new.segments.items }
         ensures tally { (work.new.tally ≡ work.old.tally) × (work.new.turns ≡ work.old.turns) }
     {
         self.hold_for_more(held, wire);
@@ -296,7 +299,7 @@ impl<'a, L: CoreName, R: Wait + Drop, K: KeepSegments + Drop, T: Wait, G: Gate> 
     ) -> (Next<'b>, CoreReader<L>)
         requires failed { (W.history wire.old).failed < 2 ^ 64 - 1 }
         requires room { ROOM ≤ length buffer.old }
-        ensures took { (arrival : Arrival) × (taken : Taken) × StandsFor result.0 taken × IsTaken self.now.core.now.router result.1.seen link arrival taken
+        ensures took { (arrival : Arrival) × (taken : Taken) × StandsFor result.0 taken × IsTaken L.config.router result.1.seen link arrival taken
             × (W.history wire.new ≡ after (W.history wire.old) (arrival ∷ []) []) × (IsUnlabelled arrival → result.1 ≡ reader) }
         ensures later { StartsWith result.1.seen reader.seen }
         ensures learnt { result.1.at_least ≡ reader.at_least }
@@ -334,7 +337,8 @@ impl<'a, L: CoreName, R: Wait + Drop, K: KeepSegments + Drop, T: Wait, G: Gate> 
         ensures goes_on { WorkGoesOn work.old port.old.mark work.new port.new.mark }
         ensures handed_out { AreHandedOut port.old.taken work.old.segments.items port.new.taken work.new.segments.items }
         ensures own { StaysWorkOf L.config work.old work.new }
-        ensures served { HasSent (IsEventServed event.now result work.old.receipts.items work.new.receipts.items) (W.history wire.old) (W.history wire.new) }
+        ensures served { HasSent (IsEventServed L.config port.old.mark event.now result work.old.receipts.items work.new.receipts.items) (W.history wire.old) (W.history wire.new) }
+        ensures full { IsFullAgain result work.old.segments.items work.new.segments.items }
         ensures tally { (work.new.tally ≡ work.old.tally) × (work.new.turns ≡ work.old.turns) }
         ensures seen { reader.new.seen ≡ reader.old.seen }
         ensures learnt { reader.old.at_least ≤ reader.new.at_least }
@@ -358,7 +362,8 @@ impl<'a, L: CoreName, R: Wait + Drop, K: KeepSegments + Drop, T: Wait, G: Gate> 
         ensures goes_on { WorkGoesOn work.old port.old.mark work.new port.new.mark }
         ensures handed_out { AreHandedOut port.old.taken work.old.segments.items port.new.taken work.new.segments.items }
         ensures own { StaysWorkOf L.config work.old work.new }
-        ensures served { HasSent (IsServed taken.now result work.old.receipts.items work.new.receipts.items) (W.history wire.old) (W.history wire.new) }
+        ensures served { HasSent (IsServed L.config port.old.mark taken.now result work.old.receipts.items work.new.receipts.items) (W.history wire.old) (W.history wire.new) }
+        ensures full { IsFullAgainFor taken.now result work.old.segments.items work.new.segments.items }
         ensures tally { (work.new.tally ≡ work.old.tally) × (work.new.turns ≡ work.old.turns) }
         ensures seen { reader.new.seen ≡ reader.old.seen }
         ensures learnt { reader.old.at_least ≤ reader.new.at_least }
@@ -385,7 +390,8 @@ impl<'a, L: CoreName, R: Wait + Drop, K: KeepSegments + Drop, T: Wait, G: Gate> 
         ensures goes_on { WorkGoesOn work.old port.old.mark work.new port.new.mark }
         ensures handed_out { AreHandedOut port.old.taken work.old.segments.items port.new.taken work.new.segments.items }
         ensures own { StaysWorkOf L.config work.old work.new }
-        ensures served { HasSent (IsServed (Taken.Came answer.now) result work.old.receipts.items work.new.receipts.items) (W.history wire.old) (W.history wire.new) }
+        ensures served { HasSent (IsServed L.config port.old.mark (Taken.Came answer.now) result work.old.receipts.items work.new.receipts.items) (W.history wire.old) (W.history wire.new) }
+        ensures full { IsFullAgainFor (Taken.Came answer.now) result work.old.segments.items work.new.segments.items }
         ensures tally { (work.new.tally ≡ work.old.tally) × (work.new.turns ≡ work.old.turns) }
         ensures seen { reader.new.seen ≡ reader.old.seen }
         ensures learnt { reader.old.at_least ≤ reader.new.at_least }
@@ -418,7 +424,8 @@ impl<'a, L: CoreName, R: Wait + Drop, K: KeepSegments + Drop, T: Wait, G: Gate> 
         ensures handed_out { AreHandedOut port.old.taken work.old.segments.items port.new.taken work.new.segments.items }
         ensures own { StaysWorkOf L.config work.old work.new }
         ensures served { (taken : Taken) → StandsFor next.entry taken
-            → HasSent (IsServed taken result work.old.receipts.items work.new.receipts.items) (W.history wire.old) (W.history wire.new) }
+            → HasSent (IsServed L.config port.old.mark taken result work.old.receipts.items work.new.receipts.items) (W.history wire.old) (W.history wire.new) }
+        ensures full { (taken : Taken) → StandsFor next.entry taken → IsFullAgainFor taken result work.old.segments.items work.new.segments.items }
         ensures tally { (work.new.tally ≡ work.old.tally) × (work.new.turns ≡ work.old.turns) }
         ensures seen { reader.new.seen ≡ reader.old.seen }
         ensures learnt { reader.old.at_least ≤ reader.new.at_least }
@@ -456,7 +463,7 @@ impl<'a, L: CoreName, R: Wait + Drop, K: KeepSegments + Drop, T: Wait, G: Gate> 
         requires failed { (W.history wire.old).failed < 2 ^ 64 - 1 }
         requires buffer { ROOM ≤ length buffer.old }
         ensures buffer { length buffer.new ≡ length buffer.old }
-        ensures turn { IsTurn self.now.core.now.router link
+        ensures turn { IsTurn L.config link
             (record { work = work.old; mark = port.old.mark; seen = reader.seen; history = W.history wire.old })
             (record { work = work.new; mark = port.new.mark; seen = result.seen; history = W.history wire.new }) }
         ensures learnt { reader.at_least ≤ result.at_least }
@@ -477,8 +484,8 @@ impl<'a, L: CoreName, R: Wait + Drop, K: KeepSegments + Drop, T: Wait, G: Gate> 
     }
 }
 
-/// Feeds an event, keeps its receipt, and sends what the core answers. What is refused leaves no receipt. Which it was is counted, as of a
-/// datagram, and so are the frames that the wire lost. Work that was of the router of the core's configuration stays so.
+/// Feeds an event, keeps its receipt, and sends what the core answers. What is refused leaves no receipt; as full it is only where it was so
+/// again, after the entries were taken. Which it was is counted, as of a datagram, and so are the frames that the wire lost. Work that was of the router of the core's configuration stays so.
 pub fn serve_event<L: CoreName, R: Wait + Drop, K: KeepSegments + Drop, T: Wait, W: Wire, G: Gate>(
     rt: &T,
     alloc: Global,
@@ -493,7 +500,8 @@ pub fn serve_event<L: CoreName, R: Wait + Drop, K: KeepSegments + Drop, T: Wait,
     ensures goes_on { WorkGoesOn work.old port.old.mark work.new port.new.mark }
     ensures handed_out { AreHandedOut port.old.taken work.old.segments.items port.new.taken work.new.segments.items }
     ensures own { StaysWorkOf L.config work.old work.new }
-    ensures served { HasSent (IsEventServed event.now result work.old.receipts.items work.new.receipts.items) (W.history wire.old) (W.history wire.new) }
+    ensures served { HasSent (IsEventServed L.config port.old.mark event.now result work.old.receipts.items work.new.receipts.items) (W.history wire.old) (W.history wire.new) }
+    ensures full { IsFullAgain result work.old.segments.items work.new.segments.items }
     ensures tally { (lost : ℕ) × (work.new.tally ≡ counted (with_lost work.old.tally lost) result)
         × ((W.history wire.new).failed ≡ (W.history wire.old).failed + lost) }
     ensures adds_up { AddsUp work.new }
@@ -548,7 +556,7 @@ pub fn serve_link<L: CoreName, R: Wait + Drop, K: KeepSegments + Drop, T: Wait, 
     ensures turns { IfOk result.1 (λ work. (work.turns ≡ turns) ⊎ ((W.history wire.new).failed ≡ 2 ^ 64 - 1)) }
     ensures asked { IfOk result.1 (λ work. IsTallyOf work.tally work.turns (W.history wire.old) (W.history wire.new)) }
     ensures failures { IfOk result.1 (λ work. AreAmongFailures work.tally (W.history wire.old) (W.history wire.new)) }
-    ensures run { IfOk result.1 (λ work. IsRunOf core.now.router link work.turns port.old.mark reader.seen (W.history wire.old)
+    ensures run { IfOk result.1 (λ work. IsRunOf L.config link work.turns port.old.mark reader.seen (W.history wire.old)
         (record { work = work; mark = port.new.mark; seen = result.0.seen; history = W.history wire.new })) }
     ensures later { StartsWith result.0.seen reader.seen }
     ensures learnt { reader.at_least ≤ result.0.at_least }

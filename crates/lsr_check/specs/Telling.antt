@@ -92,7 +92,7 @@ name_line name = codes "  in " ++ (name ++ codes "\n")
 
 abbrev pub unread_text : List ℕ → Unread → List ℕ
 unread_text name (unreads.Input fault) = input_fault_text name fault
-unread_text name unreads.Format = name_line name ++ codes "  these bytes are no journal file: copy it again\n"
+unread_text name unreads.Format = name_line name ++ codes "  these bytes are no journal file, or one that was cut short: copy it again\n"
 unread_text name unreads.Memory = name_line name
 
 -- what is told of a file after which no further one is looked at

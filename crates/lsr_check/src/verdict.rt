@@ -65,7 +65,10 @@ fn tell_unread<E: Write>(error: &mut E, name: &str, unread: Unread) -> io::Resul
         Unread::Input(fault) => tell_input_fault(error, name, fault),
         Unread::Format => {
             tell_name(error, name)?;
-            write!(error, "  these bytes are no journal file: copy it again\n")
+            write!(
+                error,
+                "  these bytes are no journal file, or one that was cut short: copy it again\n"
+            )
         }
         Unread::Memory => tell_name(error, name),
     }

@@ -6,6 +6,7 @@ use Rattle.std.specs.Prelude.{slice_get, slice_index_or}
 use Rattle.abstract_paths.specs.declared.events.Event.{Event}
 use Rattle.journal_bytes.specs.declared.entry.WrittenFrame.{WrittenFrame}
 use Rattle.lsr_config.specs.Configs.{Setup}
+use Rattle.run_journal.specs.declared.mark.Mark.{Mark}
 use Rattle.run_journal.specs.declared.receipt.Receipt.{Receipt}
 use Rattle.interface_workers.specs.Chains.{StaysWorkOf}
 use Rattle.shared_core.specs.Names.{IsReceiptOf}
@@ -51,15 +52,15 @@ newest_fed c event before after r q fed newest =
     subst (λ (x : Receipt). IsFedAs c event before after x) same fed
 
 -- an event that was served was fed or refused
-pub event_answered : (c : Setup) (event : Event) (handled : Handled) (before after : Work) (frames : List WrittenFrame) (sendings : List Sending) → IsEventServed event handled before.receipts.items after.receipts.items frames sendings → StaysWorkOf c before after
-    → MatchOption (refusal_of handled) ((receipt : Receipt) × IsFedAs c event before after receipt) (IsRefusedFor event before after)
-event_answered c event handles.Fed before after frames sendings (r, newest, is, sent) stays =
+pub event_answered : (c : Setup) (m : Mark) (event : Event) (handled : Handled) (before after : Work) (frames : List WrittenFrame) (sendings : List Sending) → IsEventServed c m event handled before.receipts.items after.receipts.items frames sendings → StaysWorkOf c before after
+    → MatchOption (refusal_of handled) ((receipt : Receipt) × IsFedAs c event before after receipt) (IsRefusedFor c event before after)
+event_answered c m event handles.Fed before after frames sendings (r, newest, is, sent) stays =
     (r, record { newest = newest; of_event = is; own = λ own. of_newest (IsReceiptOf c) after.receipts.items before.receipts.items r newest (stays own).receipts })
-event_answered c event (handles.Dropped refusal) before after frames sendings (kind, same, none, reason) stays = record { receipts = same; reason = reason }
-event_answered c event (handles.Refused refusal) before after frames sendings (kind, same, none, reason) stays = record { receipts = same; reason = reason }
-event_answered c event handles.Nothing before after frames sendings served stays = absurd served
-event_answered c event handles.WireFailed before after frames sendings served stays = absurd served
-event_answered c event handles.Forwarded before after frames sendings served stays = absurd served
-event_answered c event handles.Delivered before after frames sendings served stays = absurd served
-event_answered c event handles.NotShown before after frames sendings served stays = absurd served
-event_answered c event handles.NotCarried before after frames sendings served stays = absurd served
+event_answered c m event (handles.Dropped refusal) before after frames sendings (kind, same, none, reason) stays = record { receipts = same; mark = m; reason = reason }
+event_answered c m event (handles.Refused refusal) before after frames sendings (kind, same, none, reason) stays = record { receipts = same; mark = m; reason = reason }
+event_answered c m event handles.Nothing before after frames sendings served stays = absurd served
+event_answered c m event handles.WireFailed before after frames sendings served stays = absurd served
+event_answered c m event handles.Forwarded before after frames sendings served stays = absurd served
+event_answered c m event handles.Delivered before after frames sendings served stays = absurd served
+event_answered c m event handles.NotShown before after frames sendings served stays = absurd served
+event_answered c m event handles.NotCarried before after frames sendings served stays = absurd served

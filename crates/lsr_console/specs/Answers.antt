@@ -1,10 +1,9 @@
 -- What a console answers to a line.
-use Rattle.std.specs.Prelude.{◌≡◌, ℕ, List, [], ◌∷◌, ◌++◌, Bool, false, true, Option, Some, None, Result, Ok, Err, codes, flat_map}
+use Rattle.std.specs.Prelude.{◌≡◌, ℕ, List, [], ◌∷◌, ◌++◌, Bool, false, true, Option, Some, None, Result, Ok, Err, codes, flat_map, string_bytes}
 use Rattle.abstract_paths.specs.declared.events.Event.{Event}
 use Rattle.abstract_router.specs.States.{State}
-use Rattle.interface_workers.specs.Chains.{IsWorkOf}
+use Rattle.interface_workers.specs.Chains.{IsLeft, IsWorkOf}
 use Rattle.shared_core.specs.Names.{IsKnown, IsReceiptOf}
-use Rattle.shared_core.specs.Refused.{MayBeRefused}
 use Rattle.worker_tallies.specs.declared.handled.Handled.{Handled}
 use Rattle.worker_tallies.specs.declared.handled.Handled.TheVariants as handles
 use Rattle.worker_tallies.specs.declared.handled.Tally.{Tally}
@@ -22,6 +21,7 @@ use Rattle.lsr_lines.specs.declared.shown.Shown.{Shown}
 use Rattle.lsr_session.specs.Requests.{Shows, latest}
 use Rattle.lsr_text.specs.Answers.{refusal_line, replies_text, reply_line}
 use Rattle.lsr_text.specs.FrameLines.{written_line}
+use Rattle.run_journal.specs.declared.mark.Mark.{Mark}
 use Rattle.run_journal.specs.declared.receipt.Receipt.{Receipt}
 use Rattle.lsr_console.specs.Counters.{counters_text}
 use Rattle.lsr_console.specs.Said.{Says, event_of}
@@ -53,15 +53,16 @@ pub record IsFedAs (c : Setup) (event : Event) (before after : Work) (receipt : 
   pub of_event : receipt.event ≡ event_bytes event
   pub own : IsWorkOf c before → IsReceiptOf c receipt
 
--- An event is refused, for one of the core's reasons, and leaves no receipt.
-pub record IsRefusedFor (event : Event) (before after : Work) (refusal : Refusal) : Type 0 where
+-- An event of a port is refused, by the core of the router of this configuration, and leaves no receipt.
+pub record IsRefusedFor (c : Setup) (event : Event) (before after : Work) (refusal : Refusal) : Type 0 where
   pub receipts : after.receipts.items ≡ before.receipts.items
-  pub reason : MayBeRefused event refusal
+  pub mark : Mark
+  pub reason : IsLeft c mark event refusal
 
 -- an event is fed, or refused
 abbrev pub IsAnswered : Setup → Event → Work → Work → Result Receipt Refusal → Type 0
 IsAnswered c event before after (Ok receipt) = IsFedAs c event before after receipt
-IsAnswered c event before after (Err refusal) = IsRefusedFor event before after refusal
+IsAnswered c event before after (Err refusal) = IsRefusedFor c event before after refusal
 
 -- the line of a frame that was sent
 abbrev pub frame_line : WrittenFrame → List ℕ
@@ -129,7 +130,7 @@ abbrev pub AnswersSaid : Setup → Manner → List Tally → ℕ → List ℕ �
 AnswersSaid c manner counts number line before saids.Remark text after = (text ≡ []) × (after ≡ before)
 AnswersSaid c manner counts number line before saids.Help text after = (text ≡ HELP.now) × (after ≡ before)
 AnswersSaid c manner counts number line before saids.Quit text after = (text ≡ QUITS.now) × (after ≡ before)
-AnswersSaid c manner counts number line before saids.Counters text after = (text ≡ counters_text manner.sockets counts) × (after ≡ before)
+AnswersSaid c manner counts number line before saids.Counters text after = (text ≡ counters_text manner.sockets counts ++ string_bytes manner.unwritten) × (after ≡ before)
 AnswersSaid c manner counts number line before (saids.Asks request) text after = AnswersRequest c manner number line before request text after
 AnswersSaid c manner counts number line before saids.Nothing text after = (text ≡ bad_line_text number line) × (after ≡ before)
 

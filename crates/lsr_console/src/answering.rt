@@ -160,7 +160,11 @@ pub(crate) fn answer_line<
         Said::Remark => Ok(String::new(desk.alloc)),
         Said::Help => Ok(text_of(desk.alloc, HELP)?),
         Said::Quit => Ok(text_of(desk.alloc, QUITS)?),
-        Said::Counters => Ok(counters.text(desk.alloc, &manner.sockets)?),
+        Said::Counters => Ok(counters.text(
+            desk.alloc,
+            &manner.sockets,
+            manner.unwritten.as_str(),
+        )?),
         Said::Asks(request) => answer_request(
             desk, port, wire, work, recent, manner, number, line, request,
         ),

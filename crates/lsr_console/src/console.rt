@@ -85,6 +85,13 @@ impl<O: Write + Drop> Console<O> {
         ending
     }
 
+    /// From now on `show counters` says this of the router's files that aren't written; nothing where all are.
+    pub fn tell_unwritten(&mut self, text: String)
+        ensures { self.new ≡ record self.old { manner = record self.old.manner { unwritten = text } } }
+    {
+        self.manner.unwritten = text;
+    }
+
     /// Answers the line, whose number is how many there were with it, at once, and ends the answer. The error is the output's.
     fn serve_line<
         L: CoreName,

@@ -45,18 +45,21 @@ impl Counters {
         self.ports = ports;
     }
 
-    /// What is told of the ports of a router whose links have these socket addresses. The only error is that memory ran out.
+    /// What is told of the ports of a router whose links have these socket addresses, and after them of its files. The only error is that
+    /// memory ran out.
     pub(crate) fn text(
         &self,
         alloc: Global,
         sockets: &Table<u16, LinkSockets>,
+        unwritten: &str,
     ) -> Result<String, AllocError>
-        ensures { IfOk result (λ text. string_bytes text ≡ counters_text sockets.now self.now.ports.items) }
+        ensures { IfOk result (λ text. string_bytes text ≡ counters_text sockets.now self.now.ports.items ++ unwritten.now) }
     {
         let counts = self.ports.as_slice();
         let mut text = String::new(alloc);
         text.push_str(heading(counts.is_empty()))?;
         push_ports(&mut text, sockets.as_slice(), counts)?;
+        text.push_str(unwritten)?;
         Ok(text)
     }
 }

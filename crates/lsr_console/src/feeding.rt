@@ -45,7 +45,7 @@ fn feed<L: CoreName, R: Wait + Drop, K: KeepSegments + Drop, T: Wait + Clock, W:
     ensures attended { IsAttended L.config work.old port.old.mark port.old.taken work.new port.new.mark port.new.taken }
     ensures answered { MatchOption result
         ((receipt : Receipt) × IsFedAs L.config event.now work.old work.new receipt)
-        (IsRefusedFor event.now work.old work.new) }
+        (IsRefusedFor L.config event.now work.old work.new) }
 {
     let handled = serve_event(
         desk.rt, desk.alloc, desk.core, port, wire, desk.gate, work, event,

@@ -12,4 +12,6 @@ pub struct Manner {
     pub marks: bool,
     /// The socket addresses of the router's links, by the links' numbers.
     pub sockets: Table<u16, LinkSockets>,
+    /// What `show counters` says after the ports: the router's files that aren't written, if any.
+    pub unwritten: String,
 }

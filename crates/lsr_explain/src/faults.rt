@@ -137,9 +137,9 @@ segment N: not kept
   See: docs/PROGRAM.md (`lsr serve`: a router over sockets)
 mismatch PORT PLACE
   Of `lsr serve`: what its threads were told and the journal aren't one run of the router: they
-  differ first at the PLACEth entry of the port PORT. Of PORT 0, PLACE is the number of the first
-  piece of the journal that doesn't go on from the one before, and 1 also where the run isn't one
-  of this configuration. It is a fault of this program or of the machine. At a console nothing is
+  differ first at the PLACEth entry of the port PORT. Where both are 0, a segment of the journal
+  doesn't go on from the one before, or the run isn't one of this configuration: a line of the log
+  says which segment. It is a fault of this program or of the machine. At a console nothing is
   served from then on.
   What to do: end the program, keep the configuration and the journal's files, and report it.
   See: docs/PROGRAM.md (`lsr serve`: a router over sockets)

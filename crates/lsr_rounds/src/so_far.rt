@@ -85,19 +85,31 @@ impl RunSoFar {
         }
     }
 
-    /// A mismatch of a round, by its place in the run: among all receipts of its port, or all segments.
+    /// A mismatch of a round, by its place in the run: that among all receipts of its port, or the number of its segment among all.
     fn in_run(&self, of_round: Mismatch) -> Mismatch {
-        let Mismatch { port, place } = of_round;
+        let Mismatch {
+            port,
+            place,
+            segment,
+        } = of_round;
+        if segment > 0 {
+            return Mismatch {
+                port,
+                place,
+                segment: self.segments.saturating_add(segment),
+            };
+        }
         let before = match usize::from(port).checked_sub(1) {
             Some(index) => match self.ports.get(index) {
                 Some(count) => count.receipts as u64,
                 None => 0,
             },
-            None => self.segments,
+            None => 0,
         };
         Mismatch {
             port,
             place: before.saturating_add(place),
+            segment,
         }
     }
 

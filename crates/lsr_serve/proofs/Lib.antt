@@ -1,4 +1,5 @@
 pub mod Below
+pub mod Clocking
 mod Counting
 mod Digits
 mod Locality

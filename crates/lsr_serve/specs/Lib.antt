@@ -1,5 +1,6 @@
 pub mod Below
 pub mod Local
+pub mod Moments
 pub mod Reports
 pub mod Sockets
 pub mod Told

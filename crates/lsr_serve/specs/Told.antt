@@ -13,7 +13,7 @@ use Rattle.run_reconciler.specs.declared.reconciling.Mismatch.{Mismatch}
 abbrev pub reconciled_text : ℕ → List ℕ
 reconciled_text count = codes "reconciled " ++ (decimal count ++ codes " entries\n")
 
--- the first receipt that isn't the run's: its port, and its place among the port's
+-- the first receipt that isn't the run's: its port, and its place among the port's; 0 and 0 where it is a segment
 abbrev pub mismatch_text : Mismatch → List ℕ
 mismatch_text m = codes "mismatch " ++ (decimal m.port ++ (codes " " ++ (decimal m.place ++ codes "\n")))
 

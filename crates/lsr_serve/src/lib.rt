@@ -18,7 +18,7 @@ pub use run::{
     add_segment, add_turned, add_work, link_workers, run_worker, run_workers, serve_on,
 };
 pub use run_reconciler as reconciler;
-pub use serving::{copy_config, serve_links, tell_end, tell_lost, tell_ports, tell_run};
+pub use serving::{copy_config, serve_links, tell_end, tell_gap, tell_lost, tell_ports, tell_run};
 pub use sockets::read_sockets;
 pub use turns::{DEFAULT_TURNS, MAX_TURNS, read_turns};
 pub use udp_wire::{LinkWire, ServeFault, SocketFault, UdpWire, open_clock_wire, open_wires};

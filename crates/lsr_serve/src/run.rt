@@ -3,6 +3,7 @@ ghost use Rattle.std.specs.Prelude.{◌≡◌, ◌+◌, ◌<◌, ◌≤◌, All,
 ghost use Rattle.lsr_config.specs.Configs.{Setup};
 ghost use Rattle.interface_workers.specs.Chains.{IsWorkOf};
 ghost use Rattle.interface_workers.specs.Below.core.Names.{IsSegmentOf};
+ghost use Rattle.lsr_serve.specs.Moments.{AreOfMoments, HasClock};
 ghost use Rattle.lsr_serve.specs.Reports.{IsCounted, IsPutTo, IsReportOf};
 
 use crate::udp_wire::LinkWire;
@@ -148,7 +149,8 @@ fn run_clock<
     turns: u32,
     beside: &mut B,
 ) -> Result<Work, AllocError>
-    ensures { IfOk result (IsWorkOf L.config) }
+    ensures own { IfOk result (IsWorkOf L.config) }
+    ensures moments { IfOk result (λ work. AreOfMoments turns work.receipts.items × (work.tally.datagrams ≡ turns)) }
 {
     let mut work = Work::new(alloc, turns)?;
     for turn in 0..turns {
@@ -348,6 +350,7 @@ fn run_threads<
     ensures ports { IfOk result (λ served. length served.ports.items ≡ length workers.items + 1) }
     ensures counted { IfOk result IsCounted }
     ensures own { IfOk result (IsReportOf L.config) }
+    ensures clock { IfOk result (HasClock turns) }
 {
     let (turned, clock_work) = thread::join(
         rt,
@@ -393,6 +396,7 @@ fn serve_named<
     ensures ports { IfOk result (λ served. length served.0.ports.items ≡ length links.items + 1) }
     ensures counted { IfOk result (λ served. IsCounted served.0) }
     ensures own { IfOk result (λ served. IsReportOf L.config served.0) }
+    ensures clock { IfOk result (λ served. HasClock turns served.0) }
     ensures kept { IfOk result (λ served. K.given served.1 ≡ served.0.kept) }
 {
     let count = links.len();
@@ -460,6 +464,7 @@ pub fn serve_on<
     ensures ports { IfOk result (λ served. length served.0.ports.items ≡ length links.items + 1) }
     ensures counted { IfOk result (λ served. IsCounted served.0) }
     ensures own { IfOk result (λ served. IsReportOf config served.0) }
+    ensures clock { IfOk result (λ served. HasClock turns served.0) }
     ensures kept { IfOk result (λ served. K.given served.1 ≡ served.0.kept) }
 {
     let blank = Blank::new(links.len() as u64 + 1);

@@ -8,7 +8,7 @@ use crate::run::{BesideClock, PortCount, RunReport, serve_on};
 use crate::udp_wire::{LinkWire, ServeFault, UdpWire, open_clock_wire, open_wires};
 use interface_workers::{KeepSegments, OpenGate, Segment};
 use log::sink::Writer;
-use log::{Log, info, warn};
+use log::{Log, error, info, warn};
 use lsr_config::{Config, LinkSockets};
 use run_reconciler::{Mismatch, judge};
 use sorted_rows::{Table, TryCopy};
@@ -107,6 +107,14 @@ pub fn tell_end<L: Log>(log: &L, last: Option<&Segment>) {
     }
 }
 
+/// Logs which segment, counted from 1, doesn't go on from what was before it, where a mismatch names one: of 0 nothing is told. A line that
+/// can't be written is left out.
+pub fn tell_gap<L: Log>(log: &L, segment: u64) {
+    if segment > 0 {
+        error!(log; target: "", "segment {segment} of the journal doesn't go on from what was before it");
+    }
+}
+
 /// Whether what a run left is one run of the router of this configuration, as [`judge`] says.
 fn judge_report(config: &Config, served: &RunReport) -> Result<(), Mismatch>
     ensures run { OnOk result
@@ -120,8 +128,13 @@ fn judge_report(config: &Config, served: &RunReport) -> Result<(), Mismatch>
 }
 
 /// Prints whether what a run left is one run of the router of this configuration, as [`judge`] says, and how many entries its journal
-/// has; and gives the status, 0 or 1. The error is the stream's.
-pub fn tell_run<W: Write>(config: &Config, served: &RunReport, output: &mut W) -> io::Result<u8>
+/// has; and gives the status, 0 or 1. Where a segment doesn't go on, the error stream is told which. The error is the output's.
+pub fn tell_run<W: Write, E: Write>(
+    config: &Config,
+    served: &RunReport,
+    output: &mut W,
+    error: &mut E,
+) -> io::Result<u8>
     ensures { IfOk result (λ status. (text : List ℕ) × Appends (W.contents output.old) (W.contents output.new) text
         × TellsRun config.now (length served.now.ports.items) served.now.segments.items served.now.receipts.items text status) }
 {
@@ -131,7 +144,14 @@ pub fn tell_run<W: Write>(config: &Config, served: &RunReport, output: &mut W) -
             write!(output, "reconciled {count} entries\n")?;
             Ok(DONE)
         }
-        Err(Mismatch { port, place }) => {
+        Err(
+            Mismatch {
+                port,
+                place,
+                segment,
+            },
+        ) => {
+            tell_gap(&Writer::new(error), segment);
             write!(output, "mismatch {port} {place}\n")?;
             Ok(FAILED)
         }
@@ -196,7 +216,7 @@ fn tell_served<W: Write, E: Write>(
     let log = Writer::new(error);
     tell_ports(&log, links, served.ports.as_slice());
     tell_end(&log, served.segments.as_slice().last());
-    tell_run(config, served, output)
+    tell_run(config, served, output, log.into_inner())
 }
 
 /// `lsr serve`: the router of the configuration serves these links, its own, over sockets, so many turns each; a turn takes 100

@@ -1,2 +1,4 @@
+mod Growing
 mod Printing
 mod Explaining
+mod Told

@@ -1,6 +1,6 @@
 -- What `lsr serve` on a file with a console says.
 use Rattle.std.specs.Io.KnownBytes.{Appends}
-use Rattle.std.specs.Prelude.{◌+◌, ℕ, List, Option, length}
+use Rattle.std.specs.Prelude.{◌+◌, ◌++◌, ℕ, List, Option, length}
 use Rattle.line_streams.specs.Texts.{Stream}
 use Rattle.lsr_config.specs.Configs.{Setup}
 use Rattle.lsr_config.specs.declared.sockets.LinkSockets.{LinkSockets}
@@ -17,22 +17,19 @@ abbrev pub IsAttended : Setup → ℕ → Attended → Type 0
 IsAttended config ports (Ended end status) = IsRunOfRounds config ports end.run
 IsAttended config ports Failed = Unit {0}
 
--- the last line printed says how many entries the run has
-abbrev pub EndsSoFar : RunSoFar → Option (List ℕ) → Type 0
-EndsSoFar run printed = (before : Option (List ℕ)) × Appends before printed (reconciled_text run.entries)
-
--- All rounds of the run, at least one, are one reconciled run of the router of this configuration, by so many ports, and it was printed last
--- how many entries there were.
-abbrev pub AttendsRun : Setup → ℕ → Option (List ℕ) → Type 0
-AttendsRun config ports printed = (run : RunSoFar) × IsRunOfRounds config ports run × EndsSoFar run printed
+-- The rounds of a run, at least one, are one reconciled run of the router of this configuration, by so many ports. What was printed meanwhile
+-- stands after what the output held before the call, and after that the line that says how many entries the run has.
+abbrev pub AttendsRun : Setup → ℕ → Option (List ℕ) → Option (List ℕ) → Type 0
+AttendsRun config ports output printed =
+    (run : RunSoFar) × (answers : List ℕ) × IsRunOfRounds config ports run × Appends output printed (answers ++ reconciled_text run.entries)
 
 -- The router that ran is that of the text, with a port for each of its links, one for the clock and one for the operator.
-pub record AttendsText (text : List ℕ) (printed : Option (List ℕ)) : Type 0 where
+pub record AttendsText (text : List ℕ) (output printed : Option (List ℕ)) : Type 0 where
   pub config : Setup
   pub links : List (ℕ × LinkSockets)
   pub says : SaysRun text config links
-  pub run : AttendsRun config (length links + 2) printed
+  pub run : AttendsRun config (length links + 2) output printed
 
 -- The router that ran is that of the file of this name.
-abbrev pub AttendsFile : {F : Type 0} → (List ℕ → F → Type 0) → (F → Stream) → List ℕ → Option (List ℕ) → Type 0
-AttendsFile opens stream name printed = (text : List ℕ) × IsFileText opens stream name text × AttendsText text printed
+abbrev pub AttendsFile : {F : Type 0} → (List ℕ → F → Type 0) → (F → Stream) → List ℕ → Option (List ℕ) → Option (List ℕ) → Type 0
+AttendsFile opens stream name output printed = (text : List ℕ) × IsFileText opens stream name text × AttendsText text output printed

@@ -60,7 +60,7 @@ Does opens fails stream holds (asked.Serve file turns journal false false false 
 Does opens fails stream holds (asked.Serve file turns journal false false false (Some level)) input left output printed error told status = AreStrange input left output printed status
 Does opens fails stream holds (asked.Serve file turns journal false false true log) input left output printed error told status = AreStrange input left output printed status
 Does opens fails stream holds (asked.Serve file turns journal false true mark log) input left output printed error told status = AreStrange input left output printed status
-Does opens fails stream holds (asked.Serve file None journal true echo mark log) input left output printed error told status = status ≡ 0 → AttendsFile opens stream file.now printed
+Does opens fails stream holds (asked.Serve file None journal true echo mark log) input left output printed error told status = status ≡ 0 → AttendsFile opens stream file.now output printed
 Does opens fails stream holds (asked.Serve file (Some turns) journal true echo mark log) input left output printed error told status = AreStrange input left output printed status
 Does opens fails stream holds (asked.Play file false) input left output printed error told status =
     (left ≡ input) × PlaysFile opens fails stream file.now output printed error told status

@@ -1,4 +1,5 @@
 pub mod Attended
 pub mod Commands
 pub mod Configuring
+pub mod Growing
 pub mod Serving

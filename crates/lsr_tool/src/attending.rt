@@ -48,7 +48,7 @@ pub(crate) struct Teller<E: Write + Drop> {
     level: LevelFilter,
     /// The router's links, in the order of their ports.
     links: Table<u16, LinkSockets>,
-    /// What the router knew at the last look; at first, when it was opened.
+    /// What the router knew at the last look; when it was opened, where nobody looked.
     before: State,
     /// The LSPs that begin here and aren't up.
     waiting: Waiting,
@@ -157,6 +157,8 @@ impl<B: Journaling, O: Write + Drop, E: Write + Drop> Attendant<'_, B, O, E> {
         self.beside.after_moment();
         let news = self.beside.take_news();
         self.teller.tell_news(news.as_str());
+        let unwritten = self.beside.unwritten(self.teller.before.facts.moment);
+        self.console.tell_unwritten(unwritten);
     }
 
     /// Why the run was to end, if it was.

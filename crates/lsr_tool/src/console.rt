@@ -1,11 +1,14 @@
 //! `lsr serve --console`: a router that runs until its operator ends it.
-ghost use Rattle.std.specs.Prelude.{◌≡◌, ◌+◌, ◌<◌, ℕ, Option, IfOk, length};
+ghost use Rattle.std.specs.Io.KnownBytes.{Appends};
+ghost use Rattle.std.specs.Prelude.{◌≡◌, ◌+◌, ◌<◌, ℕ, Option, IfOk, OnOk, length};
 ghost use Rattle.lsr_config.specs.Configs.{Setup};
-ghost use Rattle.lsr_tool.specs.Attended.{AttendsFile, AttendsRun, AttendsText, EndsSoFar, IsAttended};
+ghost use Rattle.lsr_serve.specs.Told.{reconciled_text};
+ghost use Rattle.lsr_tool.specs.Attended.{AttendsFile, AttendsRun, AttendsText, IsAttended};
 
 use crate::attending::{Attendant, Teller, copy_links};
 use crate::keeping::{HandOver, Handed, Journaling, SegmentKeeper, SegmentWriter, Wanted};
 use crate::lasting::Lasting;
+use crate::named_output::{Lent, NamedOutput, Output, OutputName, take_back};
 use crate::serving::{claims, configured, read_served, tell_written};
 use crossbeam_channel::Receiver;
 use line_streams::{ByteStream, tell_input_fault};
@@ -15,11 +18,12 @@ use lsr_config::Config;
 use lsr_console::{Console, ConsoleEnding, Heard, Manner, listen, open_lines};
 use lsr_rounds::{OpenLinks, RunEnd, RunFault, open_links, serve_links_until, tell_reconciled};
 use lsr_runs::{BAD_WORDS, DONE, FAILED, FilesByName, WritesFiles, status_of, tell_ending};
-use lsr_serve::{LinkSockets, RoundFlag, tell_end, tell_ports};
+use lsr_serve::{LinkSockets, RoundFlag, tell_end, tell_gap, tell_ports};
 use run_reconciler::Mismatch;
 use sorted_rows::Table;
 use std::alloc::Global;
 use std::io::Write;
+use std::marker::{Brand, PhantomData};
 use std::net::Net;
 use std::sync::{Mutex, Wait};
 use std::thread::Threads;
@@ -39,6 +43,8 @@ const NO_CLOCK: &str = "clock\n  the system's clock can't be read\n";
 /// What a run with a console is asked for.
 #[derive(Clone, Copy)]
 pub(crate) struct Attending<'a> {
+    /// The text of the configuration.
+    pub(crate) text: &'a str,
     /// What the names of the journal's files begin with, if it is written.
     pub(crate) journal: Option<&'a str>,
     /// Whether what is sent for a line is printed, too.
@@ -69,12 +75,20 @@ fn level_of(word: Option<&str>) -> Option<LevelFilter> {
     }
 }
 
-/// Tells why a run of rounds ended before it was told to, and gives the status, 1. The error is a stream's.
+/// Tells why a run of rounds ended before it was told to, and gives the status, 1. Where a segment doesn't go on, it is told which, too. The
+/// error is a stream's.
 fn tell_fault<W: Write, E: Write>(fault: RunFault, output: &mut W, error: &mut E) -> io::Result<u8>
     ensures { IfOk result (λ status. status ≡ 1) }
 {
     match fault {
-        RunFault::Mismatch(Mismatch { port, place }) => {
+        RunFault::Mismatch(
+            Mismatch {
+                port,
+                place,
+                segment,
+            },
+        ) => {
+            tell_gap(&Writer::new(error), segment);
             write!(output, "mismatch {port} {place}\n")?;
         }
         RunFault::Serve(fault) => write!(error, "{fault}\n")?,
@@ -92,7 +106,8 @@ fn tell_end_of<W: Write, E: Write>(
     output: &mut W,
     error: &mut E,
 ) -> io::Result<u8>
-    ensures { IfOk result (λ status. (status ≡ 0) × EndsSoFar ended.now.run (W.contents output.new)) }
+    ensures status { IfOk result (λ status. status ≡ 0) }
+    ensures told { OnOk result (Appends (W.contents output.old) (W.contents output.new) (reconciled_text ended.now.run.entries)) }
 {
     if level.allows(Level::Info) {
         let log = Writer::new(error);
@@ -105,14 +120,15 @@ fn tell_end_of<W: Write, E: Write>(
 
 /// Tells of a run that ended as it was told to, as [`tell_end_of`] does, and gives the status; 1 where it ended otherwise. The error is a stream's.
 fn tell_attended<W: Write, E: Write>(
-    attended: Attended,
+    attended: io::Result<Attended>,
     links: &Table<u16, LinkSockets>,
     level: LevelFilter,
     output: &mut W,
     error: &mut E,
 ) -> io::Result<u8>
-    ensures { (c : Setup) (ports : ℕ) → IsAttended c ports attended → IfOk result (λ status. status ≡ 0 → AttendsRun c ports (W.contents output.new)) }
+    ensures { (c : Setup) (ports : ℕ) → IfOk attended (IsAttended c ports) → IfOk result (λ status. status ≡ 0 → AttendsRun c ports (W.contents output.old) (W.contents output.new)) }
 {
+    let attended = attended?;
     match attended {
         Attended::Ended(ended, status) => {
             tell_end_of(&ended, links, level, output, error)?;
@@ -170,6 +186,7 @@ fn attend_written<
         echo: asked.echo,
         marks: asked.mark,
         sockets: copy_links(alloc, links)?,
+        unwritten: String::new(alloc),
     };
     let mut attendant = Attendant {
         console: Console::new(alloc, lines, Lasting::new(&mut *output), manner)?,
@@ -247,7 +264,7 @@ fn attend_run<
 }
 
 /// Serves the links of the router of a configuration until its operator ends it, whose lines are read from the input by a thread of their own.
-/// Gives the status. The error is that a stream could not be written, or that memory ran out.
+/// Gives how that ended. The error is that a stream could not be written, or that memory ran out.
 fn attend_links<
     F: WritesFiles,
     N: Net + Threads + Wait + Clock + Clone + Send + Sync + Drop,
@@ -260,26 +277,25 @@ fn attend_links<
     alloc: Global,
     config: &Config,
     links: &Table<u16, LinkSockets>,
-    text: &str,
     asked: Attending<'_>,
     input: &mut R,
     output: &mut W,
     error: &mut E,
-) -> io::Result<u8>
+) -> io::Result<Attended>
     requires { length links.now < 62 }
-    ensures { IfOk result (λ status. status ≡ 0 → AttendsRun config.now (length links.now + 2) (W.contents output.new)) }
+    ensures { IfOk result (IsAttended config.now (length links.now + 2)) }
 {
     let round = RoundFlag::new();
     let opened = match open_links(rt, alloc, links, &round) {
         Ok(opened) => opened,
         Err(fault) => {
             write!(error, "{fault}\n")?;
-            return Ok(FAILED);
+            return Ok(Attended::Failed);
         }
     };
     let (heard, lines) = open_lines(alloc)?;
     if !claims(files, alloc, asked.journal, error)? {
-        return Ok(FAILED);
+        return Ok(Attended::Failed);
     }
     let (_, attended) = thread::join(
         rt,
@@ -288,11 +304,80 @@ fn attend_links<
             requires { length opened.links.items < 62 }
         {
             attend_run(
-                files, rt, alloc, config, links, text, opened, asked, lines, output, error,
+                files, rt, alloc, config, links, asked.text, opened, asked, lines, output, error,
             )
         },
     );
-    tell_attended(attended?, links, asked.level, output, error)
+    attended
+}
+
+/// Serves the links of the router of a configuration as [`attend_links`] does, and tells what of it is known. The output has a name, and is given
+/// back. Gives the status. The error is that a stream could not be written, or that memory ran out.
+fn attend_named<
+    L: OutputName,
+    F: WritesFiles,
+    N: Net + Threads + Wait + Clock + Clone + Send + Sync + Drop,
+    R: ByteStream + Send,
+    O: Output,
+    E: Write,
+>(
+    files: &F,
+    rt: &N,
+    alloc: Global,
+    config: &Config,
+    links: &Table<u16, LinkSockets>,
+    asked: Attending<'_>,
+    input: &mut R,
+    output: O,
+    error: &mut E,
+) -> (io::Result<u8>, O)
+    requires few { length links.now < 62 }
+    requires same { O.name output ≡ L.output }
+    requires held { O.holds output ≡ L.held }
+    ensures status { IfOk result.0 (λ status. status ≡ 0 → AttendsRun config.now (length links.now + 2) (O.holds output) (O.holds result.1)) }
+    ensures same { O.name result.1 ≡ O.name output }
+{
+    let mut named: NamedOutput<L, O> = NamedOutput {
+        output,
+        name: PhantomData,
+    };
+    let attended = attend_links(
+        files, rt, alloc, config, links, asked, input, &mut named, error,
+    );
+    let told = tell_attended(attended, links, asked.level, &mut named, error);
+    let NamedOutput { output, name: _ } = named;
+    (told, output)
+}
+
+/// Serves the links of the router of a configuration as [`attend_links`] does, tells what of it is known, and gives the status. The output is
+/// named as it stands. The error is that a stream could not be written, or that memory ran out.
+fn attend_lent<
+    F: WritesFiles,
+    N: Net + Threads + Wait + Clock + Clone + Send + Sync + Drop,
+    R: ByteStream + Send,
+    W: Write,
+    E: Write,
+>(
+    files: &F,
+    rt: &N,
+    alloc: Global,
+    config: &Config,
+    links: &Table<u16, LinkSockets>,
+    asked: Attending<'_>,
+    input: &mut R,
+    output: &mut W,
+    error: &mut E,
+) -> io::Result<u8>
+    requires { length links.now < 62 }
+    ensures { IfOk result (λ status. status ≡ 0 → AttendsRun config.now (length links.now + 2) (W.contents output.old) (W.contents output.new)) }
+{
+    let lent = Lent { output };
+    let (told, lent) = attend_named::<Brand, F, N, R, Lent<'_, W>, E>(
+        files, rt, alloc, config, links, asked, input, lent, error,
+    );
+    let Lent { output } = lent;
+    take_back(output);
+    told
 }
 
 /// Serves the links of the router that a text says, until its operator ends it.
@@ -307,17 +392,16 @@ fn attend_text<
     rt: &N,
     alloc: Global,
     file: &str,
-    text: &str,
     asked: Attending<'_>,
     input: &mut R,
     output: &mut W,
     error: &mut E,
 ) -> io::Result<u8>
-    ensures { IfOk result (λ status. status ≡ 0 → AttendsText text.now (W.contents output.new)) }
+    ensures { IfOk result (λ status. status ≡ 0 → AttendsText asked.entry.text.now (W.contents output.old) (W.contents output.new)) }
 {
-    match configured(alloc, text) {
-        Ok((config, links)) => attend_links(
-            files, rt, alloc, &config, &links, text, asked, input, output, error,
+    match configured(alloc, asked.text) {
+        Ok((config, links)) => attend_lent(
+            files, rt, alloc, &config, &links, asked, input, output, error,
         ),
         Err(ending) => {
             tell_ending(error, file, &ending)?;
@@ -350,30 +434,23 @@ pub fn run_console_of<
     output: &mut W,
     error: &mut E,
 ) -> io::Result<u8>
-    ensures { IfOk result (λ status. status ≡ 0 → AttendsFile (F.opens files.now) F.File.stream file.now (W.contents output.new)) }
+    ensures { IfOk result (λ status. status ≡ 0 → AttendsFile (F.opens files.now) F.File.stream file.now (W.contents output.old) (W.contents output.new)) }
 {
     let Some(level) = level_of(log) else {
         error.write_all(BAD_LEVEL.as_bytes())?;
         return Ok(BAD_WORDS);
     };
-    let asked = Attending {
-        journal,
-        echo,
-        mark,
-        level,
-    };
     match read_served(files, alloc, file) {
-        Ok(text) => attend_text(
-            files,
-            rt,
-            alloc,
-            file,
-            text.as_str(),
-            asked,
-            input,
-            output,
-            error,
-        ),
+        Ok(text) => {
+            let asked = Attending {
+                text: text.as_str(),
+                journal,
+                echo,
+                mark,
+                level,
+            };
+            attend_text(files, rt, alloc, file, asked, input, output, error)
+        }
         Err(ending) => {
             tell_ending(error, file, &ending)?;
             Ok(status_of(&ending))

@@ -125,11 +125,17 @@ impl<R: Wait> KeepSegments for SegmentKeeper<'_, R> {
 const FIRST: usize = 1;
 /// How many bytes of files wait at most to be written, where one can't be: some thousand minutes of a router at rest.
 const MOST_WAITING: usize = 67_108_864;
+/// How many milliseconds a second has.
+const SECOND_MS: u64 = 1_000;
 
 /// What is done beside a router's clock, and what is to be told of it.
 pub(crate) trait Journaling: BesideClock {
     /// What is to be told since it was asked for last, a line each.
     fn take_news(&mut self) -> String;
+
+    /// What is told of a file that isn't written, where it is this moment, in milliseconds since the start: since when, which, why, and how
+    /// many wait. Nothing where all are written, and for want of memory.
+    fn unwritten(&mut self, moment: u64) -> String;
 }
 
 /// Writes the files of segments while the run goes on, by their numbers from 1 on, each whole, on the thread that began the run.
@@ -147,6 +153,8 @@ pub(crate) struct SegmentWriter<'a, F, R: Wait> {
     waiting: Vec<Vec<u8>>,
     /// The first of them, where it couldn't be written.
     unwritten: Option<Unwritten>,
+    /// Since which moment one isn't written, if one isn't.
+    since: Option<u64>,
     /// Whether a file was let go, for want of room.
     is_given_up: bool,
     /// What is to be told, a line each.
@@ -171,6 +179,7 @@ impl<'a, F: WritesFiles, R: Wait> SegmentWriter<'a, F, R> {
             written: 0,
             waiting: Vec::new(alloc),
             unwritten: None,
+            since: None,
             is_given_up: false,
             news: String::new(alloc),
         }
@@ -319,5 +328,23 @@ impl<F: WritesFiles, R: Wait> BesideClock for SegmentWriter<'_, F, R> {
 impl<F: WritesFiles, R: Wait> Journaling for SegmentWriter<'_, F, R> {
     fn take_news(&mut self) -> String {
         mem::replace(&mut self.news, String::new(self.alloc))
+    }
+
+    fn unwritten(&mut self, moment: u64) -> String {
+        let mut text = String::new(self.alloc);
+        let Some(Unwritten { name, fault }) = &self.unwritten else {
+            self.since = None;
+            return text;
+        };
+        let since = self.since.unwrap_or(moment);
+        self.since = Some(since);
+        let seconds = since / SECOND_MS;
+        let words = fault.words();
+        let waiting = self.waiting.len();
+        let _ = write!(
+            text,
+            "journal since {seconds} s: {name}{words}; {waiting} files wait\n"
+        );
+        text
     }
 }

@@ -7,6 +7,7 @@ mod configuring;
 mod console;
 mod keeping;
 mod lasting;
+mod named_output;
 mod serving;
 mod telling;
 mod waiting;

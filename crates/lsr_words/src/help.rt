@@ -412,8 +412,8 @@ standard error as it happens, refused messages within a minute. The clock goes b
 operator's lines have the last port, and the clock's is the one before it. Once a minute, or
 sooner, a round is over: what was told so far is reconciled and given up, so that memory stays
 bounded; with --journal a file is written then.
-`show counters` prints what each port did up to the end of the last round, in the words below, and
-the socket addresses of the links.
+`show counters` prints what each port did up to the end of the last round, in the words below, the
+socket addresses of the links, and since when a file of the journal isn't written.
 
 With --mark a line with a full stop alone stands after each answer, for a program that reads them.
 

@@ -307,17 +307,18 @@ module _ (r : Router) (before : State) (is : IsSound r before) where
   in_use_within : IsWithin key_cmp capacity (in_use_of before)
   in_use_within number = le_trans (assigned_of-among key_cmp key_total number (in_use_of before) before.assignments in_use_part.in_order is.assigned.in_order in_use_part.among) (is.assigned.within number)
 
-  -- and what it asks for.
-  answers_promised : AreStanding r before → (key : Key) (resv : ResvFact) (given : Assignment) → find key_cmp key before.resvs ≡ Some resv → find key_cmp key before.assignments ≡ Some given → AnswersWish key_cmp capacity (wishes_of r before) key given
+  -- What is promised stands, by what is in use and what is asked for.
+  pub shares_standing : AreStanding r before → AreShares key_cmp capacity (in_use_of before) (wishes_of r before) before.assignments
   unfolding assignments_of
-  answers_promised standing key resv given reserved promised =
-      ⊎_elim (λ (used : find key_cmp key (in_use_of before) ≡ Some given). absurd (in_use used)) (λ (asks : AnswersWish key_cmp capacity (wishes_of r before) key given). asks) (shares.answers key given promised)
-    where
-      shares : AreShares key_cmp capacity (in_use_of before) (wishes_of r before) before.assignments
-      shares =
-          subst (AreShares key_cmp capacity (in_use_of before) (wishes_of r before)) standing
-          (are_assigned key_cmp capacity key_total key_exact before.assignments (in_use_of before) (wishes_of r before) in_use_part.in_order in_use_within (wishes_sorted r before is.held.in_order))
+  shares_standing standing =
+      subst (AreShares key_cmp capacity (in_use_of before) (wishes_of r before)) standing
+      (are_assigned key_cmp capacity key_total key_exact before.assignments (in_use_of before) (wishes_of r before) in_use_part.in_order in_use_within (wishes_sorted r before is.held.in_order))
 
+  -- So what a reserved LSP is promised is what it asks for.
+  answers_promised : AreStanding r before → (key : Key) (resv : ResvFact) (given : Assignment) → find key_cmp key before.resvs ≡ Some resv → find key_cmp key before.assignments ≡ Some given → AnswersWish key_cmp capacity (wishes_of r before) key given
+  answers_promised standing key resv given reserved promised =
+      ⊎_elim (λ (used : find key_cmp key (in_use_of before) ≡ Some given). absurd (in_use used)) (λ (asks : AnswersWish key_cmp capacity (wishes_of r before) key given). asks) ((shares_standing standing).answers key given promised)
+    where
       in_use : find key_cmp key (in_use_of before) ≡ Some given → ⊥
       in_use used =
           let repair = passed_by (λ (repair : Repair). option_map_or (leaves_by repair.resv.link) (find key_cmp key before.facts.paths) false) (find key_cmp key before.repairs) (found_where (is_in_use before) key given before.assignments used).0 in

@@ -3,11 +3,13 @@ pub mod BandwidthLost
 pub mod BypassTunnels
 pub mod Choices
 pub mod Commanded
+pub mod EachReserved
 pub mod Exactly
 pub mod ErrorsOn
 pub mod GivenUp
 pub mod GoingOver
 pub mod HeadAlone
+pub mod HeldOrTold
 pub mod Holders
 pub mod Joined
 pub mod KeptBypasses
@@ -22,6 +24,7 @@ pub mod OwnEntries
 pub mod OwnLsps
 pub mod Promised
 pub mod Pushing
+pub mod RefusedDescriptors
 pub mod Renewals
 pub mod Renewed
 pub mod Repeating
@@ -30,11 +33,13 @@ pub mod Reports
 pub mod Rested
 pub mod Sent
 pub mod ResvDone
-pub mod ResvSome
+pub mod ResvErrsOn
 pub mod Settled
+pub mod SharesInTurn
 pub mod Staying
 pub mod Still
 pub mod Ticks
 pub mod Touching
 pub mod TunnelEvents
+pub mod Turns
 pub mod Unchanged

@@ -212,8 +212,8 @@ module _ (r : Router) (s : State) (e : PathErr) (fact : PathFact) (is : IsSound 
       ∙ ap (λ b. of_paths s (paths.done (told_upstream (place_of r s.facts) key fact e.tspec e.error) (cond b (with_noted e.error number s.facts) s.facts))) begins
       ∙ ap (λ told. replied replies.Done told noting) no_origin
 
--- the path leaves by the link, which is one of the router's
-leaves_over : (r : Router) (link : ℕ) (fact : PathFact) → IsWay r fact → leaves_by link fact ≡ true → HasLink r link
+-- A path leaves by a link of the router.
+pub leaves_over : (r : Router) (link : ℕ) (fact : PathFact) → IsWay r fact → leaves_by link fact ≡ true → HasLink r link
 unfolding leaves_by
 leaves_over r link fact way leaves =
     let parts = and_parts (goes_on fact.role) (fact.out_link == link) leaves in

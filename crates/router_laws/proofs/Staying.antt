@@ -1,12 +1,10 @@
 -- A moment takes no reservation that was refreshed in time, and no repair whose bypass is up.
-use Rattle.std.specs.Prelude.{◌≡◌, ◌≢◌, ℕ, ◌&&◌, Bool, true, false, T, List, filter, Some, IfSome, is_some}
+use Rattle.std.specs.Prelude.{◌≡◌, ℕ, ◌&&◌, Bool, true, false, T, List, filter, Some, IfSome, is_some}
 use Rattle.std.specs.Bool.{then_some}
 use Rattle.std.specs.FinMap.Entries.{find, is_sorted}
 use Rattle.std.specs.Option.{option_and_then, option_map, option_map_or}
-use Rattle.std.proofs.Common.{refl, sym, ap, subst, ◌∙◌}
+use Rattle.std.proofs.Common.{sym, ap, subst, ◌∙◌}
 use Rattle.std.proofs.lemmas.Bool.{and_parts}
-use Rattle.rsvp_contents.specs.declared.messages.Resv.{Resv}
-use Rattle.rsvp_contents.specs.declared.descriptors.FlowDescriptor.{FlowDescriptor}
 use Rattle.sorted_rows.specs.RowsLaws.{find-all_row, find-filter, is_sorted-filter}
 use Rattle.lsr_facts.specs.Lifetimes as lifetimes
 use Rattle.lsr_facts.specs.OrderLaws.{key_exact, key_total}
@@ -29,7 +27,6 @@ use Rattle.abstract_paths.specs.Heads.{signalled}
 use Rattle.abstract_router.specs.Assigning.{assigned_anew, assignments_left}
 use Rattle.abstract_router.specs.BypassTunnels.{bypass_tunnels_of, over_at}
 use Rattle.abstract_router.specs.Repairing.{repair_stands, repaired, repairs_left}
-use Rattle.abstract_router.specs.Reserving.{Failed, Granted, PassedOver, Progress, Verdict, carried_on}
 use Rattle.abstract_router.specs.Soundness.{IsSound}
 use Rattle.abstract_router.specs.States.{State}
 use Rattle.abstract_router.specs.Steps.{AreSettled, Step, labelled, left_standing, resvs_left, stands, with_moments}
@@ -109,9 +106,3 @@ unfolding bypass_tunnels_of
 refreshed_repair_stays r before after made n key repair path over is rests step event done found refreshed known alive up =
     let came = after_moment r before after made n is rests step event done in
     ap (λ (s : State). find key_cmp key s.repairs) came ∙ repair_left r before n key path is known alive repair over found refreshed (ap (λ (s : State). over_at (bypass_tunnels_of r s) repair.bypass) (sym came) ∙ up)
-
--- A descriptor that isn't granted leaves the state.
-pub refused_carries_nothing : (r : Router) (link : ℕ) (v : Resv) (d : FlowDescriptor) (fact : ResvFact) (progress : Progress) (verdict : Verdict) → verdict ≢ Granted → (carried_on r link v d fact progress verdict).state ≡ progress.state
-refused_carries_nothing r link v d fact progress (Failed e) other = refl
-refused_carries_nothing r link v d fact progress PassedOver other = refl
-refused_carries_nothing r link v d fact progress Granted other = absurd (other refl)

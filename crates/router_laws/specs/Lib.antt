@@ -6,4 +6,5 @@ pub mod Sending
 pub mod Serving
 pub mod Repairs
 pub mod TouchedBy
+pub mod Verdicts
 pub mod Words

@@ -1,6 +1,6 @@
 //! What bypasses promise of their bandwidth (RFC 4090, 4.3), and that they keep it.
 
-ghost use Rattle.std.specs.Prelude.{◌≡◌, ◌≤◌, ℕ, if◌then◌else◌, List, [], true, None, find as find_first};
+ghost use Rattle.std.specs.Prelude.{◌≡◌, ◌<◌, ◌≤◌, ◌+◌, ℕ, if◌then◌else◌, List, [], true, None, Some, filter, find as find_first};
 ghost use Rattle.std.specs.FinMap.Entries.{find};
 ghost use Rattle.std.specs.Option.{option_or};
 ghost use Rattle.rsvp_bodies.specs.declared.prefix.Prefix.{Prefix};
@@ -16,16 +16,18 @@ ghost use Rattle.lsr_facts.specs.declared.repair.Repair.{Repair};
 ghost use Rattle.lsr_facts.specs.declared.resv_fact.ResvFact.{ResvFact};
 ghost use Rattle.lsr_facts.specs.declared.router.Router.{Router};
 ghost use Rattle.lsr_facts.specs.declared.tunnel.Tunnel.{Tunnel};
+ghost use Rattle.bypass_shares.specs.Shares.{AreShares, assigned_of, is_candidate};
+ghost use Rattle.bypass_shares.specs.declared.wish.Wish.{Wish};
 ghost use Rattle.abstract_paths.specs.declared.events.Event.TheVariants as events;
 ghost use Rattle.abstract_paths.specs.declared.events.Made.{Made};
-ghost use Rattle.abstract_router.specs.Assigning.{capacity_in, rate_in};
+ghost use Rattle.abstract_router.specs.Assigning.{capacity_in, in_use_of, rate_in, wishes_of};
 ghost use Rattle.abstract_router.specs.Lsps.{around_of};
 ghost use Rattle.abstract_router.specs.Protecting.{is_preferred, is_protected, selected, ways_around};
 ghost use Rattle.abstract_router.specs.Soundness.{IsSound};
 ghost use Rattle.abstract_router.specs.States.{State};
 ghost use Rattle.abstract_router.specs.Steps.{AreSettled, opening, Run, Step};
 ghost use Rattle.router_soundness.specs.Assigned.{AreStanding};
-ghost use Rattle.router_laws.specs.Promises.{HasNoCapacity, brought_over};
+ghost use Rattle.router_laws.specs.Promises.{HasNoCapacity, brought_over, came_before};
 
 /// The LSPs that are repaired over a bypass which has bandwidth for repairs bring no more over it than that.
 pub fn repairs_are_within_capacities()
@@ -72,4 +74,24 @@ pub fn nothing_is_left_to_promise()
         IsRouter r → AreRoutes r routes → AreTunnels r tunnels → AreUnchanging tunnels →
         AreBypasses r tunnels bypasses →
         Run r (opening r routes tunnels bypasses) run after → AreStanding r after }
+{}
+
+/// How bypasses share out their bandwidth, which RFC 4090, 4.3 leaves open. Promises stand in the order of the LSPs' keys, and
+/// within each capacity. Each is in use, or it is what its LSP asks for: its rate, of a bypass that it may be repaired over; and
+/// an LSP that asks and is promised none finds no room. As long as an LSP is repaired, it is promised what it was. All others are
+/// served in the order of their keys: an LSP that asks and is promised none finds no room beside what came before it, which is
+/// what LSPs are promised of the bypass that they were promised before, and what LSPs of lesser keys are promised.
+pub fn bandwidth_is_shared_in_turn()
+    ensures shares { (r : Router) (s : State) → IsSound r s → AreStanding r s →
+        AreShares key_cmp (capacity_in s.facts.bypasses) (in_use_of s) (wishes_of r s) s.assignments }
+    ensures in_use { (r : Router) (before after : State) (made : Made) (key : Key) (was now : Repair) →
+        IsRouter r → IsSound r before → Step r before made after →
+        find key_cmp key before.repairs ≡ Some was → find key_cmp key after.repairs ≡ Some now →
+        find key_cmp key after.assignments ≡ find key_cmp key before.assignments }
+    ensures in_turn { (r : Router) (before after : State) (made : Made) (key : Key) (wish : Wish) (number : ℕ) →
+        IsRouter r → IsSound r before → AreStanding r before → Step r before made after →
+        find key_cmp key (wishes_of r after) ≡ Some wish → find key_cmp key after.assignments ≡ None →
+        is_candidate wish number ≡ true →
+        capacity_in after.facts.bypasses number
+        < assigned_of number (filter (came_before before key) after.assignments) + wish.rate }
 {}

@@ -1,9 +1,10 @@
 //! What becomes of reservations, step by step. Each law is the contract of a function that does nothing.
 
 ghost use Rattle.std.specs.FinMap.Entries.{find, is_sorted};
+ghost use Rattle.std.specs.List.{AllByRecursion};
 ghost use Rattle.std.specs.Option.{option_and_then};
 ghost use Rattle.std.specs.Ordering.{nat_cmp};
-ghost use Rattle.std.specs.Prelude.{◌≡◌, ◌≢◌, ◌*◌, ◌≤◌, ℕ, All, [], Some, T, false, length, true};
+ghost use Rattle.std.specs.Prelude.{◌≡◌, ◌≢◌, ◌*◌, ◌≤◌, ◌++◌, ◌∷◌, ℕ, All, List, [], Some, T, false, length, true};
 ghost use Rattle.rsvp_contents.specs.declared.messages.Content.TheVariants as contents;
 ghost use Rattle.rsvp_contents.specs.declared.messages.Resv.{Resv};
 ghost use Rattle.rsvp_contents.specs.declared.descriptors.FlowDescriptor.{FlowDescriptor};
@@ -20,9 +21,10 @@ ghost use Rattle.lsr_facts.specs.declared.resv_fact.ResvFact.{ResvFact};
 ghost use Rattle.lsr_facts.specs.declared.resv_fact.ResvStyle.{ResvStyle};
 ghost use Rattle.router_soundness.specs.Assigned.{AreStanding};
 ghost use Rattle.router_laws.specs.TouchedBy.{touched_by};
+ghost use Rattle.router_laws.specs.Verdicts.{verdict_after};
 ghost use Rattle.router_laws.specs.Words.{where_up};
 ghost use Rattle.abstract_router.specs.BypassTunnels.{bypass_tunnels_of, over_at};
-ghost use Rattle.abstract_router.specs.Reserving.{Granted, Progress, Verdict, carried_on, key_in, resv_by};
+ghost use Rattle.abstract_router.specs.Reserving.{Granted, key_in, resv_by};
 ghost use Rattle.lsr_facts.specs.declared.key.Key.{Key};
 ghost use Rattle.lsr_facts.specs.declared.reply.Reply.TheVariants as replies;
 ghost use Rattle.lsr_facts.specs.declared.router.Router.{Router};
@@ -56,10 +58,23 @@ pub fn refreshed_reservations_stay()
 {}
 
 /// A descriptor of a neighbour's Resv that is in error, or passed over, changes nothing that is known: an old reservation of
-/// its LSP stays as it was, and so do all others.
+/// its LSP stays as it was, and so do all others (RFC 2205, 3.1.8). So a Resv of which no descriptor is granted leaves all as
+/// it was; and where one of several isn't granted, by what those in front of it have led to, all is as it would be if the Resv
+/// had come without it.
 pub fn refused_descriptors_change_nothing()
-    ensures { (r : Router) (link : ℕ) (v : Resv) (d : FlowDescriptor) (fact : ResvFact) (progress : Progress) (verdict : Verdict) →
-        verdict ≢ Granted → (carried_on r link v d fact progress verdict).state ≡ progress.state }
+    ensures all { (r : Router) (before after : State) (made : Made) (link : ℕ) (v : Resv) (style : ResvStyle) →
+        IsSound r before → AreSettled r before → AreStanding r before →
+        Step r before made after → made.event ≡ comes link (contents.Resv v) → style_of v.style ≡ Some style →
+        AllByRecursion (λ d. verdict_after r before link style v [] d ≢ Granted) v.descriptors →
+        after ≡ before }
+    ensures one { (r : Router) (before after without : State) (made other : Made) (link : ℕ) (v : Resv)
+        (style : ResvStyle) (front back : List FlowDescriptor) (d : FlowDescriptor) →
+        IsSound r before → AreSettled r before → AreStanding r before → style_of v.style ≡ Some style →
+        v.descriptors ≡ front ++ d ∷ back → verdict_after r before link style v front d ≢ Granted →
+        Step r before made after → made.event ≡ comes link (contents.Resv v) →
+        Step r before other without →
+        other.event ≡ comes link (contents.Resv (record v { descriptors = front ++ back })) →
+        after ≡ without }
 {}
 
 /// In a step of a message every LSP but those that the message touches has the path, the reservation and the label that

@@ -1,4 +1,5 @@
 pub mod Calling
+pub mod Counting
 pub mod Joining
 mod OwnPorts
 pub mod Ports

@@ -60,7 +60,7 @@ pub odd_run : (pieces : List Stretch) (rs : List Receipt) (m : Mismatch) → Are
 odd_run pieces rs m joined odd =
     let called = called_for (counts_at pieces) (entries_in pieces) in
     let same : IsFirstOdd rs called m = subst (λ (all : List Receipt). IsFirstOdd rs all m) (sym (joined_called pieces joined)) odd in
-    record { joined = joined; before = same.before; place = same.place }
+    record { joined = joined; segment = same.segment; before = same.before; place = same.place }
 
 -- where a port's aren't, they aren't of one run
 pub odd_apart : (pieces : List Stretch) (rs : List Receipt) (m : Mismatch) → IsOdd pieces rs m → IsReconciled pieces rs → ⊥

@@ -10,13 +10,14 @@ use Rattle.run_journal.specs.Journals.{IsSegment, Stretch}
 use Rattle.run_journal.specs.Marks.{Counts, counted, counted_all}
 use Rattle.run_journal.specs.declared.entry.CountedEntry.{CountedEntry}
 use Rattle.run_journal.specs.declared.receipt.Receipt.{Receipt}
-use Rattle.run_reconciler.specs.Judged.{BeginsWith, IsPort, ServesRun}
+use Rattle.run_reconciler.specs.Judged.{BeginsWith, IsPort, IsStray, ServesRun}
 use Rattle.run_reconciler.specs.Reconciled.{AreContinued, AreJoined, called_for, counts_at, entries_in}
-use Rattle.run_reconciler.specs.Rounds.{AgreeByPort, GoOnFrom, IsBreak, IsFirstOdd, IsLastOf, IsNextRound, IsNoRound, IsNoSegment, IsOddRound, IsRunSoFar, IsStray, counts_after}
+use Rattle.run_reconciler.specs.Rounds.{AgreeByPort, GoOnFrom, IsBreak, IsFirstOdd, IsLastOf, IsNextRound, IsNoRound, IsNoSegment, IsOddRound, IsRunSoFar, counts_after}
 use Rattle.run_reconciler.specs.Walks.{called_in, mine}
 use Rattle.run_reconciler.specs.declared.reconciling.Mismatch.{Mismatch}
 use Rattle.run_reconciler.proofs.Calling.{called_in_append, continued_called, differs, joined_called, mine_append}
 use Rattle.run_reconciler.proofs.Joining.{break_apart}
+use Rattle.run_reconciler.proofs.OwnPorts.{stray_apart}
 use Rattle.run_reconciler.proofs.Whole.{joined_run}
 
 -- stretches that go on, and others that go on from the last of them
@@ -147,11 +148,11 @@ no_round last ports pieces receipts m why round =
     ⊎_elim
     (λ (none : IsNoSegment pieces m). absurd (omega (arith, round.some, ap length none.0)))
     (⊎_elim
-    (λ (gap : IsBreak last pieces m). break_apart last pieces m.place gap.1 round.continued)
+    (λ (gap : IsBreak last pieces m). break_apart last pieces m.segment gap.2 round.continued)
     (⊎_elim
     (λ (odd : IsOddRound last pieces receipts m).
     differs (mine m.port receipts) (mine m.port (called_for (counts_after last) (entries_in pieces))) m.place odd.1.place (round.reconciled m.port))
-    (λ (stray : IsStray ports receipts m). stray.2 round.own)))
+    (λ (stray : IsStray ports receipts m). stray_apart ports receipts m.port stray.2 round.own)))
     why
 
 -- the first port whose receipts aren't those that the segments' entries call for is the one whose aren't those that the entries of a round do

@@ -1,5 +1,5 @@
 -- A whole journal is one run of the router, from its opening.
-use Rattle.std.proofs.Common.{◌≡◌, ◌++◌, ◌∷◌, ◌<◌, suc, ℕ, List, [], All, arith, refl, ap, subst, sym}
+use Rattle.std.proofs.Common.{◌∷◌, List, [], All, refl, ap, subst}
 use Rattle.lsr_facts.specs.declared.router.Router.{Router}
 use Rattle.abstract_router.specs.States.{State}
 use Rattle.run_journal.specs.Entries.{AreRecorded}

@@ -17,15 +17,17 @@ pub record IsFirstGap (number : ℕ) (pieces : List Stretch) : Type 0 where
   pub before : AreJoined (take (number - 1) pieces)
   pub there : AreJoined (take number pieces) → ⊥
 
--- The segments are no whole journal: the port is 0, and the place is the number of the first that doesn't go on.
+-- The segments are no whole journal: the port and the place are 0, and the segment is the number of the first that doesn't go on.
 pub record IsGap (pieces : List Stretch) (m : Mismatch) : Type 0 where
   pub port : m.port ≡ 0
-  pub place : IsFirstGap m.place pieces
+  pub place : m.place ≡ 0
+  pub segment : IsFirstGap m.segment pieces
 
 -- The segments are a whole journal, and the port is the first whose receipts aren't those that its entries call for; the place
--- is the first one where they differ.
+-- is the first one where they differ, and the segment is 0.
 pub record IsOdd (pieces : List Stretch) (receipts : List Receipt) (m : Mismatch) : Type 0 where
   pub joined : AreJoined pieces
+  pub segment : m.segment ≡ 0
   pub before : (port : ℕ) → port < m.port → filter (is_of port) receipts ≡ filter (is_of port) (called_for (counts_at pieces) (entries_in pieces))
   pub place : IsFirstDifference m.place (filter (is_of m.port) receipts) (filter (is_of m.port) (called_for (counts_at pieces) (entries_in pieces)))
 

@@ -4,7 +4,7 @@ use Rattle.lsr_config.specs.Configs.{Setup}
 use Rattle.run_journal.specs.Journals.{IsSegment, Stretch}
 use Rattle.run_journal.specs.Marks.{Counts, counted_all}
 use Rattle.run_journal.specs.declared.receipt.Receipt.{Receipt}
-use Rattle.run_reconciler.specs.Judged.{AreOfPorts, IsPort, ServesRun}
+use Rattle.run_reconciler.specs.Judged.{AreOfPorts, IsStray, ServesRun}
 use Rattle.run_reconciler.specs.Mismatches.{IsFirstDifference}
 use Rattle.run_reconciler.specs.Reconciled.{AreContinued, called_for, entries_in, is_of}
 use Rattle.run_reconciler.specs.declared.reconciling.Mismatch.{Mismatch}
@@ -35,26 +35,24 @@ pub record IsFirstBreak (last : Stretch) (number : ℕ) (pieces : List Stretch) 
   pub before : GoOnFrom last (take (number - 1) pieces)
   pub there : GoOnFrom last (take number pieces) → ⊥
 
--- The port is the first whose receipts aren't those that are called for, and the place is the first one where they differ.
+-- The port is the first whose receipts aren't those that are called for, and the place is the first one where they differ; the segment
+-- is 0.
 pub record IsFirstOdd (receipts called : List Receipt) (m : Mismatch) : Type 0 where
+  pub segment : m.segment ≡ 0
   pub before : (port : ℕ) → port < m.port → filter (is_of port) receipts ≡ filter (is_of port) called
   pub place : IsFirstDifference m.place (filter (is_of m.port) receipts) (filter (is_of m.port) called)
 
--- There is no segment: the port is 0, and the place is 1.
+-- There is no segment: the port and the place are 0, and the segment is the first.
 abbrev pub IsNoSegment : List Stretch → Mismatch → Type 0
-IsNoSegment pieces m = (pieces ≡ []) × (m.port ≡ 0) × (m.place ≡ 1)
+IsNoSegment pieces m = (pieces ≡ []) × (m.port ≡ 0) × (m.place ≡ 0) × (m.segment ≡ 1)
 
--- A segment doesn't go on: the port is 0, and the place is the number of the first one.
+-- A segment doesn't go on: the port and the place are 0, and the segment is the number of the first one.
 abbrev pub IsBreak : Stretch → List Stretch → Mismatch → Type 0
-IsBreak last pieces m = (m.port ≡ 0) × IsFirstBreak last m.place pieces
+IsBreak last pieces m = (m.port ≡ 0) × (m.place ≡ 0) × IsFirstBreak last m.segment pieces
 
 -- The segments go on, and a port's receipts aren't those that its entries call for: the port is the first of these.
 abbrev pub IsOddRound : Stretch → List Stretch → List Receipt → Mismatch → Type 0
 IsOddRound last pieces receipts m = GoOnFrom last pieces × IsFirstOdd receipts (called_for (counts_after last) (entries_in pieces)) m
-
--- A receipt is of a port that there isn't: that port, and place 1.
-abbrev pub IsStray : ℕ → List Receipt → Mismatch → Type 0
-IsStray ports receipts m = (m.place ≡ 1) × (IsPort ports m.port → ⊥) × (AreOfPorts ports receipts → ⊥)
 
 -- They aren't those of the next round, for this reason.
 abbrev pub IsNoRound : Stretch → ℕ → List Stretch → List Receipt → Mismatch → Type 0

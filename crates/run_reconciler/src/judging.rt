@@ -3,16 +3,16 @@ ghost use Rattle.std.specs.Prelude.{◌≡◌, ◌↔◌, IfErr, IsTrue, MatchOp
 ghost use Rattle.abstract_router.specs.Steps.{opening};
 ghost use Rattle.run_journal.specs.Marks.{first_counts};
 ghost use Rattle.run_reconciler.specs.Reconciled.{AreJoined, IsReconciled};
-ghost use Rattle.run_reconciler.specs.Judged.{AreOfPorts, BeginsWith, IsNoRun, IsPort, IsStrange, ServesRun};
+ghost use Rattle.run_reconciler.specs.Judged.{AreOfPorts, BeginsWith, IsNoRun, IsPort, IsStrange, IsStrayPort, ServesRun};
 
-use crate::reconciling::{Mismatch, reconcile, whole_journals_are_runs};
+use crate::reconciling::{
+    Mismatch, NO_PLACE, NO_PORT, NO_SEGMENT, reconcile, whole_journals_are_runs,
+};
 use journal_bytes::{Exact, is_same_router};
 use lsr_config::Config;
 use run_journal::{JournalCounts, Receipt, Segment};
 
-/// The port of a mismatch that is of no port.
-pub(crate) const NO_PORT: u16 = 0;
-/// The place of what doesn't belong to the run: the first.
+/// The first place, and the first segment.
 pub(crate) const FIRST: u64 = 1;
 
 /// Whether a segment, before which there was no entry, begins with the router of the configuration as it is opened.
@@ -57,8 +57,7 @@ fn is_port(ports: usize, port: u16) -> bool
 
 /// The port of the first receipt that is of none of so many ports.
 pub(crate) fn stray_port(ports: usize, receipts: &[Receipt]) -> Option<u16>
-    ensures { MatchOption result (AreOfPorts ports receipts.now)
-        (λ port. (IsPort ports port → ⊥) × (AreOfPorts ports receipts.now → ⊥)) }
+    ensures { MatchOption result (AreOfPorts ports receipts.now) (IsStrayPort ports receipts.now) }
 {
     for receipt in receipts {
         let port = receipt.mark().port;
@@ -85,19 +84,24 @@ fn judge_reconciled(
     if !begins_with(config, ports, segments) {
         return Err(Mismatch {
             port: NO_PORT,
-            place: FIRST,
+            place: NO_PLACE,
+            segment: FIRST,
         });
     }
     match stray_port(ports, receipts) {
-        Some(port) => Err(Mismatch { port, place: FIRST }),
+        Some(port) => Err(Mismatch {
+            port,
+            place: FIRST,
+            segment: NO_SEGMENT,
+        }),
         None => Ok(()),
     }
 }
 
 /// Whether segments and receipts are those of one run of the router of this configuration, which so many ports fed: they are
 /// reconciled, the first segment begins with the router as it is opened, and each receipt is of one of the ports. Else why not: as
-/// [`reconcile`] says; port 0 and place 1 where the run isn't one of this configuration; a port that there isn't, and place 1, where it
-/// has a receipt. Takes no memory.
+/// [`reconcile`] says; port 0, place 0 and segment 1 where the run isn't one of this configuration; the port of the first receipt that is
+/// of none of the ports, and place 1. Takes no memory.
 pub fn judge(
     config: &Config,
     ports: usize,

@@ -5,7 +5,7 @@ ghost use Rattle.run_journal.specs.Journals.{IsSegment};
 ghost use Rattle.run_journal.specs.Marks.{Counts, counted_all, first_counts, first_mark, first_marks, receipt_of};
 ghost use Rattle.run_journal.specs.declared.receipt.Receipt.{Receipt};
 ghost use Rattle.run_reconciler.specs.Mismatches.{IsFirstDifference, IsFirstGap, IsMismatch};
-ghost use Rattle.run_reconciler.specs.Reconciled.{AreJoined, AreOneRun, IsReconciled, called_for};
+ghost use Rattle.run_reconciler.specs.Reconciled.{AreJoined, AreOneRun, IsReconciled, called_for, entries_in};
 ghost use Rattle.run_reconciler.specs.Rounds.{AgreeByPort, GoOnFrom, IsFirstBreak, IsFirstOdd};
 ghost use Rattle.run_reconciler.specs.Walks.{GoesOn, HasPorts, IsAt, IsNext, IsTold, IsWithin, called_in, mine, passed, place_at};
 
@@ -15,19 +15,31 @@ use thiserror::Error;
 
 /// Receipts and segments are those of one run.
 #[derive(Clone, Copy, Debug, PartialEq, Eq)]
-pub struct OneRun;
+pub struct OneRun {
+    /// How many entries the run has.
+    pub entries: u64,
+}
 
-/// Where receipts and segments aren't those of one run: the first port whose receipts aren't those that its entries call for,
-/// and the place, from 1, where these differ first; or port 0 where the segments are no whole journal, and the number, from 1,
-/// of the first that doesn't go on from the one before.
+/// Where receipts and segments aren't those of one run: the first port, of those that are numbered from 1, whose receipts aren't
+/// those that its entries call for, and the place, from 1, where these differ first; or port 0 and place 0 where the segments are no
+/// whole journal. Beside these, the segment says which one doesn't go on.
 #[derive(Clone, Copy, Debug, PartialEq, Eq, Error)]
-#[error("the receipts and the segments are not those of one run: port {port}, place {place}")]
+#[error("the receipts and the segments are not those of one run: port {port}, place {place}, segment {segment}")]
 pub struct Mismatch {
     /// The port, or 0 where the segments are no whole journal.
     pub port: u16,
-    /// The place among the port's receipts, or the number of the segment.
+    /// The place among the port's receipts, or 0 where the segments are no whole journal.
     pub place: u64,
+    /// The number, from 1, of the first segment that doesn't go on from the one before; 0 where the segments are a whole journal.
+    pub segment: u64,
 }
+
+/// The port of a mismatch that is of a segment.
+pub(crate) const NO_PORT: u16 = 0;
+/// The place of a mismatch that is of a segment.
+pub(crate) const NO_PLACE: u64 = 0;
+/// The segment of a mismatch that is of a port.
+pub(crate) const NO_SEGMENT: u64 = 0;
 
 /// How far a walk over a segment's entries has come, for the mark at one index: the numbers at the segment's beginning, and
 /// what the entries so far add to them.
@@ -268,7 +280,11 @@ pub(crate) fn match_ports(segments: &[Segment], receipts: &[Receipt]) -> Result<
     let greatest = greatest_port(segments, greatest_receipt(receipts));
     for port in 0..=greatest {
         if let Err(place) = match_port(segments, receipts, port) {
-            return Err(Mismatch { port, place });
+            return Err(Mismatch {
+                port,
+                place,
+                segment: NO_SEGMENT,
+            });
         }
     }
     Ok(())
@@ -416,18 +432,28 @@ pub fn whole_journals_are_runs(segments: &[Segment])
 }
 
 /// Whether receipts and segments are those of one run: the segments are a whole journal, and the receipts of each port are
-/// exactly those that its entries call for, in their order, each once. Takes no memory. Its time is that of looking at all
-/// entries and receipts once for each port up to the greatest, and once more at the entries for each mark.
+/// exactly those that its entries call for, in their order, each once. If so, how many entries there are; else the first port and
+/// place where it fails, or the first segment that doesn't go on. Takes no memory. Its time is that of looking at all entries and
+/// receipts once for each port up to the greatest, and once more at the entries for each mark.
 pub fn reconcile(segments: &[Segment], receipts: &[Receipt]) -> Result<OneRun, Mismatch>
     ensures one_run { OnOk result (IsReconciled segments.now receipts.now) }
+    ensures entries { IfOk result (λ one. one.entries ≡ length (entries_in segments.now)) }
     ensures mismatch { OnErr result (IsReconciled segments.now receipts.now → ⊥) }
     ensures place { IfErr result (IsMismatch segments.now receipts.now) }
 {
-    if let Err(place) = find_gap(segments) {
-        return Err(Mismatch { port: 0, place });
+    if let Err(segment) = find_gap(segments) {
+        return Err(Mismatch {
+            port: NO_PORT,
+            place: NO_PLACE,
+            segment,
+        });
     }
     match match_ports(segments, receipts) {
-        Ok(()) => Ok(OneRun),
+        Ok(()) => {
+            // Each entry has one receipt.
+            let entries = receipts.len() as u64;
+            Ok(OneRun { entries })
+        }
         Err(mismatch) => Err(mismatch),
     }
 }

@@ -6,18 +6,20 @@ ghost use Rattle.run_reconciler.specs.Judged.{ServesRun};
 ghost use Rattle.run_reconciler.specs.Reconciled.{entries_in};
 ghost use Rattle.run_reconciler.specs.Rounds.{IsLastOf, IsNextRound, IsNoRound, IsRunSoFar};
 
-use crate::judging::{FIRST, NO_PORT, stray_port};
-use crate::reconciling::{Mismatch, are_segments, find_break, match_ports};
+use crate::judging::{FIRST, stray_port};
+use crate::reconciling::{
+    Mismatch, NO_PLACE, NO_PORT, NO_SEGMENT, are_segments, find_break, match_ports,
+};
 use lsr_config::Config;
 use run_journal::{Receipt, Segment};
 
 /// Whether segments and receipts are those of the next round of a run, of which `last` was the last segment so far, and which so many
 /// ports feed: there is a segment, the segments go on from `last` one after the other, and the receipts of each port are exactly those
-/// that the round's entries call for, in their order, each once, and each is of one of the ports. Else why not: port 0 and place 1 where
-/// there is no segment; port 0 and the number, from 1, of the first segment that doesn't go on; the first port whose receipts differ
-/// from those that its entries call for, and the place, from 1, where they do first; a port that there isn't, and place 1, where it has
-/// a receipt. Takes no memory. Its time is that of looking at all entries and receipts of the round once for each port up to the
-/// greatest, and once more at the entries, and those of `last`, for each mark.
+/// that the round's entries call for, in their order, each once, and each is of one of the ports. Else why not: port 0, place 0 and
+/// segment 1 where there is no segment; port 0, place 0 and the number, from 1, of the first segment that doesn't go on; the first port
+/// whose receipts differ from those that its entries call for, and the place, from 1, where they do first; the port of the first receipt
+/// that is of none of the ports, and place 1. Takes no memory. Its time is that of looking at all entries and receipts of the round once
+/// for each port up to the greatest, and once more at the entries, and those of `last`, for each mark.
 pub fn judge_round(
     last: &Segment,
     ports: usize,
@@ -31,20 +33,26 @@ pub fn judge_round(
     if segments.is_empty() {
         return Err(Mismatch {
             port: NO_PORT,
-            place: FIRST,
+            place: NO_PLACE,
+            segment: FIRST,
         });
     }
-    if let Err(place) = find_break(last, segments) {
+    if let Err(segment) = find_break(last, segments) {
         return Err(Mismatch {
             port: NO_PORT,
-            place,
+            place: NO_PLACE,
+            segment,
         });
     }
     if let Err(mismatch) = match_ports(segments, receipts) {
         return Err(mismatch);
     }
     match stray_port(ports, receipts) {
-        Some(port) => Err(Mismatch { port, place: FIRST }),
+        Some(port) => Err(Mismatch {
+            port,
+            place: FIRST,
+            segment: NO_SEGMENT,
+        }),
         None => Ok(()),
     }
 }

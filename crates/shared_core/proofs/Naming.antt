@@ -2,14 +2,17 @@
 use Rattle.std.proofs.Common.{◌≡◌, ℕ, Result, Ok, Err, subst, sym, ◌∙◌}
 use Rattle.std.specs.Prelude.{IfOk}
 use Rattle.lsr_config.specs.Configs.{Setup}
+use Rattle.lsr_facts.specs.declared.refusal.Refusal.{Refusal}
 use Rattle.lsr_facts.specs.declared.router.Router.{Router}
 use Rattle.abstract_paths.specs.declared.events.Event.{Event}
 use Rattle.abstract_router.specs.Soundness.{IsSound}
 use Rattle.abstract_router.specs.States.{State}
 use Rattle.run_journal.specs.Entries.{Knew, Recorded}
-use Rattle.run_journal.specs.Journals.{IsApplied, IsKept, Journal, stretch_of}
+use Rattle.run_journal.specs.Journals.{IsAnswered, IsApplied, IsKept, Journal, stretch_of}
+use Rattle.run_journal.specs.declared.mark.Mark.{Mark}
 use Rattle.run_journal.specs.declared.receipt.Receipt.{Receipt}
 use Rattle.run_journal.proofs.Keeping.{kept_segment}
+use Rattle.shared_core.specs.Answered.{IsAnsweredBy}
 use Rattle.shared_core.specs.Names.{IsKnown, IsReceiptOf, IsSegmentOf, opened}
 
 -- what a router knew that was opened so, by the configuration
@@ -50,4 +53,14 @@ applied_own c old port event receipt new router known is = record {
   known = known;
   recorded = subst (λ (r : Router). Recorded r old.state is.entry new.state) router is.entered.recorded;
   told = is.receipt_is;
+}
+
+-- what the journal under the lock answers is what the core answers
+pub answered_by : (c : Setup) (old : Journal) (m : Mark) (event : Event) (answer : Result Receipt Refusal) (new : Journal) → old.router ≡ c.router → old.opening ≡ (opened c).state → IsKept old → IsAnswered old m event answer new
+    → IsAnsweredBy c m event answer
+answered_by c old m event answer new router opening kept is = record {
+  before = old;
+  after = new;
+  own = record { kept = kept; router = router; opening = opening };
+  answered = is;
 }

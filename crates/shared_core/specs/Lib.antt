@@ -1,4 +1,4 @@
+pub mod Answered
 pub mod Below
 pub mod Kept
 pub mod Names
-pub mod Refused

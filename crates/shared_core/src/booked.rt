@@ -1,13 +1,13 @@
 //! What stands under a core's lock, its ports, and what they are handed with the core's name.
 
-ghost use Rattle.std.specs.Prelude.{◌≡◌, ◌+◌, ◌<◌, ◌≤◌, All, IfErr, IfOk, IfSome, OnErr, OnOk, length, map};
+ghost use Rattle.std.specs.Prelude.{◌≡◌, ◌+◌, ◌<◌, ◌≤◌, All, IfOk, IfSome, OnErr, OnOk, length, map};
 ghost use Rattle.abstract_router.specs.States.{State};
 ghost use Rattle.lookup_plane.specs.Changes.{new_reader};
 ghost use Rattle.run_journal.specs.Journals.{IsAnswered, rotated, stretch_of};
 ghost use Rattle.run_journal.specs.Marks.{Follows, first_marks};
 ghost use Rattle.run_journal.specs.Spelled.{IsSpelled};
 ghost use Rattle.shared_core.specs.Names.{IsKnown, IsReceiptOf, IsSegmentOf, opened};
-ghost use Rattle.shared_core.specs.Refused.{MayBeRefused};
+ghost use Rattle.shared_core.specs.Answered.{IsAnsweredBy};
 
 use crate::asking::Question;
 use crate::keeping::TakenSegment;
@@ -95,14 +95,14 @@ impl<L: Ledger> CoreSegment<L> {
     }
 }
 
-/// Who feeds a core: the numbers of its last entry, how many segments it took, and its share of the core's ledger, in which it has as many
-/// entries as its mark says.
+/// Who feeds a core: the numbers of its last entry, how many segments it took, and its share of the core's ledger, in which each of its
+/// entries and each of these segments counts as one.
 #[derive(Drop)]
 pub struct Port<L: Ledger> {
     mark: Mark,
-    pub(crate) taken: u64,
+    taken: u64,
     share: Share<L>,
-    ghost counted: { share.amount ≡ mark.place },
+    ghost counted: { share.amount ≡ mark.place + taken },
     ghost backed: { 0 < share.parts },
 }
 
@@ -143,14 +143,16 @@ pub(crate) fn ports_of<L: Ledger>(
     Ok(all)
 }
 
-/// A router with its journal, and the one book of its ledger: as many entries were made as the ports have in all. It is the router of its
-/// name's configuration, as it was opened; and since there is one book of a name, so is there one router. Receipts, segments and readers
+/// A router with its journal, how many segments ports took of it, and the one book of its ledger: as many entries were made, and segments
+/// taken, as the ports have in all. It is the router of its name's configuration, as it was opened; and since there is one book of a name,
+/// so is there one router. Receipts, segments and readers
 /// with the name are made here alone.
 #[derive(Drop)]
 pub(crate) struct Booked<L: CoreName, R: Wait + Drop> {
     locked: Locked<R>,
+    segments: u64,
     calls: Book<L>,
-    ghost counted: { locked.counts.number ≡ calls.total },
+    ghost counted: { locked.counts.number + segments ≡ calls.total },
     ghost router: { locked.router ≡ L.config.router },
     ghost opening: { locked.opening ≡ (opened L.config).state },
 }
@@ -189,7 +191,11 @@ impl<L: CoreName, R: Wait + Drop> Booked<L, R> {
         let readers = named_readers(alloc, readers)?;
         let (calls, rest) = blank.open::<L>();
         Ok(Beginning {
-            booked: Booked { locked, calls },
+            booked: Booked {
+                locked,
+                segments: 0,
+                calls,
+            },
             rest,
             readers,
         })
@@ -216,7 +222,7 @@ impl<L: CoreName, R: Wait + Drop> Booked<L, R> {
         ensures counted { OnOk result (port.new.share.amount ≡ port.old.share.amount + 1) }
         ensures taken { port.new.taken ≡ port.old.taken }
         ensures own { IfOk result (IsReceiptOf L.config) }
-        ensures refused { IfErr result (MayBeRefused event.now) }
+        ensures journal { IsAnsweredBy L.config port.old.mark event.now result }
         ensures kept { OnErr result (port.new ≡ port.old) }
     {
         self.locked.knew();
@@ -234,17 +240,48 @@ impl<L: CoreName, R: Wait + Drop> Booked<L, R> {
         }
     }
 
-    /// Takes the entries away, as a segment that has to be given to who keeps them. The only error is out of memory, and then nothing
-    /// changed.
-    pub(crate) fn take(&mut self, alloc: Global) -> Result<TakenSegment<L>, AllocError>
+    /// Takes the entries away, as a segment that has to be given to who keeps them, and counts it as one that the port took. The error is
+    /// out of memory, also where 2^64 - 1 segments were taken, and then nothing changed.
+    pub(crate) fn take(
+        &mut self,
+        alloc: Global,
+        port: &mut Port<L>,
+    ) -> Result<TakenSegment<L>, AllocError>
         ensures segment { IfOk result (λ taken. taken.segment ≡ stretch_of self.old.locked) }
         ensures rotated { OnOk result (self.new.locked ≡ rotated self.old.locked) }
         ensures own { IfOk result (λ taken. IsSegmentOf L.config taken.segment) }
-        ensures kept { OnErr result (self.new.locked ≡ self.old.locked) }
+        ensures taken { OnOk result (port.new.taken ≡ port.old.taken + 1) }
+        ensures counted { OnOk result (port.new.share.amount ≡ port.old.share.amount + 1) }
+        ensures mark { port.new.mark ≡ port.old.mark }
+        ensures kept { OnErr result ((self.new.locked ≡ self.old.locked) × (port.new ≡ port.old)) }
     {
         self.locked.knew();
         self.locked.soundness();
+        let segments = self.segments.checked_add(1).ok_or(AllocError)?;
+        let taken = port.taken.checked_add(1).ok_or(AllocError)?;
         let segment = self.locked.rotate(alloc)?;
+        self.calls.add(&mut port.share, 1);
+        self.segments = segments;
+        port.taken = taken;
+        Ok(TakenSegment::new(CoreSegment {
+            segment,
+            name: PhantomData,
+        }))
+    }
+
+    /// The entries that are left, as the last segment, which has to be given to who keeps them. The only error is out of memory.
+    pub(crate) fn into_last(self, alloc: Global) -> Result<TakenSegment<L>, AllocError>
+        ensures segment { IfOk result (λ taken. taken.segment ≡ stretch_of self.locked) }
+        ensures own { IfOk result (λ taken. IsSegmentOf L.config taken.segment) }
+    {
+        let Booked {
+            mut locked,
+            segments: _,
+            calls: _calls,
+        } = self;
+        locked.knew();
+        locked.soundness();
+        let segment = locked.rotate(alloc)?;
         Ok(TakenSegment::new(CoreSegment {
             segment,
             name: PhantomData,

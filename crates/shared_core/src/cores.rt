@@ -1,17 +1,17 @@
 //! A router under its lock, which many threads feed.
 
-ghost use Rattle.std.specs.Prelude.{◌≡◌, ◌+◌, ◌≤◌, ℕ, All, IfErr, IfOk, IfSome, OnErr, OnOk, length, map};
+ghost use Rattle.std.specs.Prelude.{◌≡◌, ◌+◌, ◌≤◌, ℕ, All, IfOk, IfSome, OnErr, OnOk, length, map};
 ghost use Rattle.abstract_router.specs.States.{State};
 ghost use Rattle.journal_bytes.specs.Events.{event_bytes};
 ghost use Rattle.lookup_plane.specs.Changes.{new_reader};
 ghost use Rattle.run_journal.specs.Marks.{Follows, first_marks};
 ghost use Rattle.run_journal.specs.Spelled.{IsSpelled};
 ghost use Rattle.shared_core.specs.Names.{IsKnown, IsReceiptOf, IsSegmentOf};
-ghost use Rattle.shared_core.specs.Refused.{MayBeRefused};
+ghost use Rattle.shared_core.specs.Answered.{IsAnsweredBy};
 
 use crate::asking::Question;
 use crate::booked::{Beginning, Booked, CoreReceipt, CoreSegment, Port, ports_of};
-use crate::keeping::{KeepSegments, KeptJournal, SegmentCount, TakenSegment};
+use crate::keeping::{KeepSegments, KeptJournal, SegmentCount};
 use crate::names::CoreName;
 use crate::readers::CoreReader;
 use abstract_paths::Event;
@@ -71,7 +71,7 @@ impl<L: CoreName, R: Wait + Drop> HeldCore<'_, L, R> {
         ensures event { IfOk result (λ receipt. receipt.event ≡ event_bytes event.now) }
         ensures taken { port.new.taken ≡ port.old.taken }
         ensures own { IfOk result (IsReceiptOf L.config) }
-        ensures refused { IfErr result (MayBeRefused event.now) }
+        ensures answered { IsAnsweredBy L.config port.old.mark event.now result }
         ensures kept { OnErr result (port.new ≡ port.old) }
     {
         self.guard.apply(alloc, port, event, spelled)
@@ -102,8 +102,8 @@ pub struct Finished<K: KeepSegments + Drop> {
 
 impl<L: CoreName, R: Wait + Drop, K: KeepSegments + Drop> Core<L, R, K> {
     /// Feeds an event of a port, and tells the port of its entry: the port's next place, a later entry than its last one, and
-    /// the event that was fed, in an entry of the router of the configuration. Waits for others who use the core. It is refused as
-    /// [`Locked::apply`] refuses it, for no other reason, and then the port is as it was.
+    /// the event that was fed, in an entry of the router of the configuration. Waits for others who use the core. It is answered as
+    /// [`Locked::apply`] answers it, by the journal as it stood then; where it is refused the port is as it was.
     pub fn feed<W: Wait>(
         &self,
         rt: &W,
@@ -116,7 +116,7 @@ impl<L: CoreName, R: Wait + Drop, K: KeepSegments + Drop> Core<L, R, K> {
         ensures counted { OnOk result (port.new.share.amount ≡ port.old.share.amount + 1) }
         ensures taken { port.new.taken ≡ port.old.taken }
         ensures own { IfOk result (IsReceiptOf L.config) }
-        ensures refused { IfErr result (MayBeRefused event.now) }
+        ensures answered { IsAnsweredBy L.config port.old.mark event.now result }
         ensures kept { OnErr result (port.new ≡ port.old) }
     {
         self.feed_spelled(rt, alloc, port, event, None)
@@ -137,7 +137,7 @@ impl<L: CoreName, R: Wait + Drop, K: KeepSegments + Drop> Core<L, R, K> {
         ensures counted { OnOk result (port.new.share.amount ≡ port.old.share.amount + 1) }
         ensures taken { port.new.taken ≡ port.old.taken }
         ensures own { IfOk result (IsReceiptOf L.config) }
-        ensures refused { IfErr result (MayBeRefused event.now) }
+        ensures answered { IsAnsweredBy L.config port.old.mark event.now result }
         ensures kept { OnErr result (port.new ≡ port.old) }
     {
         let mut guard = self.lock.lock(rt);
@@ -157,18 +157,10 @@ impl<L: CoreName, R: Wait + Drop, K: KeepSegments + Drop> Core<L, R, K> {
         Some(HeldCore { guard })
     }
 
-    /// Takes the entries away, under the router's lock.
-    fn take<W: Wait>(&self, rt: &W, alloc: Global) -> Result<TakenSegment<L>, AllocError>
-        ensures { IfOk result (λ taken. IsSegmentOf L.config taken.segment) }
-    {
-        let mut guard = self.lock.lock(rt);
-        guard.take(alloc)
-    }
-
-    /// Takes the entries that were made since the last time, and counts them as a segment that the port took. The segment is given to who
-    /// keeps the journal before it is handed out, and before anyone takes another one: so the numbers of segments are in the order of their
-    /// entries. It is one of the router of the configuration, which is fed meanwhile. Waits for others who use the core; the error is out of
-    /// memory, also where the port took 2^64 - 1 segments, and then nothing changed.
+    /// Takes the entries that were made since the last time, once, and counts them as a segment that the port took, in the core's ledger too.
+    /// The segment is given to who keeps the journal before it is handed out, and before anyone takes another one: so the numbers of segments
+    /// are in the order of their entries. It is one of the router of the configuration, which is fed meanwhile. Waits for others who use the
+    /// core; the error is out of memory, also where 2^64 - 1 segments were taken, and then nothing changed.
     pub fn rotate<W: Wait>(
         &self,
         rt: &W,
@@ -176,17 +168,13 @@ impl<L: CoreName, R: Wait + Drop, K: KeepSegments + Drop> Core<L, R, K> {
         port: &mut Port<L>,
     ) -> Result<CoreSegment<L>, AllocError>
         ensures taken { OnOk result (port.new.taken ≡ port.old.taken + 1) }
+        ensures counted { OnOk result (port.new.share.amount ≡ port.old.share.amount + 1) }
         ensures mark { port.new.mark ≡ port.old.mark }
-        ensures share { port.new.share ≡ port.old.share }
         ensures own { IfOk result (IsSegmentOf L.config) }
         ensures kept { OnErr result (port.new ≡ port.old) }
     {
-        let Some(count) = port.taken.checked_add(1) else {
-            return Err(AllocError);
-        };
         let mut journal = self.journal.lock(rt);
-        let taken = self.take(rt, alloc)?;
-        port.taken = count;
+        let taken = self.lock.lock(rt).take(alloc, port)?;
         Ok(journal.give(taken))
     }
 
@@ -200,9 +188,9 @@ impl<L: CoreName, R: Wait + Drop, K: KeepSegments + Drop> Core<L, R, K> {
             journal,
             router: _router,
         } = self;
-        let mut booked = lock.into_inner();
+        let booked = lock.into_inner();
         let mut journal = journal.into_inner();
-        let last = journal.give(booked.take(alloc)?).into_segment();
+        let last = journal.give(booked.into_last(alloc)?).into_segment();
         let (keeper, kept) = journal.into_keeper();
         Ok(Finished { last, keeper, kept })
     }

@@ -14,7 +14,7 @@ pub use booked::{CoreReceipt, CoreSegment, Port};
 pub use cores::{Core, Finished, HeldCore, Opened, open};
 pub use keeping::{KeepSegments, NotKept, SegmentCount};
 pub use names::CoreName;
-pub use readers::CoreReader;
+pub use readers::{CoreLookups, CoreReader};
 pub use run_journal::{
     CountedEntry, Datagram, Entry, JournalCounts, MAX_PORTS, Machine, Mark, Passed, Receipt,
     Segment, SpelledEvent,

@@ -30,6 +30,22 @@ impl<L: Ledger> Model for CoreReader<L> {
     ghost view = { λ r. r.reader };
 }
 
+/// Look-ups by one list of changes of a core's label table, with the name of that core: a reader of it makes them. Contracts see the list, and
+/// how many changes the reader has learnt that there are.
+#[derive(Drop)]
+pub struct CoreLookups<L: Ledger> {
+    lookups: Lookups,
+    name: PhantomData<L>,
+}
+
+impl<L: Ledger> Model for CoreLookups<L> {
+    ghost use Rattle.lookup_plane.specs.Changes.{Learnt};
+
+    ghost Value = { Learnt };
+
+    ghost view = { λ l. l.lookups };
+}
+
 impl<L: Ledger> CoreReader<L> {
     /// This reader, with the name of its core.
     fn named(reader: LookupReader) -> CoreReader<L>
@@ -90,7 +106,7 @@ impl<L: Ledger> CoreReader<L> {
     }
 
     /// Begins to read, as [`LookupReader::enter`].
-    pub fn enter(self) -> Result<Lookups, CoreReader<L>>
+    pub fn enter(self) -> Result<CoreLookups<L>, CoreReader<L>>
         ensures { MatchResult result
             (λ lookups. StartsWith lookups.seen self.seen × (lookups.at_least ≡ self.at_least)
             × (self.at_least ≤ length lookups.seen))
@@ -98,15 +114,28 @@ impl<L: Ledger> CoreReader<L> {
     {
         let Self { reader, name: _ } = self;
         match reader.enter() {
-            Ok(lookups) => Ok(lookups),
+            Ok(lookups) => Ok(CoreLookups {
+                lookups,
+                name: PhantomData,
+            }),
             Err((reader, _)) => Err(CoreReader::named(reader)),
         }
     }
+}
 
-    /// The reader of these look-ups, which reads no more.
-    pub fn leave(lookups: Lookups) -> CoreReader<L>
-        ensures { (result.seen ≡ lookups.seen) × (result.at_least ≡ lookups.at_least) }
+impl<L: Ledger> CoreLookups<L> {
+    /// The look-ups, without the name of the core.
+    pub fn as_lookups(&self) -> &Lookups
+        ensures { result.now ≡ self.now }
     {
+        &self.lookups
+    }
+
+    /// The reader, which reads no more.
+    pub fn leave(self) -> CoreReader<L>
+        ensures { (result.seen ≡ self.seen) × (result.at_least ≡ self.at_least) }
+    {
+        let Self { lookups, name: _ } = self;
         CoreReader::named(lookups.leave())
     }
 }

@@ -228,7 +228,7 @@ fn tell_kept(
     Ok(())
 }
 
-/// Prints what `lsr serve` prints of a run, as of a router of this configuration, and the status that it gives.
+/// Prints what `lsr serve` prints of a run, as of a router of this configuration, what it logs of it, and the status that it gives.
 fn tell_status(
     rt: &HostRuntime,
     alloc: Global,
@@ -238,8 +238,10 @@ fn tell_status(
 ) -> Result<(), Fault> {
     let config = read_config(alloc, text)?;
     let mut printed = Vec::new(alloc);
-    let status = tell_run(&config, served, &mut printed)?;
+    let mut logged = Vec::new(alloc);
+    let status = tell_run(&config, served, &mut printed, &mut logged)?;
     rt.write_all(printed.as_slice())?;
+    rt.write_all(logged.as_slice())?;
     println!(rt; "{of}: status {status}")?;
     Ok(())
 }

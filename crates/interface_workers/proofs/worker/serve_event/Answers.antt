@@ -12,7 +12,7 @@ returns-clause-datagrams g c =
     let handled = c.serve_event-handled.result in
     let lost = c.failures.result - c.failures-failures.result in
     let served = c.serve_event-handled.ensures.served in
-    let kind = event_kind c.args.event.now handled c.args.work.now.receipts.items c.serve_event-handled.new.work.receipts.items served.frames served.sendings served.is in
+    let kind = event_kind g.L.CoreName.config c.args.port.now.mark c.args.event.now handled c.args.work.now.receipts.items c.serve_event-handled.new.work.receipts.items served.frames served.sendings served.is in
     ap (λ (t : Tally). t.datagrams)
     (tally_is before c.serve_event-handled.new.work.tally c.lose.new.self c.count.new.self handled lost lost c.serve_event-handled.ensures.tally.0 c.lose.ensures c.count.ensures refl)
     ∙ counted_datagrams before handled lost ∙ ap (λ (n : ℕ). before.datagrams + n) kind.taken

@@ -6,7 +6,7 @@ use Rattle.interface_workers.proofs.worker.serve_link.Goals as goal
 
 pub loop-turn-init : goal.loop-turn-init
 loop-turn-init g c = record {
-  run = run_none c.args.core.now.router c.args.link (record { work = c.in-Ok.room.0; mark = c.args.port.now.mark; seen = c.args.reader.seen; history = g.W.Wire.history c.args.wire.now }) c.in-Ok.ensures.none;
+  run = run_none g.L.CoreName.config c.args.link (record { work = c.in-Ok.room.0; mark = c.args.port.now.mark; seen = c.args.reader.seen; history = g.W.Wire.history c.args.wire.now }) c.in-Ok.ensures.none;
   receipts_room = c.in-Ok.ensures.receipts;
   segments_room = c.in-Ok.ensures.segments;
   learnt = omega arith;

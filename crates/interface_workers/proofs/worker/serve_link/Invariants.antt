@@ -7,7 +7,7 @@ use Rattle.interface_workers.proofs.worker.serve_link.Given as goal
 
 abbrev pub invariant-loop-turn : goal.invariant-loop-turn
 invariant-loop-turn g l = record {
-  run : IsRunOf l.core.router l.link l._turn l.initial.port.mark l.initial.reader.seen (g.W.Wire.history l.initial.wire)
+  run : IsRunOf g.L.CoreName.config l.link l._turn l.initial.port.mark l.initial.reader.seen (g.W.Wire.history l.initial.wire)
       (record { work = l.work; mark = l.port.mark; seen = l.reader.seen; history = g.W.Wire.history l.wire });
   receipts_room : l.turns ≤ vec_capacity l.work.receipts;
   segments_room : l.turns ≤ vec_capacity l.work.segments;

@@ -11,4 +11,4 @@ returns-clause-attended g c =
 pub returns-clause-answered : goal.returns-clause-answered
 returns-clause-answered g c =
     let served = c.serve_event-handled.ensures in
-    rw c.refusal_of.ensures (event_answered g.L.CoreName.config c.args.event.now c.serve_event-handled.result c.args.work.now c.serve_event-handled.new.work served.served.frames served.served.sendings served.served.is served.own)
+    rw c.refusal_of.ensures (event_answered g.L.CoreName.config c.args.port.now.mark c.args.event.now c.serve_event-handled.result c.args.work.now c.serve_event-handled.new.work served.served.frames served.served.sendings served.served.is served.own)

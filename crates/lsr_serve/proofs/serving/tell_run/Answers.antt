@@ -1,8 +1,8 @@
 -- So many receipts, so many entries.
 use Rattle.std.proofs.Common.{◌≡◌, ap, arith, inl, length, refl}
+use Rattle.run_reconciler.proofs.Counting.{as_many_receipts}
 use Rattle.run_reconciler.specs.Reconciled.{entries_in}
 use Rattle.lsr_serve.specs.Told.{reconciled_text}
-use Rattle.lsr_serve.proofs.Telling.{as_many_receipts}
 use Rattle.lsr_serve.proofs.serving.tell_run.Goals as goal
 
 pub returns-in_ok-write-in-Ok : goal.returns-in_ok-write-in-Ok

@@ -1,4 +1,4 @@
--- A reservation goes where another is granted, and that is told; else it stands as before.
+-- A reservation goes where another is granted, and that is told; else it stands.
 use Rattle.router_laws.proofs.BandwidthLost.{loss_told}
 use Rattle.router_laws.proofs.errors.who_loses_bandwidth_is_told.Goals as goal
 

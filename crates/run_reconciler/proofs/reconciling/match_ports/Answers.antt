@@ -1,12 +1,12 @@
 -- A port that differs, and the last port.
-use Rattle.std.proofs.Common.{◌≡◌, ◌<◌, ◌≤◌, ℕ, ⊎_elim, arith, subst}
+use Rattle.std.proofs.Common.{◌≡◌, ◌<◌, ◌≤◌, ℕ, ⊎_elim, arith, refl, subst}
 use Rattle.std.proofs.lemmas.Bool.{cases_lt}
 use Rattle.run_reconciler.specs.Walks.{called_in, mine}
 use Rattle.run_reconciler.proofs.Ports.{all_ports}
 use Rattle.run_reconciler.proofs.reconciling.match_ports.Goals as goal
 
 pub returns-in-Err-clause-odd : goal.returns-in-Err-clause-odd
-returns-in-Err-clause-odd c = record { before = c.loop-port.invariant; place = c.in-Err.ensures.place }
+returns-in-Err-clause-odd c = record { segment = refl; before = c.loop-port.invariant; place = c.in-Err.ensures.place }
 
 pub returns-in_default-clause-same : goal.returns-in_default-clause-same
 returns-in_default-clause-same c =

@@ -25,7 +25,7 @@ returns-in-Ok-Some-clause-took g c =
       Came (take len came),
       took.0,
       took.1,
-      subst (λ (r : Router). IsTaken r c.read_next.result.1.seen c.args.link (Came (take len came)) took.0) c.router-router.ensures.router
+      subst (λ (r : Router). IsTaken r c.read_next.result.1.seen c.args.link (Came (take len came)) took.0) c.router-router.ensures.configured
           (subst (λ (b : List ℕ). IsTaken c.router-router.result.now c.read_next.result.1.seen c.args.link (Came b) took.0) bytes took.2),
       c.receive.ensures.history ∙ ap (λ answer. after (g.W.Wire.history c.args.wire.now) (arrival_of answer came ∷ []) []) (c.in-Ok-Some.is ∙ ap Ok c.in-Ok-Some.field-0-is),
       λ plain. c.read_next.ensures.unlabelled (subst (λ (b : List ℕ). kind_of b ≢ 2) (sym bytes) plain),

@@ -3,7 +3,7 @@ use Rattle.std.proofs.Common.{◌++◌, ◌∷◌, [], ap, ◌∙◌}
 use Rattle.shared_core.specs.Below.journal.declared.receipt.Receipt.{Receipt}
 use Rattle.interface_workers.proofs.Chaining.{receipt_more}
 use Rattle.interface_workers.proofs.Naming.{work_more}
-use Rattle.interface_workers.proofs.TakenKinds.{event_refused}
+use Rattle.interface_workers.proofs.TakenKinds.{event_refused, full_again}
 use Rattle.interface_workers.proofs.worker.Station.serve_event.Goals as goal
 
 pub returns-in-Ok-clause-goes_on : goal.returns-in-Ok-clause-goes_on
@@ -23,7 +23,10 @@ returns-in-Ok-clause-served g c = record {
 }
 
 pub returns-in-Err-clause-served : goal.returns-in-Err-clause-served
-returns-in-Err-clause-served g c = event_refused c.args.event.now c.in-Err.refusal c.of_refusal.result c.args.work.now.receipts.items _ c.of_refusal.ensures c.in-Err.ensures.fed.1
+returns-in-Err-clause-served g c = event_refused g.L.CoreName.config c.args.port.now.mark c.args.event.now c.in-Err.refusal c.of_refusal.result c.args.work.now.receipts.items _ c.of_refusal.ensures c.in-Err.ensures.fed.1
 
 pub returns-in-Err-clause-own : goal.returns-in-Err-clause-own
 returns-in-Err-clause-own g c = λ is. record { receipts = is.receipts; segments = c.in-Err.ensures.stays is.segments }
+
+pub returns-in-Err-clause-full : goal.returns-in-Err-clause-full
+returns-in-Err-clause-full g c = full_again c.in-Err.refusal c.of_refusal.result c.args.work.now.segments.items _ c.of_refusal.ensures c.in-Err.ensures.full

@@ -19,7 +19,7 @@ returns-clause-turn g c =
       handled = c.serve_next-handled.result;
       frames = served.frames;
       sendings = served.sendings;
-      took = subst (λ (s : List TableChange). IsTaken c.args.self.now.core.now.router s c.args.link took.0 took.1) (sym c.serve_next-handled.ensures.seen) took.3;
+      took = subst (λ (s : List TableChange). IsTaken g.L.CoreName.config.router s c.args.link took.0 took.1) (sym c.serve_next-handled.ensures.seen) took.3;
       served = served.is;
       given = served.sent.given;
       history = served.sent.history ∙ ap (λ (x : WireHistory). after x [] served.sendings) took.4 ∙ after_twice (g.W.Wire.history c.args.wire.now) (took.0 ∷ []) [] [] served.sendings;
@@ -28,6 +28,7 @@ returns-clause-turn g c =
           (lost_is c.failures-failures.result c.failures.result _ _ served.sendings c.failures-failures.ensures c.failures.ensures served.sent.history);
       turns = ap (λ (n : ℕ). n + 1) c.serve_next-handled.ensures.tally.1;
       goes_on = record { chain = on.chain; receipts = on.receipts; segments = on.segments; receipts_room = on.receipts_room; segments_room = on.segments_room };
+      full = c.serve_next-handled.ensures.full took.1 took.2;
       seen = subst (λ (s : List TableChange). StartsWith s c.args.reader.seen) (sym c.serve_next-handled.ensures.seen) c.receive-next.ensures.later;
       unlabelled = λ plain. c.serve_next-handled.ensures.seen ∙ ap (λ (r : Reader). r.seen) (took.5 plain);
     }

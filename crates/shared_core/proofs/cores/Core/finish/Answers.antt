@@ -4,4 +4,4 @@ use Rattle.shared_core.specs.Names.{IsSegmentOf}
 use Rattle.shared_core.proofs.cores.Core.finish.Goals as goal
 
 pub returns-clause-own : goal.returns-clause-own
-returns-clause-own g c = subst (IsSegmentOf g.L.CoreName.config) (sym (c.into_segment-last.ensures ∙ c.give.ensures.segment)) c.in_ok-take.ensures.own
+returns-clause-own g c = subst (IsSegmentOf g.L.CoreName.config) (sym (c.into_segment-last.ensures ∙ c.give.ensures.segment)) c.in_ok-into_last.ensures.own
